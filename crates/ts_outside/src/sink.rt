@@ -1,0 +1,27 @@
+//! A place where output goes, as a trait.
+
+ghost use Rattle.std.specs.Prelude.{◌≡◌, ℕ, ◌<◌, ◌≤◌, ◌++◌, List, length, take, Option, option_map, IfOk, OnErr};
+ghost use Rattle.ts_outside.specs.Counts.{Rose};
+
+/// A write took nothing, and the sink counted a fault.
+#[derive(Clone, Copy, Debug, PartialEq, Eq)]
+pub struct SinkFailed;
+
+/// A place where output goes.
+///
+/// It has two meanings. `taken` is the list of the bytes that it has taken, or `None` where it does not
+/// tell. `faults` is a count of faults, which never falls.
+pub trait Sink {
+    ghost taken: { Self → Option (List ℕ) };
+
+    ghost faults: { Self → ℕ };
+
+    /// Takes some of the first bytes of the piece, and answers how many.
+    fn write(&mut self, piece: &[u8]) -> Result<usize, SinkFailed>
+        requires { 0 < length piece.now }
+        ensures some { IfOk result (λ count. (0 < count) × (count ≤ length piece.now)) }
+        ensures takes { IfOk result (λ count. taken self.new ≡ option_map (λ bytes. bytes ++ take count piece.now) (taken self.old)) }
+        ensures takes_nothing { OnErr result (taken self.new ≡ taken self.old) }
+        ensures failed { OnErr result (Rose (faults self.old) (faults self.new)) }
+        ensures never_falls { faults self.old ≤ faults self.new };
+}
