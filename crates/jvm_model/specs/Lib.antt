@@ -1,0 +1,9 @@
+pub mod Access
+pub mod Automata
+pub mod Descriptors
+pub mod Fronts
+pub mod Lookups
+pub mod Names
+pub mod Soundness
+pub mod Spelling
+pub mod Words

@@ -1,0 +1,38 @@
+//! Access flags of members (JVMS 4.5, 4.6).
+
+ghost use Rattle.std.specs.Prelude.{◌≡◌};
+ghost use Rattle.jvm_model.specs.Access.{mask_of, has_flag};
+
+/// An access flag of a member.
+#[derive(Clone, Copy, Debug, PartialEq, Eq)]
+pub enum AccessFlag {
+    /// ACC_PRIVATE, 0x0002.
+    Private,
+    /// ACC_STATIC, 0x0008.
+    Static,
+    /// ACC_NATIVE, 0x0100.
+    Native,
+    /// ACC_ABSTRACT, 0x0400.
+    Abstract,
+}
+
+impl AccessFlag {
+    /// The flag's bit, as a mask.
+    pub fn mask(self) -> u16
+        ensures { result ≡ mask_of self }
+    {
+        match self {
+            AccessFlag::Private => 0x0002,
+            AccessFlag::Static => 0x0008,
+            AccessFlag::Native => 0x0100,
+            AccessFlag::Abstract => 0x0400,
+        }
+    }
+
+    /// Whether the flag is set in an item's access flags.
+    pub fn is_set_in(self, flags: u16) -> bool
+        ensures { result ≡ has_flag flags self }
+    {
+        flags & self.mask() != 0
+    }
+}

@@ -1,0 +1,266 @@
+//! Tests of texts against the grammars of names and descriptors (JVMS 4.2, 4.3), and of the names that a
+//! property gives to states. None of them takes memory, and each takes time linear in its text.
+
+ghost use Rattle.std.specs.Prelude.{codes, ◌≡◌, ◌||◌, ◌↔◌, ◌==◌, ℕ, not, position, IsTrue, List, MatchOption};
+ghost use Rattle.std.specs.Str.{bytes_eq};
+ghost use Rattle.jvm_model.specs.Automata.{is_state_byte, is_state_name};
+ghost use Rattle.jvm_model.specs.Descriptors.{is_base_letter, units_of, IsFieldDescriptor, IsFieldType, IsMethodDescriptor, IsObjectType};
+ghost use Rattle.jvm_model.specs.Fronts.{EndsParameters, IsFrontLength};
+ghost use Rattle.jvm_model.specs.Names.{is_method_name, is_name_byte, is_plain_byte, is_unqualified_name, IsClassName};
+
+/// The most dimensions of an array type (JVMS 4.3.2).
+const MOST_DIMENSIONS: usize = 255;
+
+/// The most units that the parameters of a method take (JVMS 4.3.3).
+const MOST_UNITS: usize = 255;
+
+/// Whether a byte may stand in an unqualified name (JVMS 4.2.2).
+fn is_name_byte(byte: u8) -> bool
+    ensures { result ≡ is_name_byte byte }
+{
+    !matches!(byte, b'.' | b';' | b'[' | b'/')
+}
+
+/// Whether a byte may stand in the name of a method other than `<init>` and `<clinit>` (JVMS 4.2.2).
+fn is_plain_byte(byte: u8) -> bool
+    ensures { result ≡ is_plain_byte byte }
+{
+    !matches!(byte, b'<' | b'>')
+}
+
+/// Whether a byte may stand in the name of a state.
+fn is_state_byte(byte: u8) -> bool
+    ensures { result ≡ is_state_byte byte }
+{
+    matches!(byte, b'A'..=b'Z' | b'a'..=b'z' | b'0'..=b'9' | b'_' | b'-')
+}
+
+/// Whether a text is an unqualified name (JVMS 4.2.2).
+pub fn is_unqualified_name(name: &[u8]) -> bool
+    ensures { result ≡ is_unqualified_name name.now }
+{
+    !name.is_empty() && name.iter().all(|byte| is_name_byte(*byte))
+}
+
+/// Whether a text is one of the two special names of methods (JVMS 2.9).
+fn is_special_name(name: &[u8]) -> bool
+    ensures { result ≡ (bytes_eq name.now (codes "<init>") || bytes_eq name.now (codes "<clinit>")) }
+{
+    name == b"<init>".as_slice() || name == b"<clinit>".as_slice()
+}
+
+/// Whether a text is the name of a method (JVMS 4.2.2).
+pub fn is_method_name(name: &[u8]) -> bool
+    ensures { result ≡ is_method_name name.now }
+{
+    is_special_name(name)
+        || (is_unqualified_name(name) && name.iter().all(|byte| is_plain_byte(*byte)))
+}
+
+/// Whether a text is the name of a state: 1 to 64 ASCII letters, digits, `_` and `-`.
+pub fn is_state_name(name: &[u8]) -> bool
+    ensures { result ≡ is_state_name name.now }
+{
+    !name.is_empty() && name.len() <= 64 && name.iter().all(|byte| is_state_byte(*byte))
+}
+
+/// Whether a text is the name of a class or an interface, with `/` between its parts (JVMS 4.2.1).
+pub fn is_class_name(name: &[u8]) -> bool
+    ensures { IsTrue result ↔ IsClassName name.now }
+{
+    name.split(|byte| *byte == b'/').all(is_unqualified_name)
+}
+
+/// Whether a byte is the letter of a primitive type (JVMS 4.3.2).
+fn is_base_letter(byte: u8) -> bool
+    ensures { result ≡ is_base_letter byte }
+{
+    matches!(byte, b'B' | b'C' | b'D' | b'F' | b'I' | b'J' | b'S' | b'Z')
+}
+
+/// The length of the object type at the front of a text: `L`, the name of a class and `;` (JVMS 4.3.2).
+fn object_type_length(text: &[u8]) -> Option<usize>
+    ensures { IsFrontLength IsObjectType text.now result }
+{
+    let end = text.iter().position(|byte| *byte == b';')?;
+    match &text[..end] {
+        [b'L', name @ ..] if is_class_name(name) => Some(end + 1),
+        _ => None,
+    }
+}
+
+/// The length of the primitive type or the object type at the front of a text (JVMS 4.3.2).
+fn component_length(text: &[u8]) -> Option<usize>
+    ensures { IsFrontLength (IsFieldType 0) text.now result }
+{
+    match text {
+        [letter, ..] if is_base_letter(*letter) => Some(1),
+        _ => object_type_length(text),
+    }
+}
+
+/// How many `[` stand at the front of a text, or `None` where nothing else follows.
+fn dimensions_of(text: &[u8]) -> Option<usize>
+    ensures { result ≡ position (λ b. not (b == 91)) text.now }
+{
+    text.iter().position(|byte| *byte != b'[')
+}
+
+/// The length of the field descriptor at the front of a text (JVMS 4.3.2). There is at most one, since no field
+/// descriptor begins another.
+fn field_descriptor_length(text: &[u8]) -> Option<usize>
+    ensures { IsFrontLength IsFieldDescriptor text.now result }
+{
+    let dimensions = dimensions_of(text)?;
+    if dimensions > MOST_DIMENSIONS {
+        return None;
+    }
+    let length = component_length(&text[dimensions..])?;
+    Some(dimensions + length)
+}
+
+/// Whether a text is a field descriptor (JVMS 4.3.2).
+fn is_field_descriptor(text: &[u8]) -> bool
+    ensures { IsTrue result ↔ IsFieldDescriptor text.now }
+{
+    field_descriptor_length(text) == Some(text.len())
+}
+
+/// The units that a parameter takes, by its field descriptor: two for a long or a double, and else one (JVMS 4.3.3).
+fn units_of(parameter: &[u8]) -> usize
+    ensures { result ≡ units_of parameter.now }
+{
+    if parameter == b"J".as_slice() || parameter == b"D".as_slice() {
+        2
+    } else {
+        1
+    }
+}
+
+/// What follows the parameters of a method and their closing parenthesis, at the front of a text (JVMS 4.3.3).
+fn after_parameters(text: &[u8]) -> Option<&[u8]>
+    ensures { MatchOption result
+        ((outcome : List ℕ) → EndsParameters text.now outcome → ⊥)
+        (λ outcome. EndsParameters text.now outcome.now) }
+{
+    let mut rest = text;
+    let mut units = 0;
+    while let Some(length) = field_descriptor_length(rest) {
+        let (parameter, after) = rest.split_at(length);
+        units += units_of(parameter);
+        if units > MOST_UNITS {
+            return None;
+        }
+        rest = after;
+    }
+    rest.strip_prefix(b")")
+}
+
+/// Whether a text is a method descriptor (JVMS 4.3.3).
+pub fn is_method_descriptor(text: &[u8]) -> bool
+    ensures { IsTrue result ↔ IsMethodDescriptor text.now }
+{
+    let Some(parameters) = text.strip_prefix(b"(") else {
+        return false;
+    };
+    let Some(outcome) = after_parameters(parameters) else {
+        return false;
+    };
+    outcome == b"V".as_slice() || is_field_descriptor(outcome)
+}
+
+#[cfg(test)]
+mod tests {
+    use super::*;
+    use std::alloc::{AllocError, Global};
+    use std::test::Fail;
+
+    /// `(`, so many of a byte, and an end.
+    fn repeated(alloc: Global, byte: u8, count: usize, end: &[u8]) -> Result<Vec<u8>, AllocError> {
+        let mut text = Vec::from_slice(alloc, b"(")?;
+        text.extend_from_slice(vec![in alloc; byte; count]?.as_slice())?;
+        text.extend_from_slice(end)?;
+        Ok(text)
+    }
+
+    #[test]
+    fn names_and_descriptors(rt: HostRuntime) -> Result<(), Fail> {
+        let class_names = [
+            ("java/lang/Object", true),
+            ("A", true),
+            ("", false),
+            ("/A", false),
+            ("A/", false),
+            ("A//B", false),
+            ("A.B", false),
+            ("[A", false),
+            ("A;", false),
+        ];
+        for (text, want) in class_names {
+            assert_eq!(rt; is_class_name(text.as_bytes()), want, "class name {text}");
+        }
+        let method_names = [
+            ("<init>", true),
+            ("<clinit>", true),
+            ("<x>", false),
+            ("a<", false),
+            ("read", true),
+            ("", false),
+        ];
+        for (text, want) in method_names {
+            assert_eq!(rt; is_method_name(text.as_bytes()), want, "method name {text}");
+        }
+        let state_names = [
+            ("open_1-A", true),
+            ("", false),
+            ("a b", false),
+            (
+                "0123456789abcdef0123456789abcdef0123456789abcdef0123456789abcdef",
+                true,
+            ),
+            (
+                "0123456789abcdef0123456789abcdef0123456789abcdef0123456789abcdefg",
+                false,
+            ),
+        ];
+        for (text, want) in state_names {
+            assert_eq!(rt; is_state_name(text.as_bytes()), want, "state name {text}");
+        }
+        let descriptors = [
+            ("()V", true),
+            ("(I)V", true),
+            ("(IJ[[Ljava/lang/String;)Z", true),
+            ("(V)V", false),
+            ("()", false),
+            ("()VV", false),
+            ("(L;)V", false),
+            ("(La.b;)V", false),
+            ("([)V", false),
+            ("()[V", false),
+        ];
+        for (text, want) in descriptors {
+            assert_eq!(rt;
+                is_method_descriptor(text.as_bytes()),
+                want,
+                "descriptor {text}"
+            );
+        }
+        let long_descriptors = [
+            (b'I', 255, ")V", true),
+            (b'I', 256, ")V", false),
+            (b'J', 127, ")V", true),
+            (b'J', 128, ")V", false),
+            (b'[', 255, "I)V", true),
+            (b'[', 256, "I)V", false),
+        ];
+        for (byte, count, end, want) in long_descriptors {
+            let text = repeated(rt.alloc(), byte, count, end.as_bytes())?;
+            assert_eq!(rt;
+                is_method_descriptor(text.as_slice()),
+                want,
+                "{count} times {byte}"
+            );
+        }
+        Ok(())
+    }
+}

@@ -1,0 +1,27 @@
+//! The data that every layer speaks of: class files as the JVM Specification, SE 8 (JVMS) defines them,
+//! the automaton of a property, allocation sites, and the reasons of a refusal. The definitions that
+//! contracts cite stand in specs/. The layers above read the fields, and cite the definitions.
+#![tactic(auto)]
+
+pub mod access;
+pub mod automaton;
+pub mod class_file;
+pub mod grammar;
+pub mod lookup;
+pub mod name;
+pub mod number;
+pub mod pool;
+pub mod reason;
+pub mod sequence;
+pub mod site;
+
+pub use access::AccessFlag;
+pub use automaton::{Automaton, Event};
+pub use class_file::{Attribute, ClassFile, Member};
+pub use lookup::{MethodName, Signature};
+pub use name::Name;
+pub use number::{ClassNo, FieldNo, MethodNo, SiteNo};
+pub use pool::PoolEntry;
+pub use reason::{ReadRefusal, Reason, reason_word};
+pub use sequence::{Bytes, Sequence};
+pub use site::{Site, SiteKind};

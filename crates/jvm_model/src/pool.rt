@@ -1,0 +1,38 @@
+//! The entries of a constant pool (JVMS 4.4).
+
+use crate::sequence::Bytes;
+
+/// An entry of the constant pool, by its tag. A u16 is an index into the pool, which counts from 1.
+#[derive(Debug, Drop)]
+pub enum PoolEntry {
+    /// Tag 1: the bytes of a text, in modified UTF-8 (JVMS 4.4.7).
+    Utf8(Bytes),
+    /// Tag 3: the bits of an int (JVMS 4.4.4).
+    Integer(u32),
+    /// Tag 4: the bits of a float (JVMS 4.4.4).
+    Float(u32),
+    /// Tag 5: the bits of a long, which takes two indices (JVMS 4.4.5).
+    Long(u64),
+    /// Tag 6: the bits of a double, which takes two indices (JVMS 4.4.5).
+    Double(u64),
+    /// Tag 7: the name of a class or interface (JVMS 4.4.1).
+    Class(u16),
+    /// Tag 8: the text of a string constant (JVMS 4.4.3).
+    Str(u16),
+    /// Tag 9: a class, and the name and descriptor of a field (JVMS 4.4.2).
+    Fieldref(u16, u16),
+    /// Tag 10: a class, and the name and descriptor of a method (JVMS 4.4.2).
+    Methodref(u16, u16),
+    /// Tag 11: an interface, and the name and descriptor of a method (JVMS 4.4.2).
+    InterfaceMethodref(u16, u16),
+    /// Tag 12: a name and a descriptor (JVMS 4.4.6).
+    NameAndType(u16, u16),
+    /// Tag 15: a kind, and the member that the handle is for (JVMS 4.4.8).
+    MethodHandle(u8, u16),
+    /// Tag 16: the descriptor of a method (JVMS 4.4.9).
+    MethodType(u16),
+    /// Tag 18: a bootstrap method, and the name and descriptor of a method (JVMS 4.4.10).
+    InvokeDynamic(u16, u16),
+    /// The second index of a Long or a Double. It has no tag and no bytes.
+    Taken,
+}

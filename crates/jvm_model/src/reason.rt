@@ -1,0 +1,69 @@
+//! Why an input is refused.
+
+ghost use Rattle.std.specs.Prelude.{◌≡◌};
+ghost use Rattle.jvm_model.specs.Words.{word_of};
+ghost use Rattle.jvm_model.specs.declared.reason.ReadRefusal.TheVariants.{Memory};
+
+use std::alloc::{AllocError, AllocFailed};
+
+/// The reason of a refusal, in the order in which reasons at one offset are named.
+#[derive(Clone, Copy, Debug, PartialEq, Eq, PartialOrd, Ord, Hash)]
+pub enum Reason {
+    /// The file ends before or inside a field.
+    Truncated,
+    /// The first four bytes are not 0xCAFEBABE.
+    BadMagic,
+    /// The major version is not 45 to 52.
+    BadVersion,
+    /// A tag of the constant pool is not one of JVMS 4.4.
+    BadTag,
+    /// The constant pool does not fit its count.
+    BadIndex,
+    /// Bytes follow the last attribute.
+    TrailingBytes,
+    /// The file has more bytes than the limit.
+    ClassTooLarge,
+    /// The input has a form that is not analysed yet.
+    NotYet,
+}
+
+/// The word that is printed for a reason: the name of its variant.
+pub fn reason_word(reason: Reason) -> &'static str
+    ensures { result.now ≡ word_of reason }
+{
+    match reason {
+        Reason::Truncated => "Truncated",
+        Reason::BadMagic => "BadMagic",
+        Reason::BadVersion => "BadVersion",
+        Reason::BadTag => "BadTag",
+        Reason::BadIndex => "BadIndex",
+        Reason::TrailingBytes => "TrailingBytes",
+        Reason::ClassTooLarge => "ClassTooLarge",
+        Reason::NotYet => "NotYet",
+    }
+}
+
+/// Why a class file is not read.
+#[derive(Debug, Drop)]
+pub enum ReadRefusal {
+    /// The file is refused at this offset, counted from its first byte.
+    Refused(u32, Reason),
+    /// Memory ran out.
+    Memory,
+}
+
+impl From<AllocError> for ReadRefusal {
+    ghost from_gives = { λ _ e. e ≡ Memory };
+
+    fn from(_error: AllocError) -> ReadRefusal {
+        ReadRefusal::Memory
+    }
+}
+
+impl<T: Drop> From<AllocFailed<T>> for ReadRefusal {
+    ghost from_gives = { λ _ e. e ≡ Memory };
+
+    fn from(_error: AllocFailed<T>) -> ReadRefusal {
+        ReadRefusal::Memory
+    }
+}
