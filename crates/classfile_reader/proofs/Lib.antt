@@ -1,0 +1,7 @@
+pub mod Loop
+pub mod MethodNames
+pub mod Each
+pub mod Fields
+pub mod Members
+pub mod Entries
+pub mod Classes

@@ -1,0 +1,5 @@
+pub mod Reading
+pub mod PoolReading
+pub mod ClassReading
+pub mod MethodNames
+pub mod KnownNames

@@ -1,0 +1,106 @@
+//! The class file as a whole (JVMS 4.1).
+
+ghost use Rattle.std.specs.Prelude.{◌≡◌, IfOk, Ok};
+ghost use Rattle.jvm_model.specs.declared.class_file.ClassFile.{ClassFile};
+ghost use Rattle.classfile_reader.specs.Reading.{Reads, Tells};
+ghost use Rattle.classfile_reader.specs.ClassReading.{magic_at, major_at, class_at, class_of, SpellsReadable};
+
+use crate::input::Input;
+use crate::limit::CLASS_FILE_LIMIT;
+use crate::pool::pool;
+use crate::table::table;
+use jvm_model::class_file::ClassFile;
+use jvm_model::reason::{ReadRefusal, Reason};
+use std::alloc::Global;
+
+/// The number that each class file begins with.
+const MAGIC: u32 = 0xCAFE_BABE;
+
+/// The versions that are read: those up to that of SE 8.
+const OLDEST_MAJOR: u16 = 45;
+
+const NEWEST_MAJOR: u16 = 52;
+
+/// The magic number.
+#[tactic(auto, unfolding(crate::specs::ClassReading::magic_at))]
+fn magic(input: &mut Input) -> Result<u32, ReadRefusal>
+    ensures { Reads result input.new (magic_at input.old) }
+{
+    let start = input.offset();
+    let magic = input.u4()?;
+    if magic != MAGIC {
+        return Err(ReadRefusal::Refused(start, Reason::BadMagic));
+    }
+    Ok(magic)
+}
+
+/// The major version.
+#[tactic(auto, unfolding(crate::specs::ClassReading::major_at))]
+fn major(input: &mut Input) -> Result<u16, ReadRefusal>
+    ensures { Reads result input.new (major_at input.old) }
+{
+    let start = input.offset();
+    let major = input.u2()?;
+    if major < OLDEST_MAJOR || major > NEWEST_MAJOR {
+        return Err(ReadRefusal::Refused(start, Reason::BadVersion));
+    }
+    Ok(major)
+}
+
+/// A class file, at the front of the input.
+#[tactic(auto, unfolding(crate::specs::ClassReading::class_at))]
+fn class(input: &mut Input, alloc: Global) -> Result<ClassFile, ReadRefusal>
+    ensures { Reads result input.new (class_at input.old) }
+{
+    magic(input)?;
+    let minor = input.u2()?;
+    let major = major(input)?;
+    let pool = pool(input, alloc)?;
+    let flags = input.u2()?;
+    let this_class = input.u2()?;
+    let super_class = input.u2()?;
+    let interfaces = table(input, alloc)?;
+    let fields = table(input, alloc)?;
+    let methods = table(input, alloc)?;
+    let attributes = table(input, alloc)?;
+    Ok(ClassFile {
+        minor,
+        major,
+        pool,
+        flags,
+        this_class,
+        super_class,
+        interfaces,
+        fields,
+        methods,
+        attributes,
+    })
+}
+
+/// A class file and no byte after it.
+#[tactic(auto, unfolding(crate::specs::ClassReading::class_of))]
+fn whole(alloc: Global, bytes: &[u8]) -> Result<ClassFile, ReadRefusal>
+    ensures { Tells result (class_of bytes.now) }
+{
+    if bytes.len() > CLASS_FILE_LIMIT as usize {
+        return Err(ReadRefusal::Refused(CLASS_FILE_LIMIT, Reason::ClassTooLarge));
+    }
+    let mut input = Input::new(bytes);
+    let class = class(&mut input, alloc)?;
+    if !input.is_empty() {
+        return Err(ReadRefusal::Refused(input.offset(), Reason::TrailingBytes));
+    }
+    Ok(class)
+}
+
+/// The class file that the bytes spell, or the first fault from the left.
+pub(crate) fn first_pass(alloc: Global, bytes: &[u8]) -> Result<ClassFile, ReadRefusal>
+    // Which class file and which fault it is.
+    ensures exact { Tells result (class_of bytes.now) }
+    // What is read is spelled so.
+    ensures found { IfOk result (SpellsReadable bytes.now) }
+    // What is spelled so is read, unless memory runs out.
+    ensures only { (c : ClassFile) → SpellsReadable bytes.now c → Tells result (Ok c) }
+{
+    whole(alloc, bytes)
+}

@@ -1,0 +1,18 @@
+//! The class file reader: from bytes to the class file that they spell, or to the first fault. The layers
+//! above use `read_class` alone.
+#![tactic(auto)]
+
+mod class;
+mod input;
+mod limit;
+mod member;
+mod pool;
+mod read;
+mod soundness;
+mod table;
+
+pub use limit::CLASS_FILE_LIMIT;
+pub use read::read_class;
+
+#[cfg(test)]
+mod tests;
