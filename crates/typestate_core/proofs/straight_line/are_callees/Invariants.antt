@@ -1,0 +1,5 @@
+use Rattle.typestate_core.specs.FormParts.{AreCallees}
+use Rattle.typestate_core.proofs.straight_line.are_callees.Given as goal
+
+abbrev pub invariant-loop-place : goal.invariant-loop-place
+invariant-loop-place l = AreCallees l.class l.called l.place

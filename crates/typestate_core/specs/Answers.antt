@@ -1,0 +1,50 @@
+-- What a run answers, and what the sink has taken then.
+use Rattle.std.specs.Prelude.{◌≡◌, ◌↔◌, ℕ, Bool, List, map, Option, IsTrue}
+use Rattle.ts_outside.specs.Files.{File}
+use Rattle.jvm_model.specs.declared.automaton.Automaton.{Automaton}
+use Rattle.typestate_core.specs.declared.status.Status.{Status}
+use Rattle.typestate_core.specs.declared.status.Status.TheVariants.{AllSafe, SomeUnproved, Refused, RejectedCertificate, ReadFault, WriteFault, Usage, Memory}
+use Rattle.typestate_core.specs.declared.verifier.Answer.{Answer}
+use Rattle.typestate_core.specs.Outcomes.{Outcome, IsJudged}
+use Rattle.typestate_core.specs.Output.{TakesAll, TakesFront, text_of}
+use Rattle.typestate_core.specs.StageOne.{IsSafe, events_of}
+
+-- The lines of an answer.
+abbrev pub lines_of : Answer → List (List ℕ)
+lines_of a = map (λ line. line.items) a.lines.items
+
+-- The answer has this status and these lines.
+pub record Says (a : Answer) (status : Status) (lines : List (List ℕ)) : Type 0 where
+  pub status_is : a.status ≡ status
+  pub lines_are : lines_of a ≡ lines
+
+-- A status that comes with lines of its own.
+abbrev pub IsReported : Status → Type 0
+IsReported AllSafe = Unit {0}
+IsReported SomeUnproved = Unit {0}
+IsReported Refused = Unit {0}
+IsReported Usage = Unit {0}
+IsReported RejectedCertificate = ⊥
+IsReported ReadFault = ⊥
+IsReported WriteFault = ⊥
+IsReported Memory = ⊥
+
+-- The bytes spell a class of the form, and the entry's site is safe or not.
+pub record IsVerdict (bytes : List ℕ) (a : Automaton) (class method : List ℕ) (is_safe : Bool) : Type 0 where
+  pub calls : List (List ℕ)
+  pub judged : IsJudged bytes a class method calls
+  pub answers : IsTrue is_safe ↔ IsSafe a (events_of calls a)
+
+-- The run answers as its outcome says, and the sink has taken the outcome's lines. Where reading fails or
+-- memory runs out, nothing is written. Where writing fails, the sink has taken some of the first bytes of
+-- the lines that were being written.
+abbrev pub AnswersRun : List (List ℕ) → List File → Status → Option (List ℕ) → Option (List ℕ) → Type 0
+AnswersRun words files ReadFault old new = new ≡ old
+AnswersRun words files Memory old new = new ≡ old
+AnswersRun words files WriteFault old new =
+    (status : Status) × (lines : List (List ℕ)) × Outcome words files status lines × TakesFront old new (text_of lines)
+AnswersRun words files AllSafe old new = (lines : List (List ℕ)) × Outcome words files AllSafe lines × TakesAll old new (text_of lines)
+AnswersRun words files SomeUnproved old new = (lines : List (List ℕ)) × Outcome words files SomeUnproved lines × TakesAll old new (text_of lines)
+AnswersRun words files Refused old new = (lines : List (List ℕ)) × Outcome words files Refused lines × TakesAll old new (text_of lines)
+AnswersRun words files Usage old new = (lines : List (List ℕ)) × Outcome words files Usage lines × TakesAll old new (text_of lines)
+AnswersRun words files RejectedCertificate old new = ⊥

@@ -1,0 +1,15 @@
+pub mod Answers
+pub mod Bodies
+pub mod BodyParts
+pub mod FormParts
+pub mod Lines
+pub mod Outcomes
+pub mod Output
+pub mod Printed
+pub mod PropertyFile
+pub mod PropertyReading
+pub mod Reaching
+pub mod Requests
+pub mod StageOne
+pub mod Statuses
+pub mod StraightLine

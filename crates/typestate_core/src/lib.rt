@@ -1,0 +1,22 @@
+//! The whole run: from words and a tree of files to a status and the lines that are written.
+//! The program above it calls `run` and ends with the status.
+#![tactic(auto)]
+
+mod body;
+mod laws;
+mod lines;
+mod output;
+mod printed;
+mod property_file;
+mod request;
+mod stage_one;
+mod status;
+mod straight_line;
+mod verifier;
+
+pub use laws::one_outcome;
+pub use status::Status;
+pub use verifier::run;
+
+#[cfg(test)]
+mod tests;

@@ -1,0 +1,35 @@
+//! Writing lines to a sink, each as a piece of its own, repeated from where the sink stopped.
+
+ghost use Rattle.std.specs.Prelude.{ℕ, ◌≤◌, map, OnOk, OnErr};
+ghost use Rattle.ts_outside.specs.Counts.{Rose};
+ghost use Rattle.typestate_core.specs.Output.{TakesAll, TakesFront, text_of};
+
+use ts_outside::{Sink, SinkFailed};
+
+// Writes a line.
+fn write_line<S: Sink>(out: &mut S, line: &[u8]) -> Result<(), SinkFailed>
+    ensures all { OnOk result (TakesAll (S.taken out.old) (S.taken out.new) line.now) }
+    ensures front { OnErr result (TakesFront (S.taken out.old) (S.taken out.new) line.now) }
+    ensures failed { OnErr result (Rose (S.faults out.old) (S.faults out.new)) }
+    ensures never_falls { S.faults out.old ≤ S.faults out.new }
+{
+    let mut rest = line;
+    while !rest.is_empty() {
+        let count = out.write(rest)?;
+        let (_taken, left) = rest.split_at(count);
+        rest = left;
+    }
+    Ok(())
+}
+
+/// Writes lines in order, and stops where a write fails.
+pub(crate) fn write_lines<S: Sink>(out: &mut S, lines: &[Vec<u8>]) -> Result<(), SinkFailed>
+    ensures all { OnOk result (TakesAll (S.taken out.old) (S.taken out.new) (text_of (map (λ line. line.items) lines.now))) }
+    ensures front { OnErr result (TakesFront (S.taken out.old) (S.taken out.new) (text_of (map (λ line. line.items) lines.now))) }
+    ensures failed { OnErr result (Rose (S.faults out.old) (S.faults out.new)) }
+{
+    for line in lines {
+        write_line(out, line)?;
+    }
+    Ok(())
+}

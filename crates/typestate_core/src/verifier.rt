@@ -1,0 +1,260 @@
+//! The run: the checks in their order, and then the writing of the lines.
+
+ghost use Rattle.std.specs.Prelude.{◌≡◌, ◌≤◌, ℕ, List, [], ◌∷◌, map, string_bytes, IfOk, IfErr, IfSome, IfNone, IsErrOf};
+ghost use Rattle.std.specs.Bool.{OnTrue, OnFalse};
+ghost use Rattle.ts_outside.specs.Counts.{Rose};
+ghost use Rattle.jvm_model.specs.Automata.{IsAutomaton};
+ghost use Rattle.typestate_core.specs.declared.verifier.End.TheVariants.{Memory};
+ghost use Rattle.typestate_core.specs.Lines.{no_file, refused_line, missing_line, site_text, safe_line, unproved_line, summary_line};
+ghost use Rattle.typestate_core.specs.Outcomes.{Outcome, Asks, IsJudged, entry_site};
+ghost use Rattle.typestate_core.specs.Answers.{Says, IsReported, IsVerdict, AnswersRun, lines_of};
+
+use crate::lines::{
+    Counts, PrintedSite, missing_line, refused_line, safe_line, summary_line, unproved_line,
+};
+use crate::output::write_lines;
+use crate::property_file::read_property;
+use crate::request::Request;
+use crate::stage_one::is_safe;
+use crate::status::Status;
+use crate::straight_line::occurring_events;
+use classfile_reader::read_class;
+use jvm_model::{Automaton, ReadRefusal, Reason};
+use std::alloc::{AllocError, AllocFailed, Global};
+use ts_outside::{Sink, Tree, TreeEnd};
+
+/// One more than the most bytes of a property file.
+const PROPERTY_BYTES: u32 = 1_048_577;
+
+/// One more than the most bytes of a class file.
+const CLASS_BYTES: u32 = 4_194_305;
+
+/// What a run says: its status, and the lines that are written.
+#[derive(Drop)]
+struct Answer {
+    status: Status,
+    lines: Vec<Vec<u8>>,
+}
+
+/// Why a run has nothing to say.
+#[derive(Clone, Copy, Debug, PartialEq, Eq)]
+enum End {
+    ReadFault,
+    Memory,
+}
+
+impl From<AllocError> for End {
+    ghost from_gives = { λ _ e. e ≡ Memory };
+
+    fn from(_error: AllocError) -> End {
+        End::Memory
+    }
+}
+
+impl<T: Drop> From<AllocFailed<T>> for End {
+    ghost from_gives = { λ _ e. e ≡ Memory };
+
+    fn from(_error: AllocFailed<T>) -> End {
+        End::Memory
+    }
+}
+
+/// Runs the verifier on these words, over a tree of files, and writes what it says to the sink. All
+/// reading and all analysis come before the first write, each line is a piece of its own, and `ReadFault`
+/// and `WriteFault` come only where the tree or the sink counted a fault in this run.
+pub fn run<T: Tree, S: Sink>(alloc: Global, words: &[String], tree: &mut T, out: &mut S) -> Status
+    ensures told { IfSome (T.files tree.old) (λ files. AnswersRun (map string_bytes words.now) files result (S.taken out.old) (S.taken out.new)) }
+    ensures read_fault { result ≡ Status.ReadFault → Rose (T.faults tree.old) (T.faults tree.new) }
+    ensures write_fault { result ≡ Status.WriteFault → Rose (S.faults out.old) (S.faults out.new) }
+    ensures silent { result ≡ Status.ReadFault → out.new ≡ out.old }
+    ensures silent_without_memory { result ≡ Status.Memory → out.new ≡ out.old }
+{
+    match judge(alloc, words, tree) {
+        Ok(Answer { status, lines }) => match write_lines(out, &lines) {
+            Ok(()) => status,
+            Err(_) => Status::WriteFault,
+        },
+        Err(End::ReadFault) => Status::ReadFault,
+        Err(End::Memory) => Status::Memory,
+    }
+}
+
+// The words and the property file.
+fn judge<T: Tree>(alloc: Global, words: &[String], tree: &mut T) -> Result<Answer, End>
+    ensures told { IfOk result (λ a. IfSome (T.files tree.old) (λ files. Outcome (map string_bytes words.now) files a.status (lines_of a))) }
+    ensures reported { IfOk result (λ a. IsReported a.status) }
+    ensures read_fault { IsErrOf result End.ReadFault → Rose (T.faults tree.old) (T.faults tree.new) }
+{
+    let Some(request) = Request::from_words(words) else {
+        return refuse(alloc, b"-");
+    };
+    let bytes = match tree.read(alloc, request.property, PROPERTY_BYTES) {
+        Ok(bytes) => bytes,
+        Err(TreeEnd::Missing) => return miss(alloc, request.property.as_bytes()),
+        Err(TreeEnd::Failed) => return Err(End::ReadFault),
+        Err(TreeEnd::Memory) => return Err(End::Memory),
+    };
+    let Some(automaton) = read_property(alloc, &bytes)? else {
+        return refuse(alloc, request.property.as_bytes());
+    };
+    judge_class(alloc, &request, &automaton, tree)
+}
+
+// The class file.
+fn judge_class<T: Tree>(
+    alloc: Global,
+    request: &Request<'_>,
+    automaton: &Automaton,
+    tree: &mut T,
+) -> Result<Answer, End>
+    requires { IsAutomaton automaton.now }
+    ensures told { IfOk result (λ a. IfSome (T.files tree.old) (λ files. (words : List (List ℕ))
+        → Asks words files request.now.class.now request.now.method.now automaton.now → Outcome words files a.status (lines_of a))) }
+    ensures reported { IfOk result (λ a. IsReported a.status) }
+    ensures read_fault { IsErrOf result End.ReadFault → Rose (T.faults tree.old) (T.faults tree.new) }
+    ensures never_falls { T.faults tree.old ≤ T.faults tree.new }
+{
+    let names = match tree.list(alloc) {
+        Ok(names) => names,
+        Err(TreeEnd::Failed) => return Err(End::ReadFault),
+        Err(_) => return Err(End::Memory),
+    };
+    if names.len() != 1 {
+        return refuse(alloc, b"-");
+    }
+    let name = &names[0];
+    let bytes = match tree.read(alloc, name.as_str(), CLASS_BYTES) {
+        Ok(bytes) => bytes,
+        Err(TreeEnd::Missing) => return miss(alloc, name.as_bytes()),
+        Err(TreeEnd::Failed) => return Err(End::ReadFault),
+        Err(TreeEnd::Memory) => return Err(End::Memory),
+    };
+    match verdict(alloc, request, automaton, &bytes)? {
+        Some(is_safe) => report_site(alloc, request, is_safe),
+        None => refuse(alloc, name.as_bytes()),
+    }
+}
+
+// Whether the entry's site is safe; None where the class has another form.
+fn verdict(
+    alloc: Global,
+    request: &Request<'_>,
+    automaton: &Automaton,
+    bytes: &[u8],
+) -> Result<Option<bool>, AllocError>
+    requires { IsAutomaton automaton.now }
+    ensures found { IfOk result (λ r. IfSome r (IsVerdict bytes.now automaton.now request.now.class.now request.now.method.now)) }
+    ensures none { IfOk result (λ r. IfNone r ((calls : List (List ℕ)) → IsJudged bytes.now automaton.now request.now.class.now request.now.method.now calls → ⊥)) }
+{
+    let class = match read_class(alloc, bytes) {
+        Ok(class) => class,
+        Err(ReadRefusal::Refused(_, _)) => return Ok(None),
+        Err(ReadRefusal::Memory) => return Err(AllocError),
+    };
+    if automaton.class_name.as_slice() != request.class {
+        return Ok(None);
+    }
+    let Some(occurs) = occurring_events(alloc, &class, automaton, request)? else {
+        return Ok(None);
+    };
+    Ok(Some(is_safe(automaton, &occurs)))
+}
+
+// A file is refused, or with `-` no file in particular, since its form is not analysed yet.
+fn refuse(alloc: Global, file: &[u8]) -> Result<Answer, End>
+    ensures ok { IfOk result (λ a. Says a Status.Refused (refused_line file.now 0 Reason.NotYet ∷ [])) }
+    ensures memory { IfErr result (λ e. e ≡ End.Memory) }
+{
+    let line = refused_line(alloc, file, 0, Reason::NotYet)?;
+    let mut lines = Vec::new(alloc);
+    lines.push(line)?;
+    Ok(Answer {
+        status: Status::Refused,
+        lines,
+    })
+}
+
+// A file of this name is not there.
+fn miss(alloc: Global, name: &[u8]) -> Result<Answer, End>
+    ensures ok { IfOk result (λ a. Says a Status.Usage (missing_line name.now ∷ [])) }
+    ensures memory { IfErr result (λ e. e ≡ End.Memory) }
+{
+    let line = missing_line(alloc, name)?;
+    let mut lines = Vec::new(alloc);
+    lines.push(line)?;
+    Ok(Answer {
+        status: Status::Usage,
+        lines,
+    })
+}
+
+// The report on the only site, that of the entry's first instruction.
+fn report_site(alloc: Global, request: &Request<'_>, is_safe: bool) -> Result<Answer, End>
+    ensures safe { IfOk result (λ a. OnTrue is_safe (Says a Status.AllSafe
+        (safe_line 1 (entry_site request.now.class.now request.now.method.now) ∷ summary_line 1 1 0 0 ∷ []))) }
+    ensures unproved { IfOk result (λ a. OnFalse is_safe (Says a Status.SomeUnproved
+        (unproved_line (entry_site request.now.class.now request.now.method.now) ∷ summary_line 1 0 1 0 ∷ []))) }
+    ensures memory { IfErr result (λ e. e ≡ End.Memory) }
+{
+    let site = PrintedSite {
+        class: request.class,
+        method: request.method,
+        descriptor: b"()V",
+        offset: 0,
+        object: request.class,
+    };
+    if is_safe {
+        report_safe(alloc, site)
+    } else {
+        report_unproved(alloc, site)
+    }
+}
+
+// The report that the only site is safe.
+fn report_safe(alloc: Global, site: PrintedSite<'_>) -> Result<Answer, End>
+    ensures ok { IfOk result (λ a. Says a Status.AllSafe
+        (safe_line 1 (site_text site.entry.class.now site.entry.method.now site.entry.descriptor.now site.entry.offset site.entry.object.now) ∷ summary_line 1 1 0 0 ∷ [])) }
+    ensures memory { IfErr result (λ e. e ≡ End.Memory) }
+{
+    let counts = Counts {
+        sites: 1,
+        safe: 1,
+        unproved: 0,
+        limit: 0,
+    };
+    let lines = with_summary(alloc, safe_line(alloc, 1, site)?, counts)?;
+    Ok(Answer {
+        status: Status::AllSafe,
+        lines,
+    })
+}
+
+// The report that the only site is not proved.
+fn report_unproved(alloc: Global, site: PrintedSite<'_>) -> Result<Answer, End>
+    ensures ok { IfOk result (λ a. Says a Status.SomeUnproved
+        (unproved_line (site_text site.entry.class.now site.entry.method.now site.entry.descriptor.now site.entry.offset site.entry.object.now) ∷ summary_line 1 0 1 0 ∷ [])) }
+    ensures memory { IfErr result (λ e. e ≡ End.Memory) }
+{
+    let counts = Counts {
+        sites: 1,
+        safe: 0,
+        unproved: 1,
+        limit: 0,
+    };
+    let lines = with_summary(alloc, unproved_line(alloc, site)?, counts)?;
+    Ok(Answer {
+        status: Status::SomeUnproved,
+        lines,
+    })
+}
+
+// A line, and the summary after it.
+fn with_summary(alloc: Global, line: Vec<u8>, counts: Counts) -> Result<Vec<Vec<u8>>, AllocError>
+    ensures { IfOk result (λ lines. map (λ l. l.items) lines.items
+        ≡ line.items ∷ summary_line counts.sites counts.safe counts.unproved counts.limit ∷ []) }
+{
+    let mut lines = Vec::new(alloc);
+    lines.push(line)?;
+    lines.push(summary_line(alloc, counts)?)?;
+    Ok(lines)
+}
