@@ -51,15 +51,31 @@ fn words_of(rt: &(impl Env + AllocGlobal)) -> Result<Vec<String>, AllocError> {
 // The folder of the class files: the word after the first `--classes`, or the rest of the first word that
 // begins with `--classes=`, or else the current folder.
 fn folder_of(words: &[String]) -> &str {
+    match word_after_option(words) {
+        Some(folder) => folder,
+        None => match rest_of_option(words) {
+            Some(folder) => folder,
+            None => ".",
+        },
+    }
+}
+
+// The word after the first `--classes`.
+fn word_after_option(words: &[String]) -> Option<&str> {
     for (place, word) in words.iter().enumerate() {
         if word.as_str() == CLASSES && place + 1 < words.len() {
-            return words[place + 1].as_str();
+            return Some(words[place + 1].as_str());
         }
     }
+    None
+}
+
+// The rest of the first word that begins with `--classes=`.
+fn rest_of_option(words: &[String]) -> Option<&str> {
     for word in words {
         if let Some(folder) = word.as_str().strip_prefix(CLASSES_IS) {
-            return folder;
+            return Some(folder);
         }
     }
-    "."
+    None
 }
