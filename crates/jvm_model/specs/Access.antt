@@ -1,11 +1,13 @@
 -- Access flags (JVMS 4.5, 4.6).
 use Rattle.std.specs.Prelude.{ℕ, Bool, not, ◌==◌, bit_and}
 use Rattle.jvm_model.specs.declared.access.AccessFlag.{AccessFlag}
-use Rattle.jvm_model.specs.declared.access.AccessFlag.TheVariants.{Private, Static, Native, Abstract}
+use Rattle.jvm_model.specs.declared.access.AccessFlag.TheVariants.{Public, Private, Protected, Static, Native, Abstract}
 
 -- The bit of a flag.
 abbrev pub mask_of : AccessFlag → ℕ
+mask_of Public = 0x0001
 mask_of Private = 0x0002
+mask_of Protected = 0x0004
 mask_of Static = 0x0008
 mask_of Native = 0x0100
 mask_of Abstract = 0x0400

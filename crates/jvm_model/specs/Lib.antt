@@ -1,9 +1,16 @@
 pub mod Access
 pub mod Automata
+pub mod Code
 pub mod Descriptors
+pub mod Executions
 pub mod Fronts
+pub mod Instructions
 pub mod Lookups
+pub mod Machine
 pub mod Names
+pub mod Programs
 pub mod Soundness
 pub mod Spelling
+pub mod States
+pub mod Table
 pub mod Words

@@ -1,7 +1,7 @@
 -- What makes a class file sound, for the kinds of entries and members that are read so far: each index
 -- leads to an entry of the right kind, each name and descriptor is in its grammar, and a method has code
 -- exactly where its flags ask for it.
-use Rattle.std.specs.Prelude.{codes, ◌≡◌, ◌⊎◌, ℕ, Bool, true, false, ◌&&◌, ◌||◌, nat_lt, List, [], ◌∷◌, length, map, filter, Some, All, IsSome, IsTrue, if◌then◌else◌}
+use Rattle.std.specs.Prelude.{codes, ◌≡◌, ◌⊎◌, ℕ, Bool, false, ◌&&◌, ◌||◌, nat_lt, List, [], length, map, filter, Some, All, IsSome, IsTrue, if◌then◌else◌}
 use Rattle.std.specs.Str.{bytes_eq}
 use Rattle.std.specs.Option.{option_map_or}
 use Rattle.jvm_model.specs.declared.access.AccessFlag.TheVariants.{Native, Abstract}

@@ -6,8 +6,12 @@ ghost use Rattle.jvm_model.specs.Access.{mask_of, has_flag};
 /// An access flag of a member.
 #[derive(Clone, Copy, Debug, PartialEq, Eq)]
 pub enum AccessFlag {
+    /// ACC_PUBLIC, 0x0001.
+    Public,
     /// ACC_PRIVATE, 0x0002.
     Private,
+    /// ACC_PROTECTED, 0x0004.
+    Protected,
     /// ACC_STATIC, 0x0008.
     Static,
     /// ACC_NATIVE, 0x0100.
@@ -22,7 +26,9 @@ impl AccessFlag {
         ensures { result ≡ mask_of self }
     {
         match self {
+            AccessFlag::Public => 0x0001,
             AccessFlag::Private => 0x0002,
+            AccessFlag::Protected => 0x0004,
             AccessFlag::Static => 0x0008,
             AccessFlag::Native => 0x0100,
             AccessFlag::Abstract => 0x0400,

@@ -1,0 +1,356 @@
+-- The instruction table (JVMS 6.5): for each opcode its mnemonic, its operands, the units that it pops from
+-- the operand stack and those that it writes, where it goes on, what it does beside that, and what it may
+-- raise. A long or a double is two units (JVMS 2.6.1, 2.6.2).
+use Rattle.std.specs.Prelude.{codes, ℕ, Bool, true, false, List, [], ◌∷◌, Option, slice_get}
+
+-- What stands after an opcode.
+pub data Operands : Type 0 where
+  -- no operand
+  nothing : Operands
+  -- none either: the opcode itself says which local variable
+  implied : (local : ℕ) → Operands
+  -- a constant of one byte, or of two
+  value_1 : Operands
+  value_2 : Operands
+  -- the code of a primitive type, of one byte
+  type_code : Operands
+  -- a local variable, of one byte
+  local_1 : Operands
+  -- an index of the constant pool, of one byte, or of two
+  pool_1 : Operands
+  pool_2 : Operands
+  -- a branch offset, of two bytes, or of four
+  offset_2 : Operands
+  offset_4 : Operands
+  -- a local variable and a constant, of one byte each
+  local_and_value : Operands
+  -- an index of two bytes, a count and a zero; two zeros; a number of dimensions
+  pool_2_and_count : Operands
+  pool_2_and_zeros : Operands
+  pool_2_and_dimensions : Operands
+  -- padding, and a table of branch offsets; or pairs of keys and branch offsets
+  table_of_offsets : Operands
+  pairs_with_offsets : Operands
+  -- another instruction, whose operands are widened
+  widened : Operands
+
+-- What a popped unit has to be.
+pub data Kind : Type 0 where
+  any_kind : Kind
+  primitive : Kind
+  reference : Kind
+
+-- Where a unit that is written comes from: a popped unit, counted from the lowest one; the local variable
+-- that the operand names; the null reference; a primitive; or what the instruction's action makes.
+pub data Origin : Type 0 where
+  popped : (unit : ℕ) → Origin
+  the_local : Origin
+  a_null : Origin
+  a_primitive : Origin
+  the_made : Origin
+
+-- Where an instruction goes on: at the next one; at its target, or at any of them; at either; at its target
+-- just where its reference is null, or is not; where its two references are the same, or are not; nowhere in
+-- its method; or as a subroutine.
+pub data Flow : Type 0 where
+  onward : Flow
+  jump : Flow
+  branch : Flow
+  branch_if_null : Flow
+  branch_if_object : Flow
+  branch_if_same : Flow
+  branch_if_other : Flow
+  leave : Flow
+  subroutine : Flow
+
+-- What an instruction does beside popping and writing units.
+pub data Action : Type 0 where
+  plain : Action
+  load_constant : Action
+  load_element : Action
+  store_element : Action
+  -- it looks at an object that must be there
+  probe : Action
+  get_static : Action
+  put_static : Action
+  get_field : Action
+  put_field : Action
+  invoke_virtual : Action
+  invoke_special : Action
+  invoke_static : Action
+  invoke_interface : Action
+  make_object : Action
+  make_array : Action
+  throw_object : Action
+  cast : Action
+  leave_method : Action
+  -- jsr, ret, invokedynamic, and the prefix wide
+  refused : Action
+
+-- An exception that an instruction itself raises.
+pub data Raise : Type 0 where
+  null_pointer : Raise
+  array_index : Raise
+  array_store : Raise
+  arithmetic : Raise
+  class_cast : Raise
+  negative_size : Raise
+
+-- A row of the table. `pushes` are the units that it pushes, and `stores` those that it writes into the local
+-- variables from its operand on. What a call, an access to a field, ldc and multianewarray pop and push depends
+-- on the constant pool, and does not stand here.
+pub record Row : Type 0 where
+  pub mnemonic : List ℕ
+  pub operands : Operands
+  pub pops : List Kind
+  pub pushes : List Origin
+  pub stores : List Origin
+  pub flow : Flow
+  pub action : Action
+  pub raises : List Raise
+
+abbrev pub row : List ℕ → Operands → List Kind → List Origin → List Origin → Flow → Action → List Raise → Row
+row mnemonic operands pops pushes stores flow action raises =
+    record { mnemonic = mnemonic; operands = operands; pops = pops; pushes = pushes; stores = stores; flow = flow; action = action; raises = raises }
+
+-- The classes of actions.
+-- A call of a method of an object, chosen by the object's class (JVMS 6.5.invokevirtual, 6.5.invokeinterface).
+abbrev pub is_selecting : Action → Bool
+is_selecting invoke_virtual = true
+is_selecting invoke_interface = true
+is_selecting _ = false
+
+-- A call.
+abbrev pub is_call : Action → Bool
+is_call invoke_virtual = true
+is_call invoke_special = true
+is_call invoke_static = true
+is_call invoke_interface = true
+is_call _ = false
+
+-- An access to a field.
+abbrev pub is_field_access : Action → Bool
+is_field_access get_static = true
+is_field_access put_static = true
+is_field_access get_field = true
+is_field_access put_field = true
+is_field_access _ = false
+
+-- What may start the initialisation of a class (JVMS 5.5).
+abbrev pub is_trigger : Action → Bool
+is_trigger make_object = true
+is_trigger get_static = true
+is_trigger put_static = true
+is_trigger invoke_static = true
+is_trigger _ = false
+
+-- The rows of the opcodes 0 to 201.
+abbrev pub rows : List Row
+rows =
+    row (codes "nop") nothing [] [] [] onward plain []
+    ∷ row (codes "aconst_null") nothing [] (a_null ∷ []) [] onward plain []
+    ∷ row (codes "iconst_m1") nothing [] (a_primitive ∷ []) [] onward plain []
+    ∷ row (codes "iconst_0") nothing [] (a_primitive ∷ []) [] onward plain []
+    ∷ row (codes "iconst_1") nothing [] (a_primitive ∷ []) [] onward plain []
+    ∷ row (codes "iconst_2") nothing [] (a_primitive ∷ []) [] onward plain []
+    ∷ row (codes "iconst_3") nothing [] (a_primitive ∷ []) [] onward plain []
+    ∷ row (codes "iconst_4") nothing [] (a_primitive ∷ []) [] onward plain []
+    ∷ row (codes "iconst_5") nothing [] (a_primitive ∷ []) [] onward plain []
+    ∷ row (codes "lconst_0") nothing [] (a_primitive ∷ a_primitive ∷ []) [] onward plain []
+    ∷ row (codes "lconst_1") nothing [] (a_primitive ∷ a_primitive ∷ []) [] onward plain []
+    ∷ row (codes "fconst_0") nothing [] (a_primitive ∷ []) [] onward plain []
+    ∷ row (codes "fconst_1") nothing [] (a_primitive ∷ []) [] onward plain []
+    ∷ row (codes "fconst_2") nothing [] (a_primitive ∷ []) [] onward plain []
+    ∷ row (codes "dconst_0") nothing [] (a_primitive ∷ a_primitive ∷ []) [] onward plain []
+    ∷ row (codes "dconst_1") nothing [] (a_primitive ∷ a_primitive ∷ []) [] onward plain []
+    ∷ row (codes "bipush") value_1 [] (a_primitive ∷ []) [] onward plain []
+    ∷ row (codes "sipush") value_2 [] (a_primitive ∷ []) [] onward plain []
+    ∷ row (codes "ldc") pool_1 [] [] [] onward load_constant []
+    ∷ row (codes "ldc_w") pool_2 [] [] [] onward load_constant []
+    ∷ row (codes "ldc2_w") pool_2 [] (a_primitive ∷ a_primitive ∷ []) [] onward plain []
+    ∷ row (codes "iload") local_1 [] (a_primitive ∷ []) [] onward plain []
+    ∷ row (codes "lload") local_1 [] (a_primitive ∷ a_primitive ∷ []) [] onward plain []
+    ∷ row (codes "fload") local_1 [] (a_primitive ∷ []) [] onward plain []
+    ∷ row (codes "dload") local_1 [] (a_primitive ∷ a_primitive ∷ []) [] onward plain []
+    ∷ row (codes "aload") local_1 [] (the_local ∷ []) [] onward plain []
+    ∷ row (codes "iload_0") (implied 0) [] (a_primitive ∷ []) [] onward plain []
+    ∷ row (codes "iload_1") (implied 1) [] (a_primitive ∷ []) [] onward plain []
+    ∷ row (codes "iload_2") (implied 2) [] (a_primitive ∷ []) [] onward plain []
+    ∷ row (codes "iload_3") (implied 3) [] (a_primitive ∷ []) [] onward plain []
+    ∷ row (codes "lload_0") (implied 0) [] (a_primitive ∷ a_primitive ∷ []) [] onward plain []
+    ∷ row (codes "lload_1") (implied 1) [] (a_primitive ∷ a_primitive ∷ []) [] onward plain []
+    ∷ row (codes "lload_2") (implied 2) [] (a_primitive ∷ a_primitive ∷ []) [] onward plain []
+    ∷ row (codes "lload_3") (implied 3) [] (a_primitive ∷ a_primitive ∷ []) [] onward plain []
+    ∷ row (codes "fload_0") (implied 0) [] (a_primitive ∷ []) [] onward plain []
+    ∷ row (codes "fload_1") (implied 1) [] (a_primitive ∷ []) [] onward plain []
+    ∷ row (codes "fload_2") (implied 2) [] (a_primitive ∷ []) [] onward plain []
+    ∷ row (codes "fload_3") (implied 3) [] (a_primitive ∷ []) [] onward plain []
+    ∷ row (codes "dload_0") (implied 0) [] (a_primitive ∷ a_primitive ∷ []) [] onward plain []
+    ∷ row (codes "dload_1") (implied 1) [] (a_primitive ∷ a_primitive ∷ []) [] onward plain []
+    ∷ row (codes "dload_2") (implied 2) [] (a_primitive ∷ a_primitive ∷ []) [] onward plain []
+    ∷ row (codes "dload_3") (implied 3) [] (a_primitive ∷ a_primitive ∷ []) [] onward plain []
+    ∷ row (codes "aload_0") (implied 0) [] (the_local ∷ []) [] onward plain []
+    ∷ row (codes "aload_1") (implied 1) [] (the_local ∷ []) [] onward plain []
+    ∷ row (codes "aload_2") (implied 2) [] (the_local ∷ []) [] onward plain []
+    ∷ row (codes "aload_3") (implied 3) [] (the_local ∷ []) [] onward plain []
+    ∷ row (codes "iaload") nothing (reference ∷ primitive ∷ []) (a_primitive ∷ []) [] onward probe (null_pointer ∷ array_index ∷ [])
+    ∷ row (codes "laload") nothing (reference ∷ primitive ∷ []) (a_primitive ∷ a_primitive ∷ []) [] onward probe (null_pointer ∷ array_index ∷ [])
+    ∷ row (codes "faload") nothing (reference ∷ primitive ∷ []) (a_primitive ∷ []) [] onward probe (null_pointer ∷ array_index ∷ [])
+    ∷ row (codes "daload") nothing (reference ∷ primitive ∷ []) (a_primitive ∷ a_primitive ∷ []) [] onward probe (null_pointer ∷ array_index ∷ [])
+    ∷ row (codes "aaload") nothing (reference ∷ primitive ∷ []) (the_made ∷ []) [] onward load_element (null_pointer ∷ array_index ∷ [])
+    ∷ row (codes "baload") nothing (reference ∷ primitive ∷ []) (a_primitive ∷ []) [] onward probe (null_pointer ∷ array_index ∷ [])
+    ∷ row (codes "caload") nothing (reference ∷ primitive ∷ []) (a_primitive ∷ []) [] onward probe (null_pointer ∷ array_index ∷ [])
+    ∷ row (codes "saload") nothing (reference ∷ primitive ∷ []) (a_primitive ∷ []) [] onward probe (null_pointer ∷ array_index ∷ [])
+    ∷ row (codes "istore") local_1 (primitive ∷ []) [] (a_primitive ∷ []) onward plain []
+    ∷ row (codes "lstore") local_1 (primitive ∷ primitive ∷ []) [] (a_primitive ∷ a_primitive ∷ []) onward plain []
+    ∷ row (codes "fstore") local_1 (primitive ∷ []) [] (a_primitive ∷ []) onward plain []
+    ∷ row (codes "dstore") local_1 (primitive ∷ primitive ∷ []) [] (a_primitive ∷ a_primitive ∷ []) onward plain []
+    ∷ row (codes "astore") local_1 (any_kind ∷ []) [] (popped 0 ∷ []) onward plain []
+    ∷ row (codes "istore_0") (implied 0) (primitive ∷ []) [] (a_primitive ∷ []) onward plain []
+    ∷ row (codes "istore_1") (implied 1) (primitive ∷ []) [] (a_primitive ∷ []) onward plain []
+    ∷ row (codes "istore_2") (implied 2) (primitive ∷ []) [] (a_primitive ∷ []) onward plain []
+    ∷ row (codes "istore_3") (implied 3) (primitive ∷ []) [] (a_primitive ∷ []) onward plain []
+    ∷ row (codes "lstore_0") (implied 0) (primitive ∷ primitive ∷ []) [] (a_primitive ∷ a_primitive ∷ []) onward plain []
+    ∷ row (codes "lstore_1") (implied 1) (primitive ∷ primitive ∷ []) [] (a_primitive ∷ a_primitive ∷ []) onward plain []
+    ∷ row (codes "lstore_2") (implied 2) (primitive ∷ primitive ∷ []) [] (a_primitive ∷ a_primitive ∷ []) onward plain []
+    ∷ row (codes "lstore_3") (implied 3) (primitive ∷ primitive ∷ []) [] (a_primitive ∷ a_primitive ∷ []) onward plain []
+    ∷ row (codes "fstore_0") (implied 0) (primitive ∷ []) [] (a_primitive ∷ []) onward plain []
+    ∷ row (codes "fstore_1") (implied 1) (primitive ∷ []) [] (a_primitive ∷ []) onward plain []
+    ∷ row (codes "fstore_2") (implied 2) (primitive ∷ []) [] (a_primitive ∷ []) onward plain []
+    ∷ row (codes "fstore_3") (implied 3) (primitive ∷ []) [] (a_primitive ∷ []) onward plain []
+    ∷ row (codes "dstore_0") (implied 0) (primitive ∷ primitive ∷ []) [] (a_primitive ∷ a_primitive ∷ []) onward plain []
+    ∷ row (codes "dstore_1") (implied 1) (primitive ∷ primitive ∷ []) [] (a_primitive ∷ a_primitive ∷ []) onward plain []
+    ∷ row (codes "dstore_2") (implied 2) (primitive ∷ primitive ∷ []) [] (a_primitive ∷ a_primitive ∷ []) onward plain []
+    ∷ row (codes "dstore_3") (implied 3) (primitive ∷ primitive ∷ []) [] (a_primitive ∷ a_primitive ∷ []) onward plain []
+    ∷ row (codes "astore_0") (implied 0) (any_kind ∷ []) [] (popped 0 ∷ []) onward plain []
+    ∷ row (codes "astore_1") (implied 1) (any_kind ∷ []) [] (popped 0 ∷ []) onward plain []
+    ∷ row (codes "astore_2") (implied 2) (any_kind ∷ []) [] (popped 0 ∷ []) onward plain []
+    ∷ row (codes "astore_3") (implied 3) (any_kind ∷ []) [] (popped 0 ∷ []) onward plain []
+    ∷ row (codes "iastore") nothing (reference ∷ primitive ∷ primitive ∷ []) [] [] onward probe (null_pointer ∷ array_index ∷ [])
+    ∷ row (codes "lastore") nothing (reference ∷ primitive ∷ primitive ∷ primitive ∷ []) [] [] onward probe (null_pointer ∷ array_index ∷ [])
+    ∷ row (codes "fastore") nothing (reference ∷ primitive ∷ primitive ∷ []) [] [] onward probe (null_pointer ∷ array_index ∷ [])
+    ∷ row (codes "dastore") nothing (reference ∷ primitive ∷ primitive ∷ primitive ∷ []) [] [] onward probe (null_pointer ∷ array_index ∷ [])
+    ∷ row (codes "aastore") nothing (reference ∷ primitive ∷ reference ∷ []) [] [] onward store_element (null_pointer ∷ array_index ∷ array_store ∷ [])
+    ∷ row (codes "bastore") nothing (reference ∷ primitive ∷ primitive ∷ []) [] [] onward probe (null_pointer ∷ array_index ∷ [])
+    ∷ row (codes "castore") nothing (reference ∷ primitive ∷ primitive ∷ []) [] [] onward probe (null_pointer ∷ array_index ∷ [])
+    ∷ row (codes "sastore") nothing (reference ∷ primitive ∷ primitive ∷ []) [] [] onward probe (null_pointer ∷ array_index ∷ [])
+    ∷ row (codes "pop") nothing (any_kind ∷ []) [] [] onward plain []
+    ∷ row (codes "pop2") nothing (any_kind ∷ any_kind ∷ []) [] [] onward plain []
+    ∷ row (codes "dup") nothing (any_kind ∷ []) (popped 0 ∷ popped 0 ∷ []) [] onward plain []
+    ∷ row (codes "dup_x1") nothing (any_kind ∷ any_kind ∷ []) (popped 1 ∷ popped 0 ∷ popped 1 ∷ []) [] onward plain []
+    ∷ row (codes "dup_x2") nothing (any_kind ∷ any_kind ∷ any_kind ∷ []) (popped 2 ∷ popped 0 ∷ popped 1 ∷ popped 2 ∷ []) [] onward plain []
+    ∷ row (codes "dup2") nothing (any_kind ∷ any_kind ∷ []) (popped 0 ∷ popped 1 ∷ popped 0 ∷ popped 1 ∷ []) [] onward plain []
+    ∷ row (codes "dup2_x1") nothing (any_kind ∷ any_kind ∷ any_kind ∷ []) (popped 1 ∷ popped 2 ∷ popped 0 ∷ popped 1 ∷ popped 2 ∷ []) [] onward plain []
+    ∷ row (codes "dup2_x2") nothing (any_kind ∷ any_kind ∷ any_kind ∷ any_kind ∷ []) (popped 2 ∷ popped 3 ∷ popped 0 ∷ popped 1 ∷ popped 2 ∷ popped 3 ∷ []) [] onward plain []
+    ∷ row (codes "swap") nothing (any_kind ∷ any_kind ∷ []) (popped 1 ∷ popped 0 ∷ []) [] onward plain []
+    ∷ row (codes "iadd") nothing (primitive ∷ primitive ∷ []) (a_primitive ∷ []) [] onward plain []
+    ∷ row (codes "ladd") nothing (primitive ∷ primitive ∷ primitive ∷ primitive ∷ []) (a_primitive ∷ a_primitive ∷ []) [] onward plain []
+    ∷ row (codes "fadd") nothing (primitive ∷ primitive ∷ []) (a_primitive ∷ []) [] onward plain []
+    ∷ row (codes "dadd") nothing (primitive ∷ primitive ∷ primitive ∷ primitive ∷ []) (a_primitive ∷ a_primitive ∷ []) [] onward plain []
+    ∷ row (codes "isub") nothing (primitive ∷ primitive ∷ []) (a_primitive ∷ []) [] onward plain []
+    ∷ row (codes "lsub") nothing (primitive ∷ primitive ∷ primitive ∷ primitive ∷ []) (a_primitive ∷ a_primitive ∷ []) [] onward plain []
+    ∷ row (codes "fsub") nothing (primitive ∷ primitive ∷ []) (a_primitive ∷ []) [] onward plain []
+    ∷ row (codes "dsub") nothing (primitive ∷ primitive ∷ primitive ∷ primitive ∷ []) (a_primitive ∷ a_primitive ∷ []) [] onward plain []
+    ∷ row (codes "imul") nothing (primitive ∷ primitive ∷ []) (a_primitive ∷ []) [] onward plain []
+    ∷ row (codes "lmul") nothing (primitive ∷ primitive ∷ primitive ∷ primitive ∷ []) (a_primitive ∷ a_primitive ∷ []) [] onward plain []
+    ∷ row (codes "fmul") nothing (primitive ∷ primitive ∷ []) (a_primitive ∷ []) [] onward plain []
+    ∷ row (codes "dmul") nothing (primitive ∷ primitive ∷ primitive ∷ primitive ∷ []) (a_primitive ∷ a_primitive ∷ []) [] onward plain []
+    ∷ row (codes "idiv") nothing (primitive ∷ primitive ∷ []) (a_primitive ∷ []) [] onward plain (arithmetic ∷ [])
+    ∷ row (codes "ldiv") nothing (primitive ∷ primitive ∷ primitive ∷ primitive ∷ []) (a_primitive ∷ a_primitive ∷ []) [] onward plain (arithmetic ∷ [])
+    ∷ row (codes "fdiv") nothing (primitive ∷ primitive ∷ []) (a_primitive ∷ []) [] onward plain []
+    ∷ row (codes "ddiv") nothing (primitive ∷ primitive ∷ primitive ∷ primitive ∷ []) (a_primitive ∷ a_primitive ∷ []) [] onward plain []
+    ∷ row (codes "irem") nothing (primitive ∷ primitive ∷ []) (a_primitive ∷ []) [] onward plain (arithmetic ∷ [])
+    ∷ row (codes "lrem") nothing (primitive ∷ primitive ∷ primitive ∷ primitive ∷ []) (a_primitive ∷ a_primitive ∷ []) [] onward plain (arithmetic ∷ [])
+    ∷ row (codes "frem") nothing (primitive ∷ primitive ∷ []) (a_primitive ∷ []) [] onward plain []
+    ∷ row (codes "drem") nothing (primitive ∷ primitive ∷ primitive ∷ primitive ∷ []) (a_primitive ∷ a_primitive ∷ []) [] onward plain []
+    ∷ row (codes "ineg") nothing (primitive ∷ []) (a_primitive ∷ []) [] onward plain []
+    ∷ row (codes "lneg") nothing (primitive ∷ primitive ∷ []) (a_primitive ∷ a_primitive ∷ []) [] onward plain []
+    ∷ row (codes "fneg") nothing (primitive ∷ []) (a_primitive ∷ []) [] onward plain []
+    ∷ row (codes "dneg") nothing (primitive ∷ primitive ∷ []) (a_primitive ∷ a_primitive ∷ []) [] onward plain []
+    ∷ row (codes "ishl") nothing (primitive ∷ primitive ∷ []) (a_primitive ∷ []) [] onward plain []
+    ∷ row (codes "lshl") nothing (primitive ∷ primitive ∷ primitive ∷ []) (a_primitive ∷ a_primitive ∷ []) [] onward plain []
+    ∷ row (codes "ishr") nothing (primitive ∷ primitive ∷ []) (a_primitive ∷ []) [] onward plain []
+    ∷ row (codes "lshr") nothing (primitive ∷ primitive ∷ primitive ∷ []) (a_primitive ∷ a_primitive ∷ []) [] onward plain []
+    ∷ row (codes "iushr") nothing (primitive ∷ primitive ∷ []) (a_primitive ∷ []) [] onward plain []
+    ∷ row (codes "lushr") nothing (primitive ∷ primitive ∷ primitive ∷ []) (a_primitive ∷ a_primitive ∷ []) [] onward plain []
+    ∷ row (codes "iand") nothing (primitive ∷ primitive ∷ []) (a_primitive ∷ []) [] onward plain []
+    ∷ row (codes "land") nothing (primitive ∷ primitive ∷ primitive ∷ primitive ∷ []) (a_primitive ∷ a_primitive ∷ []) [] onward plain []
+    ∷ row (codes "ior") nothing (primitive ∷ primitive ∷ []) (a_primitive ∷ []) [] onward plain []
+    ∷ row (codes "lor") nothing (primitive ∷ primitive ∷ primitive ∷ primitive ∷ []) (a_primitive ∷ a_primitive ∷ []) [] onward plain []
+    ∷ row (codes "ixor") nothing (primitive ∷ primitive ∷ []) (a_primitive ∷ []) [] onward plain []
+    ∷ row (codes "lxor") nothing (primitive ∷ primitive ∷ primitive ∷ primitive ∷ []) (a_primitive ∷ a_primitive ∷ []) [] onward plain []
+    ∷ row (codes "iinc") local_and_value [] [] (a_primitive ∷ []) onward plain []
+    ∷ row (codes "i2l") nothing (primitive ∷ []) (a_primitive ∷ a_primitive ∷ []) [] onward plain []
+    ∷ row (codes "i2f") nothing (primitive ∷ []) (a_primitive ∷ []) [] onward plain []
+    ∷ row (codes "i2d") nothing (primitive ∷ []) (a_primitive ∷ a_primitive ∷ []) [] onward plain []
+    ∷ row (codes "l2i") nothing (primitive ∷ primitive ∷ []) (a_primitive ∷ []) [] onward plain []
+    ∷ row (codes "l2f") nothing (primitive ∷ primitive ∷ []) (a_primitive ∷ []) [] onward plain []
+    ∷ row (codes "l2d") nothing (primitive ∷ primitive ∷ []) (a_primitive ∷ a_primitive ∷ []) [] onward plain []
+    ∷ row (codes "f2i") nothing (primitive ∷ []) (a_primitive ∷ []) [] onward plain []
+    ∷ row (codes "f2l") nothing (primitive ∷ []) (a_primitive ∷ a_primitive ∷ []) [] onward plain []
+    ∷ row (codes "f2d") nothing (primitive ∷ []) (a_primitive ∷ a_primitive ∷ []) [] onward plain []
+    ∷ row (codes "d2i") nothing (primitive ∷ primitive ∷ []) (a_primitive ∷ []) [] onward plain []
+    ∷ row (codes "d2l") nothing (primitive ∷ primitive ∷ []) (a_primitive ∷ a_primitive ∷ []) [] onward plain []
+    ∷ row (codes "d2f") nothing (primitive ∷ primitive ∷ []) (a_primitive ∷ []) [] onward plain []
+    ∷ row (codes "i2b") nothing (primitive ∷ []) (a_primitive ∷ []) [] onward plain []
+    ∷ row (codes "i2c") nothing (primitive ∷ []) (a_primitive ∷ []) [] onward plain []
+    ∷ row (codes "i2s") nothing (primitive ∷ []) (a_primitive ∷ []) [] onward plain []
+    ∷ row (codes "lcmp") nothing (primitive ∷ primitive ∷ primitive ∷ primitive ∷ []) (a_primitive ∷ []) [] onward plain []
+    ∷ row (codes "fcmpl") nothing (primitive ∷ primitive ∷ []) (a_primitive ∷ []) [] onward plain []
+    ∷ row (codes "fcmpg") nothing (primitive ∷ primitive ∷ []) (a_primitive ∷ []) [] onward plain []
+    ∷ row (codes "dcmpl") nothing (primitive ∷ primitive ∷ primitive ∷ primitive ∷ []) (a_primitive ∷ []) [] onward plain []
+    ∷ row (codes "dcmpg") nothing (primitive ∷ primitive ∷ primitive ∷ primitive ∷ []) (a_primitive ∷ []) [] onward plain []
+    ∷ row (codes "ifeq") offset_2 (primitive ∷ []) [] [] branch plain []
+    ∷ row (codes "ifne") offset_2 (primitive ∷ []) [] [] branch plain []
+    ∷ row (codes "iflt") offset_2 (primitive ∷ []) [] [] branch plain []
+    ∷ row (codes "ifge") offset_2 (primitive ∷ []) [] [] branch plain []
+    ∷ row (codes "ifgt") offset_2 (primitive ∷ []) [] [] branch plain []
+    ∷ row (codes "ifle") offset_2 (primitive ∷ []) [] [] branch plain []
+    ∷ row (codes "if_icmpeq") offset_2 (primitive ∷ primitive ∷ []) [] [] branch plain []
+    ∷ row (codes "if_icmpne") offset_2 (primitive ∷ primitive ∷ []) [] [] branch plain []
+    ∷ row (codes "if_icmplt") offset_2 (primitive ∷ primitive ∷ []) [] [] branch plain []
+    ∷ row (codes "if_icmpge") offset_2 (primitive ∷ primitive ∷ []) [] [] branch plain []
+    ∷ row (codes "if_icmpgt") offset_2 (primitive ∷ primitive ∷ []) [] [] branch plain []
+    ∷ row (codes "if_icmple") offset_2 (primitive ∷ primitive ∷ []) [] [] branch plain []
+    ∷ row (codes "if_acmpeq") offset_2 (reference ∷ reference ∷ []) [] [] branch_if_same plain []
+    ∷ row (codes "if_acmpne") offset_2 (reference ∷ reference ∷ []) [] [] branch_if_other plain []
+    ∷ row (codes "goto") offset_2 [] [] [] jump plain []
+    ∷ row (codes "jsr") offset_2 [] [] [] subroutine refused []
+    ∷ row (codes "ret") local_1 [] [] [] subroutine refused []
+    ∷ row (codes "tableswitch") table_of_offsets (primitive ∷ []) [] [] jump plain []
+    ∷ row (codes "lookupswitch") pairs_with_offsets (primitive ∷ []) [] [] jump plain []
+    ∷ row (codes "ireturn") nothing (primitive ∷ []) [] [] leave leave_method []
+    ∷ row (codes "lreturn") nothing (primitive ∷ primitive ∷ []) [] [] leave leave_method []
+    ∷ row (codes "freturn") nothing (primitive ∷ []) [] [] leave leave_method []
+    ∷ row (codes "dreturn") nothing (primitive ∷ primitive ∷ []) [] [] leave leave_method []
+    ∷ row (codes "areturn") nothing (reference ∷ []) [] [] leave leave_method []
+    ∷ row (codes "return") nothing [] [] [] leave leave_method []
+    ∷ row (codes "getstatic") pool_2 [] [] [] onward get_static []
+    ∷ row (codes "putstatic") pool_2 [] [] [] onward put_static []
+    ∷ row (codes "getfield") pool_2 [] [] [] onward get_field (null_pointer ∷ [])
+    ∷ row (codes "putfield") pool_2 [] [] [] onward put_field (null_pointer ∷ [])
+    ∷ row (codes "invokevirtual") pool_2 [] [] [] onward invoke_virtual (null_pointer ∷ [])
+    ∷ row (codes "invokespecial") pool_2 [] [] [] onward invoke_special (null_pointer ∷ [])
+    ∷ row (codes "invokestatic") pool_2 [] [] [] onward invoke_static []
+    ∷ row (codes "invokeinterface") pool_2_and_count [] [] [] onward invoke_interface (null_pointer ∷ [])
+    ∷ row (codes "invokedynamic") pool_2_and_zeros [] [] [] onward refused []
+    ∷ row (codes "new") pool_2 [] (the_made ∷ []) [] onward make_object []
+    ∷ row (codes "newarray") type_code (primitive ∷ []) (the_made ∷ []) [] onward make_array (negative_size ∷ [])
+    ∷ row (codes "anewarray") pool_2 (primitive ∷ []) (the_made ∷ []) [] onward make_array (negative_size ∷ [])
+    ∷ row (codes "arraylength") nothing (reference ∷ []) (a_primitive ∷ []) [] onward probe (null_pointer ∷ [])
+    ∷ row (codes "athrow") nothing (reference ∷ []) [] [] leave throw_object (null_pointer ∷ [])
+    ∷ row (codes "checkcast") pool_2 (reference ∷ []) (popped 0 ∷ []) [] onward cast (class_cast ∷ [])
+    ∷ row (codes "instanceof") pool_2 (reference ∷ []) (a_primitive ∷ []) [] onward plain []
+    ∷ row (codes "monitorenter") nothing (reference ∷ []) [] [] onward probe (null_pointer ∷ [])
+    ∷ row (codes "monitorexit") nothing (reference ∷ []) [] [] onward probe (null_pointer ∷ [])
+    ∷ row (codes "wide") widened [] [] [] onward refused []
+    ∷ row (codes "multianewarray") pool_2_and_dimensions [] (the_made ∷ []) [] onward make_array (negative_size ∷ [])
+    ∷ row (codes "ifnull") offset_2 (reference ∷ []) [] [] branch_if_null plain []
+    ∷ row (codes "ifnonnull") offset_2 (reference ∷ []) [] [] branch_if_object plain []
+    ∷ row (codes "goto_w") offset_4 [] [] [] jump plain []
+    ∷ row (codes "jsr_w") offset_4 [] [] [] subroutine refused []
+    ∷ []
+
+-- The row of an opcode.
+abbrev pub row_of : ℕ → Option Row
+row_of opcode = slice_get rows opcode
