@@ -1,8 +1,8 @@
 -- The class file: what is read is spelled so, and what is spelled so is read.
-use Rattle.std.proofs.Common.{◌≡◌, ℕ, ◌^◌, ◌<◌, ◌≤◌, Bool, true, false, cond, eqb, ltb, List, [], ◌++◌, ◌||◌, length, Result, Ok, Err, refl, sym, ap, subst, ◌∙◌, append_assoc, lit<}
+use Rattle.std.proofs.Common.{◌≡◌, ℕ, ◌^◌, ◌<◌, ◌≤◌, Bool, true, false, cond, eqb, ltb, List, [], ◌++◌, ◌||◌, length, take, Result, Ok, Err, refl, sym, ap, subst, ◌∙◌, append_assoc, lit<, arith}
 use Rattle.std.specs.Int.{w16, w32}
-use Rattle.std.proofs.lemmas.Bool.{eqb-true, ltb-false, le-ltb}
-use Rattle.std.proofs.lemmas.List.{append-nil, nil_from_length}
+use Rattle.std.proofs.lemmas.Bool.{eqb-true, ltb-true, ltb-false, lt-ltb, le-ltb}
+use Rattle.std.proofs.lemmas.List.{append-nil, nil_from_length, take_all, length-take}
 use Rattle.jvm_model.specs.declared.class_file.ClassFile.{ClassFile}
 use Rattle.jvm_model.specs.declared.class_file.Member.{Member}
 use Rattle.jvm_model.specs.declared.class_file.Attribute.{Attribute}
@@ -243,7 +243,7 @@ class_takes place x fits e =
 regroup : (a b c d e f g h i j k rest : List ℕ) → ((((((((((a ++ b) ++ c) ++ d) ++ e) ++ f) ++ g) ++ h) ++ i) ++ j) ++ k) ++ rest ≡ a ++ (b ++ (c ++ (d ++ (e ++ (f ++ (g ++ (h ++ (i ++ (j ++ (k ++ rest))))))))))
 regroup a b c d e f g h i j k rest = simp append_assoc
 
-class_again : (c : ClassFile) (o : ℕ) (rest : List ℕ) → IsReadableClass c → (end : ℕ) × (class_at (record { offset = o; rest = spell c ++ rest }) ≡ Ok (c, record { offset = end; rest = rest }))
+pub class_again : (c : ClassFile) (o : ℕ) (rest : List ℕ) → IsReadableClass c → (end : ℕ) × (class_at (record { offset = o; rest = spell c ++ rest }) ≡ Ok (c, record { offset = end; rest = rest }))
 unfolding class_at
 class_again c o rest (fits, readable) =
     let r10 = table attribute c.attributes ++ rest in
@@ -301,3 +301,17 @@ class_of_again bytes c h =
 pub is_found : (bytes : List ℕ) (r : Result ClassFile ReadRefusal) → IsBytes bytes → Tells r (class_of bytes) → IfOk r (SpellsReadable bytes)
 is_found bytes (Ok c) fits tells = class_of_takes bytes c fits tells
 is_found bytes (Err e) fits tells = tt
+
+-- of a file that is cut past the limit the same is told
+pub class_of_cut : (n : ℕ) (bytes : List ℕ) → CLASS_FILE_LIMIT < n → class_of (take n bytes) ≡ class_of bytes
+unfolding class_of
+class_of_cut n bytes past = by (ltb CLASS_FILE_LIMIT (length bytes)) refl
+  where
+    by : (large : Bool) → ltb CLASS_FILE_LIMIT (length bytes) ≡ large → class_of (take n bytes) ≡ class_of bytes
+    by true e =
+        let long : CLASS_FILE_LIMIT < length bytes = ltb-true CLASS_FILE_LIMIT (length bytes) e in
+        let cut : ltb CLASS_FILE_LIMIT (length (take n bytes)) ≡ true = lt-ltb CLASS_FILE_LIMIT (length (take n bytes)) (omega (arith, long, past, length-take n bytes)) in
+        rw (e, cut) refl
+    by false e =
+        let short : length bytes ≤ CLASS_FILE_LIMIT = ltb-false CLASS_FILE_LIMIT (length bytes) e in
+        ap class_of (take_all n bytes (omega (arith, short, past)))

@@ -5,3 +5,4 @@ pub mod Fields
 pub mod Members
 pub mod Entries
 pub mod Classes
+pub mod OneSpelling

@@ -1,9 +1,7 @@
 -- Reading a class file (JVMS 4.1, 4.5 to 4.7).
-use Rattle.std.specs.Prelude.{◌≡◌, ◌≤◌, ℕ, List, length, Result, Ok, Err, nat_lt, ◌==◌, ◌||◌, if◌then◌else◌}
+use Rattle.std.specs.Prelude.{◌≤◌, ℕ, List, length, Result, Ok, Err, nat_lt, ◌==◌, ◌||◌, if◌then◌else◌}
 use Rattle.std.specs.Int.{w16, w32}
-use Rattle.jvm_model.specs.declared.reason.Reason.TheVariants.{BadMagic, BadVersion, TrailingBytes, ClassTooLarge, NotYet}
-use Rattle.jvm_model.specs.declared.reason.ReadRefusal.{ReadRefusal}
-use Rattle.jvm_model.specs.declared.reason.ReadRefusal.TheVariants as refusals
+use Rattle.jvm_model.specs.declared.reason.Reason.TheVariants.{BadMagic, BadVersion, TrailingBytes, ClassTooLarge}
 use Rattle.jvm_model.specs.declared.class_file.ClassFile.{ClassFile}
 use Rattle.jvm_model.specs.declared.class_file.Member.{Member}
 use Rattle.jvm_model.specs.declared.class_file.Attribute.{Attribute}
@@ -86,8 +84,3 @@ pub record SpellsReadable (bytes : List ℕ) (c : ClassFile) : Type 0 where
   pub oldest : 45 ≤ c.major
   pub newest : c.major ≤ 52
   pub size : length bytes ≤ CLASS_FILE_LIMIT
-
--- Memory ran out, or the file has a form that is not analysed yet, which is told at its first byte.
-abbrev pub IsNotYet : ReadRefusal → Type 0
-IsNotYet refusals.Memory = Unit {0}
-IsNotYet (refusals.Refused offset reason) = (offset ≡ 0) × (reason ≡ NotYet)

@@ -1,9 +1,7 @@
 //! The class file as a whole (JVMS 4.1).
 
-ghost use Rattle.std.specs.Prelude.{◌≡◌, IfOk, Ok};
-ghost use Rattle.jvm_model.specs.declared.class_file.ClassFile.{ClassFile};
 ghost use Rattle.classfile_reader.specs.Reading.{Reads, Tells};
-ghost use Rattle.classfile_reader.specs.ClassReading.{magic_at, major_at, class_at, class_of, SpellsReadable};
+ghost use Rattle.classfile_reader.specs.ClassReading.{magic_at, major_at, class_at, class_of};
 
 use crate::input::Input;
 use crate::limit::CLASS_FILE_LIMIT;
@@ -79,7 +77,7 @@ fn class(input: &mut Input, alloc: Global) -> Result<ClassFile, ReadRefusal>
 
 /// A class file and no byte after it.
 #[tactic(auto, unfolding(crate::specs::ClassReading::class_of))]
-fn whole(alloc: Global, bytes: &[u8]) -> Result<ClassFile, ReadRefusal>
+pub(crate) fn whole(alloc: Global, bytes: &[u8]) -> Result<ClassFile, ReadRefusal>
     ensures { Tells result (class_of bytes.now) }
 {
     if bytes.len() > CLASS_FILE_LIMIT as usize {
@@ -91,16 +89,4 @@ fn whole(alloc: Global, bytes: &[u8]) -> Result<ClassFile, ReadRefusal>
         return Err(ReadRefusal::Refused(input.offset(), Reason::TrailingBytes));
     }
     Ok(class)
-}
-
-/// The class file that the bytes spell, or the first fault from the left.
-pub(crate) fn first_pass(alloc: Global, bytes: &[u8]) -> Result<ClassFile, ReadRefusal>
-    // Which class file and which fault it is.
-    ensures exact { Tells result (class_of bytes.now) }
-    // What is read is spelled so.
-    ensures found { IfOk result (SpellsReadable bytes.now) }
-    // What is spelled so is read, unless memory runs out.
-    ensures only { (c : ClassFile) → SpellsReadable bytes.now c → Tells result (Ok c) }
-{
-    whole(alloc, bytes)
 }

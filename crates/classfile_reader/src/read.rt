@@ -1,59 +1,39 @@
 //! The reader, as the layers above see it.
 
-ghost use Rattle.std.specs.Prelude.{◌≡◌, ◌≤◌, length, IfOk, IfErr, Ok};
-ghost use Rattle.jvm_model.specs.Soundness.{IsSoundClass};
-ghost use Rattle.jvm_model.specs.Spelling.{IsSpelling};
+ghost use Rattle.std.specs.Prelude.{IfOk, Ok};
 ghost use Rattle.jvm_model.specs.declared.class_file.ClassFile.{ClassFile};
 ghost use Rattle.classfile_reader.specs.Reading.{Tells};
-ghost use Rattle.classfile_reader.specs.ClassReading.{SpellsReadable, IsNotYet};
+ghost use Rattle.classfile_reader.specs.ClassReading.{SpellsReadable, class_of};
 
-use crate::class::first_pass;
-use crate::limit::CLASS_FILE_LIMIT;
-use crate::soundness::is_sound;
+use crate::class::whole;
 use jvm_model::class_file::ClassFile;
-use jvm_model::reason::{ReadRefusal, Reason};
+use jvm_model::reason::ReadRefusal;
 use std::alloc::Global;
 
-/// The class file that the bytes spell (JVMS 4.1), all of them, if it has the form that is analysed so far.
+/// The class file that the bytes spell (JVMS 4.1 to 4.7), all of them, or the first fault with its file offset.
 ///
-/// Judged are its spelling, its version (45 to 52), its size (up to `CLASS_FILE_LIMIT` bytes), and whether it
-/// is sound:
+/// A file of more than `CLASS_FILE_LIMIT` bytes is `ClassTooLarge`, at the limit. Otherwise the fields are read in
+/// the order of the standard, and the first fault is told:
 ///
-/// - each entry of the constant pool is a CONSTANT_Utf8, of bytes that may stand there (JVMS 4.4.7), a
-///   CONSTANT_Class that leads to the name of a class (4.4.1, 4.2.1), a CONSTANT_Methodref that leads to a class
-///   and a name and type (4.4.2), or a CONSTANT_NameAndType that leads to the name of a method and the
-///   descriptor `()V` (4.4.6, 4.2.2, 4.3.3);
-/// - `this_class` leads to a class, and so does `super_class`, or it is 0 and the class is `java/lang/Object`
-///   (4.1);
-/// - there are no interfaces and no fields;
-/// - each method has the name of a method and the descriptor `()V`, no two of them have one name, and a method
-///   has one `Code` attribute, or none if it is native or abstract (4.6, 4.7.3);
-/// - the name of each attribute is a text (4.7).
+/// - `Truncated` at the first byte of the field that the file cuts off, where an entry of the constant pool and
+///   the body of an attribute are one field each;
+/// - `BadMagic` at 0 (4.1), and `BadVersion` at 6 for a major version that is not 45 to 52;
+/// - `BadIndex` at 8 for a constant pool count of 0, and at the tag of a Long or a Double whose second index is past
+///   the pool (4.4.5);
+/// - `BadTag` at a tag that no entry has (4.4);
+/// - `TrailingBytes` at the first byte after the last attribute.
 ///
-/// Each file that is not read is refused with `NotYet` at offset 0, whatever its fault is. The time taken is
-/// linear in the number of bytes, but for the names of methods, which are kept in order.
+/// Whether what is read is sound is another question, which `is_sound` answers. The time taken is linear in the
+/// number of bytes, and a count that promises more than the file holds reserves nothing for it.
 pub fn read_class(alloc: Global, bytes: &[u8]) -> Result<ClassFile, ReadRefusal>
-    // What is read is spelled so, with a version and a size that are read.
-    ensures found { IfOk result (λ c. IsSpelling bytes.now c) }
-    ensures readable { IfOk result (λ c. (45 ≤ c.major) × (c.major ≤ 52) × (length bytes.now ≤ CLASS_FILE_LIMIT)) }
+    // Which class file it is, and which fault.
+    ensures exact { Tells result (class_of bytes.now) }
 
-    // What is read is sound.
-    ensures sound { IfOk result (λ c. IsSoundClass c) }
+    // What is read is spelled so, in a version and a size that are read.
+    ensures found { IfOk result (SpellsReadable bytes.now) }
 
-    // What is not read is refused at its first byte, or memory ran out.
-    ensures refused { IfErr result IsNotYet }
-
-    // What is spelled so and sound is read, unless memory runs out.
-    ensures only { (c : ClassFile) → IsSpelling bytes.now c → 45 ≤ c.major → c.major ≤ 52 → length bytes.now ≤ CLASS_FILE_LIMIT → IsSoundClass c → Tells result (Ok c) }
+    // What is spelled so is read, unless memory runs out.
+    ensures only { (c : ClassFile) → SpellsReadable bytes.now c → Tells result (Ok c) }
 {
-    match first_pass(alloc, bytes) {
-        Ok(class) => {
-            if !is_sound(alloc, &class)? {
-                return Err(ReadRefusal::Refused(0, Reason::NotYet));
-            }
-            Ok(class)
-        }
-        Err(ReadRefusal::Refused(..)) => Err(ReadRefusal::Refused(0, Reason::NotYet)),
-        Err(ReadRefusal::Memory) => Err(ReadRefusal::Memory),
-    }
+    whole(alloc, bytes)
 }

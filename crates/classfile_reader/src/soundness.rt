@@ -37,9 +37,22 @@ fn has_super_class(pool: &[PoolEntry], this_class: u16, super_class: u16) -> boo
     is_class_at(pool, super_class) || (super_class == 0 && is_object_at(pool, this_class))
 }
 
-/// Whether a class file is sound. That the names of methods differ is tested before each of them is read as a
-/// name, so that what is read is no longer than the file.
-pub(crate) fn is_sound(alloc: Global, class: &ClassFile) -> Result<bool, AllocError>
+/// Whether a class file is sound, and of the kinds that are read so far:
+///
+/// - each entry of the constant pool is a CONSTANT_Utf8, of bytes that may stand there (JVMS 4.4.7), a
+///   CONSTANT_Class that leads to the name of a class (4.4.1, 4.2.1), a CONSTANT_Methodref that leads to a class
+///   and a name and type (4.4.2), or a CONSTANT_NameAndType that leads to the name of a method and the
+///   descriptor `()V` (4.4.6, 4.2.2, 4.3.3);
+/// - `this_class` leads to a class, and so does `super_class`, or it is 0 and the class is `java/lang/Object`
+///   (4.1);
+/// - there are no interfaces and no fields;
+/// - each method has the name of a method and the descriptor `()V`, no two of them have one name, and a method
+///   has one `Code` attribute, or none if it is native or abstract (4.6, 4.7.3);
+/// - the name of each attribute is a text (4.7).
+///
+/// That the names of methods differ is tested before each of them is read as a name, so that what is read is no
+/// longer than the file. The time taken is linear, but for the names of methods, which are kept in order.
+pub fn is_sound(alloc: Global, class: &ClassFile) -> Result<bool, AllocError>
     ensures { IfOk result (λ sound. IsTrue sound ↔ IsSoundClass class.now) }
 {
     let pool = class.pool.as_slice();

@@ -1,8 +1,7 @@
 //! A class file of another's making: it is read, and each cut and each edit of it is refused where it should be.
-//! Where a fault stands is told by the first pass, and `read_class` tells only that there is one.
+//! What is read and is not sound is told apart.
 
-use crate::class::first_pass;
-use crate::{CLASS_FILE_LIMIT, read_class};
+use crate::{CLASS_FILE_LIMIT, is_sound, read_class};
 use jvm_model::pool::PoolEntry;
 use jvm_model::reason::{ReadRefusal, Reason};
 use std::alloc::{AllocError, Global};
@@ -70,7 +69,7 @@ fn field_of(byte: usize) -> u32 {
 }
 
 fn refusal(alloc: Global, bytes: &[u8]) -> Option<(u32, Reason)> {
-    match first_pass(alloc, bytes) {
+    match read_class(alloc, bytes) {
         Err(ReadRefusal::Refused(offset, reason)) => Some((offset, reason)),
         _ => None,
     }
@@ -105,7 +104,7 @@ fn a_class_is_read(rt: HostRuntime) -> Result<(), Fail> {
 
 #[test]
 fn a_long_takes_two_indices(rt: HostRuntime) -> Result<(), Fail> {
-    let class = first_pass(rt.alloc(), one_long())?;
+    let class = read_class(rt.alloc(), one_long())?;
     assert!(rt;
         matches!(
             class.pool.as_slice(),
@@ -122,12 +121,6 @@ fn a_cut_is_refused_at_its_field(rt: HostRuntime) -> Result<(), Fail> {
         let expected = Some((field_of(cut), Reason::Truncated));
         assert_eq!(rt; refusal(rt.alloc(), front), expected, "at {cut}");
     }
-    assert!(rt;
-        matches!(
-            read_class(rt.alloc(), &[]),
-            Err(ReadRefusal::Refused(0, Reason::NotYet))
-        )
-    );
     Ok(())
 }
 
@@ -135,6 +128,8 @@ fn a_cut_is_refused_at_its_field(rt: HostRuntime) -> Result<(), Fail> {
 fn an_edit_is_refused_where_it_stands(rt: HostRuntime) -> Result<(), Fail> {
     let edits = [
         (0, 0, Some((0, Reason::BadMagic))),
+        (4, 255, None),
+        (5, 255, None),
         (7, 44, Some((6, Reason::BadVersion))),
         (7, 45, None),
         (7, 52, None),
@@ -180,17 +175,14 @@ fn a_file_past_the_limit_is_refused(rt: HostRuntime) -> Result<(), Fail> {
     Ok(())
 }
 
-/// Whether a file is read, or is refused as every other is.
-fn is_read(alloc: Global, bytes: &[u8]) -> Result<bool, ReadRefusal> {
-    match read_class(alloc, bytes) {
-        Ok(_) => Ok(true),
-        Err(ReadRefusal::Refused(0, Reason::NotYet)) => Ok(false),
-        Err(refusal) => Err(refusal),
-    }
+/// Whether a file, which is read, is sound.
+fn is_sound_file(alloc: Global, bytes: &[u8]) -> Result<bool, ReadRefusal> {
+    let class = read_class(alloc, bytes)?;
+    Ok(is_sound(alloc, &class)?)
 }
 
 #[test]
-fn a_class_that_is_not_sound_is_refused(rt: HostRuntime) -> Result<(), Fail> {
+fn a_class_that_is_not_sound_is_told(rt: HostRuntime) -> Result<(), Fail> {
     let edits = [
         ("this_class is 0", 121, 0, false),
         ("this_class is a text", 121, 1, false),
@@ -214,7 +206,7 @@ fn a_class_that_is_not_sound_is_refused(rt: HostRuntime) -> Result<(), Fail> {
     ];
     for (what, at, byte, expected) in edits {
         let bytes = edited(rt.alloc(), stream(), at, byte)?;
-        assert_eq!(rt; is_read(rt.alloc(), &bytes)?, expected, "{what}");
+        assert_eq!(rt; is_sound_file(rt.alloc(), &bytes)?, expected, "{what}");
     }
     Ok(())
 }
@@ -223,6 +215,72 @@ fn a_class_that_is_not_sound_is_refused(rt: HostRuntime) -> Result<(), Fail> {
 fn only_object_has_no_superclass(rt: HostRuntime) -> Result<(), Fail> {
     let object = edited(rt.alloc(), stream(), 121, 4)?;
     let alone = edited(rt.alloc(), &object, 123, 0)?;
-    assert!(rt; is_read(rt.alloc(), &alone)?);
+    assert!(rt; is_sound_file(rt.alloc(), &alone)?);
+    Ok(())
+}
+
+/// How many bytes an entry has after its tag, where its text is empty.
+fn contents(tag: u8) -> Option<usize> {
+    match tag {
+        1 | 7 | 8 | 16 => Some(2),
+        15 => Some(3),
+        3 | 4 | 9 | 10 | 11 | 12 | 18 => Some(4),
+        5 | 6 => Some(8),
+        _ => None,
+    }
+}
+
+/// A class whose constant pool has so many indices, and one entry of this tag if there is any.
+fn with_entry(alloc: Global, count: u8, entry: Option<u8>) -> Result<Vec<u8>, AllocError> {
+    let mut bytes = Vec::from_slice(alloc, &[0xca, 0xfe, 0xba, 0xbe, 0, 0, 0, 52, 0, count])?;
+    if let Some(tag) = entry {
+        bytes.push(tag)?;
+        for _ in 0..contents(tag).unwrap_or(8) {
+            bytes.push(0)?;
+        }
+    }
+    for _ in 0..14 {
+        bytes.push(0)?;
+    }
+    Ok(bytes)
+}
+
+#[test]
+fn each_tag_is_read_or_refused(rt: HostRuntime) -> Result<(), Fail> {
+    for tag in (0..21).chain(255..=255) {
+        let count = if tag == 5 || tag == 6 { 3 } else { 2 };
+        let bytes = with_entry(rt.alloc(), count, Some(tag))?;
+        let expected = match contents(tag) {
+            Some(_) => None,
+            None => Some((10, Reason::BadTag)),
+        };
+        assert_eq!(rt; refusal(rt.alloc(), &bytes), expected, "tag {tag}");
+    }
+    Ok(())
+}
+
+#[test]
+fn a_pool_may_be_empty(rt: HostRuntime) -> Result<(), Fail> {
+    let empty = with_entry(rt.alloc(), 1, None)?;
+    assert_eq!(rt; refusal(rt.alloc(), &empty), None);
+    let none = with_entry(rt.alloc(), 0, None)?;
+    assert_eq!(rt; refusal(rt.alloc(), &none), Some((8, Reason::BadIndex)));
+    Ok(())
+}
+
+/// A class of which an entry names the second index of a long.
+static NAMED_BY_A_LONG: [u8; 65] = [
+    0xca, 0xfe, 0xba, 0xbe, 0, 0, 0, 52, 0, 8, 1, 0, 1, 0x4c, 7, 0, 1, 1, 0, 0x10, 0x6a, 0x61,
+    0x76, 0x61, 0x2f, 0x6c, 0x61, 0x6e, 0x67, 0x2f, 0x4f, 0x62, 0x6a, 0x65, 0x63, 0x74, 7, 0, 3, 5,
+    0, 0, 0, 0, 0, 0, 0, 0, 7, 0, 6, 0, 0x21, 0, 2, 0, 4, 0, 0, 0, 0, 0, 0, 0, 0,
+];
+
+fn named_by_a_long() -> &'static [u8] {
+    &NAMED_BY_A_LONG
+}
+
+#[test]
+fn what_is_spelled_well_may_be_unsound(rt: HostRuntime) -> Result<(), Fail> {
+    assert!(rt; !is_sound_file(rt.alloc(), named_by_a_long())?);
     Ok(())
 }

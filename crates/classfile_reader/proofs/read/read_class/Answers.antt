@@ -1,7 +1,7 @@
 use Rattle.std.proofs.Common.{subst, arith}
 use Rattle.classfile_reader.specs.Reading.{Tells}
 use Rattle.classfile_reader.proofs.Classes.{class_of_again, is_found}
-use Rattle.classfile_reader.proofs.class.first_pass.Goals as goal
+use Rattle.classfile_reader.proofs.read.read_class.Goals as goal
 
 pub returns-clause-found : goal.returns-clause-found
 returns-clause-found c = is_found c.args.bytes.now c.whole.result (λ i. omega (arith, c.type_inv.bytes i)) c.whole.ensures
