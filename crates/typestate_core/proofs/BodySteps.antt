@@ -142,6 +142,8 @@ IsBody-found bytes max_stack max_locals code handlers rest r none (attributes, a
     max_stack = r.max_stack_fits;
     max_locals = r.max_locals_fits;
     code_length = r.code_fits;
+    handler_count = omega arith;
+    handlers = λ k h lt. absurd (omega arith);
     attribute_count = are.count;
     attributes = are.fits;
     spelled = r.parts
@@ -268,14 +270,14 @@ one_item xs a b e f = cc
 -- the contents are those of the body's attribute
 pub same_code : (c : ClassFile) (m : Member) (bytes : List ℕ) (b : Body) → IsCodeOf c m bytes → HasBody c m b → IsBody bytes b
 same_code c m bytes b is has =
-    let same : bytes ≡ has.code.body = is.contents ∙ ap (λ (a : Attribute). a.body) (one_item _ is.code has.code is.only has.only) in
-    subst (λ (t : List ℕ). IsBody t b) (sym same) has.body
+    let same : bytes ≡ has.is.code.body = is.contents ∙ ap (λ (a : Attribute). a.body) (one_item _ is.code has.is.code is.only has.is.only) in
+    subst (λ (t : List ℕ). IsBody t b) (sym same) has.is.body
 
 pub HasBody-found : (c : ClassFile) (m : Member) (bytes : List ℕ) (b : Body) → IsCodeOf c m bytes → IsBody bytes b → HasBody c m b
-HasBody-found c m bytes b is body = record { code = is.code; only = is.only; body = subst (λ (t : List ℕ). IsBody t b) is.contents body }
+HasBody-found c m bytes b is body = record { is = record { code = is.code; only = is.only; body = subst (λ (t : List ℕ). IsBody t b) is.contents body } }
 
 -- a method has one body, but for the list of its attributes
 pub HasBody-same : (c : ClassFile) (m : Member) (a b : Body) → HasBody c m a → HasBody c m b → (a.max_stack ≡ b.max_stack) × (a.max_locals ≡ b.max_locals) × (a.code ≡ b.code)
 HasBody-same c m a b has_a has_b =
-    let is : IsCodeOf c m has_a.code.body = record { code = has_a.code; only = has_a.only; contents = refl } in
-    same_body has_a.code.body a b has_a.body (same_code c m has_a.code.body b is has_b)
+    let is : IsCodeOf c m has_a.is.code.body = record { code = has_a.is.code; only = has_a.is.only; contents = refl } in
+    same_body has_a.is.code.body a b has_a.is.body (same_code c m has_a.is.code.body b is has_b)

@@ -5,6 +5,7 @@ use Rattle.jvm_model.specs.declared.class_file.ClassFile.{ClassFile}
 use Rattle.jvm_model.specs.declared.class_file.Member.{Member}
 use Rattle.jvm_model.specs.declared.automaton.Event.{Event}
 use Rattle.jvm_model.specs.Lookups.{text_at}
+use Rattle.typestate_core.specs.Bodies.{Body, HasBody}
 use Rattle.typestate_core.specs.StageOne.{is_called}
 use Rattle.typestate_core.specs.StraightLine.{Instruction, instruction, new, dup, astore, invokespecial, return_void, code_of, calls_on, IsEntry, IsCallee, HasMethod, IsStraightLine, Occurs}
 use Rattle.typestate_core.specs.FormParts.{HasShape, AreNames, IsMethod, IsEntryCode, IsEntryAround, HasParts, AreCalls, Marks, AreCallees, HasForms}
@@ -186,3 +187,12 @@ module _ (c : ClassFile) (class method : List ℕ) where
 
 pub if_none : {T : Type 0} (r : Option T) (P : Type 0) → r ≡ None → IfNone r P → P
 if_none {T} r P e h = let none : IfNone {T = T} None P = subst (λ (o : Option T). IfNone o P) e h in none
+
+-- a method with another code is no entry
+pub no_entry_code : (c : ClassFile) (class : List ℕ) (m : Member) (b : Body) → HasBody c m b → ((made initialiser slot : ℕ) (calls : List ℕ) → IsEntryCode b.code made initialiser slot calls → ⊥) → (slot : ℕ) (code : List ℕ) → IsEntryAround c class m slot code → ⊥
+no_entry_code c class m b has none slot code a =
+    none a.made a.initialiser slot code (subst (λ (t : List ℕ). IsEntryCode t a.made a.initialiser slot code) (HasBody-same c m a.body b a.has has).2 a.code)
+
+-- a method without a body is none
+pub no_entry_body : (c : ClassFile) (class : List ℕ) (m : Member) → ((b : Body) → HasBody c m b → ⊥) → (slot : ℕ) (code : List ℕ) → IsEntryAround c class m slot code → ⊥
+no_entry_body c class m none slot code a = none a.body a.has

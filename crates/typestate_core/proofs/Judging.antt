@@ -10,11 +10,16 @@ use Rattle.std.proofs.lemmas.Option.{same_Some, none-some}
 use Rattle.typestate_core.proofs.Reach.{place_of, contains_at}
 use Rattle.ts_outside.specs.Files.{File, file_at, class_names, is_class_name, IsListing}
 use Rattle.jvm_model.specs.declared.automaton.Automaton.{Automaton}
+use Rattle.jvm_model.specs.declared.class_file.ClassFile.{ClassFile}
+use Rattle.jvm_model.specs.declared.reason.Reason.{Reason}
 use Rattle.jvm_model.specs.declared.reason.Reason.TheVariants.{NotYet}
+use Rattle.classfile_reader.specs.ClassReading.{class_of, SpellsReadable}
+use Rattle.classfile_reader.proofs.Classes.{class_of_cut}
+use Rattle.classfile_reader.proofs.OneSpelling.{one_spelling}
 use Rattle.typestate_core.specs.declared.status.Status.{Status}
 use Rattle.typestate_core.specs.declared.status.Status.TheVariants as statuses
 use Rattle.typestate_core.specs.Lines.{no_file, refused_line, missing_line, safe_line, unproved_line, summary_line}
-use Rattle.typestate_core.specs.Outcomes.{Outcome, Asks, HasOneClass, IsJudged, entry_site, safe, unproved, other_class, other_count, no_property, other_property}
+use Rattle.typestate_core.specs.Outcomes.{Outcome, Asks, HasOneClass, IsOfForm, IsJudged, IsRefusedAs, by_fault, by_form, entry_site, safe, unproved, refused_class, other_count, no_property, other_property}
 use Rattle.typestate_core.specs.Requests.{AreWords}
 use Rattle.typestate_core.specs.PropertyFile.{IsPropertyFile}
 use Rattle.typestate_core.specs.declared.verifier.Answer.{Answer}
@@ -50,12 +55,12 @@ cut_whole n limit whole bytes past is fits =
 judged_whole : (n : ℕ) (whole bytes : List ℕ) (a : Automaton) (class method : List ℕ) (calls : List (List ℕ)) → 4194304 < n → take n whole ≡ bytes
     → IsJudged bytes a class method calls → IsJudged whole a class method calls
 judged_whole n whole bytes a class method calls past is j =
-    subst (λ (x : List ℕ). IsJudged x a class method calls) (cut_whole n 4194304 whole bytes past is j.limit) j
+    subst (λ (x : List ℕ). IsJudged x a class method calls) (cut_whole n 4194304 whole bytes past is j.readable.size) j
 
 judged_front : (n : ℕ) (whole bytes : List ℕ) (a : Automaton) (class method : List ℕ) (calls : List (List ℕ)) → 4194304 < n → take n whole ≡ bytes
     → IsJudged whole a class method calls → IsJudged bytes a class method calls
 judged_front n whole bytes a class method calls past is j =
-    subst (λ (x : List ℕ). IsJudged x a class method calls) (sym (take_all n whole (let l = j.limit in omega arith)) ∙ is) j
+    subst (λ (x : List ℕ). IsJudged x a class method calls) (sym (take_all n whole (let l = j.readable.size in omega arith)) ∙ is) j
 
 -- A site of a class of the form.
 pub site_told : (words : List (List ℕ)) (files : List File) (class method name whole bytes : List ℕ) (n : ℕ) (a : Automaton) (is_safe : Bool) (answer : Answer)
@@ -68,12 +73,29 @@ site_told words files class method name whole bytes n a true answer past is asks
 site_told words files class method name whole bytes n a false answer past is asks one v t f =
     unproved class method name whole a v.calls asks one (judged_whole n whole bytes a class method v.calls past is v.judged) (λ s. false≢true (v.answers.1 s)) f.status_is f.lines_are
 
-pub class_told : (words : List (List ℕ)) (files : List File) (class method name whole bytes : List ℕ) (n : ℕ) (a : Automaton) (status : Status) (lines : List (List ℕ))
+-- a class file that was read, and is not of the form
+pub refused_by_form : (bytes : List ℕ) (a : Automaton) (class method : List ℕ) (c : ClassFile) → SpellsReadable bytes c → ((calls : List (List ℕ)) → IsOfForm c a class method calls → ⊥)
+    → IsRefusedAs bytes a class method 0 NotYet
+refused_by_form bytes a class method c readable none =
+    by_form c readable (λ calls j.
+    let same : j.c ≡ c = one_spelling bytes j.c c j.readable.spelling readable.spelling in
+    none calls (subst (λ (x : ClassFile). IsOfForm x a class method calls) same j.of_form)) refl refl
+
+-- why a class file is refused, from what was read of it
+refused_whole : (n : ℕ) (whole bytes : List ℕ) (a : Automaton) (class method : List ℕ) (offset : ℕ) (reason : Reason) → 4194304 < n → take n whole ≡ bytes
+    → IsRefusedAs bytes a class method offset reason → IsRefusedAs whole a class method offset reason
+refused_whole n whole bytes a class method offset reason past is (by_fault e) =
+    by_fault (sym (class_of_cut n whole past) ∙ ap class_of is ∙ e)
+refused_whole n whole bytes a class method offset reason past is (by_form c readable none at why) =
+    by_form c (subst (λ (x : List ℕ). SpellsReadable x c) (cut_whole n 4194304 whole bytes past is readable.size) readable)
+    (λ calls j. none calls (judged_front n whole bytes a class method calls past is j)) at why
+
+pub class_told : (words : List (List ℕ)) (files : List File) (class method name whole bytes : List ℕ) (n : ℕ) (a : Automaton) (offset : ℕ) (reason : Reason) (status : Status) (lines : List (List ℕ))
     → 4194304 < n → take n whole ≡ bytes → Asks words files class method a → HasOneClass files name whole
-    → ((calls : List (List ℕ)) → IsJudged bytes a class method calls → ⊥)
-    → status ≡ statuses.Refused → lines ≡ refused_line name 0 NotYet ∷ [] → Outcome words files status lines
-class_told words files class method name whole bytes n a status lines past is asks one none s l =
-    other_class class method name whole a asks one (λ calls j. none calls (judged_front n whole bytes a class method calls past is j)) s l
+    → IsRefusedAs bytes a class method offset reason
+    → status ≡ statuses.Refused → lines ≡ refused_line name offset reason ∷ [] → Outcome words files status lines
+class_told words files class method name whole bytes n a offset reason status lines past is asks one refused s l =
+    refused_class class method name whole a offset reason asks one (refused_whole n whole bytes a class method offset reason past is refused) s l
 
 -- The same of a property file.
 pub property_whole : (n : ℕ) (whole bytes : List ℕ) (a : Automaton) → 1048576 < n → take n whole ≡ bytes → IsPropertyFile bytes a → IsPropertyFile whole a
@@ -178,19 +200,19 @@ verdict_told o o1 names name text bytes class method n a is_safe (Ok x) past sam
     let k = one_class o o1 names name text bytes n files same one is text_is e listing read in
     site_told words files class method text k.0 bytes n a is_safe x past k.2 asks k.1 v t f)
 
-pub other_told : {E : Type 0} (o o1 : Option (List File)) (names : List (String Global)) (name : String Global) (text bytes class method : List ℕ) (n : ℕ) (a : Automaton) (r : Result Answer E)
+pub refused_told : {E : Type 0} (o o1 : Option (List File)) (names : List (String Global)) (name : String Global) (text bytes class method : List ℕ) (n : ℕ) (a : Automaton) (offset : ℕ) (reason : Reason) (r : Result Answer E)
     → 4194304 < n → o1 ≡ o → length names ≡ 1 → name ≡ get_or names 0 name → text ≡ string_bytes name
     → IfSome o (λ held. IsListing held (map (string_bytes {Z = Global}) names))
     → IfSome o1 (λ held. option_map (take n) (file_at held text) ≡ Some bytes)
-    → ((calls : List (List ℕ)) → IsJudged bytes a class method calls → ⊥)
-    → IfOk r (λ x. Says x statuses.Refused (refused_line text 0 NotYet ∷ []))
+    → IsRefusedAs bytes a class method offset reason
+    → IfOk r (λ x. Says x statuses.Refused (refused_line text offset reason ∷ []))
     → IfOk r (ToldOfClass o class method a)
-other_told o o1 names name text bytes class method n a (Err e) past same one is text_is listing read none says = tt
-other_told o o1 names name text bytes class method n a (Ok x) past same one is text_is listing read none says =
+refused_told o o1 names name text bytes class method n a offset reason (Err e) past same one is text_is listing read refused says = tt
+refused_told o o1 names name text bytes class method n a offset reason (Ok x) past same one is text_is listing read refused says =
     if_some o (λ files. (words : List (List ℕ)) → Asks words files class method a → Outcome words files x.status (lines_of x))
     (λ files e words asks.
     let k = one_class o o1 names name text bytes n files same one is text_is e listing read in
-    class_told words files class method text k.0 bytes n a x.status (lines_of x) past k.2 asks k.1 none says.status_is says.lines_are)
+    class_told words files class method text k.0 bytes n a offset reason x.status (lines_of x) past k.2 asks k.1 refused says.status_is says.lines_are)
 
 -- What the answer to the words has to be.
 abbrev pub ToldOfWords : Option (List File) → List (List ℕ) → Answer → Type 0

@@ -15,3 +15,15 @@ pub mod Forms
 pub mod OneRequest
 pub mod OneForm
 pub mod OneOutcome
+pub mod FormCode
+pub mod FormFrames
+pub mod FormRuns
+pub mod FormSteps
+pub mod FormSound
+pub mod Keeps
+pub mod PlainLines
+pub mod SafeLines
+pub mod ExampleSteps
+pub mod ExampleMethods
+pub mod ExampleRuns
+pub mod ExampleEnds

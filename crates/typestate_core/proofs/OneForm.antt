@@ -1,14 +1,15 @@
 -- Bytes spell one class file, and an entry of the form calls one list of methods.
-use Rattle.std.proofs.Common.{◌≡◌, ℕ, List, Result, Ok, refl, subst}
+use Rattle.std.proofs.Common.{◌≡◌, ◌∙◌, ℕ, List, Result, Ok, Err, refl, sym, ap, subst}
 use Rattle.jvm_model.specs.declared.automaton.Automaton.{Automaton}
 use Rattle.jvm_model.specs.declared.class_file.ClassFile.{ClassFile}
 use Rattle.jvm_model.specs.declared.class_file.Member.{Member}
+use Rattle.jvm_model.specs.declared.reason.Reason.{Reason}
 use Rattle.classfile_reader.specs.Reading.{Fault}
-use Rattle.classfile_reader.specs.ClassReading.{class_of, SpellsReadable}
+use Rattle.classfile_reader.specs.ClassReading.{class_of}
 use Rattle.classfile_reader.proofs.Classes.{class_of_again}
 use Rattle.typestate_core.specs.StraightLine.{code_of, calls_on, IsStraightLine}
 use Rattle.typestate_core.specs.FormParts.{AreNames, IsEntryCode, IsEntryAround, HasParts, AreCalls}
-use Rattle.typestate_core.specs.Outcomes.{IsJudged}
+use Rattle.typestate_core.specs.Outcomes.{IsJudged, IsRefusedAs, by_fault, by_form}
 use Rattle.typestate_core.proofs.BodySteps.{HasBody-same}
 use Rattle.typestate_core.proofs.FormTests.{one_entry_code}
 use Rattle.typestate_core.proofs.Named.{one_method}
@@ -19,9 +20,6 @@ use Rattle.typestate_core.proofs.Forms.{parts_of, names_of}
 
 same_ok : (r : Result ClassFile Fault) (c d : ClassFile) → r ≡ Ok c → r ≡ Ok d → c ≡ d
 same_ok r c d e f = cc
-
-readable : (bytes : List ℕ) (a : Automaton) (class method : List ℕ) (calls : List (List ℕ)) (j : IsJudged bytes a class method calls) → SpellsReadable bytes j.c
-readable bytes a class method calls j = record { spelling = j.spelled; oldest = j.oldest; newest = j.newest; size = j.limit }
 
 -- ---- the entry
 
@@ -60,8 +58,8 @@ IsStraightLine-same c class method xs ys g h =
 
 pub IsJudged-same : (bytes : List ℕ) (a : Automaton) (class method : List ℕ) (xs ys : List (List ℕ)) → IsJudged bytes a class method xs → IsJudged bytes a class method ys → xs ≡ ys
 IsJudged-same bytes a class method xs ys g h =
-    let same : g.c ≡ h.c = same_ok (class_of bytes) g.c h.c (class_of_again bytes g.c (readable bytes a class method xs g)) (class_of_again bytes h.c (readable bytes a class method ys h)) in
-    IsStraightLine-same h.c class method xs ys (subst (λ (c : ClassFile). IsStraightLine c class method xs) same g.form) h.form
+    let same : g.c ≡ h.c = same_ok (class_of bytes) g.c h.c (class_of_again bytes g.c g.readable) (class_of_again bytes h.c h.readable) in
+    IsStraightLine-same h.c class method xs ys (subst (λ (c : ClassFile). IsStraightLine c class method xs) same g.of_form.form) h.of_form.form
 
 -- the same of equal bytes, automata and words
 pub IsJudged-moved : (b d : List ℕ) (a e : Automaton) (class class2 method method2 : List ℕ) (calls : List (List ℕ)) → b ≡ d → a ≡ e → class ≡ class2 → method ≡ method2 → IsJudged b a class method calls → IsJudged d e class2 method2 calls
@@ -70,3 +68,26 @@ IsJudged-moved b d a e class class2 method method2 calls p q r s j =
     let at_automaton = subst (λ (x : Automaton). IsJudged d x class method calls) q at_bytes in
     let at_class = subst (λ (t : List ℕ). IsJudged d e t method calls) r at_automaton in
     subst (λ (t : List ℕ). IsJudged d e class2 t calls) s at_class
+
+-- ---- the refused class
+
+two_readings : (r : Result ClassFile Fault) (c : ClassFile) (f : Fault) → r ≡ Ok c → r ≡ Err f → ⊥
+two_readings r c f e g = cc
+
+one_fault : (r : Result ClassFile Fault) (f g : Fault) → r ≡ Err f → r ≡ Err g → f ≡ g
+one_fault r f g e h = cc
+
+-- a class file that is refused is not judged
+pub refused_or_judged : (bytes : List ℕ) (a : Automaton) (class method : List ℕ) (offset : ℕ) (reason : Reason) (calls : List (List ℕ)) → IsRefusedAs bytes a class method offset reason → IsJudged bytes a class method calls → ⊥
+refused_or_judged bytes a class method offset reason calls (by_fault e) j = two_readings (class_of bytes) j.c _ (class_of_again bytes j.c j.readable) e
+refused_or_judged bytes a class method offset reason calls (by_form c readable none at why) j = none calls j
+
+-- it is refused for one reason
+pub one_refusal : (bytes : List ℕ) (a e : Automaton) (class class2 method method2 : List ℕ) (offset offset2 : ℕ) (reason reason2 : Reason)
+    → IsRefusedAs bytes a class method offset reason → IsRefusedAs bytes e class2 method2 offset2 reason2 → (offset ≡ offset2) × (reason ≡ reason2)
+one_refusal bytes a e class class2 method method2 offset offset2 reason reason2 (by_fault p) (by_fault q) =
+    let same : record { offset = offset; reason = reason } ≡ record { offset = offset2; reason = reason2 } = one_fault (class_of bytes) _ _ p q in
+    (ap (λ (f : Fault). f.offset) same, ap (λ (f : Fault). f.reason) same)
+one_refusal bytes a e class class2 method method2 offset offset2 reason reason2 (by_fault p) (by_form d readable none at why) = absurd (two_readings (class_of bytes) d _ (class_of_again bytes d readable) p)
+one_refusal bytes a e class class2 method method2 offset offset2 reason reason2 (by_form c readable none at why) (by_fault q) = absurd (two_readings (class_of bytes) c _ (class_of_again bytes c readable) q)
+one_refusal bytes a e class class2 method method2 offset offset2 reason reason2 (by_form c readable none at why) (by_form d readable2 none2 at2 why2) = (at ∙ sym at2, why ∙ sym why2)

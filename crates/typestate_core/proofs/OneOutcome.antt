@@ -2,6 +2,7 @@
 use Rattle.std.proofs.Common.{◌≡◌, ◌≢◌, ℕ, List, [], ◌∷◌, length, None, Some, refl, sym, ap, ◌∙◌, subst}
 use Rattle.ts_outside.specs.Files.{File, file_at, IsListing}
 use Rattle.jvm_model.specs.declared.automaton.Automaton.{Automaton}
+use Rattle.jvm_model.specs.declared.reason.Reason.{Reason}
 use Rattle.jvm_model.specs.declared.reason.Reason.TheVariants.{NotYet}
 use Rattle.typestate_core.specs.declared.status.Status.{Status}
 use Rattle.typestate_core.specs.declared.status.Status.TheVariants as statuses
@@ -9,9 +10,9 @@ use Rattle.typestate_core.specs.Lines.{no_file, refused_line, missing_line, safe
 use Rattle.typestate_core.specs.Requests.{AreWords}
 use Rattle.typestate_core.specs.PropertyFile.{IsPropertyFile}
 use Rattle.typestate_core.specs.StageOne.{IsSafe, events_of}
-use Rattle.typestate_core.specs.Outcomes.{Outcome, Asks, HasOneClass, IsJudged, entry_site, other_words, no_property, other_property, other_count, other_class, safe, unproved}
+use Rattle.typestate_core.specs.Outcomes.{Outcome, Asks, HasOneClass, IsJudged, IsRefusedAs, entry_site, other_words, no_property, other_property, other_count, refused_class, safe, unproved}
 use Rattle.typestate_core.proofs.OneRequest.{AreWords-same, IsListing-long, HasOneClass-same, Asks-same, not_held, not_spelled}
-use Rattle.typestate_core.proofs.OneForm.{IsJudged-same, IsJudged-moved}
+use Rattle.typestate_core.proofs.OneForm.{IsJudged-same, IsJudged-moved, refused_or_judged, one_refusal}
 
 -- two answers with one status and one list of lines
 agree : (s t x : Status) (l m y z : List (List ℕ)) → s ≡ x → l ≡ y → t ≡ x → m ≡ z → y ≡ z → (s ≡ t) × (l ≡ m)
@@ -47,7 +48,7 @@ module _ (words : List (List ℕ)) (files : List File) (s t : Status) (l k : Lis
   if_other_words none si li (no_property p c m are missing ti ki) = absurd (none p c m are)
   if_other_words none si li (other_property p c m b are held bad ti ki) = absurd (none p c m are)
   if_other_words none si li (other_count c m a names asks listing other ti ki) = absurd (none asks.property c m asks.are)
-  if_other_words none si li (other_class c m x b a asks one bad ti ki) = absurd (none asks.property c m asks.are)
+  if_other_words none si li (refused_class c m x b a o r asks one bad ti ki) = absurd (none asks.property c m asks.are)
   if_other_words none si li (safe c m x b a calls asks one judged is ti ki) = absurd (none asks.property c m asks.are)
   if_other_words none si li (unproved c m x b a calls asks one judged is ti ki) = absurd (none asks.property c m asks.are)
 
@@ -57,7 +58,7 @@ module _ (words : List (List ℕ)) (files : List File) (s t : Status) (l k : Lis
       agree s t statuses.Usage l k _ _ si li ti ki (ap (λ (w : List ℕ). missing_line w ∷ []) (AreWords-same words p q c d m n are are2).0)
   if_no_property p c m are missing si li (other_property q d n b are2 held bad ti ki) = absurd (not_held words files p q c d m n b are missing are2 held)
   if_no_property p c m are missing si li (other_count d n a names asks listing other ti ki) = absurd (not_held words files p asks.property c d m n asks.bytes are missing asks.are asks.held)
-  if_no_property p c m are missing si li (other_class d n x b a asks one bad ti ki) = absurd (not_held words files p asks.property c d m n asks.bytes are missing asks.are asks.held)
+  if_no_property p c m are missing si li (refused_class d n x b a o r asks one bad ti ki) = absurd (not_held words files p asks.property c d m n asks.bytes are missing asks.are asks.held)
   if_no_property p c m are missing si li (safe d n x b a calls asks one judged is ti ki) = absurd (not_held words files p asks.property c d m n asks.bytes are missing asks.are asks.held)
   if_no_property p c m are missing si li (unproved d n x b a calls asks one judged is ti ki) = absurd (not_held words files p asks.property c d m n asks.bytes are missing asks.are asks.held)
 
@@ -68,7 +69,7 @@ module _ (words : List (List ℕ)) (files : List File) (s t : Status) (l k : Lis
   if_other_property p c m b are held bad si li (other_property q d n e are2 held2 bad2 ti ki) =
       agree s t statuses.Refused l k _ _ si li ti ki (ap (λ (w : List ℕ). refused_line w 0 NotYet ∷ []) (AreWords-same words p q c d m n are are2).0)
   if_other_property p c m b are held bad si li (other_count d n a names asks listing other ti ki) = absurd (not_spelled words files p asks.property c d m n b asks.bytes a are held bad asks.are asks.held asks.spells)
-  if_other_property p c m b are held bad si li (other_class d n x e a asks one bad2 ti ki) = absurd (not_spelled words files p asks.property c d m n b asks.bytes a are held bad asks.are asks.held asks.spells)
+  if_other_property p c m b are held bad si li (refused_class d n x e a o r asks one bad2 ti ki) = absurd (not_spelled words files p asks.property c d m n b asks.bytes a are held bad asks.are asks.held asks.spells)
   if_other_property p c m b are held bad si li (safe d n x e a calls asks one judged is ti ki) = absurd (not_spelled words files p asks.property c d m n b asks.bytes a are held bad asks.are asks.held asks.spells)
   if_other_property p c m b are held bad si li (unproved d n x e a calls asks one judged is ti ki) = absurd (not_spelled words files p asks.property c d m n b asks.bytes a are held bad asks.are asks.held asks.spells)
 
@@ -78,20 +79,22 @@ module _ (words : List (List ℕ)) (files : List File) (s t : Status) (l k : Lis
   if_other_count c m a names asks listing other si li (no_property q d n are missing ti ki) = absurd (not_held words files q asks.property d c n m asks.bytes are missing asks.are asks.held)
   if_other_count c m a names asks listing other si li (other_property q d n b are held bad ti ki) = absurd (not_spelled words files q asks.property d c n m b asks.bytes a are held bad asks.are asks.held asks.spells)
   if_other_count c m a names asks listing other si li (other_count d n f names2 asks2 listing2 other2 ti ki) = agree s t statuses.Refused l k _ _ si li ti ki refl
-  if_other_count c m a names asks listing other si li (other_class d n x b f asks2 one bad ti ki) = absurd (two_counts names x listing other one.listing)
+  if_other_count c m a names asks listing other si li (refused_class d n x b f o r asks2 one bad ti ki) = absurd (two_counts names x listing other one.listing)
   if_other_count c m a names asks listing other si li (safe d n x b f calls asks2 one judged is ti ki) = absurd (two_counts names x listing other one.listing)
   if_other_count c m a names asks listing other si li (unproved d n x b f calls asks2 one judged is ti ki) = absurd (two_counts names x listing other one.listing)
 
-  if_other_class : (c m x b : List ℕ) (a : Automaton) → Asks words files c m a → HasOneClass files x b → ((calls : List (List ℕ)) → IsJudged b a c m calls → ⊥)
-      → s ≡ statuses.Refused → l ≡ refused_line x 0 NotYet ∷ [] → Outcome words files t k → (s ≡ t) × (l ≡ k)
-  if_other_class c m x b a asks one bad si li (other_words none ti ki) = absurd (none asks.property c m asks.are)
-  if_other_class c m x b a asks one bad si li (no_property q d n are missing ti ki) = absurd (not_held words files q asks.property d c n m asks.bytes are missing asks.are asks.held)
-  if_other_class c m x b a asks one bad si li (other_property q d n e are held bad2 ti ki) = absurd (not_spelled words files q asks.property d c n m e asks.bytes a are held bad2 asks.are asks.held asks.spells)
-  if_other_class c m x b a asks one bad si li (other_count d n f names asks2 listing other ti ki) = absurd (two_counts names x listing other one.listing)
-  if_other_class c m x b a asks one bad si li (other_class d n y e f asks2 two bad2 ti ki) =
-      agree s t statuses.Refused l k _ _ si li ti ki (ap (λ (w : List ℕ). refused_line w 0 NotYet ∷ []) (HasOneClass-same files x y b e one two).0)
-  if_other_class c m x b a asks one bad si li (safe d n y e f calls asks2 two judged is ti ki) = absurd (bad calls (judged_too words files d c n m y x e b f a asks2 asks two one calls judged))
-  if_other_class c m x b a asks one bad si li (unproved d n y e f calls asks2 two judged is ti ki) = absurd (bad calls (judged_too words files d c n m y x e b f a asks2 asks two one calls judged))
+  if_refused_class : (c m x b : List ℕ) (a : Automaton) (o : ℕ) (r : Reason) → Asks words files c m a → HasOneClass files x b → IsRefusedAs b a c m o r
+      → s ≡ statuses.Refused → l ≡ refused_line x o r ∷ [] → Outcome words files t k → (s ≡ t) × (l ≡ k)
+  if_refused_class c m x b a o r asks one bad si li (other_words none ti ki) = absurd (none asks.property c m asks.are)
+  if_refused_class c m x b a o r asks one bad si li (no_property q d n are missing ti ki) = absurd (not_held words files q asks.property d c n m asks.bytes are missing asks.are asks.held)
+  if_refused_class c m x b a o r asks one bad si li (other_property q d n e are held bad2 ti ki) = absurd (not_spelled words files q asks.property d c n m e asks.bytes a are held bad2 asks.are asks.held asks.spells)
+  if_refused_class c m x b a o r asks one bad si li (other_count d n f names asks2 listing other ti ki) = absurd (two_counts names x listing other one.listing)
+  if_refused_class c m x b a o r asks one bad si li (refused_class d n y e f o2 r2 asks2 two bad2 ti ki) =
+      let files_same = HasOneClass-same files x y b e one two in
+      let why = one_refusal e a f c d m n o o2 r r2 (subst (λ (t : List ℕ). IsRefusedAs t a c m o r) files_same.1 bad) bad2 in
+      agree s t statuses.Refused l k _ _ si li ti ki (λ i. refused_line (files_same.0 i) (why.0 i) (why.1 i) ∷ [])
+  if_refused_class c m x b a o r asks one bad si li (safe d n y e f calls asks2 two judged is ti ki) = absurd (refused_or_judged b a c m o r calls bad (judged_too words files d c n m y x e b f a asks2 asks two one calls judged))
+  if_refused_class c m x b a o r asks one bad si li (unproved d n y e f calls asks2 two judged is ti ki) = absurd (refused_or_judged b a c m o r calls bad (judged_too words files d c n m y x e b f a asks2 asks two one calls judged))
 
   if_safe : (c m x b : List ℕ) (a : Automaton) (calls : List (List ℕ)) → Asks words files c m a → HasOneClass files x b → IsJudged b a c m calls → IsSafe a (events_of calls a)
       → s ≡ statuses.AllSafe → l ≡ safe_line 1 (entry_site c m) ∷ summary_line 1 1 0 0 ∷ [] → Outcome words files t k → (s ≡ t) × (l ≡ k)
@@ -99,7 +102,7 @@ module _ (words : List (List ℕ)) (files : List File) (s t : Status) (l k : Lis
   if_safe c m x b a calls asks one judged is si li (no_property q d n are missing ti ki) = absurd (not_held words files q asks.property d c n m asks.bytes are missing asks.are asks.held)
   if_safe c m x b a calls asks one judged is si li (other_property q d n e are held bad ti ki) = absurd (not_spelled words files q asks.property d c n m e asks.bytes a are held bad asks.are asks.held asks.spells)
   if_safe c m x b a calls asks one judged is si li (other_count d n f names asks2 listing other ti ki) = absurd (two_counts names x listing other one.listing)
-  if_safe c m x b a calls asks one judged is si li (other_class d n y e f asks2 two bad ti ki) = absurd (bad calls (judged_too words files c d m n x y b e a f asks asks2 one two calls judged))
+  if_safe c m x b a calls asks one judged is si li (refused_class d n y e f o r asks2 two bad ti ki) = absurd (refused_or_judged e f d n o r calls bad (judged_too words files c d m n x y b e a f asks asks2 one two calls judged))
   if_safe c m x b a calls asks one judged is si li (safe d n y e f calls2 asks2 two judged2 is2 ti ki) =
       agree s t statuses.AllSafe l k _ _ si li ti ki (ap (λ (w : List ℕ). safe_line 1 w ∷ summary_line 1 1 0 0 ∷ []) (site_same words files c d m n a f asks asks2))
   if_safe c m x b a calls asks one judged is si li (unproved d n y e f calls2 asks2 two judged2 is_not ti ki) =
@@ -111,7 +114,7 @@ module _ (words : List (List ℕ)) (files : List File) (s t : Status) (l k : Lis
   if_unproved c m x b a calls asks one judged is_not si li (no_property q d n are missing ti ki) = absurd (not_held words files q asks.property d c n m asks.bytes are missing asks.are asks.held)
   if_unproved c m x b a calls asks one judged is_not si li (other_property q d n e are held bad ti ki) = absurd (not_spelled words files q asks.property d c n m e asks.bytes a are held bad asks.are asks.held asks.spells)
   if_unproved c m x b a calls asks one judged is_not si li (other_count d n f names asks2 listing other ti ki) = absurd (two_counts names x listing other one.listing)
-  if_unproved c m x b a calls asks one judged is_not si li (other_class d n y e f asks2 two bad ti ki) = absurd (bad calls (judged_too words files c d m n x y b e a f asks asks2 one two calls judged))
+  if_unproved c m x b a calls asks one judged is_not si li (refused_class d n y e f o r asks2 two bad ti ki) = absurd (refused_or_judged e f d n o r calls bad (judged_too words files c d m n x y b e a f asks asks2 one two calls judged))
   if_unproved c m x b a calls asks one judged is_not si li (safe d n y e f calls2 asks2 two judged2 is ti ki) =
       absurd (is_not (safe_too words files d c n m y x e b f a asks2 asks two one calls2 calls judged2 judged is))
   if_unproved c m x b a calls asks one judged is_not si li (unproved d n y e f calls2 asks2 two judged2 is_not2 ti ki) =
@@ -122,6 +125,6 @@ Outcome-same words files s t l k (other_words none si li) o = if_other_words wor
 Outcome-same words files s t l k (no_property p c m are missing si li) o = if_no_property words files s t l k p c m are missing si li o
 Outcome-same words files s t l k (other_property p c m b are held bad si li) o = if_other_property words files s t l k p c m b are held bad si li o
 Outcome-same words files s t l k (other_count c m a names asks listing other si li) o = if_other_count words files s t l k c m a names asks listing other si li o
-Outcome-same words files s t l k (other_class c m x b a asks one bad si li) o = if_other_class words files s t l k c m x b a asks one bad si li o
+Outcome-same words files s t l k (refused_class c m x b a at r asks one bad si li) o = if_refused_class words files s t l k c m x b a at r asks one bad si li o
 Outcome-same words files s t l k (safe c m x b a calls asks one judged is si li) o = if_safe words files s t l k c m x b a calls asks one judged is si li o
 Outcome-same words files s t l k (unproved c m x b a calls asks one judged is_not si li) o = if_unproved words files s t l k c m x b a calls asks one judged is_not si li o

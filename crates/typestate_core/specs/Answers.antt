@@ -2,10 +2,13 @@
 use Rattle.std.specs.Prelude.{◌≡◌, ◌↔◌, ℕ, Bool, List, map, Option, IsTrue}
 use Rattle.ts_outside.specs.Files.{File}
 use Rattle.jvm_model.specs.declared.automaton.Automaton.{Automaton}
+use Rattle.jvm_model.specs.declared.class_file.ClassFile.{ClassFile}
 use Rattle.typestate_core.specs.declared.status.Status.{Status}
 use Rattle.typestate_core.specs.declared.status.Status.TheVariants.{AllSafe, SomeUnproved, Refused, RejectedCertificate, ReadFault, WriteFault, Usage, Memory}
 use Rattle.typestate_core.specs.declared.verifier.Answer.{Answer}
-use Rattle.typestate_core.specs.Outcomes.{Outcome, IsJudged}
+use Rattle.typestate_core.specs.declared.verifier.Judgement.{Judgement}
+use Rattle.typestate_core.specs.declared.verifier.Judgement.TheVariants as judgements
+use Rattle.typestate_core.specs.Outcomes.{Outcome, IsOfForm, IsJudged, IsRefusedAs}
 use Rattle.typestate_core.specs.Output.{TakesAll, TakesFront, text_of}
 use Rattle.typestate_core.specs.StageOne.{IsSafe, events_of}
 
@@ -34,6 +37,17 @@ pub record IsVerdict (bytes : List ℕ) (a : Automaton) (class method : List ℕ
   pub calls : List (List ℕ)
   pub judged : IsJudged bytes a class method calls
   pub answers : IsTrue is_safe ↔ IsSafe a (events_of calls a)
+
+-- The same of a class file that was read.
+pub record IsSiteVerdict (c : ClassFile) (a : Automaton) (class method : List ℕ) (is_safe : Bool) : Type 0 where
+  pub calls : List (List ℕ)
+  pub of_form : IsOfForm c a class method calls
+  pub answers : IsTrue is_safe ↔ IsSafe a (events_of calls a)
+
+-- The judgement on a class file that these bytes are.
+abbrev pub IsJudgement : List ℕ → Automaton → List ℕ → List ℕ → Judgement → Type 0
+IsJudgement bytes a class method (judgements.Refused offset reason) = IsRefusedAs bytes a class method offset reason
+IsJudgement bytes a class method (judgements.Site is_safe) = IsVerdict bytes a class method is_safe
 
 -- The run answers as its outcome says, and the sink has taken the outcome's lines. Where reading fails or
 -- memory runs out, nothing is written. Where writing fails, the sink has taken some of the first bytes of

@@ -1,6 +1,8 @@
 pub mod Answers
 pub mod Bodies
 pub mod BodyParts
+pub mod Claims
+pub mod Examples
 pub mod FormParts
 pub mod Lines
 pub mod Outcomes

@@ -260,7 +260,7 @@ const CASES: &[Case] = &[
         title: "a class file of no bytes",
         class: Some(&[]),
         status: Status::Refused,
-        text: NOT_YET,
+        text: "refused F.class 0 Truncated\n",
         ..CASE
     },
     Case {

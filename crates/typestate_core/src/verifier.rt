@@ -6,8 +6,9 @@ ghost use Rattle.ts_outside.specs.Counts.{Rose};
 ghost use Rattle.jvm_model.specs.Automata.{IsAutomaton};
 ghost use Rattle.typestate_core.specs.declared.verifier.End.TheVariants.{Memory};
 ghost use Rattle.typestate_core.specs.Lines.{no_file, refused_line, missing_line, site_text, safe_line, unproved_line, summary_line};
-ghost use Rattle.typestate_core.specs.Outcomes.{Outcome, Asks, IsJudged, entry_site};
-ghost use Rattle.typestate_core.specs.Answers.{Says, IsReported, IsVerdict, AnswersRun, lines_of};
+ghost use Rattle.typestate_core.specs.Outcomes.{Outcome, Asks, IsOfForm, entry_site};
+ghost use Rattle.typestate_core.specs.Claims.{KeepsProtocol, WroteLine, safe_text};
+ghost use Rattle.typestate_core.specs.Answers.{Says, IsReported, IsSiteVerdict, IsJudgement, AnswersRun, lines_of};
 
 use crate::lines::{
     Counts, PrintedSite, missing_line, refused_line, safe_line, summary_line, unproved_line,
@@ -18,8 +19,8 @@ use crate::request::Request;
 use crate::stage_one::is_safe;
 use crate::status::Status;
 use crate::straight_line::occurring_events;
-use classfile_reader::read_class;
-use jvm_model::{Automaton, ReadRefusal, Reason};
+use classfile_reader::{is_sound, read_class};
+use jvm_model::{Automaton, ClassFile, ReadRefusal, Reason};
 use std::alloc::{AllocError, AllocFailed, Global};
 use ts_outside::{Sink, Tree, TreeEnd};
 
@@ -43,6 +44,15 @@ enum End {
     Memory,
 }
 
+/// What is found of a class file.
+#[derive(Clone, Copy, Debug, PartialEq, Eq)]
+enum Judgement {
+    /// It is refused, at this offset.
+    Refused(u32, Reason),
+    /// It has one site, that of the entry's first instruction.
+    Site(bool),
+}
+
 impl From<AllocError> for End {
     ghost from_gives = { λ _ e. e ≡ Memory };
 
@@ -62,7 +72,29 @@ impl<T: Drop> From<AllocFailed<T>> for End {
 /// Runs the verifier on these words, over a tree of files, and writes what it says to the sink. All
 /// reading and all analysis come before the first write, each line is a piece of its own, and `ReadFault`
 /// and `WriteFault` come only where the tree or the sink counted a fault in this run.
+///
+/// Where the tree tells its files, a line `safe 1 METHOD OFFSET CLASS` that the sink took in this run is true of
+/// the executions of the bytecode: in no state of any of them is an object of that site in the error state. The
+/// same holds of the entry's site where the status is `AllSafe`.
 pub fn run<T: Tree, S: Sink>(alloc: Global, words: &[String], tree: &mut T, out: &mut S) -> Status
+    ensures told { IfSome (T.files tree.old) (λ files. AnswersRun (map string_bytes words.now) files result (S.taken out.old) (S.taken out.new)) }
+    ensures sound { IfSome (T.files tree.old) (λ files. (site : List ℕ) → WroteLine (S.taken out.old) (S.taken out.new) (safe_text site) → KeepsProtocol (map string_bytes words.now) files site) }
+    ensures all_safe { IfSome (T.files tree.old) (λ files. result ≡ Status.AllSafe → (site : List ℕ) × KeepsProtocol (map string_bytes words.now) files site) }
+    ensures read_fault { result ≡ Status.ReadFault → Rose (T.faults tree.old) (T.faults tree.new) }
+    ensures write_fault { result ≡ Status.WriteFault → Rose (S.faults out.old) (S.faults out.new) }
+    ensures silent { result ≡ Status.ReadFault → out.new ≡ out.old }
+    ensures silent_without_memory { result ≡ Status.Memory → out.new ≡ out.old }
+{
+    judge_and_write(alloc, words, tree, out)
+}
+
+// The run, with the clauses from which those on executions follow.
+fn judge_and_write<T: Tree, S: Sink>(
+    alloc: Global,
+    words: &[String],
+    tree: &mut T,
+    out: &mut S,
+) -> Status
     ensures told { IfSome (T.files tree.old) (λ files. AnswersRun (map string_bytes words.now) files result (S.taken out.old) (S.taken out.new)) }
     ensures read_fault { result ≡ Status.ReadFault → Rose (T.faults tree.old) (T.faults tree.new) }
     ensures write_fault { result ≡ Status.WriteFault → Rose (S.faults out.old) (S.faults out.new) }
@@ -86,7 +118,7 @@ fn judge<T: Tree>(alloc: Global, words: &[String], tree: &mut T) -> Result<Answe
     ensures read_fault { IsErrOf result End.ReadFault → Rose (T.faults tree.old) (T.faults tree.new) }
 {
     let Some(request) = Request::from_words(words) else {
-        return refuse(alloc, b"-");
+        return refuse(alloc, b"-", 0, Reason::NotYet);
     };
     let bytes = match tree.read(alloc, request.property, PROPERTY_BYTES) {
         Ok(bytes) => bytes,
@@ -95,7 +127,7 @@ fn judge<T: Tree>(alloc: Global, words: &[String], tree: &mut T) -> Result<Answe
         Err(TreeEnd::Memory) => return Err(End::Memory),
     };
     let Some(automaton) = read_property(alloc, &bytes)? else {
-        return refuse(alloc, request.property.as_bytes());
+        return refuse(alloc, request.property.as_bytes(), 0, Reason::NotYet);
     };
     judge_class(alloc, &request, &automaton, tree)
 }
@@ -120,7 +152,7 @@ fn judge_class<T: Tree>(
         Err(_) => return Err(End::Memory),
     };
     if names.len() != 1 {
-        return refuse(alloc, b"-");
+        return refuse(alloc, b"-", 0, Reason::NotYet);
     }
     let name = &names[0];
     let bytes = match tree.read(alloc, name.as_str(), CLASS_BYTES) {
@@ -130,42 +162,60 @@ fn judge_class<T: Tree>(
         Err(TreeEnd::Memory) => return Err(End::Memory),
     };
     match verdict(alloc, request, automaton, &bytes)? {
-        Some(is_safe) => report_site(alloc, request, is_safe),
-        None => refuse(alloc, name.as_bytes()),
+        Judgement::Refused(offset, reason) => refuse(alloc, name.as_bytes(), offset, reason),
+        Judgement::Site(is_safe) => report_site(alloc, request, is_safe),
     }
 }
 
-// Whether the entry's site is safe; None where the class has another form.
+// The class file is refused, or the entry's site is safe or not.
 fn verdict(
     alloc: Global,
     request: &Request<'_>,
     automaton: &Automaton,
     bytes: &[u8],
-) -> Result<Option<bool>, AllocError>
+) -> Result<Judgement, AllocError>
     requires { IsAutomaton automaton.now }
-    ensures found { IfOk result (λ r. IfSome r (IsVerdict bytes.now automaton.now request.now.class.now request.now.method.now)) }
-    ensures none { IfOk result (λ r. IfNone r ((calls : List (List ℕ)) → IsJudged bytes.now automaton.now request.now.class.now request.now.method.now calls → ⊥)) }
+    ensures { IfOk result (IsJudgement bytes.now automaton.now request.now.class.now request.now.method.now) }
 {
     let class = match read_class(alloc, bytes) {
         Ok(class) => class,
-        Err(ReadRefusal::Refused(_, _)) => return Ok(None),
+        Err(ReadRefusal::Refused(offset, reason)) => {
+            return Ok(Judgement::Refused(offset, reason));
+        }
         Err(ReadRefusal::Memory) => return Err(AllocError),
     };
-    if automaton.class_name.as_slice() != request.class {
+    match site_verdict(alloc, request, automaton, &class)? {
+        Some(is_safe) => Ok(Judgement::Site(is_safe)),
+        None => Ok(Judgement::Refused(0, Reason::NotYet)),
+    }
+}
+
+// Whether the entry's site is safe; None where the class is not sound, has another form, or is another one.
+fn site_verdict(
+    alloc: Global,
+    request: &Request<'_>,
+    automaton: &Automaton,
+    class: &ClassFile,
+) -> Result<Option<bool>, AllocError>
+    requires { IsAutomaton automaton.now }
+    ensures found { IfOk result (λ r. IfSome r (IsSiteVerdict class.now automaton.now request.now.class.now request.now.method.now)) }
+    ensures none { IfOk result (λ r. IfNone r ((calls : List (List ℕ)) → IsOfForm class.now automaton.now request.now.class.now request.now.method.now calls → ⊥)) }
+{
+    if !is_sound(alloc, class)? || automaton.class_name.as_slice() != request.class {
         return Ok(None);
     }
-    let Some(occurs) = occurring_events(alloc, &class, automaton, request)? else {
+    let Some(occurs) = occurring_events(alloc, class, automaton, request)? else {
         return Ok(None);
     };
     Ok(Some(is_safe(automaton, &occurs)))
 }
 
-// A file is refused, or with `-` no file in particular, since its form is not analysed yet.
-fn refuse(alloc: Global, file: &[u8]) -> Result<Answer, End>
-    ensures ok { IfOk result (λ a. Says a Status.Refused (refused_line file.now 0 Reason.NotYet ∷ [])) }
+// A file is refused at an offset, or with `-` no file in particular.
+fn refuse(alloc: Global, file: &[u8], offset: u32, reason: Reason) -> Result<Answer, End>
+    ensures ok { IfOk result (λ a. Says a Status.Refused (refused_line file.now offset reason ∷ [])) }
     ensures memory { IfErr result (λ e. e ≡ End.Memory) }
 {
-    let line = refused_line(alloc, file, 0, Reason::NotYet)?;
+    let line = refused_line(alloc, file, offset, reason)?;
     let mut lines = Vec::new(alloc);
     lines.push(line)?;
     Ok(Answer {

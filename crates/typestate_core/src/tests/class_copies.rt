@@ -76,7 +76,7 @@ const CLASS_AND_MEMBERS: &[ChangedCopy] = &[
     },
     ChangedCopy {
         title: "version 53",
-        text: NOT_YET,
+        text: "refused F.class 6 BadVersion\n",
         changes: &[Change {
             at: 7,
             cut: 1,
@@ -85,7 +85,7 @@ const CLASS_AND_MEMBERS: &[ChangedCopy] = &[
     },
     ChangedCopy {
         title: "version 44",
-        text: NOT_YET,
+        text: "refused F.class 6 BadVersion\n",
         changes: &[Change {
             at: 7,
             cut: 1,
@@ -112,7 +112,7 @@ const CLASS_AND_MEMBERS: &[ChangedCopy] = &[
     },
     ChangedCopy {
         title: "one byte more",
-        text: NOT_YET,
+        text: "refused F.class 260 TrailingBytes\n",
         changes: &[Change {
             at: 260,
             cut: 0,
@@ -121,7 +121,7 @@ const CLASS_AND_MEMBERS: &[ChangedCopy] = &[
     },
     ChangedCopy {
         title: "one byte less",
-        text: NOT_YET,
+        text: "refused F.class 258 Truncated\n",
         changes: &[Change {
             at: 259,
             cut: 1,
@@ -347,6 +347,60 @@ const POOLS: &[ChangedCopy] = &[
             at: 71,
             cut: 1,
             put: &[239],
+        }],
+    },
+];
+
+#[test]
+fn faults_of_the_spelling(rt: HostRuntime) -> Result<(), Fail> {
+    check_all(&rt, rt.alloc(), FAULTS)?;
+    Ok(())
+}
+
+const FAULTS: &[ChangedCopy] = &[
+    ChangedCopy {
+        title: "another magic number",
+        text: "refused F.class 0 BadMagic\n",
+        changes: &[Change {
+            at: 3,
+            cut: 1,
+            put: &[0xbf],
+        }],
+    },
+    ChangedCopy {
+        title: "a constant pool count of 0",
+        text: "refused F.class 8 BadIndex\n",
+        changes: &[Change {
+            at: 9,
+            cut: 1,
+            put: &[0],
+        }],
+    },
+    ChangedCopy {
+        title: "tag 2",
+        text: "refused F.class 10 BadTag\n",
+        changes: &[Change {
+            at: 10,
+            cut: 1,
+            put: &[2],
+        }],
+    },
+    ChangedCopy {
+        title: "a cut in the constant pool",
+        text: "refused F.class 8 Truncated\n",
+        changes: &[Change {
+            at: 9,
+            cut: 251,
+            put: &[],
+        }],
+    },
+    ChangedCopy {
+        title: "an attribute of 4,294,967,295 bytes",
+        text: "refused F.class 144 Truncated\n",
+        changes: &[Change {
+            at: 140,
+            cut: 4,
+            put: &[0xff, 0xff, 0xff, 0xff],
         }],
     },
 ];

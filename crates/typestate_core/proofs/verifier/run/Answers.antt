@@ -1,9 +1,13 @@
-use Rattle.std.proofs.Common.{ℕ, Vec, Global, map, string_bytes, refl, ap, sym}
-use Rattle.typestate_core.proofs.Judging.{written_told}
+use Rattle.std.proofs.Common.{Global, map, string_bytes}
+use Rattle.typestate_core.proofs.Keeps.{line_is_sound, status_is_sound}
 use Rattle.typestate_core.proofs.verifier.run.Goals as goal
 
-pub returns-in-Ok-write_lines-clause-told : goal.returns-in-Ok-write_lines-clause-told
-returns-in-Ok-write_lines-clause-told g c =
-    let answer = c.in-Ok.field-0 in
-    written_told (g.T.Tree.files c.args.tree.now) (map (string_bytes {Z = Global}) c.args.words.now) answer.status answer (map (λ (line : Vec ℕ Global). line.items) c.deref.result.now) (g.S.Sink.taken c.args.out.now) (g.S.Sink.taken c.write_lines.new.out)
-    refl (ap (map (λ (line : Vec ℕ Global). line.items)) (sym c.deref.ensures.value)) c.in-Ok.ensures.reported c.in-Ok.ensures.told c.in-Ok-write_lines.ensures.all
+pub returns-clause-sound : goal.returns-clause-sound
+returns-clause-sound g c =
+    line_is_sound (g.T.Tree.files c.args.tree.now) (map (string_bytes {Z = Global}) c.args.words.now) c.judge_and_write.result (g.S.Sink.taken c.args.out.now) (g.S.Sink.taken c.judge_and_write.new.out)
+    c.judge_and_write.ensures.told
+
+pub returns-clause-all_safe : goal.returns-clause-all_safe
+returns-clause-all_safe g c =
+    status_is_sound (g.T.Tree.files c.args.tree.now) (map (string_bytes {Z = Global}) c.args.words.now) c.judge_and_write.result (g.S.Sink.taken c.args.out.now) (g.S.Sink.taken c.judge_and_write.new.out)
+    c.judge_and_write.ensures.told

@@ -1,41 +1,12 @@
-use Rattle.std.proofs.Common.{◌≡◌, ◌∙◌, ℕ, Bool, true, List, filter, ap, sym, subst}
-use Rattle.std.proofs.lemmas.Slice.Eq.{bytes_eq-Decides}
-use Rattle.jvm_model.specs.declared.class_file.ClassFile.{ClassFile}
-use Rattle.jvm_model.specs.declared.automaton.Event.{Event}
-use Rattle.typestate_core.specs.StraightLine.{IsStraightLine, Occurs}
-use Rattle.typestate_core.specs.StageOne.{IsSafe, is_called, picked}
-use Rattle.typestate_core.proofs.Judging.{at_some, at_none, true_of_not}
-use Rattle.typestate_core.proofs.Reach.{picked-map}
+use Rattle.std.proofs.Common.{List, ℕ}
+use Rattle.typestate_core.specs.Outcomes.{IsOfForm}
+use Rattle.typestate_core.proofs.Judging.{at_none, refused_by_form}
 use Rattle.typestate_core.proofs.verifier.verdict.Goals as goal
 
-pub returns-in_default-clause-none : goal.returns-in_default-clause-none
-returns-in_default-clause-none c = λ calls j.
-    let class = c.args.request.now.class.now in
-    let method = c.args.request.now.method.now in
-    let none = at_none c.in_ok-occurs.field-0 ((calls : List (List ℕ)) → IsStraightLine c.in-Ok.class class method calls → ⊥) c.in_default.is c.in_ok-occurs.ensures.none in
-    let told = c.in-Ok.ensures.only j.c j.spelled j.oldest j.newest j.limit j.sound in
-    let same : j.c ≡ c.in-Ok.class = cc told in
-    none calls (subst (λ (x : ClassFile). IsStraightLine x class method calls) same j.form)
-
-pub returns-clause-found : goal.returns-clause-found
-returns-clause-found c =
+pub returns : goal.returns
+returns c =
     let class = c.args.request.now.class.now in
     let method = c.args.request.now.method.now in
     let a = c.args.automaton.now in
-    let occurs = at_some c.in_ok-occurs.field-0 (λ occurs. Occurs c.in-Ok.class class method a.events occurs.items) c.in-Some.occurs c.in-Some.is c.in_ok-occurs.ensures.found in
-    let events : picked c.deref.result.now a.events ≡ filter (is_called occurs.calls) a.events =
-    ap (λ (tests : List Bool). picked tests a.events) (c.deref.ensures.value ∙ occurs.answers) ∙ picked-map (is_called occurs.calls) a.events in
-    record {
-      calls = occurs.calls;
-      judged = record {
-        c = c.in-Ok.class;
-        limit = c.in-Ok.ensures.readable.2;
-        spelled = c.in-Ok.ensures.found;
-        oldest = c.in-Ok.ensures.readable.0;
-        newest = c.in-Ok.ensures.readable.1;
-        sound = c.in-Ok.ensures.sound;
-        form = occurs.form;
-        automaton = sym c.as_slice.ensures ∙ (bytes_eq-Decides c.as_slice.result.now class).0 (true_of_not _ c.if-ne.ensures);
-      };
-      answers = subst (λ (es : List Event). (c.is_safe.result ≡ true → IsSafe a es) × (IsSafe a es → c.is_safe.result ≡ true)) events c.is_safe.ensures;
-    }
+    refused_by_form c.args.bytes.now a class method c.in-Ok.class c.in-Ok.ensures.found
+    (at_none c.in_ok-is_safe.field-0 ((calls : List (List ℕ)) → IsOfForm c.in-Ok.class a class method calls → ⊥) c.in-None.is c.in_ok-is_safe.ensures.none)

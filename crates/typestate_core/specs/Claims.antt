@@ -1,0 +1,66 @@
+-- What a safe site means: no execution of the program that the class file spells, with the entry that the words
+-- name, has a state in which an object of the site is in the error state.
+use Rattle.std.specs.Prelude.{codes, ◌≡◌, ◌≢◌, ◌⊎◌, ℕ, List, [], ◌∷◌, ◌++◌, Option, Some, slice_get, All, IsTrue}
+use Rattle.std.specs.Fmt.{decimal}
+use Rattle.ts_outside.specs.Files.{File}
+use Rattle.jvm_model.specs.declared.access.AccessFlag.TheVariants.{Static}
+use Rattle.jvm_model.specs.declared.automaton.Automaton.{Automaton}
+use Rattle.jvm_model.specs.declared.class_file.ClassFile.{ClassFile}
+use Rattle.jvm_model.specs.declared.site.Site.{Site}
+use Rattle.jvm_model.specs.declared.site.SiteKind.TheVariants.{New}
+use Rattle.jvm_model.specs.Access.{has_flag}
+use Rattle.jvm_model.specs.Executions.{Errs}
+use Rattle.jvm_model.specs.Machine.{Subject}
+use Rattle.jvm_model.specs.Programs.{Program, Method, program_of}
+use Rattle.jvm_model.specs.Soundness.{plain_descriptor}
+use Rattle.jvm_model.specs.Spelling.{IsSpelling}
+use Rattle.typestate_core.specs.Lines.{site_text}
+use Rattle.typestate_core.specs.Outcomes.{Asks, HasOneClass}
+
+-- The method of a number is the static one of the class and the name that has no parameters and no result.
+pub record IsEntryOf (p : Program) (class method : List ℕ) (entry : ℕ) : Type 0 where
+  pub found : Method
+  pub stands : slice_get p.methods entry ≡ Some found
+  pub of_class : found.class ≡ class
+  pub named : found.signature ≡ record { name = method; descriptor = plain_descriptor }
+  pub static : IsTrue (has_flag found.flags Static)
+
+-- The program of a class file is run, from the entry, under a property.
+abbrev pub subject_of : ClassFile → Automaton → ℕ → Subject
+subject_of c a entry = record { program = program_of c; property = a; entry = entry }
+
+-- The site of an instruction that makes an object of the class at an offset of a method.
+abbrev pub made_at : ℕ → ℕ → List ℕ → Site
+made_at number offset class = record { kind = New; method = Some (record { 0 = number }); offset = offset; class = class }
+
+-- The words and the files tell a property, a class file and an entry, of which the site is the one that is printed
+-- as this text: its objects never are in the error state.
+pub record KeepsProtocol (words : List (List ℕ)) (files : List File) (text : List ℕ) : Type 0 where
+  pub class : List ℕ
+  pub method : List ℕ
+  pub property : Automaton
+  pub asks : Asks words files class method property
+  pub name : List ℕ
+  pub bytes : List ℕ
+  pub one_class : HasOneClass files name bytes
+  pub file : ClassFile
+  pub spelled : IsSpelling bytes file
+  pub entry : ℕ
+  pub is_entry : IsEntryOf (program_of file) class method entry
+  pub printed : text ≡ site_text class method plain_descriptor 0 class
+  pub never : Errs (subject_of file property entry) (made_at entry 0 class) → ⊥
+
+-- The words of a line for a site that the first stage proved safe.
+abbrev pub safe_text : List ℕ → List ℕ
+safe_text site = codes "safe " ++ decimal 1 ++ codes " " ++ site
+
+-- A run wrote this line: it stands where what the sink took in the run begins, or right after a newline, and a
+-- newline ends it.
+pub record WroteLine (old new : Option (List ℕ)) (line : List ℕ) : Type 0 where
+  pub before : List ℕ
+  pub before_is : old ≡ Some before
+  pub front : List ℕ
+  pub whole : (front ≡ []) ⊎ ((earlier : List ℕ) × (front ≡ earlier ++ 10 ∷ []))
+  pub rest : List ℕ
+  pub new_is : new ≡ Some (before ++ (front ++ (line ++ 10 ∷ rest)))
+  pub plain : All (λ b. b ≢ 10) line
