@@ -1,8 +1,10 @@
 pub mod Loop
-pub mod MethodNames
-pub mod Each
 pub mod Fields
 pub mod Members
 pub mod Entries
 pub mod Classes
 pub mod OneSpelling
+pub mod FirstPlaces
+pub mod TextNumbers
+pub mod Repeats
+pub mod Refusals

@@ -1,5 +1,8 @@
 pub mod Reading
 pub mod PoolReading
 pub mod ClassReading
-pub mod MethodNames
-pub mod KnownNames
+pub mod Faults
+pub mod FirstPlace
+pub mod KnownTexts
+pub mod Repeats
+pub mod TextNumbers

@@ -1,7 +1,9 @@
 //! The class file as a whole (JVMS 4.1).
 
+ghost use Rattle.std.specs.Prelude.{IfOk, Ok};
+ghost use Rattle.jvm_model.specs.declared.class_file.ClassFile.{ClassFile};
 ghost use Rattle.classfile_reader.specs.Reading.{Reads, Tells};
-ghost use Rattle.classfile_reader.specs.ClassReading.{magic_at, major_at, class_at, class_of};
+ghost use Rattle.classfile_reader.specs.ClassReading.{magic_at, major_at, class_at, class_of, SpellsReadable};
 
 use crate::input::Input;
 use crate::limit::CLASS_FILE_LIMIT;
@@ -77,7 +79,7 @@ fn class(input: &mut Input, alloc: Global) -> Result<ClassFile, ReadRefusal>
 
 /// A class file and no byte after it.
 #[tactic(auto, unfolding(crate::specs::ClassReading::class_of))]
-pub(crate) fn whole(alloc: Global, bytes: &[u8]) -> Result<ClassFile, ReadRefusal>
+fn whole(alloc: Global, bytes: &[u8]) -> Result<ClassFile, ReadRefusal>
     ensures { Tells result (class_of bytes.now) }
 {
     if bytes.len() > CLASS_FILE_LIMIT as usize {
@@ -89,4 +91,18 @@ pub(crate) fn whole(alloc: Global, bytes: &[u8]) -> Result<ClassFile, ReadRefusa
         return Err(ReadRefusal::Refused(input.offset(), Reason::TrailingBytes));
     }
     Ok(class)
+}
+
+/// The class file that the bytes spell, in a version and a size that are read, or the first fault of its spelling.
+pub(crate) fn spelled_class(alloc: Global, bytes: &[u8]) -> Result<ClassFile, ReadRefusal>
+    // Which class file it is, and which fault.
+    ensures exact { Tells result (class_of bytes.now) }
+
+    // What is read is spelled so.
+    ensures found { IfOk result (SpellsReadable bytes.now) }
+
+    // What is spelled so is read, unless memory runs out.
+    ensures only { (c : ClassFile) → SpellsReadable bytes.now c → Tells result (Ok c) }
+{
+    whole(alloc, bytes)
 }

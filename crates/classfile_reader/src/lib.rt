@@ -1,5 +1,5 @@
-//! The class file reader: from bytes to the class file that they spell, or to the first fault. The layers
-//! above use `read_class`, and `is_sound` for what is judged of a class file beyond its spelling.
+//! The class file reader: from bytes to the sound class file that they spell, or to the first fault. The layers above
+//! use `read_class`.
 #![tactic(auto)]
 
 mod class;
@@ -14,7 +14,6 @@ mod table;
 
 pub use limit::CLASS_FILE_LIMIT;
 pub use read::read_class;
-pub use soundness::is_sound;
 
 #[cfg(test)]
 mod tests;

@@ -1,70 +1,70 @@
-//! What makes a class file sound, for the kinds of entries and members that are read so far: each index leads
-//! to an entry of the right kind, each name and descriptor is in its grammar, and a method has code exactly
-//! where its flags ask for it.
+//! What makes a class file sound beyond its spelling: the places where it uses an index, a text or a name are walked in
+//! the order of the file, and the first one that does not hold is told (JVMS 4.2 to 4.7).
 
-ghost use Rattle.std.specs.Prelude.{codes, ◌≡◌, ◌⊎◌, ◌↔◌, Some, IfOk, IsSome, IsTrue};
-ghost use Rattle.jvm_model.specs.Lookups.{class_name_at};
-ghost use Rattle.jvm_model.specs.Soundness.{IsSoundClass};
+ghost use Rattle.std.specs.Prelude.{◌<◌, ◌^◌, length, IfOk};
+ghost use Rattle.jvm_model.specs.Soundness.{places_of, body_places};
+ghost use Rattle.jvm_model.specs.Spelling.{spell};
+ghost use Rattle.classfile_reader.specs.FirstPlace.{IsFirstBreach};
+ghost use Rattle.classfile_reader.specs.KnownTexts.{AreKnown};
 
+mod attribute;
 mod entry;
+mod header;
+mod known;
 mod member;
-mod method_names;
-mod names;
+mod repeats;
+mod uses;
 
-use crate::soundness::entry::{are_sound_entries, is_class_at};
-use crate::soundness::member::{are_sound_attributes, are_sound_methods};
-use crate::soundness::method_names::names_differ;
-use jvm_model::class_file::ClassFile;
-use jvm_model::lookup::class_name_at;
-use jvm_model::pool::PoolEntry;
+use crate::soundness::attribute::attributes_fault;
+use crate::soundness::entry::pool_fault;
+use crate::soundness::header::header_fault;
+use crate::soundness::known::KnownTexts;
+use crate::soundness::member::{MemberKind, members_fault};
+use jvm_model::layout::{attributes_offset, fields_offset, methods_offset};
+use jvm_model::{ClassFile, Reason};
 use std::alloc::{AllocError, Global};
 
-/// Whether an index leads to the class `java/lang/Object`.
-fn is_object_at(pool: &[PoolEntry], index: u16) -> bool
-    ensures { IsTrue result ↔ (class_name_at pool.now index ≡ Some (codes "java/lang/Object")) }
-{
-    match class_name_at(pool, index) {
-        Some(name) => name == b"java/lang/Object".as_slice(),
-        None => false,
-    }
-}
-
-/// Whether a class has a superclass, or is the one that has none (JVMS 4.1).
-fn has_super_class(pool: &[PoolEntry], this_class: u16, super_class: u16) -> bool
-    ensures { IsTrue result ↔ (IsSome (class_name_at pool.now super_class)
-        ⊎ ((super_class ≡ 0) × (class_name_at pool.now this_class ≡ Some (codes "java/lang/Object")))) }
-{
-    is_class_at(pool, super_class) || (super_class == 0 && is_object_at(pool, this_class))
-}
-
-/// Whether a class file is sound, and of the kinds that are read so far:
-///
-/// - each entry of the constant pool is a CONSTANT_Utf8, of bytes that may stand there (JVMS 4.4.7), a
-///   CONSTANT_Class that leads to the name of a class (4.4.1, 4.2.1), a CONSTANT_Methodref that leads to a class
-///   and a name and type (4.4.2), or a CONSTANT_NameAndType that leads to the name of a method and the
-///   descriptor `()V` (4.4.6, 4.2.2, 4.3.3);
-/// - `this_class` leads to a class, and so does `super_class`, or it is 0 and the class is `java/lang/Object`
-///   (4.1);
-/// - there are no interfaces and no fields;
-/// - each method has the name of a method and the descriptor `()V`, no two of them have one name, and a method
-///   has one `Code` attribute, or none if it is native or abstract (4.6, 4.7.3);
-/// - the name of each attribute is a text (4.7).
-///
-/// That the names of methods differ is tested before each of them is read as a name, so that what is read is no
-/// longer than the file. The time taken is linear, but for the names of methods, which are kept in order.
-pub fn is_sound(alloc: Global, class: &ClassFile) -> Result<bool, AllocError>
-    ensures { IfOk result (λ sound. IsTrue sound ↔ IsSoundClass class.now) }
+/// The first fault of the fields, the methods and the attributes of a class file.
+fn body_fault(
+    alloc: Global,
+    class: &ClassFile,
+    known: &mut KnownTexts,
+) -> Result<Option<(u32, Reason)>, AllocError>
+    requires known_before { AreKnown class.now.pool known.old }
+    requires size { length (spell class.now) < 2 ^ 32 }
+    ensures { IfOk result (IsFirstBreach class.now.pool (body_places class.now)) }
 {
     let pool = class.pool.as_slice();
+    let fields = class.fields.as_slice();
+    let start = fields_offset(class);
+    if let Some(fault) = members_fault(alloc, pool, known, MemberKind::Field, start, fields)? {
+        return Ok(Some(fault));
+    }
     let methods = class.methods.as_slice();
-    Ok(
-        are_sound_entries(alloc, pool)?
-            && is_class_at(pool, class.this_class)
-            && has_super_class(pool, class.this_class, class.super_class)
-            && class.interfaces.is_empty()
-            && class.fields.is_empty()
-            && names_differ(alloc, pool, methods)?
-            && are_sound_methods(pool, methods)
-            && are_sound_attributes(pool, class.attributes.as_slice()),
-    )
+    let start = methods_offset(class);
+    if let Some(fault) = members_fault(alloc, pool, known, MemberKind::Method, start, methods)? {
+        return Ok(Some(fault));
+    }
+    let attributes = class.attributes.as_slice();
+    Ok(attributes_fault(pool, attributes_offset(class), attributes))
+}
+
+/// The offset and the reason of the first place of a class file of which the use does not hold; none if it is sound.
+/// The time taken is linear in the size of the file, but for sorting.
+pub(crate) fn first_fault(
+    alloc: Global,
+    class: &ClassFile,
+) -> Result<Option<(u32, Reason)>, AllocError>
+    requires { length (spell class.now) < 2 ^ 32 }
+    ensures { IfOk result (IsFirstBreach class.now.pool (places_of class.now)) }
+{
+    let pool = class.pool.as_slice();
+    let mut known = KnownTexts::new(alloc, pool);
+    if let Some(fault) = pool_fault(pool, &mut known, class.major)? {
+        return Ok(Some(fault));
+    }
+    if let Some(fault) = header_fault(class) {
+        return Ok(Some(fault));
+    }
+    body_fault(alloc, class, &mut known)
 }

@@ -1,7 +1,8 @@
 //! A class file of another's making: it is read, and each cut and each edit of it is refused where it should be.
-//! What is read and is not sound is told apart.
 
-use crate::{CLASS_FILE_LIMIT, is_sound, read_class};
+mod small;
+
+use crate::{CLASS_FILE_LIMIT, read_class};
 use jvm_model::pool::PoolEntry;
 use jvm_model::reason::{ReadRefusal, Reason};
 use std::alloc::{AllocError, Global};
@@ -42,11 +43,16 @@ static BODY: [u8; 29] = [
     0x2a, 0xb6, 0x00, 0x0f, 0x2a, 0xb6, 0x00, 0x11, 0xb1, 0x00, 0x00, 0x00, 0x00,
 ];
 
-/// A class whose pool is a long, 1, and its second index.
-static ONE_LONG: [u8; 33] = [
-    0xca, 0xfe, 0xba, 0xbe, 0, 0, 0, 52, 0, 3, 5, 0, 0, 0, 0, 0, 0, 0, 1, 0, 0x21, 0, 0, 0, 0, 0,
-    0, 0, 0, 0, 0, 0, 0,
+/// A sound class, the last entry of whose pool is a long, 1, with its second index.
+static ONE_LONG: [u8; 62] = [
+    0xca, 0xfe, 0xba, 0xbe, 0x00, 0x00, 0x00, 0x34, 0x00, 0x07, 0x01, 0x00, 0x01, 0x41, 0x07, 0x00,
+    0x01, 0x01, 0x00, 0x10, 0x6a, 0x61, 0x76, 0x61, 0x2f, 0x6c, 0x61, 0x6e, 0x67, 0x2f, 0x4f, 0x62,
+    0x6a, 0x65, 0x63, 0x74, 0x07, 0x00, 0x03, 0x05, 0x00, 0x00, 0x00, 0x00, 0x00, 0x00, 0x00, 0x01,
+    0x00, 0x21, 0x00, 0x02, 0x00, 0x04, 0x00, 0x00, 0x00, 0x00, 0x00, 0x00, 0x00, 0x00,
 ];
+
+/// Where the entry of the long begins.
+const LONG_AT: u32 = 39;
 
 /// The class as bytes, of which a proof of a test need not know each.
 fn stream() -> &'static [u8] {
@@ -108,7 +114,7 @@ fn a_long_takes_two_indices(rt: HostRuntime) -> Result<(), Fail> {
     assert!(rt;
         matches!(
             class.pool.as_slice(),
-            [PoolEntry::Long(1), PoolEntry::Taken]
+            [_, _, _, _, PoolEntry::Long(1), PoolEntry::Taken]
         )
     );
     Ok(())
@@ -147,10 +153,16 @@ fn an_edit_is_refused_where_it_stands(rt: HostRuntime) -> Result<(), Fail> {
 
 #[test]
 fn a_long_without_a_second_index_is_refused(rt: HostRuntime) -> Result<(), Fail> {
-    let bytes = edited(rt.alloc(), one_long(), 9, 2)?;
-    assert_eq!(rt; refusal(rt.alloc(), &bytes), Some((10, Reason::BadIndex)));
-    let cut = bytes.get(..18).ok_or("the class has 33 bytes")?;
-    assert_eq!(rt; refusal(rt.alloc(), cut), Some((10, Reason::Truncated)));
+    let bytes = edited(rt.alloc(), one_long(), 9, 6)?;
+    assert_eq!(rt;
+        refusal(rt.alloc(), &bytes),
+        Some((LONG_AT, Reason::BadIndex))
+    );
+    let cut = bytes.get(..46).ok_or("the class has 62 bytes")?;
+    assert_eq!(rt;
+        refusal(rt.alloc(), cut),
+        Some((LONG_AT, Reason::Truncated))
+    );
     Ok(())
 }
 
@@ -175,38 +187,87 @@ fn a_file_past_the_limit_is_refused(rt: HostRuntime) -> Result<(), Fail> {
     Ok(())
 }
 
-/// Whether a file, which is read, is sound.
-fn is_sound_file(alloc: Global, bytes: &[u8]) -> Result<bool, ReadRefusal> {
-    let class = read_class(alloc, bytes)?;
-    Ok(is_sound(alloc, &class)?)
-}
-
 #[test]
-fn a_class_that_is_not_sound_is_told(rt: HostRuntime) -> Result<(), Fail> {
+fn what_is_not_sound_is_refused_where_it_stands(rt: HostRuntime) -> Result<(), Fail> {
     let edits = [
-        ("this_class is 0", 121, 0, false),
-        ("this_class is a text", 121, 1, false),
-        ("super_class is 0", 123, 0, false),
-        ("a class names index 0", 16, 0, false),
-        ("a class names itself", 16, 2, false),
-        ("a class names past the pool", 16, 18, false),
-        ("a class names a descriptor", 16, 6, true),
-        ("a class has a name with a dot", 13, b'.', false),
-        ("the descriptor (VV", 52, b'V', false),
-        ("a text has a byte 0", 13, 0, false),
-        ("a text has a byte 0xEF", 13, 0xEF, true),
-        ("a text has a byte 0xF0", 13, 0xF0, false),
-        ("no attribute is named Code", 57, b'D', false),
-        ("a native method has code", 130, 0x01, false),
-        ("an abstract method has code", 130, 0x04, false),
-        ("two methods are named read", 133, 9, false),
-        ("a method is named ()V", 133, 6, true),
-        ("a method is named by a class", 133, 2, false),
-        ("an attribute is named by a class", 139, 2, false),
+        ("this_class is 0", 121, 0, Some((120, Reason::BadIndex))),
+        (
+            "this_class is a text",
+            121,
+            1,
+            Some((120, Reason::BadIndex)),
+        ),
+        ("super_class is 0", 123, 0, Some((122, Reason::BadIndex))),
+        ("a class names index 0", 16, 0, Some((14, Reason::BadIndex))),
+        ("a class names itself", 16, 2, Some((14, Reason::BadIndex))),
+        (
+            "a class names past the pool",
+            16,
+            18,
+            Some((14, Reason::BadIndex)),
+        ),
+        ("a class names a descriptor", 16, 6, None),
+        (
+            "a class has a name with a dot",
+            13,
+            b'.',
+            Some((14, Reason::BadDescriptor)),
+        ),
+        (
+            "the descriptor (VV",
+            52,
+            b'V',
+            Some((83, Reason::BadDescriptor)),
+        ),
+        ("a text has a byte 0", 13, 0, Some((10, Reason::BadUtf8))),
+        ("a text has a byte 0xEF", 13, 0xEF, None),
+        (
+            "a text has a byte 0xF0",
+            13,
+            0xF0,
+            Some((10, Reason::BadUtf8)),
+        ),
+        (
+            "no attribute is named Code",
+            57,
+            b'D',
+            Some((130, Reason::CodeMissing)),
+        ),
+        (
+            "a native method has code",
+            130,
+            0x01,
+            Some((138, Reason::CodeUnexpected)),
+        ),
+        (
+            "an abstract method has code",
+            130,
+            0x04,
+            Some((138, Reason::CodeUnexpected)),
+        ),
+        (
+            "two methods are named read",
+            133,
+            9,
+            Some((206, Reason::BadDescriptor)),
+        ),
+        ("a method is named ()V", 133, 6, None),
+        (
+            "a method is named by a class",
+            133,
+            2,
+            Some((132, Reason::BadIndex)),
+        ),
+        (
+            "an attribute is named by a class",
+            139,
+            2,
+            Some((130, Reason::CodeMissing)),
+        ),
     ];
     for (what, at, byte, expected) in edits {
         let bytes = edited(rt.alloc(), stream(), at, byte)?;
-        assert_eq!(rt; is_sound_file(rt.alloc(), &bytes)?, expected, "{what}");
+        assert_eq!(rt; refusal(rt.alloc(), &bytes), expected, "{what}");
     }
     Ok(())
 }
@@ -215,7 +276,7 @@ fn a_class_that_is_not_sound_is_told(rt: HostRuntime) -> Result<(), Fail> {
 fn only_object_has_no_superclass(rt: HostRuntime) -> Result<(), Fail> {
     let object = edited(rt.alloc(), stream(), 121, 4)?;
     let alone = edited(rt.alloc(), &object, 123, 0)?;
-    assert!(rt; is_sound_file(rt.alloc(), &alone)?);
+    assert_eq!(rt; refusal(rt.alloc(), &alone), None);
     Ok(())
 }
 
@@ -230,7 +291,8 @@ fn contents(tag: u8) -> Option<usize> {
     }
 }
 
-/// A class whose constant pool has so many indices, and one entry of this tag if there is any.
+/// The spelling of a class whose constant pool has so many indices, and one entry of this tag if there is any. Each
+/// index in it is 0, so that it is not sound: in its entry, or else in `this_class`.
 fn with_entry(alloc: Global, count: u8, entry: Option<u8>) -> Result<Vec<u8>, AllocError> {
     let mut bytes = Vec::from_slice(alloc, &[0xca, 0xfe, 0xba, 0xbe, 0, 0, 0, 52, 0, count])?;
     if let Some(tag) = entry {
@@ -250,11 +312,14 @@ fn each_tag_is_read_or_refused(rt: HostRuntime) -> Result<(), Fail> {
     for tag in (0..21).chain(255..=255) {
         let count = if tag == 5 || tag == 6 { 3 } else { 2 };
         let bytes = with_entry(rt.alloc(), count, Some(tag))?;
-        let expected = match contents(tag) {
-            Some(_) => None,
-            None => Some((10, Reason::BadTag)),
+        let expected = match tag {
+            1 => (15, Reason::BadIndex),
+            3 | 4 => (17, Reason::BadIndex),
+            5 | 6 => (21, Reason::BadIndex),
+            7..=12 | 15 | 16 | 18 => (10, Reason::BadIndex),
+            _ => (10, Reason::BadTag),
         };
-        assert_eq!(rt; refusal(rt.alloc(), &bytes), expected, "tag {tag}");
+        assert_eq!(rt; refusal(rt.alloc(), &bytes), Some(expected), "tag {tag}");
     }
     Ok(())
 }
@@ -262,25 +327,8 @@ fn each_tag_is_read_or_refused(rt: HostRuntime) -> Result<(), Fail> {
 #[test]
 fn a_pool_may_be_empty(rt: HostRuntime) -> Result<(), Fail> {
     let empty = with_entry(rt.alloc(), 1, None)?;
-    assert_eq!(rt; refusal(rt.alloc(), &empty), None);
+    assert_eq!(rt; refusal(rt.alloc(), &empty), Some((12, Reason::BadIndex)));
     let none = with_entry(rt.alloc(), 0, None)?;
     assert_eq!(rt; refusal(rt.alloc(), &none), Some((8, Reason::BadIndex)));
-    Ok(())
-}
-
-/// A class of which an entry names the second index of a long.
-static NAMED_BY_A_LONG: [u8; 65] = [
-    0xca, 0xfe, 0xba, 0xbe, 0, 0, 0, 52, 0, 8, 1, 0, 1, 0x4c, 7, 0, 1, 1, 0, 0x10, 0x6a, 0x61,
-    0x76, 0x61, 0x2f, 0x6c, 0x61, 0x6e, 0x67, 0x2f, 0x4f, 0x62, 0x6a, 0x65, 0x63, 0x74, 7, 0, 3, 5,
-    0, 0, 0, 0, 0, 0, 0, 0, 7, 0, 6, 0, 0x21, 0, 2, 0, 4, 0, 0, 0, 0, 0, 0, 0, 0,
-];
-
-fn named_by_a_long() -> &'static [u8] {
-    &NAMED_BY_A_LONG
-}
-
-#[test]
-fn what_is_spelled_well_may_be_unsound(rt: HostRuntime) -> Result<(), Fail> {
-    assert!(rt; !is_sound_file(rt.alloc(), named_by_a_long())?);
     Ok(())
 }

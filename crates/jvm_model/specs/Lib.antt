@@ -2,9 +2,11 @@ pub mod Access
 pub mod Automata
 pub mod Code
 pub mod Descriptors
+pub mod DescriptorValues
 pub mod Executions
 pub mod Fronts
 pub mod Instructions
+pub mod Layout
 pub mod Lookups
 pub mod Machine
 pub mod Names

@@ -1,73 +1,252 @@
--- What makes a class file sound, for the kinds of entries and members that are read so far: each index
--- leads to an entry of the right kind, each name and descriptor is in its grammar, and a method has code
--- exactly where its flags ask for it.
-use Rattle.std.specs.Prelude.{codes, ◌≡◌, ◌⊎◌, ℕ, Bool, false, ◌&&◌, ◌||◌, nat_lt, List, [], length, map, filter, Some, All, IsSome, IsTrue, if◌then◌else◌}
+-- What makes a class file sound beyond its spelling (JVMS 4.2 to 4.7): each place where it uses an index, a text or a
+-- name, in the order of the file, and what has to hold there.
+use Rattle.std.specs.Prelude.{codes, ◌≡◌, ◌⊎◌, ℕ, ◌+◌, ◌*◌, Bool, true, false, ◌&&◌, ◌||◌, not, ◌==◌, nat_lt, nat_le, List, [], ◌∷◌, ◌++◌, length, map, Some, All, Contains, IsTrue, if◌then◌else◌}
+use Rattle.std.specs.List.{flat_map, list_all, list_any}
 use Rattle.std.specs.Str.{bytes_eq}
 use Rattle.std.specs.Option.{option_map_or}
 use Rattle.jvm_model.specs.declared.access.AccessFlag.TheVariants.{Native, Abstract}
+use Rattle.jvm_model.specs.declared.grammar.Grammar.{Grammar}
+use Rattle.jvm_model.specs.declared.grammar.Grammar.TheVariants.{ClassOrArray, FieldName, MethodName, FieldDescriptor, MethodDescriptor}
+use Rattle.jvm_model.specs.declared.pool.EntryKind.{EntryKind}
+use Rattle.jvm_model.specs.declared.pool.EntryKind.TheVariants as kinds
 use Rattle.jvm_model.specs.declared.pool.PoolEntry.{PoolEntry}
-use Rattle.jvm_model.specs.declared.pool.PoolEntry.TheVariants.{Utf8, Class, Methodref, NameAndType}
+use Rattle.jvm_model.specs.declared.pool.PoolEntry.TheVariants.{Utf8, Integer, Float, Long, Double, Class, Str, Fieldref, Methodref, InterfaceMethodref, NameAndType, MethodHandle, MethodType, InvokeDynamic, Taken}
 use Rattle.jvm_model.specs.declared.class_file.ClassFile.{ClassFile}
 use Rattle.jvm_model.specs.declared.class_file.Member.{Member}
 use Rattle.jvm_model.specs.declared.class_file.Attribute.{Attribute}
+use Rattle.jvm_model.specs.declared.reason.Reason.{Reason}
+use Rattle.jvm_model.specs.declared.reason.Reason.TheVariants.{BadIndex, BadUtf8, BadDescriptor, CodeMissing, CodeUnexpected}
 use Rattle.jvm_model.specs.Access.{has_flag}
-use Rattle.jvm_model.specs.Automata.{all_differ}
-use Rattle.jvm_model.specs.Lookups.{text_at, class_name_at, signature_at}
-use Rattle.jvm_model.specs.Names.{is_method_name, IsClassName}
+use Rattle.jvm_model.specs.Descriptors.{IsFieldDescriptor, IsMethodDescriptor}
+use Rattle.jvm_model.specs.Lookups.{entry_at, text_at, class_name_at}
+use Rattle.jvm_model.specs.Names.{is_unqualified_name, is_method_name, IsClassName}
+use Rattle.jvm_model.specs.Spelling.{entry, attribute, member}
+
+-- ---- texts
 
 -- A byte that may stand in a text: none of 0 and 0xF0 to 0xFF (JVMS 4.4.7).
 abbrev pub is_text_byte : ℕ → Bool
 is_text_byte b = nat_lt 0 b && nat_lt b 0xF0
 
--- The descriptor of a method without parameters and result (JVMS 4.3.3), the only one that is read so far.
+-- The descriptor of a method without parameters and result (JVMS 4.3.3).
 abbrev pub plain_descriptor : List ℕ
 plain_descriptor = codes "()V"
 
--- The text at an index, of which the fact holds.
-pub record NamesText (pool : List PoolEntry) (index : ℕ) (P : List ℕ → Type 0) : Type 0 where
-  pub text : List ℕ
-  pub at : text_at pool index ≡ Some text
-  pub is : P text
+-- The text is the descriptor of an array, if it is one of a field: it begins with [ (JVMS 4.3.2).
+abbrev pub is_array : List ℕ → Bool
+is_array [] = false
+is_array (b ∷ rest) = b == 91
 
--- An entry of the four kinds that are read so far, with what it leads to (JVMS 4.4.1, 4.4.2, 4.4.6, 4.4.7).
-abbrev pub IsSoundEntry : List PoolEntry → PoolEntry → Type 0
-IsSoundEntry pool (Utf8 bytes) = All (λ b. IsTrue (is_text_byte b)) bytes
-IsSoundEntry pool (Class name) = NamesText pool name IsClassName
-IsSoundEntry pool (Methodref class signature) = IsSome (class_name_at pool class) × IsSome (signature_at pool signature)
-IsSoundEntry pool (NameAndType name descriptor) =
-    NamesText pool name (λ n. IsTrue (is_method_name n)) × (text_at pool descriptor ≡ Some plain_descriptor)
-IsSoundEntry pool _ = ⊥
+-- The grammars of JVMS 4.2 and 4.3. A class entry names a class or an interface, or an array by its descriptor (4.4.1).
+abbrev pub IsIn : Grammar → List ℕ → Type 0
+IsIn ClassOrArray text = IsClassName text ⊎ (IsTrue (is_array text) × IsFieldDescriptor text)
+IsIn FieldName text = IsTrue (is_unqualified_name text)
+IsIn MethodName text = IsTrue (is_method_name text)
+IsIn FieldDescriptor text = IsFieldDescriptor text
+IsIn MethodDescriptor text = IsMethodDescriptor text
 
--- An attribute's name is a text (JVMS 4.7).
-abbrev pub IsSoundAttribute : List PoolEntry → Attribute → Type 0
-IsSoundAttribute pool a = IsSome (text_at pool a.name)
+-- ---- entries
+
+-- The entry is of a kind.
+abbrev pub is_of_kind : EntryKind → PoolEntry → Bool
+is_of_kind kinds.Text (Utf8 bytes) = true
+is_of_kind kinds.Class (Class name) = true
+is_of_kind kinds.Field (Fieldref class signature) = true
+is_of_kind kinds.Method (Methodref class signature) = true
+is_of_kind kinds.InterfaceMethod (InterfaceMethodref class signature) = true
+is_of_kind kinds.NameAndType (NameAndType name descriptor) = true
+is_of_kind _ _ = false
+
+-- The index leads to an entry of one of these kinds.
+abbrev pub leads_to : List PoolEntry → List EntryKind → ℕ → Bool
+leads_to pool allowed index = option_map_or (λ (e : PoolEntry). list_any (λ (k : EntryKind). is_of_kind k e) allowed) (entry_at pool index) false
+
+-- What a method handle of a kind may be for, in a class file of a major version (JVMS 4.4.8).
+abbrev pub handle_targets : ℕ → ℕ → List EntryKind
+handle_targets major kind =
+    if nat_le 1 kind && nat_le kind 4 then kinds.Field ∷ []
+    else if kind == 5 || kind == 8 then kinds.Method ∷ []
+    else if kind == 6 || kind == 7 then (if major == 52 then kinds.Method ∷ kinds.InterfaceMethod ∷ [] else kinds.Method ∷ [])
+    else if kind == 9 then kinds.InterfaceMethod ∷ []
+    else []
+
+-- ---- code
 
 -- The attribute is named Code.
 abbrev pub is_code : List PoolEntry → Attribute → Bool
 is_code pool a = option_map_or (bytes_eq (codes "Code")) (text_at pool a.name) false
 
--- How many Code attributes a method has to have: none if it is native or abstract, and else one (JVMS 4.7.3).
-abbrev pub code_count : Member → ℕ
-code_count m = if has_flag m.flags Native || has_flag m.flags Abstract then 0 else 1
+-- The method is to have code: it is neither native nor abstract (JVMS 4.7.3).
+abbrev pub wants_code : Member → Bool
+wants_code m = not (has_flag m.flags Native || has_flag m.flags Abstract)
+
+-- ---- uses, and what has to hold
+
+pub data Use : Type 0 where
+  -- the bytes of a text
+  text_bytes : (bytes : List ℕ) → Use
+  -- an index, which leads to an entry of one of these kinds
+  leads : (allowed : List EntryKind) → (index : ℕ) → Use
+  -- an index of a superclass, beside that of the class: only java/lang/Object has none, which is written 0
+  superclass : (this_class index : ℕ) → Use
+  -- a text at an index, which is in a grammar
+  in_grammar : (grammar : Grammar) → (index : ℕ) → Use
+  -- a name and a descriptor at an index, which are in two grammars
+  signature : (names descriptors : Grammar) → (index : ℕ) → Use
+  -- a name and a descriptor at two indices, which are those of a field or of a method
+  either_signature : (name descriptor : ℕ) → Use
+  -- a class at an index, which is no array
+  no_array : (index : ℕ) → Use
+  -- a member, whose name and descriptor are not those of an earlier one
+  differs : (earlier : List Member) → (m : Member) → Use
+  -- a method, which has code if it is to have it
+  code_there : (m : Member) → Use
+  -- an attribute of a method, which is no code if the method is to have none, or has one already
+  code_allowed : (m : Member) → (earlier : List Attribute) → (a : Attribute) → Use
+
+-- The text at an index, if there is one, is in the grammar.
+abbrev pub TextIsIn : List PoolEntry → Grammar → ℕ → Type 0
+TextIsIn pool grammar index = (text : List ℕ) → text_at pool index ≡ Some text → IsIn grammar text
+
+abbrev pub Holds : List PoolEntry → Use → Type 0
+Holds pool (text_bytes bytes) = list_all is_text_byte bytes ≡ true
+Holds pool (leads allowed index) = leads_to pool allowed index ≡ true
+Holds pool (superclass this_class index) =
+    (leads_to pool (kinds.Class ∷ []) index ≡ true) ⊎ ((index ≡ 0) × (class_name_at pool this_class ≡ Some (codes "java/lang/Object")))
+Holds pool (in_grammar grammar index) = TextIsIn pool grammar index
+Holds pool (signature names descriptors index) =
+    (name descriptor : ℕ) → entry_at pool index ≡ Some (NameAndType name descriptor) → TextIsIn pool names name × TextIsIn pool descriptors descriptor
+Holds pool (either_signature name descriptor) =
+    (TextIsIn pool MethodName name × TextIsIn pool MethodDescriptor descriptor) ⊎ (TextIsIn pool FieldName name × TextIsIn pool FieldDescriptor descriptor)
+Holds pool (no_array index) = (name : List ℕ) → class_name_at pool index ≡ Some name → is_array name ≡ false
+Holds pool (differs earlier m) =
+    (name descriptor : List ℕ) → text_at pool m.name ≡ Some name → text_at pool m.descriptor ≡ Some descriptor
+    → (e : Member) → Contains earlier e → text_at pool e.name ≡ Some name → text_at pool e.descriptor ≡ Some descriptor → ⊥
+Holds pool (code_there m) = wants_code m ≡ true → list_any (is_code pool) m.attributes ≡ true
+Holds pool (code_allowed m earlier a) = is_code pool a ≡ true → (wants_code m ≡ true) × (list_any (is_code pool) earlier ≡ false)
+
+-- The reason where a use does not hold.
+abbrev pub reason_of : Use → Reason
+reason_of (text_bytes bytes) = BadUtf8
+reason_of (leads allowed index) = BadIndex
+reason_of (superclass this_class index) = BadIndex
+reason_of (in_grammar grammar index) = BadDescriptor
+reason_of (signature names descriptors index) = BadDescriptor
+reason_of (either_signature name descriptor) = BadDescriptor
+reason_of (no_array index) = BadDescriptor
+reason_of (differs earlier m) = BadDescriptor
+reason_of (code_there m) = CodeMissing
+reason_of (code_allowed m earlier a) = CodeUnexpected
+
+-- ---- the places of a class file
+
+-- A use, and the file offset where it would be told.
+pub record Place : Type 0 where
+  pub offset : ℕ
+  pub use_ : Use
+
+-- Uses at one offset, in the order of their reasons.
+abbrev pub at_offset : ℕ → List Use → List Place
+at_offset offset uses = map (λ (u : Use). record { offset = offset; use_ = u }) uses
+
+-- A text at an index, in a grammar.
+abbrev pub text_uses : Grammar → ℕ → List Use
+text_uses grammar index = leads (kinds.Text ∷ []) index ∷ in_grammar grammar index ∷ []
+
+-- A class that the class file names beside its pool: an interface, for one.
+abbrev pub class_uses : ℕ → List Use
+class_uses index = leads (kinds.Class ∷ []) index ∷ no_array index ∷ []
+
+-- A field or a method that an entry names: its class, and its name and descriptor (JVMS 4.4.2).
+abbrev pub reference_uses : Grammar → Grammar → ℕ → ℕ → List Use
+reference_uses names descriptors class member = leads (kinds.Class ∷ []) class ∷ leads (kinds.NameAndType ∷ []) member ∷ signature names descriptors member ∷ []
+
+-- The uses in an entry, which are told at its tag (JVMS 4.4).
+abbrev pub entry_uses : ℕ → PoolEntry → List Use
+entry_uses major (Utf8 bytes) = text_bytes bytes ∷ []
+entry_uses major (Integer bits) = []
+entry_uses major (Float bits) = []
+entry_uses major (Long bits) = []
+entry_uses major (Double bits) = []
+entry_uses major (Class name) = text_uses ClassOrArray name
+entry_uses major (Str text) = leads (kinds.Text ∷ []) text ∷ []
+entry_uses major (Fieldref class member) = reference_uses FieldName FieldDescriptor class member
+entry_uses major (Methodref class member) = reference_uses MethodName MethodDescriptor class member
+entry_uses major (InterfaceMethodref class member) = reference_uses MethodName MethodDescriptor class member
+entry_uses major (NameAndType name descriptor) = leads (kinds.Text ∷ []) name ∷ leads (kinds.Text ∷ []) descriptor ∷ either_signature name descriptor ∷ []
+entry_uses major (MethodHandle kind reference) = leads (handle_targets major kind) reference ∷ []
+entry_uses major (MethodType descriptor) = text_uses MethodDescriptor descriptor
+entry_uses major (InvokeDynamic bootstrap member) = leads (kinds.NameAndType ∷ []) member ∷ signature MethodName MethodDescriptor member ∷ []
+entry_uses major Taken = []
+
+-- The places of items that stand one after the other, from an offset on: those of each item, at its offset and after
+-- the earlier items, by the number of bytes that an item takes.
+abbrev pub each_place : {X : Type 0} → (ℕ → List X → X → List Place) → (X → ℕ) → ℕ → List X → List X → List Place
+each_place places size offset earlier [] = []
+each_place places size offset earlier (x ∷ items) = places offset earlier x ++ each_place places size (offset + size x) (earlier ++ x ∷ []) items
+
+-- An entry of the constant pool.
+abbrev pub entry_places : ℕ → ℕ → List PoolEntry → PoolEntry → List Place
+entry_places major offset earlier e = at_offset offset (entry_uses major e)
+
+-- An attribute of the class or of a field (JVMS 4.7).
+abbrev pub attribute_places : ℕ → List Attribute → Attribute → List Place
+attribute_places offset earlier a = at_offset offset (leads (kinds.Text ∷ []) a.name ∷ [])
+
+-- An attribute of a method (JVMS 4.7.3).
+abbrev pub code_places : Member → ℕ → List Attribute → Attribute → List Place
+code_places m offset earlier a = at_offset offset (leads (kinds.Text ∷ []) a.name ∷ code_allowed m earlier a ∷ [])
+
+-- The name and the descriptor of a member, two bytes each.
+abbrev pub name_places : Grammar → Grammar → ℕ → List Member → Member → List Place
+name_places names descriptors offset earlier m = at_offset offset (text_uses names m.name ++ differs earlier m ∷ []) ++ at_offset (offset + 2) (text_uses descriptors m.descriptor)
+
+-- A field (JVMS 4.5).
+abbrev pub field_places : ℕ → List Member → Member → List Place
+field_places offset earlier m =
+    name_places FieldName FieldDescriptor (offset + 2) earlier m ++ each_place attribute_places (λ a. length (attribute a)) (offset + 8) [] m.attributes
 
 -- A method (JVMS 4.6).
-pub record IsSoundMethod (pool : List PoolEntry) (m : Member) : Type 0 where
-  pub name : NamesText pool m.name (λ n. IsTrue (is_method_name n))
-  pub descriptor : text_at pool m.descriptor ≡ Some plain_descriptor
-  pub attributes : All (IsSoundAttribute pool) m.attributes
-  pub code : length (filter (is_code pool) m.attributes) ≡ code_count m
+abbrev pub method_places : ℕ → List Member → Member → List Place
+method_places offset earlier m =
+    at_offset offset (code_there m ∷ [])
+    ++ (name_places MethodName MethodDescriptor (offset + 2) earlier m ++ each_place (code_places m) (λ a. length (attribute a)) (offset + 8) [] m.attributes)
 
--- A class of the kind that is read so far: without interfaces and fields, and with plain methods of
--- different names. Only java/lang/Object has no superclass (JVMS 4.1).
-pub record IsSoundClass (c : ClassFile) : Type 0 where
-  pub entries : All (IsSoundEntry c.pool) c.pool
-  pub this_class : IsSome (class_name_at c.pool c.this_class)
-  pub super_class : IsSome (class_name_at c.pool c.super_class)
-      ⊎ ((c.super_class ≡ 0) × (class_name_at c.pool c.this_class ≡ Some (codes "java/lang/Object")))
-  pub interfaces : c.interfaces ≡ []
-  pub fields : c.fields ≡ []
-  pub methods : All (IsSoundMethod c.pool) c.methods
-  pub names : List (List ℕ)
-  pub named : map (λ (m : Member). text_at c.pool m.name) c.methods ≡ map Some names
-  pub names_differ : IsTrue (all_differ bytes_eq names)
-  pub attributes : All (IsSoundAttribute c.pool) c.attributes
+-- Where the flags of the class stand, right after the constant pool; the first interface; the first field; the first
+-- method; and the first attribute of the class.
+abbrev pub flags_offset : ClassFile → ℕ
+flags_offset c = 10 + length (flat_map entry c.pool)
+
+abbrev pub interfaces_offset : ClassFile → ℕ
+interfaces_offset c = flags_offset c + 8
+
+abbrev pub fields_offset : ClassFile → ℕ
+fields_offset c = interfaces_offset c + 2 * length c.interfaces + 2
+
+abbrev pub methods_offset : ClassFile → ℕ
+methods_offset c = fields_offset c + length (flat_map member c.fields) + 2
+
+abbrev pub attributes_offset : ClassFile → ℕ
+attributes_offset c = methods_offset c + length (flat_map member c.methods) + 2
+
+-- The class, its superclass and its interfaces.
+abbrev pub header_places : ClassFile → List Place
+header_places c =
+    at_offset (flags_offset c + 2) (class_uses c.this_class)
+    ++ (at_offset (flags_offset c + 4) (superclass c.this_class c.super_class ∷ no_array c.super_class ∷ [])
+    ++ each_place (λ offset earlier index. at_offset offset (class_uses index)) (λ index. 2) (interfaces_offset c) [] c.interfaces)
+
+-- The fields, the methods and the attributes of the class.
+abbrev pub body_places : ClassFile → List Place
+body_places c =
+    each_place field_places (λ m. length (member m)) (fields_offset c) [] c.fields
+    ++ (each_place method_places (λ m. length (member m)) (methods_offset c) [] c.methods
+    ++ each_place attribute_places (λ a. length (attribute a)) (attributes_offset c) [] c.attributes)
+
+-- All places, in the order of the file.
+abbrev pub places_of : ClassFile → List Place
+places_of c = each_place (entry_places c.major) (λ e. length (entry e)) 10 [] c.pool ++ (header_places c ++ body_places c)
+
+-- Each use holds.
+abbrev pub IsSoundClass : ClassFile → Type 0
+IsSoundClass c = All (λ (p : Place). Holds c.pool p.use_) (places_of c)

@@ -1,7 +1,7 @@
 -- The words that are printed for reasons.
 use Rattle.std.specs.Prelude.{codes, ℕ, List}
 use Rattle.jvm_model.specs.declared.reason.Reason.{Reason}
-use Rattle.jvm_model.specs.declared.reason.Reason.TheVariants.{Truncated, BadMagic, BadVersion, BadTag, BadIndex, TrailingBytes, ClassTooLarge, NotYet}
+use Rattle.jvm_model.specs.declared.reason.Reason.TheVariants.{Truncated, BadMagic, BadVersion, BadTag, BadIndex, BadUtf8, BadDescriptor, TrailingBytes, CodeMissing, CodeUnexpected, ClassTooLarge, NotYet}
 
 -- The word of a reason, as ASCII.
 abbrev pub word_of : Reason → List ℕ
@@ -10,6 +10,10 @@ word_of BadMagic = codes "BadMagic"
 word_of BadVersion = codes "BadVersion"
 word_of BadTag = codes "BadTag"
 word_of BadIndex = codes "BadIndex"
+word_of BadUtf8 = codes "BadUtf8"
+word_of BadDescriptor = codes "BadDescriptor"
 word_of TrailingBytes = codes "TrailingBytes"
+word_of CodeMissing = codes "CodeMissing"
+word_of CodeUnexpected = codes "CodeUnexpected"
 word_of ClassTooLarge = codes "ClassTooLarge"
 word_of NotYet = codes "NotYet"

@@ -6,7 +6,38 @@ ghost use Rattle.std.specs.Str.{bytes_eq};
 ghost use Rattle.jvm_model.specs.Automata.{is_state_byte, is_state_name};
 ghost use Rattle.jvm_model.specs.Descriptors.{is_base_letter, units_of, IsFieldDescriptor, IsFieldType, IsMethodDescriptor, IsObjectType};
 ghost use Rattle.jvm_model.specs.Fronts.{EndsParameters, IsFrontLength};
+ghost use Rattle.jvm_model.specs.Soundness.{is_array, IsIn};
 ghost use Rattle.jvm_model.specs.Names.{is_method_name, is_name_byte, is_plain_byte, is_unqualified_name, IsClassName};
+
+/// A grammar of JVMS 4.2 and 4.3.
+#[derive(Clone, Copy, Debug, PartialEq, Eq)]
+pub enum Grammar {
+    /// The name of a class or an interface, or the descriptor of an array (4.2.1, 4.3.2, 4.4.1).
+    ClassOrArray,
+    /// The name of a field (4.2.2).
+    FieldName,
+    /// The name of a method (4.2.2).
+    MethodName,
+    /// The descriptor of a field (4.3.2).
+    FieldDescriptor,
+    /// The descriptor of a method (4.3.3).
+    MethodDescriptor,
+}
+
+impl Grammar {
+    /// Whether a text is in the grammar.
+    pub fn has(self, text: &[u8]) -> bool
+        ensures { IsTrue result ↔ IsIn self text.now }
+    {
+        match self {
+            Grammar::ClassOrArray => is_class_name(text) || is_array_descriptor(text),
+            Grammar::FieldName => is_unqualified_name(text),
+            Grammar::MethodName => is_method_name(text),
+            Grammar::FieldDescriptor => is_field_descriptor(text),
+            Grammar::MethodDescriptor => is_method_descriptor(text),
+        }
+    }
+}
 
 /// The most dimensions of an array type (JVMS 4.3.2).
 const MOST_DIMENSIONS: usize = 255;
@@ -100,7 +131,7 @@ fn component_length(text: &[u8]) -> Option<usize>
 }
 
 /// How many `[` stand at the front of a text, or `None` where nothing else follows.
-fn dimensions_of(text: &[u8]) -> Option<usize>
+pub(crate) fn dimensions_of(text: &[u8]) -> Option<usize>
     ensures { result ≡ position (λ b. not (b == 91)) text.now }
 {
     text.iter().position(|byte| *byte != b'[')
@@ -108,7 +139,7 @@ fn dimensions_of(text: &[u8]) -> Option<usize>
 
 /// The length of the field descriptor at the front of a text (JVMS 4.3.2). There is at most one, since no field
 /// descriptor begins another.
-fn field_descriptor_length(text: &[u8]) -> Option<usize>
+pub(crate) fn field_descriptor_length(text: &[u8]) -> Option<usize>
     ensures { IsFrontLength IsFieldDescriptor text.now result }
 {
     let dimensions = dimensions_of(text)?;
@@ -119,8 +150,25 @@ fn field_descriptor_length(text: &[u8]) -> Option<usize>
     Some(dimensions + length)
 }
 
+/// Whether a text begins as the descriptor of an array does (JVMS 4.3.2).
+pub fn is_array(text: &[u8]) -> bool
+    ensures { result ≡ is_array text.now }
+{
+    match text {
+        [first, ..] => *first == b'[',
+        [] => false,
+    }
+}
+
+/// Whether a text is the descriptor of an array (JVMS 4.3.2).
+fn is_array_descriptor(text: &[u8]) -> bool
+    ensures { IsTrue result ↔ (IsTrue (is_array text.now) × IsFieldDescriptor text.now) }
+{
+    is_array(text) && is_field_descriptor(text)
+}
+
 /// Whether a text is a field descriptor (JVMS 4.3.2).
-fn is_field_descriptor(text: &[u8]) -> bool
+pub fn is_field_descriptor(text: &[u8]) -> bool
     ensures { IsTrue result ↔ IsFieldDescriptor text.now }
 {
     field_descriptor_length(text) == Some(text.len())
@@ -138,7 +186,7 @@ fn units_of(parameter: &[u8]) -> usize
 }
 
 /// What follows the parameters of a method and their closing parenthesis, at the front of a text (JVMS 4.3.3).
-fn after_parameters(text: &[u8]) -> Option<&[u8]>
+pub(crate) fn after_parameters(text: &[u8]) -> Option<&[u8]>
     ensures { MatchOption result
         ((outcome : List ℕ) → EndsParameters text.now outcome → ⊥)
         (λ outcome. EndsParameters text.now outcome.now) }

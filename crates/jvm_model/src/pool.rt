@@ -1,5 +1,8 @@
 //! The entries of a constant pool (JVMS 4.4).
 
+ghost use Rattle.std.specs.Prelude.{◌≡◌};
+ghost use Rattle.jvm_model.specs.Soundness.{is_of_kind};
+
 use crate::sequence::Bytes;
 
 /// An entry of the constant pool, by its tag. A u16 is an index into the pool, which counts from 1.
@@ -35,4 +38,37 @@ pub enum PoolEntry {
     InvokeDynamic(u16, u16),
     /// The second index of a Long or a Double. It has no tag and no bytes.
     Taken,
+}
+
+/// A kind of entry that an index may have to lead to.
+#[derive(Clone, Copy, Debug, PartialEq, Eq)]
+pub enum EntryKind {
+    /// CONSTANT_Utf8.
+    Text,
+    /// CONSTANT_Class.
+    Class,
+    /// CONSTANT_Fieldref.
+    Field,
+    /// CONSTANT_Methodref.
+    Method,
+    /// CONSTANT_InterfaceMethodref.
+    InterfaceMethod,
+    /// CONSTANT_NameAndType.
+    NameAndType,
+}
+
+impl EntryKind {
+    /// Whether an entry is of the kind.
+    pub fn is_of(self, entry: &PoolEntry) -> bool
+        ensures { result ≡ is_of_kind self entry.now }
+    {
+        match self {
+            EntryKind::Text => matches!(entry, PoolEntry::Utf8(_)),
+            EntryKind::Class => matches!(entry, PoolEntry::Class(_)),
+            EntryKind::Field => matches!(entry, PoolEntry::Fieldref(..)),
+            EntryKind::Method => matches!(entry, PoolEntry::Methodref(..)),
+            EntryKind::InterfaceMethod => matches!(entry, PoolEntry::InterfaceMethodref(..)),
+            EntryKind::NameAndType => matches!(entry, PoolEntry::NameAndType(..)),
+        }
+    }
 }

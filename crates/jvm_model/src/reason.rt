@@ -17,10 +17,18 @@ pub enum Reason {
     BadVersion,
     /// A tag of the constant pool is not one of JVMS 4.4.
     BadTag,
-    /// The constant pool does not fit its count.
+    /// The constant pool does not fit its count; or an index that is used leads nowhere, or to another kind of entry.
     BadIndex,
+    /// A text of the constant pool has a byte 0, or one from 0xF0 on.
+    BadUtf8,
+    /// A name or a descriptor is not in its grammar; an array stands for a class; or two members agree in both.
+    BadDescriptor,
     /// Bytes follow the last attribute.
     TrailingBytes,
+    /// A method that is neither native nor abstract has no code.
+    CodeMissing,
+    /// A method has code and is native or abstract, or has a second code.
+    CodeUnexpected,
     /// The file has more bytes than the limit.
     ClassTooLarge,
     /// The input has a form that is not analysed yet.
@@ -37,7 +45,11 @@ pub fn reason_word(reason: Reason) -> &'static str
         Reason::BadVersion => "BadVersion",
         Reason::BadTag => "BadTag",
         Reason::BadIndex => "BadIndex",
+        Reason::BadUtf8 => "BadUtf8",
+        Reason::BadDescriptor => "BadDescriptor",
         Reason::TrailingBytes => "TrailingBytes",
+        Reason::CodeMissing => "CodeMissing",
+        Reason::CodeUnexpected => "CodeUnexpected",
         Reason::ClassTooLarge => "ClassTooLarge",
         Reason::NotYet => "NotYet",
     }

@@ -11,11 +11,15 @@ use Rattle.typestate_core.proofs.Reach.{place_of, contains_at}
 use Rattle.ts_outside.specs.Files.{File, file_at, class_names, is_class_name, IsListing}
 use Rattle.jvm_model.specs.declared.automaton.Automaton.{Automaton}
 use Rattle.jvm_model.specs.declared.class_file.ClassFile.{ClassFile}
+use Rattle.jvm_model.specs.declared.reason.ReadRefusal.{ReadRefusal}
+use Rattle.jvm_model.specs.declared.reason.ReadRefusal.TheVariants as refusals
 use Rattle.jvm_model.specs.declared.reason.Reason.{Reason}
 use Rattle.jvm_model.specs.declared.reason.Reason.TheVariants.{NotYet}
-use Rattle.classfile_reader.specs.ClassReading.{class_of, SpellsReadable}
-use Rattle.classfile_reader.proofs.Classes.{class_of_cut}
+use Rattle.classfile_reader.specs.ClassReading.{SpellsReadable}
+use Rattle.classfile_reader.specs.Faults.{IsRefusal, IsFaulty}
+use Rattle.classfile_reader.proofs.Refusals.{faulty_cut}
 use Rattle.classfile_reader.proofs.OneSpelling.{one_spelling}
+use Rattle.jvm_model.specs.Soundness.{IsSoundClass}
 use Rattle.typestate_core.specs.declared.status.Status.{Status}
 use Rattle.typestate_core.specs.declared.status.Status.TheVariants as statuses
 use Rattle.typestate_core.specs.Lines.{no_file, refused_line, missing_line, safe_line, unproved_line, summary_line}
@@ -74,20 +78,26 @@ site_told words files class method name whole bytes n a false answer past is ask
     unproved class method name whole a v.calls asks one (judged_whole n whole bytes a class method v.calls past is v.judged) (λ s. false≢true (v.answers.1 s)) f.status_is f.lines_are
 
 -- a class file that was read, and is not of the form
-pub refused_by_form : (bytes : List ℕ) (a : Automaton) (class method : List ℕ) (c : ClassFile) → SpellsReadable bytes c → ((calls : List (List ℕ)) → IsOfForm c a class method calls → ⊥)
+pub refused_by_form : (bytes : List ℕ) (a : Automaton) (class method : List ℕ) (c : ClassFile) → SpellsReadable bytes c → IsSoundClass c → ((calls : List (List ℕ)) → IsOfForm c a class method calls → ⊥)
     → IsRefusedAs bytes a class method 0 NotYet
-refused_by_form bytes a class method c readable none =
-    by_form c readable (λ calls j.
+refused_by_form bytes a class method c readable sound none =
+    by_form c readable sound (λ calls j.
     let same : j.c ≡ c = one_spelling bytes j.c c j.readable.spelling readable.spelling in
     none calls (subst (λ (x : ClassFile). IsOfForm x a class method calls) same j.of_form)) refl refl
+
+pub refused_by_fault : (bytes : List ℕ) (a : Automaton) (class method : List ℕ) (r : ReadRefusal) (offset : ℕ) (reason : Reason) → r ≡ refusals.Refused offset reason
+    → IsRefusal bytes r → (o : ℕ) (s : Reason) → o ≡ offset → s ≡ reason → IsRefusedAs bytes a class method o s
+refused_by_fault bytes a class method r offset reason is h o s at of =
+    let as_read : IsFaulty bytes offset reason = subst (IsRefusal bytes) is h in
+    let there : IsFaulty bytes o reason = subst (λ (x : ℕ). IsFaulty bytes x reason) (sym at) as_read in
+    by_fault (subst (IsFaulty bytes o) (sym of) there)
 
 -- why a class file is refused, from what was read of it
 refused_whole : (n : ℕ) (whole bytes : List ℕ) (a : Automaton) (class method : List ℕ) (offset : ℕ) (reason : Reason) → 4194304 < n → take n whole ≡ bytes
     → IsRefusedAs bytes a class method offset reason → IsRefusedAs whole a class method offset reason
-refused_whole n whole bytes a class method offset reason past is (by_fault e) =
-    by_fault (sym (class_of_cut n whole past) ∙ ap class_of is ∙ e)
-refused_whole n whole bytes a class method offset reason past is (by_form c readable none at why) =
-    by_form c (subst (λ (x : List ℕ). SpellsReadable x c) (cut_whole n 4194304 whole bytes past is readable.size) readable)
+refused_whole n whole bytes a class method offset reason past is (by_fault f) = by_fault (faulty_cut n whole bytes offset reason past is f)
+refused_whole n whole bytes a class method offset reason past is (by_form c readable sound none at why) =
+    by_form c (subst (λ (x : List ℕ). SpellsReadable x c) (cut_whole n 4194304 whole bytes past is readable.size) readable) sound
     (λ calls j. none calls (judged_front n whole bytes a class method calls past is j)) at why
 
 pub class_told : (words : List (List ℕ)) (files : List File) (class method name whole bytes : List ℕ) (n : ℕ) (a : Automaton) (offset : ℕ) (reason : Reason) (status : Status) (lines : List (List ℕ))

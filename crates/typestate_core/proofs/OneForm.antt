@@ -1,5 +1,5 @@
 -- Bytes spell one class file, and an entry of the form calls one list of methods.
-use Rattle.std.proofs.Common.{◌≡◌, ◌∙◌, ℕ, List, Result, Ok, Err, refl, sym, ap, subst}
+use Rattle.std.proofs.Common.{◌≡◌, ◌∙◌, ℕ, List, Result, Ok, refl, sym, subst}
 use Rattle.jvm_model.specs.declared.automaton.Automaton.{Automaton}
 use Rattle.jvm_model.specs.declared.class_file.ClassFile.{ClassFile}
 use Rattle.jvm_model.specs.declared.class_file.Member.{Member}
@@ -7,6 +7,7 @@ use Rattle.jvm_model.specs.declared.reason.Reason.{Reason}
 use Rattle.classfile_reader.specs.Reading.{Fault}
 use Rattle.classfile_reader.specs.ClassReading.{class_of}
 use Rattle.classfile_reader.proofs.Classes.{class_of_again}
+use Rattle.classfile_reader.proofs.Refusals.{faulty_or_sound, one_fault}
 use Rattle.typestate_core.specs.StraightLine.{code_of, calls_on, IsStraightLine}
 use Rattle.typestate_core.specs.FormParts.{AreNames, IsEntryCode, IsEntryAround, HasParts, AreCalls}
 use Rattle.typestate_core.specs.Outcomes.{IsJudged, IsRefusedAs, by_fault, by_form}
@@ -71,23 +72,15 @@ IsJudged-moved b d a e class class2 method method2 calls p q r s j =
 
 -- ---- the refused class
 
-two_readings : (r : Result ClassFile Fault) (c : ClassFile) (f : Fault) → r ≡ Ok c → r ≡ Err f → ⊥
-two_readings r c f e g = cc
-
-one_fault : (r : Result ClassFile Fault) (f g : Fault) → r ≡ Err f → r ≡ Err g → f ≡ g
-one_fault r f g e h = cc
-
 -- a class file that is refused is not judged
 pub refused_or_judged : (bytes : List ℕ) (a : Automaton) (class method : List ℕ) (offset : ℕ) (reason : Reason) (calls : List (List ℕ)) → IsRefusedAs bytes a class method offset reason → IsJudged bytes a class method calls → ⊥
-refused_or_judged bytes a class method offset reason calls (by_fault e) j = two_readings (class_of bytes) j.c _ (class_of_again bytes j.c j.readable) e
-refused_or_judged bytes a class method offset reason calls (by_form c readable none at why) j = none calls j
+refused_or_judged bytes a class method offset reason calls (by_fault f) j = faulty_or_sound bytes offset reason j.c f j.readable j.sound
+refused_or_judged bytes a class method offset reason calls (by_form c readable sound none at why) j = none calls j
 
 -- it is refused for one reason
 pub one_refusal : (bytes : List ℕ) (a e : Automaton) (class class2 method method2 : List ℕ) (offset offset2 : ℕ) (reason reason2 : Reason)
     → IsRefusedAs bytes a class method offset reason → IsRefusedAs bytes e class2 method2 offset2 reason2 → (offset ≡ offset2) × (reason ≡ reason2)
-one_refusal bytes a e class class2 method method2 offset offset2 reason reason2 (by_fault p) (by_fault q) =
-    let same : record { offset = offset; reason = reason } ≡ record { offset = offset2; reason = reason2 } = one_fault (class_of bytes) _ _ p q in
-    (ap (λ (f : Fault). f.offset) same, ap (λ (f : Fault). f.reason) same)
-one_refusal bytes a e class class2 method method2 offset offset2 reason reason2 (by_fault p) (by_form d readable none at why) = absurd (two_readings (class_of bytes) d _ (class_of_again bytes d readable) p)
-one_refusal bytes a e class class2 method method2 offset offset2 reason reason2 (by_form c readable none at why) (by_fault q) = absurd (two_readings (class_of bytes) c _ (class_of_again bytes c readable) q)
-one_refusal bytes a e class class2 method method2 offset offset2 reason reason2 (by_form c readable none at why) (by_form d readable2 none2 at2 why2) = (at ∙ sym at2, why ∙ sym why2)
+one_refusal bytes a e class class2 method method2 offset offset2 reason reason2 (by_fault f) (by_fault g) = one_fault bytes offset offset2 reason reason2 f g
+one_refusal bytes a e class class2 method method2 offset offset2 reason reason2 (by_fault f) (by_form d readable sound none at why) = absurd (faulty_or_sound bytes offset reason d f readable sound)
+one_refusal bytes a e class class2 method method2 offset offset2 reason reason2 (by_form c readable sound none at why) (by_fault g) = absurd (faulty_or_sound bytes offset2 reason2 c g readable sound)
+one_refusal bytes a e class class2 method method2 offset offset2 reason reason2 (by_form c readable sound none at why) (by_form d readable2 sound2 none2 at2 why2) = (at ∙ sym at2, why ∙ sym why2)

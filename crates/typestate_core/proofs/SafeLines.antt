@@ -5,7 +5,7 @@ use Rattle.std.proofs.lemmas.List.{append_cancel_left, append_cancel_right, take
 use Rattle.ts_outside.specs.Files.{File}
 use Rattle.jvm_model.specs.declared.automaton.Automaton.{Automaton}
 use Rattle.jvm_model.specs.declared.reason.Reason.{Reason}
-use Rattle.jvm_model.specs.declared.reason.Reason.TheVariants.{Truncated, BadMagic, BadVersion, BadTag, BadIndex, TrailingBytes, ClassTooLarge, NotYet}
+use Rattle.jvm_model.specs.declared.reason.Reason.TheVariants.{Truncated, BadMagic, BadVersion, BadTag, BadIndex, BadUtf8, BadDescriptor, TrailingBytes, CodeMissing, CodeUnexpected, ClassTooLarge, NotYet}
 use Rattle.jvm_model.specs.Soundness.{plain_descriptor}
 use Rattle.jvm_model.specs.Words.{word_of}
 use Rattle.typestate_core.specs.declared.status.Status.{Status}
@@ -57,7 +57,11 @@ refused_is_line file offset reason =
     word_plain BadVersion = refl
     word_plain BadTag = refl
     word_plain BadIndex = refl
+    word_plain BadUtf8 = refl
+    word_plain BadDescriptor = refl
     word_plain TrailingBytes = refl
+    word_plain CodeMissing = refl
+    word_plain CodeUnexpected = refl
     word_plain ClassTooLarge = refl
     word_plain NotYet = refl
 

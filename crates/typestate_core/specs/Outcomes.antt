@@ -1,13 +1,14 @@
 -- What a run answers, from the words and the files of the tree: a status, and the lines that are
 -- written. The checks stand in their order, and each case has the premise that the earlier ones passed.
-use Rattle.std.specs.Prelude.{◌≡◌, ◌≢◌, ℕ, List, [], ◌∷◌, length, Some, None, Err}
+use Rattle.std.specs.Prelude.{◌≡◌, ◌≢◌, ℕ, List, [], ◌∷◌, length, Some, None}
 use Rattle.ts_outside.specs.Files.{File, file_at, IsListing}
 use Rattle.jvm_model.specs.declared.automaton.Automaton.{Automaton}
 use Rattle.jvm_model.specs.declared.class_file.ClassFile.{ClassFile}
 use Rattle.jvm_model.specs.declared.reason.Reason.{Reason}
 use Rattle.jvm_model.specs.declared.reason.Reason.TheVariants.{NotYet}
 use Rattle.jvm_model.specs.Soundness.{plain_descriptor, IsSoundClass}
-use Rattle.classfile_reader.specs.ClassReading.{class_of, SpellsReadable}
+use Rattle.classfile_reader.specs.ClassReading.{SpellsReadable}
+use Rattle.classfile_reader.specs.Faults.{IsFaulty}
 use Rattle.typestate_core.specs.declared.status.Status.{Status}
 use Rattle.typestate_core.specs.declared.status.Status.TheVariants as statuses
 use Rattle.typestate_core.specs.Lines.{no_file, refused_line, missing_line, site_text, safe_line, unproved_line, summary_line}
@@ -29,23 +30,23 @@ pub record HasOneClass (files : List File) (name bytes : List ℕ) : Type 0 wher
   pub listing : IsListing files (name ∷ [])
   pub held : file_at files name ≡ Some bytes
 
--- The class file is sound and has the form, and it is the class of the automaton and of the entry.
+-- The class file has the form, and it is the class of the automaton and of the entry.
 pub record IsOfForm (c : ClassFile) (a : Automaton) (class method : List ℕ) (calls : List (List ℕ)) : Type 0 where
-  pub sound : IsSoundClass c
   pub form : IsStraightLine c class method calls
   pub automaton : a.class_name ≡ class
 
--- The bytes spell such a class file, of a size and a version that are read (JVMS 4.1).
+-- The bytes spell such a class file, of a size and a version that are read (JVMS 4.1), and it is sound.
 pub record IsJudged (bytes : List ℕ) (a : Automaton) (class method : List ℕ) (calls : List (List ℕ)) : Type 0 where
   pub c : ClassFile
   pub readable : SpellsReadable bytes c
+  pub sound : IsSoundClass c
   pub of_form : IsOfForm c a class method calls
 
--- Why a class file is refused, at which offset: by the first fault of its spelling; or, where it is spelled as it
--- should be, since it is not sound, has another form, or is another class.
+-- Why a class file is refused, at which offset: by its first fault; or, where it is spelled as it should be and sound,
+-- since it has another form, or is another class.
 pub data IsRefusedAs (bytes : List ℕ) (a : Automaton) (class method : List ℕ) (offset : ℕ) (reason : Reason) : Type 0 where
-  by_fault : class_of bytes ≡ Err (record { offset = offset; reason = reason }) → IsRefusedAs bytes a class method offset reason
-  by_form : (c : ClassFile) → SpellsReadable bytes c → ((calls : List (List ℕ)) → IsJudged bytes a class method calls → ⊥)
+  by_fault : IsFaulty bytes offset reason → IsRefusedAs bytes a class method offset reason
+  by_form : (c : ClassFile) → SpellsReadable bytes c → IsSoundClass c → ((calls : List (List ℕ)) → IsJudged bytes a class method calls → ⊥)
       → offset ≡ 0 → reason ≡ NotYet → IsRefusedAs bytes a class method offset reason
 
 -- The entry's only site: the first instruction of the entry.

@@ -19,7 +19,7 @@ use crate::request::Request;
 use crate::stage_one::is_safe;
 use crate::status::Status;
 use crate::straight_line::occurring_events;
-use classfile_reader::{is_sound, read_class};
+use classfile_reader::read_class;
 use jvm_model::{Automaton, ClassFile, ReadRefusal, Reason};
 use std::alloc::{AllocError, AllocFailed, Global};
 use ts_outside::{Sink, Tree, TreeEnd};
@@ -190,7 +190,7 @@ fn verdict(
     }
 }
 
-// Whether the entry's site is safe; None where the class is not sound, has another form, or is another one.
+// Whether the entry's site is safe; None where the class has another form, or is another one.
 fn site_verdict(
     alloc: Global,
     request: &Request<'_>,
@@ -201,7 +201,7 @@ fn site_verdict(
     ensures found { IfOk result (λ r. IfSome r (IsSiteVerdict class.now automaton.now request.now.class.now request.now.method.now)) }
     ensures none { IfOk result (λ r. IfNone r ((calls : List (List ℕ)) → IsOfForm class.now automaton.now request.now.class.now request.now.method.now calls → ⊥)) }
 {
-    if !is_sound(alloc, class)? || automaton.class_name.as_slice() != request.class {
+    if automaton.class_name.as_slice() != request.class {
         return Ok(None);
     }
     let Some(occurs) = occurring_events(alloc, class, automaton, request)? else {

@@ -1,97 +1,151 @@
-//! Entries of the constant pool, and what they lead to (JVMS 4.4).
+//! What the entries of a constant pool break (JVMS 4.4).
 
-ghost use Rattle.std.specs.Prelude.{◌≡◌, ◌↔◌, All, IfOk, Some, IsSome, IsTrue};
-ghost use Rattle.jvm_model.specs.Lookups.{text_at, class_name_at, signature_at};
-ghost use Rattle.jvm_model.specs.Soundness.{is_text_byte, plain_descriptor, IsSoundEntry};
-ghost use Rattle.classfile_reader.specs.KnownNames.{AreKnown};
+ghost use Rattle.std.specs.Prelude.{◌≡◌, ◌<◌, ◌+◌, ◌^◌, length, flat_map, IfOk, List, [], ◌∷◌};
+ghost use Rattle.jvm_model.specs.declared.pool.EntryKind.TheVariants as kinds;
+ghost use Rattle.jvm_model.specs.Soundness.{leads, either_signature, each_place, entry_places, entry_uses, reference_uses, signature, text_bytes};
+ghost use Rattle.jvm_model.specs.Spelling as spelling;
+ghost use Rattle.classfile_reader.specs.FirstPlace.{IsFirstUse, IsFirstBreach};
+ghost use Rattle.classfile_reader.specs.KnownTexts.{AreKnown};
 
-use crate::soundness::names::KnownNames;
-use jvm_model::lookup::{class_name_at, signature_at, text_at};
-use jvm_model::pool::PoolEntry;
-use std::alloc::{AllocError, Global};
+use crate::soundness::known::KnownTexts;
+use crate::soundness::uses::{
+    at_offset, either_signature_holds, handle_targets, index_reason, is_text, leads_to,
+    signature_holds, text_reason,
+};
+use jvm_model::layout::entry_length;
+use jvm_model::{EntryKind, Grammar, PoolEntry, Reason};
+use std::alloc::AllocError;
 
-/// Whether a byte may stand in a text (JVMS 4.4.7).
-fn is_text_byte(byte: u8) -> bool
-    ensures { result ≡ is_text_byte byte }
+/// What the bytes of a text break.
+fn bytes_reason(pool: &[PoolEntry], bytes: &[u8]) -> Option<Reason>
+    ensures { IsFirstUse pool.now (text_bytes bytes.now ∷ []) result }
 {
-    0 < byte && byte < 0xF0
-}
-
-/// Whether each byte may stand in a text.
-fn is_text(bytes: &[u8]) -> bool
-    ensures { IsTrue result ↔ All (λ b. IsTrue (is_text_byte b)) bytes.now }
-{
-    for byte in bytes {
-        if !is_text_byte(*byte) {
-            return false;
-        }
+    if !is_text(bytes) {
+        return Some(Reason::BadUtf8);
     }
-    true
+    None
 }
 
-/// Whether an index leads to a text.
-pub(crate) fn is_text_at(pool: &[PoolEntry], index: u16) -> bool
-    ensures { IsTrue result ↔ IsSome (text_at pool.now index) }
-{
-    text_at(pool, index).is_some()
-}
-
-/// Whether an index leads to a class.
-pub(crate) fn is_class_at(pool: &[PoolEntry], index: u16) -> bool
-    ensures { IsTrue result ↔ IsSome (class_name_at pool.now index) }
-{
-    class_name_at(pool, index).is_some()
-}
-
-/// Whether an index leads to a name and a descriptor.
-fn is_signature_at(pool: &[PoolEntry], index: u16) -> bool
-    ensures { IsTrue result ↔ IsSome (signature_at pool.now index) }
-{
-    signature_at(pool, index).is_some()
-}
-
-/// Whether an index leads to the descriptor of a method without parameters and result (JVMS 4.3.3).
-pub(crate) fn is_plain_descriptor_at(pool: &[PoolEntry], index: u16) -> bool
-    ensures { IsTrue result ↔ (text_at pool.now index ≡ Some plain_descriptor) }
-{
-    match text_at(pool, index) {
-        Some(text) => text == b"()V".as_slice(),
-        None => false,
-    }
-}
-
-/// Whether an entry is of a kind that is read so far, and leads to what its kind asks for.
-fn is_sound_entry(
+/// What a member that an entry names breaks (JVMS 4.4.2).
+fn reference_reason(
     pool: &[PoolEntry],
-    known: &mut KnownNames,
-    entry: &PoolEntry,
-) -> Result<bool, AllocError>
+    known: &mut KnownTexts,
+    grammars: (Grammar, Grammar),
+    class: u16,
+    member: u16,
+) -> Result<Option<Reason>, AllocError>
     requires { AreKnown pool.now known.old }
-    ensures exact { IfOk result (λ sound. IsTrue sound ↔ IsSoundEntry pool.now entry.now) }
+    ensures exact { IfOk result (IsFirstUse pool.now (reference_uses grammars.0 grammars.1 class member)) }
     ensures known { AreKnown pool.now known.new }
 {
+    if !leads_to(pool, &[EntryKind::Class], class) {
+        return Ok(Some(Reason::BadIndex));
+    }
+    signature_reason(pool, known, grammars, member)
+}
+
+/// What a name and a descriptor in two grammars break.
+fn signature_reason(
+    pool: &[PoolEntry],
+    known: &mut KnownTexts,
+    grammars: (Grammar, Grammar),
+    member: u16,
+) -> Result<Option<Reason>, AllocError>
+    requires { AreKnown pool.now known.old }
+    ensures exact { IfOk result (IsFirstUse pool.now (leads (kinds.NameAndType ∷ []) member ∷ signature grammars.0 grammars.1 member ∷ [])) }
+    ensures known { AreKnown pool.now known.new }
+{
+    if !leads_to(pool, &[EntryKind::NameAndType], member) {
+        return Ok(Some(Reason::BadIndex));
+    }
+    if !signature_holds(pool, known, grammars.0, grammars.1, member)? {
+        return Ok(Some(Reason::BadDescriptor));
+    }
+    Ok(None)
+}
+
+/// What a name and a descriptor of a field or a method break (JVMS 4.4.6).
+fn name_and_type_reason(
+    pool: &[PoolEntry],
+    known: &mut KnownTexts,
+    name: u16,
+    descriptor: u16,
+) -> Result<Option<Reason>, AllocError>
+    requires { AreKnown pool.now known.old }
+    ensures exact { IfOk result (IsFirstUse pool.now (leads (kinds.Text ∷ []) name ∷ leads (kinds.Text ∷ []) descriptor ∷ either_signature name descriptor ∷ [])) }
+    ensures known { AreKnown pool.now known.new }
+{
+    if !leads_to(pool, &[EntryKind::Text], name) {
+        return Ok(Some(Reason::BadIndex));
+    }
+    if !leads_to(pool, &[EntryKind::Text], descriptor) {
+        return Ok(Some(Reason::BadIndex));
+    }
+    if !either_signature_holds(pool, known, name, descriptor)? {
+        return Ok(Some(Reason::BadDescriptor));
+    }
+    Ok(None)
+}
+
+/// What an entry breaks, in a class file of a major version.
+fn entry_reason(
+    pool: &[PoolEntry],
+    known: &mut KnownTexts,
+    major: u16,
+    entry: &PoolEntry,
+) -> Result<Option<Reason>, AllocError>
+    requires { AreKnown pool.now known.old }
+    ensures exact { IfOk result (IsFirstUse pool.now (entry_uses major entry.now)) }
+    ensures known { AreKnown pool.now known.new }
+{
+    let fields = (Grammar::FieldName, Grammar::FieldDescriptor);
+    let methods = (Grammar::MethodName, Grammar::MethodDescriptor);
     match entry {
-        PoolEntry::Utf8(bytes) => Ok(is_text(bytes.as_slice())),
-        PoolEntry::Class(name) => known.is_class_name(pool, *name),
-        PoolEntry::Methodref(class, signature) => {
-            Ok(is_class_at(pool, *class) && is_signature_at(pool, *signature))
+        PoolEntry::Utf8(bytes) => Ok(bytes_reason(pool, bytes.as_slice())),
+        PoolEntry::Integer(_)
+        | PoolEntry::Float(_)
+        | PoolEntry::Long(_)
+        | PoolEntry::Double(_)
+        | PoolEntry::Taken => Ok(None),
+        PoolEntry::Class(name) => text_reason(pool, known, Grammar::ClassOrArray, *name),
+        PoolEntry::Str(text) => Ok(index_reason(pool, &[EntryKind::Text], *text)),
+        PoolEntry::Fieldref(class, member) => {
+            reference_reason(pool, known, fields, *class, *member)
+        }
+        PoolEntry::Methodref(class, member) | PoolEntry::InterfaceMethodref(class, member) => {
+            reference_reason(pool, known, methods, *class, *member)
         }
         PoolEntry::NameAndType(name, descriptor) => {
-            Ok(is_plain_descriptor_at(pool, *descriptor) && known.is_method_name(pool, *name)?)
+            name_and_type_reason(pool, known, *name, *descriptor)
         }
-        _ => Ok(false),
+        PoolEntry::MethodHandle(kind, reference) => {
+            Ok(index_reason(pool, handle_targets(major, *kind), *reference))
+        }
+        PoolEntry::MethodType(descriptor) => {
+            text_reason(pool, known, Grammar::MethodDescriptor, *descriptor)
+        }
+        PoolEntry::InvokeDynamic(_, member) => signature_reason(pool, known, methods, *member),
     }
 }
 
-/// Whether each entry of a pool is sound.
-pub(crate) fn are_sound_entries(alloc: Global, pool: &[PoolEntry]) -> Result<bool, AllocError>
-    ensures { IfOk result (λ sound. IsTrue sound ↔ All (IsSoundEntry pool.now) pool.now) }
+/// The first fault of the entries, which begin at offset 10 of a class file of a major version.
+pub(crate) fn pool_fault(
+    pool: &[PoolEntry],
+    known: &mut KnownTexts,
+    major: u16,
+) -> Result<Option<(u32, Reason)>, AllocError>
+    requires known_before { AreKnown pool.now known.old }
+    requires size { 10 + length (flat_map spelling.entry pool.now) < 2 ^ 32 }
+    ensures exact { IfOk result (IsFirstBreach pool.now (each_place (entry_places major) (λ e. length (spelling.entry e)) 10 [] pool.now)) }
+    ensures known { AreKnown pool.now known.new }
 {
-    let mut known = KnownNames::new(alloc, pool);
+    let mut offset = 10;
     for entry in pool {
-        if !is_sound_entry(pool, &mut known, entry)? {
-            return Ok(false);
+        let reason = entry_reason(pool, known, major, entry)?;
+        if let Some(fault) = at_offset(offset, reason) {
+            return Ok(Some(fault));
         }
+        offset += entry_length(entry);
     }
-    Ok(true)
+    Ok(None)
 }

@@ -31,7 +31,7 @@ const CLASS_AND_MEMBERS: &[ChangedCopy] = &[
     },
     ChangedCopy {
         title: "a field",
-        text: NOT_YET,
+        text: "refused F.class 132 BadDescriptor\n",
         changes: &[Change {
             at: 126,
             cut: 2,
@@ -39,8 +39,29 @@ const CLASS_AND_MEMBERS: &[ChangedCopy] = &[
         }],
     },
     ChangedCopy {
-        title: "a second method of one name",
+        title: "a field of a type",
         text: NOT_YET,
+        changes: &[
+            Change {
+                at: 9,
+                cut: 1,
+                put: &[19],
+            },
+            Change {
+                at: 118,
+                cut: 0,
+                put: &[1, 0, 1, 73],
+            },
+            Change {
+                at: 126,
+                cut: 2,
+                put: &[0, 1, 0, 0, 0, 9, 0, 18, 0, 0],
+            },
+        ],
+    },
+    ChangedCopy {
+        title: "a second method of one name",
+        text: "refused F.class 233 BadDescriptor\n",
         changes: &[Change {
             at: 234,
             cut: 1,
@@ -49,7 +70,7 @@ const CLASS_AND_MEMBERS: &[ChangedCopy] = &[
     },
     ChangedCopy {
         title: "this_class is a text",
-        text: NOT_YET,
+        text: "refused F.class 120 BadIndex\n",
         changes: &[Change {
             at: 121,
             cut: 1,
@@ -58,7 +79,7 @@ const CLASS_AND_MEMBERS: &[ChangedCopy] = &[
     },
     ChangedCopy {
         title: "this_class is no entry",
-        text: NOT_YET,
+        text: "refused F.class 120 BadIndex\n",
         changes: &[Change {
             at: 121,
             cut: 1,
@@ -67,7 +88,7 @@ const CLASS_AND_MEMBERS: &[ChangedCopy] = &[
     },
     ChangedCopy {
         title: "super_class is no entry",
-        text: NOT_YET,
+        text: "refused F.class 122 BadIndex\n",
         changes: &[Change {
             at: 123,
             cut: 1,
@@ -204,7 +225,7 @@ const NAMES_OF_METHODS: &[ChangedCopy] = &[
     },
     ChangedCopy {
         title: "a method named by a class",
-        text: NOT_YET,
+        text: "refused F.class 206 BadIndex\n",
         changes: &[Change {
             at: 207,
             cut: 1,
@@ -213,7 +234,7 @@ const NAMES_OF_METHODS: &[ChangedCopy] = &[
     },
     ChangedCopy {
         title: "a descriptor that is no text",
-        text: NOT_YET,
+        text: "refused F.class 208 BadIndex\n",
         changes: &[Change {
             at: 209,
             cut: 1,
@@ -222,7 +243,7 @@ const NAMES_OF_METHODS: &[ChangedCopy] = &[
     },
     ChangedCopy {
         title: "an attribute named by a class",
-        text: NOT_YET,
+        text: "refused F.class 204 CodeMissing\n",
         changes: &[Change {
             at: 213,
             cut: 1,
@@ -249,7 +270,7 @@ fn pools(rt: HostRuntime) -> Result<(), Fail> {
 const POOLS: &[ChangedCopy] = &[
     ChangedCopy {
         title: "a class named by no text",
-        text: NOT_YET,
+        text: "refused F.class 14 BadIndex\n",
         changes: &[Change {
             at: 16,
             cut: 1,
@@ -258,7 +279,7 @@ const POOLS: &[ChangedCopy] = &[
     },
     ChangedCopy {
         title: "a class named by no entry",
-        text: NOT_YET,
+        text: "refused F.class 14 BadIndex\n",
         changes: &[Change {
             at: 16,
             cut: 1,
@@ -266,8 +287,8 @@ const POOLS: &[ChangedCopy] = &[
         }],
     },
     ChangedCopy {
-        title: "an unused entry of another kind",
-        text: NOT_YET,
+        title: "an unused number",
+        text: UNPROVED,
         changes: &[
             Change {
                 at: 9,
@@ -299,7 +320,7 @@ const POOLS: &[ChangedCopy] = &[
     },
     ChangedCopy {
         title: "an unused name and type of a bad name",
-        text: NOT_YET,
+        text: "refused F.class 124 BadDescriptor\n",
         changes: &[
             Change {
                 at: 9,
@@ -324,7 +345,7 @@ const POOLS: &[ChangedCopy] = &[
     },
     ChangedCopy {
         title: "a text with a byte 0",
-        text: NOT_YET,
+        text: "refused F.class 68 BadUtf8\n",
         changes: &[Change {
             at: 71,
             cut: 1,
@@ -333,7 +354,7 @@ const POOLS: &[ChangedCopy] = &[
     },
     ChangedCopy {
         title: "a text with a byte 0xF0",
-        text: NOT_YET,
+        text: "refused F.class 68 BadUtf8\n",
         changes: &[Change {
             at: 71,
             cut: 1,

@@ -324,7 +324,7 @@ const CALLED_METHODS: &[ChangedCopy] = &[
     },
     ChangedCopy {
         title: "an abstract method with code",
-        text: NOT_YET,
+        text: "refused F.class 212 CodeUnexpected\n",
         changes: &[Change {
             at: 204,
             cut: 2,
@@ -333,7 +333,7 @@ const CALLED_METHODS: &[ChangedCopy] = &[
     },
     ChangedCopy {
         title: "a native method with code",
-        text: NOT_YET,
+        text: "refused F.class 212 CodeUnexpected\n",
         changes: &[Change {
             at: 204,
             cut: 2,
@@ -453,7 +453,7 @@ const BODIES: &[ChangedCopy] = &[
     },
     ChangedCopy {
         title: "a method without code",
-        text: NOT_YET,
+        text: "refused F.class 204 CodeMissing\n",
         changes: &[
             Change {
                 at: 211,
@@ -469,7 +469,7 @@ const BODIES: &[ChangedCopy] = &[
     },
     ChangedCopy {
         title: "two Code attributes",
-        text: NOT_YET,
+        text: "refused F.class 231 CodeUnexpected\n",
         changes: &[
             Change {
                 at: 211,

@@ -25,7 +25,6 @@ returns-clause-found c =
     record {
       calls = occurs.calls;
       of_form = record {
-        sound = c.in_ok-is_sound.ensures.0 c.if-not-branch.false;
         form = occurs.form;
         automaton = sym c.as_slice.ensures ∙ (bytes_eq-Decides c.as_slice.result.now class).0 (true_of_not _ c.if-ne.ensures);
       };

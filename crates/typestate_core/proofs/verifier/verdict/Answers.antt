@@ -1,6 +1,6 @@
 use Rattle.std.proofs.Common.{List, ℕ}
 use Rattle.typestate_core.specs.Outcomes.{IsOfForm}
-use Rattle.typestate_core.proofs.Judging.{at_none, refused_by_form}
+use Rattle.typestate_core.proofs.Judging.{at_none, refused_by_form, refused_by_fault}
 use Rattle.typestate_core.proofs.verifier.verdict.Goals as goal
 
 pub returns : goal.returns
@@ -8,5 +8,10 @@ returns c =
     let class = c.args.request.now.class.now in
     let method = c.args.request.now.method.now in
     let a = c.args.automaton.now in
-    refused_by_form c.args.bytes.now a class method c.in-Ok.class c.in-Ok.ensures.found
+    refused_by_form c.args.bytes.now a class method c.in-Ok.class c.in-Ok.ensures.found c.in-Ok.ensures.sound
     (at_none c.in_ok-is_safe.field-0 ((calls : List (List ℕ)) → IsOfForm c.in-Ok.class a class method calls → ⊥) c.in-None.is c.in_ok-is_safe.ensures.none)
+
+pub returns-in-Err-Refused : goal.returns-in-Err-Refused
+returns-in-Err-Refused c =
+    let r = c.in-Err-Refused in
+    refused_by_fault c.args.bytes.now c.args.automaton.now c.args.request.now.class.now c.args.request.now.method.now r.field-0 r.offset r.reason r.field-0-is r.ensures.refused _ _ r.offset-is r.reason-is

@@ -1,0 +1,20 @@
+-- Why a class file is refused, and at which offset.
+use Rattle.std.specs.Prelude.{◌≡◌, ℕ, List, Some, Err}
+use Rattle.jvm_model.specs.declared.class_file.ClassFile.{ClassFile}
+use Rattle.jvm_model.specs.declared.reason.ReadRefusal.{ReadRefusal}
+use Rattle.jvm_model.specs.declared.reason.ReadRefusal.TheVariants as refusals
+use Rattle.jvm_model.specs.declared.reason.Reason.{Reason}
+use Rattle.jvm_model.specs.Soundness.{places_of}
+use Rattle.classfile_reader.specs.ClassReading.{class_of, SpellsReadable}
+use Rattle.classfile_reader.specs.FirstPlace.{IsFirstBreach}
+
+-- The fault is the first one of the spelling; or the bytes are spelled as a class file, and it is the first place of it
+-- of which the use does not hold.
+pub data IsFaulty (bytes : List ℕ) (offset : ℕ) (reason : Reason) : Type 0 where
+  by_spelling : class_of bytes ≡ Err (record { offset = offset; reason = reason }) → IsFaulty bytes offset reason
+  by_use : (c : ClassFile) → SpellsReadable bytes c → IsFirstBreach c.pool (places_of c) (Some (offset, reason)) → IsFaulty bytes offset reason
+
+-- A refusal is such a fault, or memory ran out.
+abbrev pub IsRefusal : List ℕ → ReadRefusal → Type 0
+IsRefusal bytes refusals.Memory = Unit {0}
+IsRefusal bytes (refusals.Refused offset reason) = IsFaulty bytes offset reason

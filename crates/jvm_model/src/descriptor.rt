@@ -1,0 +1,215 @@
+//! Descriptors as values (JVMS 4.3): the kind of a field, and the kinds of a method's parameters and result.
+
+ghost use Rattle.std.specs.Prelude.{codes, ◌≡◌, ◌⊎◌, IfNone, IfOk, IfSome, IsTrue};
+ghost use Rattle.jvm_model.specs.Descriptors.{IsFieldDescriptor, IsMethodDescriptor};
+ghost use Rattle.jvm_model.specs.DescriptorValues.{is_wide, AreKinds, IsDescriptorOf, IsKind, IsOutcome};
+ghost use Rattle.jvm_model.specs.Soundness.{is_array};
+
+use crate::grammar::{
+    after_parameters, dimensions_of, field_descriptor_length, is_array, is_field_descriptor,
+    is_method_descriptor,
+};
+use crate::sequence::{Bytes, Sequence};
+use std::alloc::{AllocError, Global};
+
+/// The kind of a type (JVMS 4.3.2).
+#[derive(Debug, Drop)]
+pub enum Kind {
+    /// A primitive type. It is wide if it is long or double, which take two units (4.3.3).
+    Prim { wide: bool },
+    /// A class or an interface, by its name, without `L` and `;`.
+    Class(Bytes),
+    /// An array: its dimensions, 1 to 255, and the descriptor of its elements, which is that of a primitive type
+    /// or of a class, as `I` or `Ljava/lang/String;`.
+    Array(u8, Bytes),
+}
+
+/// A descriptor (JVMS 4.3.2, 4.3.3).
+#[derive(Debug, Drop)]
+pub enum Descriptor {
+    /// The descriptor of a field.
+    Field(Kind),
+    /// The descriptor of a method: its parameters, in order, and its result, `None` for void.
+    Method(Sequence<Kind>, Option<Kind>),
+}
+
+/// The descriptor that the bytes spell (JVMS 4.3), or `None` where they are in neither grammar. It takes time
+/// linear in the bytes. An error says that memory ran out.
+pub fn descriptor_of(alloc: Global, bytes: &[u8]) -> Result<Option<Descriptor>, AllocError>
+    ensures found { IfOk result (λ r. IfSome r (IsDescriptorOf bytes.now)) }
+    ensures none { IfOk result (λ r. IfNone r
+        ((IsFieldDescriptor bytes.now → ⊥) × (IsMethodDescriptor bytes.now → ⊥))) }
+{
+    if is_field_descriptor(bytes) {
+        return Ok(Some(Descriptor::Field(kind_of(alloc, bytes)?)));
+    }
+    if is_method_descriptor(bytes) {
+        return Ok(Some(method_of(alloc, bytes)?));
+    }
+    Ok(None)
+}
+
+/// The value of a method descriptor (JVMS 4.3.3).
+fn method_of(alloc: Global, text: &[u8]) -> Result<Descriptor, AllocError>
+    requires { IsMethodDescriptor text.now }
+    ensures { IfOk result (IsDescriptorOf text.now) }
+{
+    let parameters = &text[1..];
+    let outcome = after_parameters(parameters).unwrap();
+    let kinds = kinds_of(alloc, parameters)?;
+    Ok(Descriptor::Method(kinds, outcome_of(alloc, outcome)?))
+}
+
+/// The kind of a method's result, `None` for void (JVMS 4.3.3).
+fn outcome_of(alloc: Global, outcome: &[u8]) -> Result<Option<Kind>, AllocError>
+    requires { (outcome.now ≡ codes "V") ⊎ IsFieldDescriptor outcome.now }
+    ensures { IfOk result (IsOutcome outcome.now) }
+{
+    if outcome == b"V".as_slice() {
+        return Ok(None);
+    }
+    Ok(Some(kind_of(alloc, outcome)?))
+}
+
+/// The kinds of the field descriptors that stand at the front of a text, one after another, as many as there are.
+fn kinds_of(alloc: Global, text: &[u8]) -> Result<Sequence<Kind>, AllocError>
+    ensures { IfOk result (AreKinds text.now) }
+{
+    let mut kinds = Vec::new(alloc);
+    let mut rest = text;
+    while let Some(length) = field_descriptor_length(rest) {
+        let (parameter, after) = rest.split_at(length);
+        kinds.push(kind_of(alloc, parameter)?)?;
+        rest = after;
+    }
+    Ok(Sequence::from_vec(kinds))
+}
+
+/// The kind that a field descriptor is of (JVMS 4.3.2).
+fn kind_of(alloc: Global, text: &[u8]) -> Result<Kind, AllocError>
+    requires { IsFieldDescriptor text.now }
+    ensures { IfOk result (IsKind text.now) }
+{
+    if is_array(text) {
+        return array_of(alloc, text);
+    }
+    // A primitive type is one letter, and a class has more: L, its name and a semicolon.
+    match text {
+        [_, name @ .., _] => Ok(Kind::Class(copy_of(alloc, name)?)),
+        _ => Ok(Kind::Prim {
+            wide: is_wide(text),
+        }),
+    }
+}
+
+/// The kind that the descriptor of an array is of (JVMS 4.3.2).
+fn array_of(alloc: Global, text: &[u8]) -> Result<Kind, AllocError>
+    requires array { IsTrue (is_array text.now) }
+    requires field { IsFieldDescriptor text.now }
+    ensures { IfOk result (IsKind text.now) }
+{
+    let dimensions = dimensions_of(text).unwrap();
+    let element = copy_of(alloc, &text[dimensions..])?;
+    Ok(Kind::Array(dimensions as u8, element))
+}
+
+/// Whether a descriptor is that of long or double (JVMS 4.3.2).
+fn is_wide(text: &[u8]) -> bool
+    ensures { result ≡ is_wide text.now }
+{
+    text == b"J".as_slice() || text == b"D".as_slice()
+}
+
+/// A copy of the bytes.
+fn copy_of(alloc: Global, bytes: &[u8]) -> Result<Bytes, AllocError>
+    ensures { IfOk result (λ copy. copy ≡ bytes.now) }
+{
+    Ok(Sequence::from_vec(Vec::from_slice(alloc, bytes)?))
+}
+
+#[cfg(test)]
+mod tests {
+    use super::*;
+    use std::test::Fail;
+
+    /// Adds a kind to a text, and a space.
+    fn push_kind(text: &mut Vec<u8>, kind: &Kind) -> Result<(), AllocError> {
+        match kind {
+            Kind::Prim { wide: true } => text.extend_from_slice(b"wide ")?,
+            Kind::Prim { wide: false } => text.extend_from_slice(b"prim ")?,
+            Kind::Class(name) => {
+                text.extend_from_slice(name.as_slice())?;
+                text.extend_from_slice(b" ")?;
+            }
+            Kind::Array(dimensions, element) => {
+                text.push(*dimensions)?;
+                text.extend_from_slice(b" of ")?;
+                text.extend_from_slice(element.as_slice())?;
+                text.extend_from_slice(b" ")?;
+            }
+        }
+        Ok(())
+    }
+
+    /// A descriptor in words, with the dimensions of an array as a byte.
+    fn in_words(alloc: Global, bytes: &[u8]) -> Result<Vec<u8>, AllocError> {
+        let mut text = Vec::new(alloc);
+        match descriptor_of(alloc, bytes)? {
+            None => text.extend_from_slice(b"none")?,
+            Some(Descriptor::Field(kind)) => push_kind(&mut text, &kind)?,
+            Some(Descriptor::Method(parameters, outcome)) => {
+                text.extend_from_slice(b"takes ")?;
+                for kind in parameters.as_slice() {
+                    push_kind(&mut text, kind)?;
+                }
+                text.extend_from_slice(b"gives ")?;
+                if let Some(kind) = outcome {
+                    push_kind(&mut text, &kind)?;
+                }
+            }
+        }
+        Ok(text)
+    }
+
+    #[test]
+    fn descriptors_have_values(rt: HostRuntime) -> Result<(), Fail> {
+        let alloc = rt.alloc();
+        let cases = [
+            ("I", "prim "),
+            ("J", "wide "),
+            ("D", "wide "),
+            ("[[I", "\x02 of I "),
+            ("Ljava/lang/String;", "java/lang/String "),
+            ("[LA;", "\x01 of LA; "),
+            (
+                "(ID[Ljava/lang/String;)V",
+                "takes prim wide \x01 of Ljava/lang/String; gives ",
+            ),
+            ("()J", "takes gives wide "),
+            ("()[[D", "takes gives \x02 of D "),
+            ("V", "none"),
+            ("(V)V", "none"),
+            ("II", "none"),
+            ("", "none"),
+        ];
+        for (text, want) in cases {
+            assert_eq!(rt;
+                in_words(alloc, text.as_bytes())?.as_slice(),
+                want.as_bytes(),
+                "{text}"
+            );
+        }
+        let mut text = vec![in alloc; b'['; 255]?;
+        text.push(b'Z')?;
+        assert_eq!(rt;
+            in_words(alloc, text.as_slice())?.as_slice(),
+            b"\xff of Z ".as_slice()
+        );
+        text.insert(0, b'[')?;
+        assert_eq!(rt;
+            in_words(alloc, text.as_slice())?.as_slice(),
+            b"none".as_slice()
+        );
+        Ok(())
+    }
+}
