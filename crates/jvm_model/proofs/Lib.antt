@@ -5,3 +5,4 @@ pub mod Fields
 pub mod Lengths
 pub mod MethodKinds
 pub mod Parameters
+pub mod SoundUses

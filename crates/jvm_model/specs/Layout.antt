@@ -20,6 +20,21 @@ pub record IsFirstCode (pool : List PoolEntry) (attributes before : List Attribu
   pub none_before : list_any (is_code pool) before ≡ false
   pub named_code : is_code pool code ≡ true
 
+-- The attribute is the first one named Code.
+pub record HasFirstCode (pool : List PoolEntry) (attributes : List Attribute) (code : Attribute) : Type 0 where
+  pub before : List Attribute
+  pub after : List Attribute
+  pub first : IsFirstCode pool attributes before code after
+
+-- The attribute is named Code, and no other one is, neither before it nor after it.
+pub record IsOnlyCode (pool : List PoolEntry) (attributes : List Attribute) (code : Attribute) : Type 0 where
+  pub before : List Attribute
+  pub after : List Attribute
+  pub parts : attributes ≡ before ++ code ∷ after
+  pub named_code : is_code pool code ≡ true
+  pub none_before : list_any (is_code pool) before ≡ false
+  pub none_after : list_any (is_code pool) after ≡ false
+
 -- The attributes before the first one named Code take so many bytes.
 pub record IsBeforeCode (pool : List PoolEntry) (attributes : List Attribute) (bytes : ℕ) : Type 0 where
   pub before : List Attribute

@@ -17,6 +17,7 @@ pub mod pool;
 pub mod reason;
 pub mod sequence;
 pub mod site;
+pub mod sound;
 
 pub use access::AccessFlag;
 pub use automaton::{Automaton, Event};
