@@ -1,7 +1,7 @@
 -- The words that are printed for reasons.
 use Rattle.std.specs.Prelude.{codes, ℕ, List}
 use Rattle.jvm_model.specs.declared.reason.Reason.{Reason}
-use Rattle.jvm_model.specs.declared.reason.Reason.TheVariants.{Truncated, BadMagic, BadVersion, BadTag, BadIndex, BadUtf8, BadDescriptor, TrailingBytes, CodeMissing, CodeUnexpected, ClassTooLarge, NotYet}
+use Rattle.jvm_model.specs.declared.reason.Reason.TheVariants.{Truncated, BadMagic, BadVersion, BadTag, BadIndex, BadUtf8, BadDescriptor, TrailingBytes, CodeMissing, CodeUnexpected, ClassTooLarge, BadOpcode, BadTarget, CodeCut, BadLocal, BadHandler, Subroutine, BadToml, BadProperty, BadStub, NotYet}
 
 -- The word of a reason, as ASCII.
 abbrev pub word_of : Reason → List ℕ
@@ -16,4 +16,13 @@ word_of TrailingBytes = codes "TrailingBytes"
 word_of CodeMissing = codes "CodeMissing"
 word_of CodeUnexpected = codes "CodeUnexpected"
 word_of ClassTooLarge = codes "ClassTooLarge"
+word_of BadOpcode = codes "BadOpcode"
+word_of BadTarget = codes "BadTarget"
+word_of CodeCut = codes "CodeCut"
+word_of BadLocal = codes "BadLocal"
+word_of BadHandler = codes "BadHandler"
+word_of Subroutine = codes "Subroutine"
+word_of BadToml = codes "BadToml"
+word_of BadProperty = codes "BadProperty"
+word_of BadStub = codes "BadStub"
 word_of NotYet = codes "NotYet"

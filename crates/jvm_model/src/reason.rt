@@ -6,7 +6,7 @@ ghost use Rattle.jvm_model.specs.declared.reason.ReadRefusal.TheVariants.{Memory
 
 use std::alloc::{AllocError, AllocFailed};
 
-/// The reason of a refusal, in the order in which reasons at one offset are named.
+/// The reason of a refusal, in the order in which reasons at one offset are named; in code `BadIndex` comes last.
 #[derive(Clone, Copy, Debug, PartialEq, Eq, PartialOrd, Ord, Hash)]
 pub enum Reason {
     /// The file ends before or inside a field.
@@ -31,6 +31,24 @@ pub enum Reason {
     CodeUnexpected,
     /// The file has more bytes than the limit.
     ClassTooLarge,
+    /// An opcode, or the code of a type, a count or a table beside it, is none of JVMS 6.5.
+    BadOpcode,
+    /// A branch leads to where no instruction begins.
+    BadTarget,
+    /// The body of a Code attribute ends too early or too late, or an instruction runs past the end of the code.
+    CodeCut,
+    /// A local variable that is used is not below the limit of the method.
+    BadLocal,
+    /// An exception handler covers no code, is not at instructions, or names no class.
+    BadHandler,
+    /// An instruction of a subroutine: `jsr`, `jsr_w` or `ret`.
+    Subroutine,
+    /// A file is too large, is not UTF-8, or is no TOML document.
+    BadToml,
+    /// A property file breaks a rule of its keys.
+    BadProperty,
+    /// A stub file breaks a rule of its keys.
+    BadStub,
     /// The input has a form that is not analysed yet.
     NotYet,
 }
@@ -51,6 +69,15 @@ pub fn reason_word(reason: Reason) -> &'static str
         Reason::CodeMissing => "CodeMissing",
         Reason::CodeUnexpected => "CodeUnexpected",
         Reason::ClassTooLarge => "ClassTooLarge",
+        Reason::BadOpcode => "BadOpcode",
+        Reason::BadTarget => "BadTarget",
+        Reason::CodeCut => "CodeCut",
+        Reason::BadLocal => "BadLocal",
+        Reason::BadHandler => "BadHandler",
+        Reason::Subroutine => "Subroutine",
+        Reason::BadToml => "BadToml",
+        Reason::BadProperty => "BadProperty",
+        Reason::BadStub => "BadStub",
         Reason::NotYet => "NotYet",
     }
 }

@@ -5,7 +5,7 @@ use Rattle.std.proofs.lemmas.List.{append_cancel_left, append_cancel_right, take
 use Rattle.ts_outside.specs.Files.{File}
 use Rattle.jvm_model.specs.declared.automaton.Automaton.{Automaton}
 use Rattle.jvm_model.specs.declared.reason.Reason.{Reason}
-use Rattle.jvm_model.specs.declared.reason.Reason.TheVariants.{Truncated, BadMagic, BadVersion, BadTag, BadIndex, BadUtf8, BadDescriptor, TrailingBytes, CodeMissing, CodeUnexpected, ClassTooLarge, NotYet}
+use Rattle.jvm_model.specs.declared.reason.Reason.TheVariants.{Truncated, BadMagic, BadVersion, BadTag, BadIndex, BadUtf8, BadDescriptor, TrailingBytes, CodeMissing, CodeUnexpected, ClassTooLarge, BadOpcode, BadTarget, CodeCut, BadLocal, BadHandler, Subroutine, BadToml, BadProperty, BadStub, NotYet}
 use Rattle.jvm_model.specs.Soundness.{plain_descriptor}
 use Rattle.jvm_model.specs.Words.{word_of}
 use Rattle.typestate_core.specs.declared.status.Status.{Status}
@@ -63,6 +63,15 @@ refused_is_line file offset reason =
     word_plain CodeMissing = refl
     word_plain CodeUnexpected = refl
     word_plain ClassTooLarge = refl
+    word_plain BadOpcode = refl
+    word_plain BadTarget = refl
+    word_plain CodeCut = refl
+    word_plain BadLocal = refl
+    word_plain BadHandler = refl
+    word_plain Subroutine = refl
+    word_plain BadToml = refl
+    word_plain BadProperty = refl
+    word_plain BadStub = refl
     word_plain NotYet = refl
 
 missing_is_line : (file : List ℕ) → IsLine (missing_line file)

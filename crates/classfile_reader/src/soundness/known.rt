@@ -1,6 +1,6 @@
 //! Texts of a constant pool that are in a grammar (JVMS 4.2, 4.3). Where many entries lead to one text, it is read
-//! once: the indices of the texts that are in the grammar are kept. A text that is not in it is not kept, since it
-//! ends the reading.
+//! once: the indices of the texts that are in the grammar are kept. A text that is not in it is not kept: it ends the
+//! reading, or is a field's descriptor that is tried as a method's and fails there at its first byte.
 
 ghost use Rattle.std.specs.Prelude.{◌↔◌, IfOk, IsTrue};
 ghost use Rattle.jvm_model.specs.Soundness.{TextIsIn};

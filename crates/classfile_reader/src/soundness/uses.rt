@@ -158,7 +158,9 @@ pub(crate) fn handle_targets(major: u16, kind: u8) -> &'static [EntryKind]
     }
 }
 
-/// Whether two texts, so far as they are there, are in two grammars.
+/// Whether two texts, so far as they are there, are in two grammars. The second is a descriptor's: a descriptor of a
+/// field is refused as a method's at its first byte, and the other way round, so that no long name is read for
+/// nothing.
 fn are_in(
     pool: &[PoolEntry],
     known: &mut KnownTexts,
@@ -169,10 +171,10 @@ fn are_in(
     ensures exact { IfOk result (λ are. IsTrue are ↔ (TextIsIn pool.now grammars.0 indices.0 × TextIsIn pool.now grammars.1 indices.1)) }
     ensures known { AreKnown pool.now known.new }
 {
-    if !known.is_in(pool, grammars.0, indices.0)? {
+    if !known.is_in(pool, grammars.1, indices.1)? {
         return Ok(false);
     }
-    known.is_in(pool, grammars.1, indices.1)
+    known.is_in(pool, grammars.0, indices.0)
 }
 
 /// Whether a name and a descriptor at an index are in two grammars.
