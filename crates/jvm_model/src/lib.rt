@@ -18,6 +18,7 @@ pub mod reason;
 pub mod sequence;
 pub mod site;
 pub mod sound;
+pub mod stub;
 
 pub use access::AccessFlag;
 pub use automaton::{Automaton, Event};
@@ -31,3 +32,4 @@ pub use pool::{EntryKind, PoolEntry};
 pub use reason::{ReadRefusal, Reason, reason_word};
 pub use sequence::{Bytes, Sequence};
 pub use site::{Site, SiteKind};
+pub use stub::{StubArgument, StubClass, StubField, StubMethod, StubResult};
