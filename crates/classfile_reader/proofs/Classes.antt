@@ -11,9 +11,10 @@ use Rattle.jvm_model.specs.Spelling.{u2, u4, attribute, member, table, pool, spe
 use Rattle.classfile_reader.specs.declared.limit.TheConstants.{CLASS_FILE_LIMIT}
 use Rattle.std.specs.Prelude.{IfOk}
 use Rattle.jvm_model.specs.declared.reason.ReadRefusal.{ReadRefusal}
-use Rattle.classfile_reader.specs.Reading.{Place, Fault, ◌>>=◌, Tells, number_at, table_at}
+use Rattle.byte_reader.specs.Reading.{Place, Fault, ◌>>=◌, Tells, number_at, table_at}
 use Rattle.classfile_reader.specs.PoolReading.{pool_at}
-use Rattle.classfile_reader.specs.ClassReading.{attribute_at, member_at, magic_at, major_at, class_at, class_of, SpellsReadable}
+use Rattle.classfile_reader.specs.ClassReading.{magic_at, major_at, class_at, class_of, SpellsReadable}
+use Rattle.byte_reader.specs.Structures.{attribute_at, member_at}
 use Rattle.classfile_reader.proofs.Fields.{IsBytes, bind_ok, ok_is, unless_ok, goes_on_with, Takes, Takes-then, IsSpelledBy, ListFits, wide16, wide32, number_takes, number_again, table_takes, table_again}
 use Rattle.classfile_reader.proofs.Members.{attribute_takes, attribute_again, member_takes, member_again}
 use Rattle.classfile_reader.proofs.Entries.{PoolFits, pool_takes, pool_again}

@@ -1,48 +1,13 @@
--- Reading items one after the other, as a loop does.
+-- Reading the indices of the constant pool one after the other, as a loop does.
 use Rattle.std.proofs.Common.{◌≡◌, ℕ, suc, ◌-◌, ◌+◌, ◌≤◌, ◌<◌, List, [], ◌∷◌, ◌++◌, Option, Some, None, Result, Ok, Err, refl, sym, ap, ◌∙◌, append_assoc, arith}
 use Rattle.std.proofs.lemmas.List.{append-nil}
 use Rattle.jvm_model.specs.declared.reason.Reason.TheVariants.{BadIndex}
 use Rattle.jvm_model.specs.declared.reason.ReadRefusal.{ReadRefusal}
 use Rattle.jvm_model.specs.declared.reason.ReadRefusal.TheVariants as refusals
 use Rattle.jvm_model.specs.declared.pool.PoolEntry.{PoolEntry}
-use Rattle.classfile_reader.specs.Reading.{Place, Fault, ◌>>=◌, Fails, items_at}
+use Rattle.byte_reader.specs.Reading.{Place, Fault, ◌>>=◌, Fails}
+use Rattle.byte_reader.proofs.Loop.{with_front, regroup}
 use Rattle.classfile_reader.specs.PoolReading.{index_at, indices_at}
-
--- what was read before, and what is still read
-abbrev pub with_front : {X : Type 0} → List X → Result (List X × Place) Fault → Result (List X × Place) Fault
-with_front front read = read >>= λ x. Ok (front ++ x.0, x.1)
-
-regroup : {X : Type 0} (front : List X) (n : X) (read : Result (List X × Place) Fault) → with_front front (read >>= λ x. Ok (n ∷ x.0, x.1)) ≡ with_front (front ++ n ∷ []) read
-regroup {X} front n (Ok x) = ap (λ (ns : List X). Ok (ns, x.1)) (simp append_assoc)
-regroup front n (Err f) = refl
-
--- ---- items of one kind
-
-pub goes_on : {X : Type 0} (item_at : Place → Result (X × Place) Fault) (front : List X) (count i : ℕ) (place : Place) (item : X) (stopped : Place) (total : Result (List X × Place) Fault) → i < count → item_at place ≡ Ok (item, stopped)
-    → with_front front (items_at item_at (count - i) place) ≡ total → with_front (front ++ item ∷ []) (items_at item_at (count - (i + 1)) stopped) ≡ total
-unfolding items_at
-goes_on item_at front count i place item stopped total lt h so_far =
-    let k : count - i ≡ suc (count - (i + 1)) = omega arith in
-    let one : with_front front (items_at item_at (count - i) place) ≡ with_front (front ++ item ∷ []) (items_at item_at (count - (i + 1)) stopped) = rw (k, h) (regroup front item (items_at item_at (count - (i + 1)) stopped)) in
-    sym one ∙ so_far
-
-pub ends : {X : Type 0} (item_at : Place → Result (X × Place) Fault) (e : ReadRefusal) (front : List X) (count i : ℕ) (place : Place) (total : Result (List X × Place) Fault) → i < count → Fails e (item_at place)
-    → with_front front (items_at item_at (count - i) place) ≡ total → Fails e total
-unfolding items_at
-ends item_at refusals.Memory front count i place total lt h so_far = tt
-ends item_at (refusals.Refused offset reason) front count i place total lt h so_far =
-    let k : count - i ≡ suc (count - (i + 1)) = omega arith in
-    let one : with_front front (items_at item_at (count - i) place) ≡ Err (record { offset = offset; reason = reason }) = rw (k, h) refl in
-    sym so_far ∙ one
-
-pub is_done : {X : Type 0} (item_at : Place → Result (X × Place) Fault) (front : List X) (count i : ℕ) (place : Place) (total : Result (List X × Place) Fault) → count ≤ i → with_front front (items_at item_at (count - i) place) ≡ total → total ≡ Ok (front, place)
-unfolding items_at
-is_done {X} item_at front count i place total le so_far =
-    let k : count - i ≡ 0 = omega arith in
-    let one : with_front front (items_at item_at (count - i) place) ≡ Ok (front, place) = rw k (ap (λ (ns : List X). Ok (ns, place)) (append-nil front)) in
-    sym so_far ∙ one
-
--- ---- the indices of the pool
 
 pub indices_go_on : (front : List PoolEntry) (count i : ℕ) (wide : Option ℕ) (place : Place) (entry : PoolEntry) (next : Option ℕ) (stopped : Place) (total : Result (List PoolEntry × Place) Fault) → i < count → index_at wide place ≡ Ok ((entry, next), stopped)
     → with_front front (indices_at (count - i) wide place) ≡ total → with_front (front ++ entry ∷ []) (indices_at (count - (i + 1)) next stopped) ≡ total

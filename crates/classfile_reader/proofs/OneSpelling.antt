@@ -6,7 +6,7 @@ use Rattle.std.proofs.lemmas.List.{take_at, drop_at}
 use Rattle.std.proofs.lemmas.Nat.{from_be_bytes-to_be_bytes_2}
 use Rattle.jvm_model.specs.declared.class_file.ClassFile.{ClassFile}
 use Rattle.jvm_model.specs.Spelling.{u2, u4, attribute, member, table, pool, spell, ClassFits, IsSpelling}
-use Rattle.classfile_reader.specs.Reading.{Place, Fault}
+use Rattle.byte_reader.specs.Reading.{Place, Fault}
 use Rattle.classfile_reader.specs.ClassReading.{class_at}
 use Rattle.classfile_reader.proofs.Classes.{class_again}
 

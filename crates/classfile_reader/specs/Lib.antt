@@ -1,4 +1,3 @@
-pub mod Reading
 pub mod PoolReading
 pub mod ClassReading
 pub mod Faults

@@ -5,7 +5,7 @@ use Rattle.jvm_model.specs.declared.reason.Reason.TheVariants.{BadTag, BadIndex}
 use Rattle.jvm_model.specs.declared.pool.PoolEntry.{PoolEntry}
 use Rattle.jvm_model.specs.declared.pool.PoolEntry.TheVariants.{Utf8, Integer, Float, Long, Double, Class, Str, Fieldref, Methodref, InterfaceMethodref, NameAndType, MethodHandle, MethodType, InvokeDynamic, Taken}
 use Rattle.jvm_model.specs.Spelling.{is_wide}
-use Rattle.classfile_reader.specs.Reading.{Place, Fault, ◌>>=◌, fault_at, number_at, byte_at, bytes_at}
+use Rattle.byte_reader.specs.Reading.{Place, Fault, ◌>>=◌, fault_at, number_at, byte_at, bytes_at}
 
 -- An entry that has one number.
 unfoldable pub one_at : Width → (ℕ → PoolEntry) → Place → Result (PoolEntry × Place) Fault

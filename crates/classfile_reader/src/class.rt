@@ -2,13 +2,13 @@
 
 ghost use Rattle.std.specs.Prelude.{IfOk, Ok};
 ghost use Rattle.jvm_model.specs.declared.class_file.ClassFile.{ClassFile};
-ghost use Rattle.classfile_reader.specs.Reading.{Reads, Tells};
+ghost use Rattle.byte_reader.specs.Reading.{Reads, Tells};
 ghost use Rattle.classfile_reader.specs.ClassReading.{magic_at, major_at, class_at, class_of, SpellsReadable};
 
-use crate::input::Input;
+use byte_reader::Input;
 use crate::limit::CLASS_FILE_LIMIT;
 use crate::pool::pool;
-use crate::table::table;
+use byte_reader::table;
 use jvm_model::class_file::ClassFile;
 use jvm_model::reason::{ReadRefusal, Reason};
 use std::alloc::Global;

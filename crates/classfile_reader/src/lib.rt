@@ -3,14 +3,11 @@
 #![tactic(auto)]
 
 mod class;
-mod input;
 pub mod laws;
 mod limit;
-mod member;
 mod pool;
 mod read;
 mod soundness;
-mod table;
 
 pub use limit::CLASS_FILE_LIMIT;
 pub use read::read_class;

@@ -3,10 +3,10 @@
 ghost use Rattle.std.specs.Prelude.{◌≡◌, ◌-◌, None, List};
 ghost use Rattle.std.specs.Int.{w32, w64};
 ghost use Rattle.jvm_model.specs.Spelling.{is_wide};
-ghost use Rattle.classfile_reader.specs.Reading.{Reads, Gives};
+ghost use Rattle.byte_reader.specs.Reading.{Reads, Gives};
 ghost use Rattle.classfile_reader.specs.PoolReading.{pair_at, text_at, handle_at, contents_at, tagged_at, entry_at, index_at, indices_at, pool_at};
 
-use crate::input::Input;
+use byte_reader::Input;
 use jvm_model::pool::PoolEntry;
 use jvm_model::reason::{ReadRefusal, Reason};
 use jvm_model::sequence::{Bytes, Sequence};

@@ -3,7 +3,7 @@
 ghost use Rattle.std.specs.Prelude.{IfOk, IfErr, Ok};
 ghost use Rattle.jvm_model.specs.declared.class_file.ClassFile.{ClassFile};
 ghost use Rattle.jvm_model.specs.Soundness.{IsSoundClass};
-ghost use Rattle.classfile_reader.specs.Reading.{Tells};
+ghost use Rattle.byte_reader.specs.Reading.{Tells};
 ghost use Rattle.classfile_reader.specs.ClassReading.{SpellsReadable};
 ghost use Rattle.classfile_reader.specs.Faults.{IsRefusal};
 

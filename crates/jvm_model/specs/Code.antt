@@ -3,16 +3,9 @@ use Rattle.std.specs.Prelude.{◌≡◌, ℕ, ◌<◌, ◌^◌, List, [], ◌∷
 use Rattle.jvm_model.specs.declared.class_file.ClassFile.{ClassFile}
 use Rattle.jvm_model.specs.declared.class_file.Member.{Member}
 use Rattle.jvm_model.specs.declared.class_file.Attribute.{Attribute}
+use Rattle.jvm_model.specs.declared.code.Handler.{Handler}
 use Rattle.jvm_model.specs.Spelling.{u2, u4, table, attribute, AttributeFits}
 use Rattle.jvm_model.specs.Soundness.{is_code}
-
--- An entry of the table of exception handlers: from where to before where it covers the code, where it
--- begins, and the pool index of the class that it takes, or 0 where it takes each.
-pub record Handler : Type 0 where
-  pub start : ℕ
-  pub finish : ℕ
-  pub target : ℕ
-  pub catch_type : ℕ
 
 -- What stands in the body: two limits, the code, the handlers in their order, and attributes.
 pub record Code : Type 0 where

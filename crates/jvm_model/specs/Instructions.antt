@@ -1,24 +1,31 @@
--- The instructions in the code of a method (JVMS 4.7.3, 6.5), and their rows once the constant pool is known.
-use Rattle.std.specs.Prelude.{◌≡◌, ℕ, ◌+◌, ◌-◌, ◌*◌, ◌||◌, ◌==◌, nat_lt, List, [], ◌∷◌, ◌++◌, map, replicate, drop, option_map, option_and_then, Option, Some, None, if◌then◌else◌}
+-- The instructions in the code of a method (JVMS 4.7.3, 6.5), why none is read at an offset, and the rows of instructions
+-- once the constant pool is known.
+use Rattle.std.specs.Prelude.{◌≡◌, ℕ, zero, suc, ◌+◌, ◌-◌, ◌*◌, ◌%◌, ◌||◌, ◌==◌, nat_lt, List, [], ◌∷◌, ◌++◌, length, map, replicate, drop, slice_index, option_map, option_and_then, Option, Some, None, Result, Ok, Err, if◌then◌else◌}
 use Rattle.std.specs.List.{flat_map}
 use Rattle.jvm_model.specs.declared.pool.PoolEntry.{PoolEntry}
 use Rattle.jvm_model.specs.declared.pool.PoolEntry.TheVariants.{Integer, Float, Str, Class, MethodHandle, MethodType, Fieldref, Methodref, InterfaceMethodref}
+use Rattle.jvm_model.specs.declared.reason.Reason.{Reason}
+use Rattle.jvm_model.specs.declared.reason.Reason.TheVariants.{BadOpcode, CodeCut}
 use Rattle.jvm_model.specs.Descriptors.{IsMethodDescriptor, IsFieldDescriptor}
 use Rattle.jvm_model.specs.Lookups.{MethodName, Signature, entry_at, class_name_at, signature_at}
-use Rattle.jvm_model.specs.Table.{Row, row, row_of, Operands, nothing, implied, value_1, value_2, type_code, local_1, pool_1, pool_2, offset_2, offset_4, local_and_value, pool_2_and_count, pool_2_and_zeros, pool_2_and_dimensions, Kind, primitive, reference, Origin, a_primitive, the_made, Action, plain, load_constant, get_static, put_static, get_field, put_field, invoke_virtual, invoke_special, invoke_static, invoke_interface, make_array}
+use Rattle.jvm_model.specs.Table.{Row, row, row_of, Operands, nothing, implied, value_1, value_2, type_code, local_1, pool_1, pool_2, offset_2, offset_4, local_and_value, pool_2_and_count, pool_2_and_zeros, pool_2_and_dimensions, table_of_offsets, pairs_with_offsets, widened, Kind, primitive, reference, Origin, a_primitive, the_made, Action, plain, load_constant, get_static, put_static, get_field, put_field, invoke_virtual, invoke_special, invoke_static, invoke_interface, make_array}
 
--- An instruction: the row of its opcode; its operand, which is an index of the constant pool, a local variable
--- or the code of a type, and else 0; for multianewarray its dimensions; the offsets to which it may branch; and
--- how many bytes it takes.
+-- An instruction: its opcode and the row of it; its operand, which is an index of the constant pool, a local variable
+-- or the code of a type, and else 0; for multianewarray its dimensions; the offsets to which it may branch, in the
+-- order of its operands, where None is one before the code; and how many bytes it takes. What the prefix wide stands
+-- before is given as that instruction.
 pub record Instruction : Type 0 where
+  pub opcode : ℕ
   pub row : Row
   pub operand : ℕ
   pub dimensions : ℕ
-  pub targets : List ℕ
+  pub targets : List (Option ℕ)
   pub size : ℕ
 
-abbrev pub instruction : Row → ℕ → ℕ → List ℕ → ℕ → Instruction
-instruction r operand dimensions targets size = record { row = r; operand = operand; dimensions = dimensions; targets = targets; size = size }
+abbrev pub instruction : ℕ → Row → ℕ → ℕ → List (Option ℕ) → ℕ → Instruction
+instruction opcode r operand dimensions targets size = record { opcode = opcode; row = r; operand = operand; dimensions = dimensions; targets = targets; size = size }
+
+-- ---- numbers
 
 -- A number of two bytes, high byte first, and one of four.
 abbrev pub number_2 : ℕ → ℕ → ℕ
@@ -26,6 +33,14 @@ number_2 a b = a * 256 + b
 
 abbrev pub number_4 : ℕ → ℕ → ℕ → ℕ → ℕ
 number_4 a b c d = number_2 (number_2 (number_2 a b) c) d
+
+-- The number in the first four of some bytes.
+abbrev pub word : List ℕ → ℕ
+word bytes = number_4 (slice_index bytes 0) (slice_index bytes 1) (slice_index bytes 2) (slice_index bytes 3)
+
+-- How far a signed number, which is written modulo 2^32, is above the least one.
+abbrev pub above_least : ℕ → ℕ
+above_least n = (n + 0x80000000) % 0x100000000
 
 -- The place at a signed distance from an offset, where the distance is written modulo this number; none before
 -- the first byte.
@@ -35,37 +50,99 @@ target modulus offset distance =
     else if nat_lt (offset + distance) modulus then None
     else Some (offset + distance - modulus)
 
--- A branch to a target.
-abbrev pub branch_to : Row → ℕ → Option ℕ → Option Instruction
-branch_to r size place = option_map (λ t. instruction r 0 0 (t ∷ []) size) place
+-- The same, where the distance is one of two bytes, or of four.
+abbrev pub near_target : ℕ → ℕ → Option ℕ
+near_target offset distance = target 0x10000 offset distance
 
--- The instruction of a row at an offset, from the bytes after its opcode. Those of tableswitch and lookupswitch
--- and of the prefix wide are not read yet.
-abbrev pub with_operands : Row → ℕ → Operands → List ℕ → Option Instruction
-with_operands r offset nothing bytes = Some (instruction r 0 0 [] 1)
-with_operands r offset (implied local) bytes = Some (instruction r local 0 [] 1)
-with_operands r offset value_1 (a ∷ bytes) = Some (instruction r 0 0 [] 2)
-with_operands r offset value_2 (a ∷ b ∷ bytes) = Some (instruction r 0 0 [] 3)
-with_operands r offset type_code (a ∷ bytes) = Some (instruction r a 0 [] 2)
-with_operands r offset local_1 (a ∷ bytes) = Some (instruction r a 0 [] 2)
-with_operands r offset pool_1 (a ∷ bytes) = Some (instruction r a 0 [] 2)
-with_operands r offset pool_2 (a ∷ b ∷ bytes) = Some (instruction r (number_2 a b) 0 [] 3)
-with_operands r offset offset_2 (a ∷ b ∷ bytes) = branch_to r 3 (target 0x10000 offset (number_2 a b))
-with_operands r offset offset_4 (a ∷ b ∷ c ∷ d ∷ bytes) = branch_to r 5 (target 0x100000000 offset (number_4 a b c d))
-with_operands r offset local_and_value (a ∷ b ∷ bytes) = Some (instruction r a 0 [] 3)
-with_operands r offset pool_2_and_count (a ∷ b ∷ c ∷ d ∷ bytes) = Some (instruction r (number_2 a b) 0 [] 5)
-with_operands r offset pool_2_and_zeros (a ∷ b ∷ c ∷ d ∷ bytes) = Some (instruction r (number_2 a b) 0 [] 5)
-with_operands r offset pool_2_and_dimensions (a ∷ b ∷ d ∷ bytes) = Some (instruction r (number_2 a b) d [] 4)
-with_operands r offset _ bytes = None
+abbrev pub far_target : ℕ → ℕ → Option ℕ
+far_target offset distance = target 0x100000000 offset distance
 
--- The instruction that the bytes at an offset begin with.
-abbrev pub first_instruction : ℕ → List ℕ → Option Instruction
-first_instruction offset [] = None
-first_instruction offset (opcode ∷ bytes) = option_and_then (λ (r : Row). with_operands r offset r.operands bytes) (row_of opcode)
+-- ---- switches (JVMS 6.5.tableswitch, 6.5.lookupswitch)
+
+-- How many bytes of padding stand after an opcode, so that what follows is at a multiple of four in the code.
+abbrev pub padding : ℕ → ℕ
+padding offset = 3 - offset % 4
+
+-- So many targets of the instruction at an offset, each in the first four bytes of an entry of this size.
+abbrev pub table_targets : ℕ → ℕ → ℕ → List ℕ → List (Option ℕ)
+table_targets offset entry zero bytes = []
+table_targets offset entry (suc n) bytes = far_target offset (word bytes) ∷ table_targets offset entry n (drop entry bytes)
+
+-- A switch at an offset, from the bytes after its padding, of which it takes this many: its default, and so many
+-- entries, whose targets begin with the thirteenth byte.
+abbrev pub switch : ℕ → Row → ℕ → ℕ → ℕ → ℕ → List ℕ → Result Instruction Reason
+switch opcode r offset long entry count bytes =
+    if nat_lt (length bytes) long then Err CodeCut
+    else Ok (instruction opcode r 0 0 (far_target offset (word bytes) ∷ table_targets offset entry count (drop 12 bytes)) (1 + padding offset + long))
+
+-- From its lowest to its highest value, both signed, tableswitch has one target each.
+abbrev pub table_switch : ℕ → Row → ℕ → List ℕ → Result Instruction Reason
+table_switch opcode r offset bytes =
+    let low = above_least (word (drop 4 bytes)) in
+    let high = above_least (word (drop 8 bytes)) in
+    if nat_lt (length bytes) 12 then Err CodeCut
+    else if nat_lt high low then Err BadOpcode
+    else switch opcode r offset (12 + 4 * (high - low + 1)) 4 (high - low + 1) bytes
+
+-- lookupswitch has so many pairs of a value and a target, a number that is signed and not below 0.
+abbrev pub pairs_switch : ℕ → Row → ℕ → List ℕ → Result Instruction Reason
+pairs_switch opcode r offset bytes =
+    let count = word (drop 4 bytes) in
+    if nat_lt (length bytes) 8 then Err CodeCut
+    else if nat_lt count 0x80000000 then switch opcode r offset (8 + 8 * count) 8 count bytes
+    else Err BadOpcode
+
+-- ---- operands
+
+-- An instruction that the prefix wide stands before: one with a local variable, which takes two bytes here, and the
+-- value of iinc two (JVMS 6.5.wide).
+abbrev pub widened_by : ℕ → Row → Operands → List ℕ → Result Instruction Reason
+widened_by opcode r local_1 (a ∷ b ∷ bytes) = Ok (instruction opcode r (number_2 a b) 0 [] 4)
+widened_by opcode r local_1 _ = Err CodeCut
+widened_by opcode r local_and_value (a ∷ b ∷ c ∷ d ∷ bytes) = Ok (instruction opcode r (number_2 a b) 0 [] 6)
+widened_by opcode r local_and_value _ = Err CodeCut
+widened_by opcode r _ bytes = Err BadOpcode
+
+abbrev pub widened_row : ℕ → Option Row → List ℕ → Result Instruction Reason
+widened_row opcode (Some r) bytes = widened_by opcode r r.operands bytes
+widened_row opcode None bytes = Err BadOpcode
+
+-- The instruction of an opcode and its row at an offset, from the bytes after its opcode. It is cut where the code ends
+-- before its last operand; and newarray has the code of a type, from 4 to 11, and multianewarray a dimension.
+abbrev pub with_operands : ℕ → Row → ℕ → Operands → List ℕ → Result Instruction Reason
+with_operands opcode r offset nothing bytes = Ok (instruction opcode r 0 0 [] 1)
+with_operands opcode r offset (implied local) bytes = Ok (instruction opcode r local 0 [] 1)
+with_operands opcode r offset value_1 (a ∷ bytes) = Ok (instruction opcode r 0 0 [] 2)
+with_operands opcode r offset value_2 (a ∷ b ∷ bytes) = Ok (instruction opcode r 0 0 [] 3)
+with_operands opcode r offset type_code (a ∷ bytes) = if nat_lt a 4 || nat_lt 11 a then Err BadOpcode else Ok (instruction opcode r a 0 [] 2)
+with_operands opcode r offset local_1 (a ∷ bytes) = Ok (instruction opcode r a 0 [] 2)
+with_operands opcode r offset (pool_1 leads) (a ∷ bytes) = Ok (instruction opcode r a 0 [] 2)
+with_operands opcode r offset (pool_2 leads) (a ∷ b ∷ bytes) = Ok (instruction opcode r (number_2 a b) 0 [] 3)
+with_operands opcode r offset offset_2 (a ∷ b ∷ bytes) = Ok (instruction opcode r 0 0 (near_target offset (number_2 a b) ∷ []) 3)
+with_operands opcode r offset offset_4 (a ∷ b ∷ c ∷ d ∷ bytes) = Ok (instruction opcode r 0 0 (far_target offset (number_4 a b c d) ∷ []) 5)
+with_operands opcode r offset local_and_value (a ∷ b ∷ bytes) = Ok (instruction opcode r a 0 [] 3)
+with_operands opcode r offset pool_2_and_count (a ∷ b ∷ c ∷ d ∷ bytes) = Ok (instruction opcode r (number_2 a b) 0 [] 5)
+with_operands opcode r offset pool_2_and_zeros (a ∷ b ∷ c ∷ d ∷ bytes) = Ok (instruction opcode r (number_2 a b) 0 [] 5)
+with_operands opcode r offset pool_2_and_dimensions (a ∷ b ∷ d ∷ bytes) = if d == 0 then Err BadOpcode else Ok (instruction opcode r (number_2 a b) d [] 4)
+with_operands opcode r offset table_of_offsets bytes = table_switch opcode r offset (drop (padding offset) bytes)
+with_operands opcode r offset pairs_with_offsets bytes = pairs_switch opcode r offset (drop (padding offset) bytes)
+with_operands opcode r offset widened (second ∷ bytes) = widened_row second (row_of second) bytes
+with_operands opcode r offset _ bytes = Err CodeCut
+
+abbrev pub with_row : ℕ → Option Row → ℕ → List ℕ → Result Instruction Reason
+with_row opcode (Some r) offset bytes = with_operands opcode r offset r.operands bytes
+with_row opcode None offset bytes = Err BadOpcode
+
+-- The instruction that the bytes at an offset begin with, or why none is there.
+abbrev pub first_instruction : ℕ → List ℕ → Result Instruction Reason
+first_instruction offset [] = Err CodeCut
+first_instruction offset (opcode ∷ bytes) = with_row opcode (row_of opcode) offset bytes
 
 -- The instruction at an offset of the code.
-abbrev pub instruction_at : List ℕ → ℕ → Option Instruction
+abbrev pub instruction_at : List ℕ → ℕ → Result Instruction Reason
 instruction_at code offset = first_instruction offset (drop offset code)
+
+-- ---- what the constant pool says
 
 -- A member that is named: its class, and its name and descriptor (JVMS 4.4.2).
 abbrev pub member_in : List PoolEntry → ℕ → ℕ → Option MethodName

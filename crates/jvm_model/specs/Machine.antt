@@ -1,8 +1,8 @@
 -- The machine (JVMS 2.6, 2.10, 5.5, 6.5): its steps, one instruction each. Every choice that the model leaves
 -- open has a step of its own. The instructions that have no step yet are those on fields and arrays, ldc of a
--- reference, checkcast, invokeinterface, tableswitch and lookupswitch, and the refused ones of the table. Errors of
+-- reference, checkcast, invokeinterface, and the refused ones of the table. Errors of
 -- the virtual machine itself (JVMS 6.3), as for want of memory, are left out.
-use Rattle.std.specs.Prelude.{codes, ◌≡◌, ◌⊎◌, ℕ, ◌+◌, ◌-◌, Bool, true, false, ◌&&◌, nat_eq, nat_le, nat_lt, List, [], ◌∷◌, ◌++◌, length, map, replicate, find, Option, Some, None, slice_get, slice_set, slice_index, Contains, MatchBool, IsTrue}
+use Rattle.std.specs.Prelude.{codes, ◌≡◌, ◌⊎◌, ℕ, ◌+◌, ◌-◌, Bool, true, false, ◌&&◌, nat_eq, nat_le, nat_lt, List, [], ◌∷◌, ◌++◌, length, map, replicate, find, Option, Some, None, slice_get, slice_set, slice_index, Contains, MatchBool, IsTrue, Ok}
 use Rattle.std.specs.List.{AllZip}
 use Rattle.std.specs.Str.{bytes_eq}
 use Rattle.jvm_model.specs.declared.access.AccessFlag.TheVariants.{Static}
@@ -13,7 +13,8 @@ use Rattle.jvm_model.specs.declared.class_file.Member.{Member}
 use Rattle.jvm_model.specs.declared.pool.PoolEntry.{PoolEntry}
 use Rattle.jvm_model.specs.declared.site.SiteKind.TheVariants.{New, Thrown}
 use Rattle.jvm_model.specs.Access.{has_flag}
-use Rattle.jvm_model.specs.Code.{Code, Handler, HasCode}
+use Rattle.jvm_model.specs.declared.code.Handler.{Handler}
+use Rattle.jvm_model.specs.Code.{Code, HasCode}
 use Rattle.jvm_model.specs.Instructions.{Instruction, instruction_at, IsRowAt, member_at, HasUnits}
 use Rattle.jvm_model.specs.Lookups.{MethodName, Signature, class_name_at}
 use Rattle.jvm_model.specs.Programs.{Program, Method, in_file, returns_at_once, IsSubtype, Resolves, Selects, SelectsSpecial}
@@ -45,7 +46,7 @@ pub record InCode (p : Program) (f : Frame) : Type 0 where
 pub record AtInstruction (p : Program) (f : Frame) : Type 0 where
   pub here : InCode p f
   pub instruction : Instruction
-  pub is : instruction_at here.code.bytes f.offset ≡ Some instruction
+  pub is : instruction_at here.code.bytes f.offset ≡ Ok instruction
   pub row : Row
   pub of_row : IsRowAt here.file.pool instruction row
 
@@ -118,14 +119,14 @@ is_same (v ∷ w ∷ []) = same_value v w
 is_same _ = false
 
 -- A test of references is exact, and any other may go either way.
-abbrev pub Goes : Flow → ℕ → List ℕ → List Value → ℕ → Type 0
+abbrev pub Goes : Flow → ℕ → List (Option ℕ) → List Value → ℕ → Type 0
 Goes onward after targets units next = next ≡ after
-Goes jump after targets units next = Contains targets next
-Goes branch after targets units next = (next ≡ after) ⊎ Contains targets next
-Goes branch_if_null after targets units next = MatchBool (is_null units) (Contains targets next) (next ≡ after)
-Goes branch_if_object after targets units next = MatchBool (is_null units) (next ≡ after) (Contains targets next)
-Goes branch_if_same after targets units next = MatchBool (is_same units) (Contains targets next) (next ≡ after)
-Goes branch_if_other after targets units next = MatchBool (is_same units) (next ≡ after) (Contains targets next)
+Goes jump after targets units next = Contains targets (Some next)
+Goes branch after targets units next = (next ≡ after) ⊎ Contains targets (Some next)
+Goes branch_if_null after targets units next = MatchBool (is_null units) (Contains targets (Some next)) (next ≡ after)
+Goes branch_if_object after targets units next = MatchBool (is_null units) (next ≡ after) (Contains targets (Some next))
+Goes branch_if_same after targets units next = MatchBool (is_same units) (Contains targets (Some next)) (next ≡ after)
+Goes branch_if_other after targets units next = MatchBool (is_same units) (next ≡ after) (Contains targets (Some next))
 Goes _ after targets units next = ⊥
 
 -- ---- steps that pop, act, write and go on

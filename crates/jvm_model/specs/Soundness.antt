@@ -55,6 +55,14 @@ is_of_kind kinds.Field (Fieldref class signature) = true
 is_of_kind kinds.Method (Methodref class signature) = true
 is_of_kind kinds.InterfaceMethod (InterfaceMethodref class signature) = true
 is_of_kind kinds.NameAndType (NameAndType name descriptor) = true
+is_of_kind kinds.Integer (Integer bits) = true
+is_of_kind kinds.Float (Float bits) = true
+is_of_kind kinds.Long (Long bits) = true
+is_of_kind kinds.Double (Double bits) = true
+is_of_kind kinds.Str (Str text) = true
+is_of_kind kinds.MethodHandle (MethodHandle kind member) = true
+is_of_kind kinds.MethodType (MethodType descriptor) = true
+is_of_kind kinds.InvokeDynamic (InvokeDynamic bootstrap signature) = true
 is_of_kind _ _ = false
 
 -- The index leads to an entry of one of these kinds.

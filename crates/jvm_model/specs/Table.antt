@@ -3,6 +3,24 @@
 -- raise. A long or a double is two units (JVMS 2.6.1, 2.6.2).
 use Rattle.std.specs.Prelude.{codes, ℕ, Bool, true, false, List, [], ◌∷◌, Option, slice_get}
 
+-- What an index of the constant pool has to lead to (JVMS 6.5).
+pub data PoolTarget : Type 0 where
+  -- what ldc loads: a number of one unit, a text, a class, a method handle or a method type
+  loadable : PoolTarget
+  -- what ldc2_w loads: a number of two units
+  wide_number : PoolTarget
+  a_field : PoolTarget
+  -- a method of a class; of a class or an interface; of an interface
+  class_method : PoolTarget
+  any_method : PoolTarget
+  interface_method : PoolTarget
+  -- what invokedynamic names
+  call_site : PoolTarget
+  -- a class, an interface or an array; one that is no array; one that is
+  any_class : PoolTarget
+  no_array : PoolTarget
+  an_array : PoolTarget
+
 -- What stands after an opcode.
 pub data Operands : Type 0 where
   -- no operand
@@ -17,8 +35,8 @@ pub data Operands : Type 0 where
   -- a local variable, of one byte
   local_1 : Operands
   -- an index of the constant pool, of one byte, or of two
-  pool_1 : Operands
-  pool_2 : Operands
+  pool_1 : (target : PoolTarget) → Operands
+  pool_2 : (target : PoolTarget) → Operands
   -- a branch offset, of two bytes, or of four
   offset_2 : Operands
   offset_4 : Operands
@@ -165,9 +183,9 @@ rows =
     ∷ row (codes "dconst_1") nothing [] (a_primitive ∷ a_primitive ∷ []) [] onward plain []
     ∷ row (codes "bipush") value_1 [] (a_primitive ∷ []) [] onward plain []
     ∷ row (codes "sipush") value_2 [] (a_primitive ∷ []) [] onward plain []
-    ∷ row (codes "ldc") pool_1 [] [] [] onward load_constant []
-    ∷ row (codes "ldc_w") pool_2 [] [] [] onward load_constant []
-    ∷ row (codes "ldc2_w") pool_2 [] (a_primitive ∷ a_primitive ∷ []) [] onward plain []
+    ∷ row (codes "ldc") (pool_1 loadable) [] [] [] onward load_constant []
+    ∷ row (codes "ldc_w") (pool_2 loadable) [] [] [] onward load_constant []
+    ∷ row (codes "ldc2_w") (pool_2 wide_number) [] (a_primitive ∷ a_primitive ∷ []) [] onward plain []
     ∷ row (codes "iload") local_1 [] (a_primitive ∷ []) [] onward plain []
     ∷ row (codes "lload") local_1 [] (a_primitive ∷ a_primitive ∷ []) [] onward plain []
     ∷ row (codes "fload") local_1 [] (a_primitive ∷ []) [] onward plain []
@@ -325,22 +343,22 @@ rows =
     ∷ row (codes "dreturn") nothing (primitive ∷ primitive ∷ []) [] [] leave leave_method []
     ∷ row (codes "areturn") nothing (reference ∷ []) [] [] leave leave_method []
     ∷ row (codes "return") nothing [] [] [] leave leave_method []
-    ∷ row (codes "getstatic") pool_2 [] [] [] onward get_static []
-    ∷ row (codes "putstatic") pool_2 [] [] [] onward put_static []
-    ∷ row (codes "getfield") pool_2 [] [] [] onward get_field (null_pointer ∷ [])
-    ∷ row (codes "putfield") pool_2 [] [] [] onward put_field (null_pointer ∷ [])
-    ∷ row (codes "invokevirtual") pool_2 [] [] [] onward invoke_virtual (null_pointer ∷ [])
-    ∷ row (codes "invokespecial") pool_2 [] [] [] onward invoke_special (null_pointer ∷ [])
-    ∷ row (codes "invokestatic") pool_2 [] [] [] onward invoke_static []
+    ∷ row (codes "getstatic") (pool_2 a_field) [] [] [] onward get_static []
+    ∷ row (codes "putstatic") (pool_2 a_field) [] [] [] onward put_static []
+    ∷ row (codes "getfield") (pool_2 a_field) [] [] [] onward get_field (null_pointer ∷ [])
+    ∷ row (codes "putfield") (pool_2 a_field) [] [] [] onward put_field (null_pointer ∷ [])
+    ∷ row (codes "invokevirtual") (pool_2 class_method) [] [] [] onward invoke_virtual (null_pointer ∷ [])
+    ∷ row (codes "invokespecial") (pool_2 any_method) [] [] [] onward invoke_special (null_pointer ∷ [])
+    ∷ row (codes "invokestatic") (pool_2 any_method) [] [] [] onward invoke_static []
     ∷ row (codes "invokeinterface") pool_2_and_count [] [] [] onward invoke_interface (null_pointer ∷ [])
     ∷ row (codes "invokedynamic") pool_2_and_zeros [] [] [] onward refused []
-    ∷ row (codes "new") pool_2 [] (the_made ∷ []) [] onward make_object []
+    ∷ row (codes "new") (pool_2 no_array) [] (the_made ∷ []) [] onward make_object []
     ∷ row (codes "newarray") type_code (primitive ∷ []) (the_made ∷ []) [] onward make_array (negative_size ∷ [])
-    ∷ row (codes "anewarray") pool_2 (primitive ∷ []) (the_made ∷ []) [] onward make_array (negative_size ∷ [])
+    ∷ row (codes "anewarray") (pool_2 any_class) (primitive ∷ []) (the_made ∷ []) [] onward make_array (negative_size ∷ [])
     ∷ row (codes "arraylength") nothing (reference ∷ []) (a_primitive ∷ []) [] onward probe (null_pointer ∷ [])
     ∷ row (codes "athrow") nothing (reference ∷ []) [] [] leave throw_object (null_pointer ∷ [])
-    ∷ row (codes "checkcast") pool_2 (reference ∷ []) (popped 0 ∷ []) [] onward cast (class_cast ∷ [])
-    ∷ row (codes "instanceof") pool_2 (reference ∷ []) (a_primitive ∷ []) [] onward plain []
+    ∷ row (codes "checkcast") (pool_2 any_class) (reference ∷ []) (popped 0 ∷ []) [] onward cast (class_cast ∷ [])
+    ∷ row (codes "instanceof") (pool_2 any_class) (reference ∷ []) (a_primitive ∷ []) [] onward plain []
     ∷ row (codes "monitorenter") nothing (reference ∷ []) [] [] onward probe (null_pointer ∷ [])
     ∷ row (codes "monitorexit") nothing (reference ∷ []) [] [] onward probe (null_pointer ∷ [])
     ∷ row (codes "wide") widened [] [] [] onward refused []

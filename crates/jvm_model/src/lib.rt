@@ -6,6 +6,7 @@
 pub mod access;
 pub mod automaton;
 pub mod class_file;
+pub mod code;
 pub mod descriptor;
 pub mod grammar;
 pub mod laws;
@@ -23,6 +24,7 @@ pub mod stub;
 pub use access::AccessFlag;
 pub use automaton::{Automaton, Event};
 pub use class_file::{Attribute, ClassFile, Member};
+pub use code::{Code, Handler, Instruction, PlacedInstruction};
 pub use descriptor::{Descriptor, Kind, descriptor_of};
 pub use grammar::Grammar;
 pub use lookup::{MethodName, Signature};

@@ -55,6 +55,22 @@ pub enum EntryKind {
     InterfaceMethod,
     /// CONSTANT_NameAndType.
     NameAndType,
+    /// CONSTANT_Integer.
+    Integer,
+    /// CONSTANT_Float.
+    Float,
+    /// CONSTANT_Long.
+    Long,
+    /// CONSTANT_Double.
+    Double,
+    /// CONSTANT_String.
+    Str,
+    /// CONSTANT_MethodHandle.
+    MethodHandle,
+    /// CONSTANT_MethodType.
+    MethodType,
+    /// CONSTANT_InvokeDynamic.
+    InvokeDynamic,
 }
 
 impl EntryKind {
@@ -69,6 +85,14 @@ impl EntryKind {
             EntryKind::Method => matches!(entry, PoolEntry::Methodref(..)),
             EntryKind::InterfaceMethod => matches!(entry, PoolEntry::InterfaceMethodref(..)),
             EntryKind::NameAndType => matches!(entry, PoolEntry::NameAndType(..)),
+            EntryKind::Integer => matches!(entry, PoolEntry::Integer(_)),
+            EntryKind::Float => matches!(entry, PoolEntry::Float(_)),
+            EntryKind::Long => matches!(entry, PoolEntry::Long(_)),
+            EntryKind::Double => matches!(entry, PoolEntry::Double(_)),
+            EntryKind::Str => matches!(entry, PoolEntry::Str(_)),
+            EntryKind::MethodHandle => matches!(entry, PoolEntry::MethodHandle(..)),
+            EntryKind::MethodType => matches!(entry, PoolEntry::MethodType(_)),
+            EntryKind::InvokeDynamic => matches!(entry, PoolEntry::InvokeDynamic(..)),
         }
     }
 }

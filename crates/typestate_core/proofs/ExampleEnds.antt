@@ -1,5 +1,5 @@
 -- What the runs of the examples come to.
-use Rattle.std.proofs.Common.{codes, ◌≡◌, ℕ, ◌+◌, ◌<◌, ◌^◌, List, [], ◌∷◌, length, Some, slice_index, refl, arith}
+use Rattle.std.proofs.Common.{codes, ◌≡◌, ℕ, ◌+◌, ◌<◌, ◌^◌, List, [], ◌∷◌, length, Some, slice_index, refl, arith, Ok}
 use Rattle.jvm_model.specs.Executions.{Errs, start}
 use Rattle.jvm_model.specs.Instructions.{instruction_at}
 use Rattle.jvm_model.specs.Machine.{Subject, by_event}
@@ -19,7 +19,7 @@ module _ (called nexts : List ℕ) (few : length (main_code called).bytes < 2 ^ 
 
   -- main stands at a call of the method at an index
   abbrev Calls : ℕ → ℕ → Type 0
-  Calls index offset = (instruction_at (main_code called).bytes offset ≡ Some load_0) × (instruction_at (main_code called).bytes (offset + 1) ≡ Some (virtual_call index))
+  Calls index offset = (instruction_at (main_code called).bytes offset ≡ Ok load_0) × (instruction_at (main_code called).bytes (offset + 1) ≡ Ok (virtual_call index))
 
   reads : (offset state : ℕ) → Calls call_read offset → (u : State) → Reaches x (on (offset + 4) (slice_index nexts state)) u → Reaches x (on offset state) u
   reads offset state here u more =

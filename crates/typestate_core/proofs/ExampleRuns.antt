@@ -1,5 +1,5 @@
 -- The runs of the examples, step by step: up to the first call on the object; one call; and the last steps.
-use Rattle.std.proofs.Common.{codes, ◌≡◌, ℕ, ◌+◌, ◌<◌, ◌^◌, Bool, false, true, List, [], ◌∷◌, length, Some, slice_get, refl, inl, arith}
+use Rattle.std.proofs.Common.{codes, ◌≡◌, ℕ, ◌+◌, ◌<◌, ◌^◌, Bool, false, true, List, [], ◌∷◌, length, Some, slice_get, refl, inl, arith, Ok}
 use Rattle.jvm_model.specs.declared.automaton.Automaton.{Automaton}
 use Rattle.jvm_model.specs.Executions.{start, start_frame}
 use Rattle.jvm_model.specs.Instructions.{instruction_at, member_at}
@@ -127,7 +127,7 @@ module _ (called : List ℕ) (a : Automaton) (few : length (main_code called).by
 
   module _ (index name number : ℕ) (named : member_at example_pool index ≡ Some (plain_method (codes "F") (text_or_none example_pool name)))
       (stands : slice_get (program called).methods number ≡ Some (method_of (file called) (method_with 1 name empty_code))) (offset : ℕ)
-      (is_load : instruction_at (main_code called).bytes offset ≡ Some load_0) (is_call : instruction_at (main_code called).bytes (offset + 1) ≡ Some (virtual_call index)) where
+      (is_load : instruction_at (main_code called).bytes offset ≡ Ok load_0) (is_call : instruction_at (main_code called).bytes (offset + 1) ≡ Ok (virtual_call index)) where
     abbrev target : CodeOf (program called) number
     target = callee called number name stands
 
@@ -168,7 +168,7 @@ module _ (called : List ℕ) (a : Automaton) (few : length (main_code called).by
 
   -- ---- the last steps
 
-  pub ends_there : (offset state : ℕ) → instruction_at (main_code called).bytes offset ≡ Some the_return → Reaches x (main_on offset state) (ends_with (world_with state))
+  pub ends_there : (offset state : ℕ) → instruction_at (main_code called).bytes offset ≡ Ok the_return → Reaches x (main_on offset state) (ends_with (world_with state))
   ends_there offset state is =
       steps_to x _ _ _ (return x 0 main offset caller_of_main is plain_units (the_object ∷ []) _ (waiting start_frame []) [] 1 refl refl refl (of_start refl refl))
       (steps_to x _ _ _ (ends (record { frame = _; below = []; runs = refl; frames = refl; no_method = refl; stands = refl }) (record { after = refl })) (stays x _))

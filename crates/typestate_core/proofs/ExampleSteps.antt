@@ -1,5 +1,5 @@
 -- Steps of the machine, and paths of steps.
-use Rattle.std.proofs.Common.{codes, ◌≡◌, ℕ, suc, ◌+◌, Bool, true, false, List, [], ◌∷◌, ◌++◌, Contains, Some, slice_get, refl, arith}
+use Rattle.std.proofs.Common.{codes, ◌≡◌, ℕ, suc, ◌+◌, Bool, true, false, List, [], ◌∷◌, ◌++◌, Contains, Some, slice_get, refl, arith, Ok}
 use Rattle.jvm_model.specs.declared.class_file.ClassFile.{ClassFile}
 use Rattle.jvm_model.specs.declared.class_file.Member.{Member}
 use Rattle.jvm_model.specs.Code.{Code, HasCode}
@@ -8,7 +8,7 @@ use Rattle.jvm_model.specs.Instructions.{Instruction, instruction, instruction_a
 use Rattle.jvm_model.specs.Machine.{Subject, AtInstruction, At, HasOperands, effect, Goes, Makes, entered, Invokes, enters, IsAfterCall, Step, advances, returns}
 use Rattle.jvm_model.specs.Programs.{Program, Method, in_file}
 use Rattle.jvm_model.specs.States.{Value, Frame, World, State, runs_on, moved_to, waiting}
-use Rattle.jvm_model.specs.Table.{Row, row, nothing, implied, pool_2, the_local, onward, leave, plain, invoke_special, invoke_virtual, leave_method, null_pointer}
+use Rattle.jvm_model.specs.Table.{Row, row, nothing, implied, pool_2, any_method, class_method, the_local, onward, leave, plain, invoke_special, invoke_virtual, leave_method, null_pointer}
 
 -- ---- paths
 
@@ -45,7 +45,7 @@ abbrev pub frame_at : ℕ → ℕ → List Value → Bool → Frame
 frame_at number offset slots waits = record { method = Some number; offset = offset; slots = slots; waits = waits }
 
 -- it stands at an instruction, whose row is this one
-abbrev pub stands_at : (p : Program) (number : ℕ) (m : CodeOf p number) (offset : ℕ) (i : Instruction) → instruction_at m.code.bytes offset ≡ Some i
+abbrev pub stands_at : (p : Program) (number : ℕ) (m : CodeOf p number) (offset : ℕ) (i : Instruction) → instruction_at m.code.bytes offset ≡ Ok i
     → (slots : List Value) (waits : Bool) (r : Row) → IsRowAt m.file.pool i r → AtInstruction p (frame_at number offset slots waits)
 stands_at p number m offset i is slots waits r of_row = record {
   here = record { number = number; of_frame = refl; method = m.method; stands = m.stands; file = m.file; member = m.member; of_file = m.of_file; code = m.code; has = m.has };
@@ -68,20 +68,20 @@ enters_code p number m arguments kept caller size below w =
 
 -- the instructions aload_0, invokespecial, invokevirtual and return, as they are read
 abbrev pub load_0 : Instruction
-load_0 = instruction (row (codes "aload_0") (implied 0) [] (the_local ∷ []) [] onward plain []) 0 0 [] 1
+load_0 = instruction 42 (row (codes "aload_0") (implied 0) [] (the_local ∷ []) [] onward plain []) 0 0 [] 1
 
 abbrev pub special_call : ℕ → Instruction
-special_call index = instruction (row (codes "invokespecial") pool_2 [] [] [] onward invoke_special (null_pointer ∷ [])) index 0 [] 3
+special_call index = instruction 183 (row (codes "invokespecial") (pool_2 any_method) [] [] [] onward invoke_special (null_pointer ∷ [])) index 0 [] 3
 
 abbrev pub virtual_call : ℕ → Instruction
-virtual_call index = instruction (row (codes "invokevirtual") pool_2 [] [] [] onward invoke_virtual (null_pointer ∷ [])) index 0 [] 3
+virtual_call index = instruction 182 (row (codes "invokevirtual") (pool_2 class_method) [] [] [] onward invoke_virtual (null_pointer ∷ [])) index 0 [] 3
 
 abbrev pub the_return : Instruction
-the_return = instruction (row (codes "return") nothing [] [] [] leave leave_method []) 0 0 [] 1
+the_return = instruction 177 (row (codes "return") nothing [] [] [] leave leave_method []) 0 0 [] 1
 
 module _ (x : Subject) (number : ℕ) (m : CodeOf x.program number) (offset : ℕ) (below : List Frame) where
   -- the instruction pops the units, acts, and goes on at the next one
-  pub advance : (i : Instruction) → instruction_at m.code.bytes offset ≡ Some i → IsRowAt m.file.pool i i.row → (kept units : List Value) (made : Value) (w after : World)
+  pub advance : (i : Instruction) → instruction_at m.code.bytes offset ≡ Ok i → IsRowAt m.file.pool i i.row → (kept units : List Value) (made : Value) (w after : World)
       → HasOperands i.row (kept ++ units) kept units
       → Makes i.row.action x (frame_at number offset (kept ++ units) false) m.file.pool i.operand w made after
       → Goes i.row.flow (offset + i.size) i.targets units (offset + i.size)
@@ -92,7 +92,7 @@ module _ (x : Subject) (number : ℕ) (m : CodeOf x.program number) (offset : �
       (record { kept = kept; units = units; made = made; world = after; next = offset + i.size; operands = operands; makes = makes; goes = goes; after = refl })
 
   -- the method returns nothing, and its caller goes on
-  pub return : instruction_at m.code.bytes offset ≡ Some the_return → HasUnits m.method.signature.descriptor [] []
+  pub return : instruction_at m.code.bytes offset ≡ Ok the_return → HasUnits m.method.signature.descriptor [] []
       → (slots : List Value) (w : World) (caller : Frame) (rest : List Frame) (next : ℕ) → slots ≡ slots ++ [] → below ≡ caller ∷ rest → caller.waits ≡ true → IsAfterCall x.program caller next
       → Step x (runs_on (frame_at number offset slots false ∷ below) w) (runs_on (moved_to caller next (caller.slots ++ []) ∷ rest) w)
   return is units slots w caller rest next same under called goes =

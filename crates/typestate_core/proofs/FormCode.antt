@@ -1,8 +1,9 @@
 -- The code of the form, as the machine reads it: what instruction stands at an offset.
-use Rattle.std.proofs.Common.{◌≡◌, ℕ, zero, suc, ◌+◌, ◌*◌, ◌<◌, ◌≤◌, ◌^◌, ◌/◌, ◌%◌, List, [], ◌∷◌, ◌++◌, length, drop, Some, None, refl, sym, ap, ◌∙◌, subst, arith}
+use Rattle.std.proofs.Common.{◌≡◌, ℕ, zero, suc, ◌+◌, ◌*◌, ◌<◌, ◌≤◌, ◌^◌, ◌/◌, ◌%◌, List, [], ◌∷◌, ◌++◌, length, drop, Result, Ok, Err, refl, sym, ap, ◌∙◌, subst, arith}
 use Rattle.std.proofs.lemmas.List.{drop_at, append-nil, length-append}
 use Rattle.std.proofs.lemmas.Grind.{flat_map-append}
-use Rattle.std.proofs.lemmas.Option.{same_Some}
+use Rattle.jvm_model.specs.declared.reason.Reason.{Reason}
+use Rattle.jvm_model.specs.declared.reason.Reason.TheVariants.{CodeCut}
 use Rattle.jvm_model.specs.Table.{plain, make_object, invoke_virtual, invoke_special, leave_method, onward}
 use Rattle.jvm_model.specs.Instructions.{Instruction as Decoded, instruction_at, first_instruction}
 use Rattle.typestate_core.specs.StraightLine.{Instruction, instruction, new, dup, astore, aload, invokespecial, invokevirtual, return_void, code_of}
@@ -34,7 +35,7 @@ pub record IsReadAs (i : Instruction) (d : Decoded) : Type 0 where
 
 pub record Reads (i : Instruction) (offset : ℕ) (rest : List ℕ) : Type 0 where
   pub read : Decoded
-  pub is : first_instruction offset (instruction i ++ rest) ≡ Some read
+  pub is : first_instruction offset (instruction i ++ rest) ≡ Ok read
   pub as_it : IsReadAs i read
 
 number_of_u2 : (n : ℕ) → n < 2 ^ 16 → (n / 256 % 256) * 256 + n % 256 ≡ n
@@ -66,16 +67,22 @@ read_at : (bytes : List ℕ) (front after : List Instruction) (offset : ℕ) →
 read_at bytes front after offset is there =
     ap (first_instruction offset) (ap (drop offset) (is ∙ code_parts front after) ∙ drop_at (code_of front) (code_of after) offset (sym there))
 
+same_Ok : {X E : Type 0} (x y : X) → Ok {A = X} {B = E} x ≡ Ok y → x ≡ y
+same_Ok x y e = cc
+
+abbrev cut_there : Result Decoded Reason
+cut_there = Err CodeCut
+
 -- no instruction is read at the end
-pub none_at_end : (bytes : List ℕ) (front : List Instruction) (offset : ℕ) (d : Decoded) → bytes ≡ code_of (front ++ []) → offset ≡ length (code_of front) → instruction_at bytes offset ≡ Some d → ⊥
+pub none_at_end : (bytes : List ℕ) (front : List Instruction) (offset : ℕ) (d : Decoded) → bytes ≡ code_of (front ++ []) → offset ≡ length (code_of front) → instruction_at bytes offset ≡ Ok d → ⊥
 none_at_end bytes front offset d is there e =
-    let none : None ≡ Some d = sym (read_at bytes front [] offset is there) ∙ e in
+    let none : cut_there ≡ Ok d = sym (read_at bytes front [] offset is there) ∙ e in
     absurd cc
 
-pub read_there : (bytes : List ℕ) (front after : List Instruction) (i : Instruction) (offset : ℕ) (d : Decoded) → OperandFits i → bytes ≡ code_of (front ++ i ∷ after) → offset ≡ length (code_of front) → instruction_at bytes offset ≡ Some d → IsReadAs i d
+pub read_there : (bytes : List ℕ) (front after : List Instruction) (i : Instruction) (offset : ℕ) (d : Decoded) → OperandFits i → bytes ≡ code_of (front ++ i ∷ after) → offset ≡ length (code_of front) → instruction_at bytes offset ≡ Ok d → IsReadAs i d
 read_there bytes front after i offset d fits is there e =
     let r = reads i fits offset (code_of after) in
-    let same : r.read ≡ d = same_Some _ _ (sym r.is ∙ sym (read_at bytes front (i ∷ after) offset is there) ∙ e) in
+    let same : r.read ≡ d = same_Ok _ _ (sym r.is ∙ sym (read_at bytes front (i ∷ after) offset is there) ∙ e) in
     subst (IsReadAs i) same r.as_it
 
 -- the offset after an instruction

@@ -12,7 +12,8 @@ use Rattle.std.proofs.lemmas.Option.{same_Some, slice_get_within, get_or_from_sl
 use Rattle.jvm_model.specs.declared.class_file.ClassFile.{ClassFile}
 use Rattle.jvm_model.specs.declared.class_file.Member.{Member}
 use Rattle.jvm_model.specs.declared.class_file.Attribute.{Attribute}
-use Rattle.jvm_model.specs.Code.{Code, Handler, handler, IsCode, HasCode, spell_code}
+use Rattle.jvm_model.specs.declared.code.Handler.{Handler}
+use Rattle.jvm_model.specs.Code.{Code, handler, IsCode, HasCode, spell_code}
 use Rattle.jvm_model.specs.Lookups.{text_at, method_at}
 use Rattle.jvm_model.specs.Machine.{InCode}
 use Rattle.jvm_model.specs.Programs.{Body as MethodBody, in_file, returns_at_once, Method, program_of, method_of, object_constructor, object_name, class_or_none}

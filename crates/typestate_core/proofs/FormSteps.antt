@@ -9,7 +9,7 @@ use Rattle.jvm_model.specs.declared.class_file.ClassFile.{ClassFile}
 use Rattle.jvm_model.specs.declared.pool.PoolEntry.{PoolEntry}
 use Rattle.jvm_model.specs.declared.pool.PoolEntry.TheVariants.{Methodref}
 use Rattle.jvm_model.specs.Access.{has_flag}
-use Rattle.jvm_model.specs.Code.{Handler}
+use Rattle.jvm_model.specs.declared.code.Handler.{Handler}
 use Rattle.jvm_model.specs.Instructions.{Instruction as Decoded, member_at, member_of}
 use Rattle.jvm_model.specs.Lookups.{MethodName, Signature, method_at, method_in, entry_at}
 use Rattle.jvm_model.specs.Machine.{Subject, At, AtStart, Makes, Goes, Advances, Invokes, enters, returns_now, IsMoved, by_event, no_event, other_class, CallsVirtual, CallsSpecial, CallsEntry, IsAfterCall, of_start, of_code, Returns, Resumes, Raises, Throws, Throwing, IsFirstHandler, Catches, unwound, Unwinds, IsInitialiser, Wraps, Step, advances, calls_virtual, calls_special, calls_static, calls_entry, returns, resumes, ends, raises, throws, catches, unwinds, starts, denies, wraps}

@@ -1,5 +1,5 @@
 use Rattle.std.proofs.Common.{subst, arith}
-use Rattle.classfile_reader.specs.Reading.{Tells}
+use Rattle.byte_reader.specs.Reading.{Tells}
 use Rattle.classfile_reader.proofs.Classes.{class_of_again, is_found}
 use Rattle.classfile_reader.proofs.class.spelled_class.Goals as goal
 

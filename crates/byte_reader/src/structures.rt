@@ -1,10 +1,10 @@
 //! Attributes, fields and methods (JVMS 4.5 to 4.7).
 
-ghost use Rattle.classfile_reader.specs.Reading.{Reads, table_at};
-ghost use Rattle.classfile_reader.specs.ClassReading.{attribute_at, member_at};
+ghost use Rattle.byte_reader.specs.Reading.{Reads, table_at};
+ghost use Rattle.byte_reader.specs.Structures.{attribute_at, member_at};
 
 use crate::input::Input;
-use crate::table::{Structure, table};
+use crate::structure::{Structure, table};
 use jvm_model::class_file::{Attribute, Member};
 use jvm_model::reason::ReadRefusal;
 use jvm_model::sequence::Bytes;
@@ -13,7 +13,7 @@ use std::alloc::Global;
 impl Structure for Attribute {
     ghost reading = { attribute_at };
 
-    #[tactic(auto, unfolding(crate::specs::ClassReading::attribute_at))]
+    #[tactic(auto, unfolding(crate::specs::Structures::attribute_at))]
     fn read(input: &mut Input, alloc: Global) -> Result<Attribute, ReadRefusal> {
         let name = input.u2()?;
         let len = input.u4()?;
@@ -26,7 +26,7 @@ impl Structure for Attribute {
 impl Structure for Member {
     ghost reading = { member_at };
 
-    #[tactic(auto, unfolding(crate::specs::ClassReading::member_at))]
+    #[tactic(auto, unfolding(crate::specs::Structures::member_at))]
     fn read(input: &mut Input, alloc: Global) -> Result<Member, ReadRefusal> {
         let flags = input.u2()?;
         let name = input.u2()?;

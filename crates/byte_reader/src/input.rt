@@ -2,7 +2,7 @@
 
 ghost use Rattle.std.specs.Prelude.{◌≡◌, ◌↔◌, ◌+◌, ◌<◌, ◌^◌, length, IsTrue};
 ghost use Rattle.std.specs.Int.{w16, w32, w64};
-ghost use Rattle.classfile_reader.specs.Reading.{Place, Gives, Reads, number_at, byte_at, bytes_at};
+ghost use Rattle.byte_reader.specs.Reading.{Place, Gives, Reads, number_at, byte_at, bytes_at};
 
 use jvm_model::reason::{ReadRefusal, Reason};
 use std::marker::Model;
@@ -10,7 +10,7 @@ use std::marker::Model;
 /// The bytes that are left, and how many were before them. After an error it stands inside the field
 /// that failed.
 #[derive(Drop)]
-pub(crate) struct Input<'a> {
+pub struct Input<'a> {
     offset: u32,
     rest: &'a [u8],
 }
@@ -25,7 +25,7 @@ impl<'a> Model for Input<'a> {
 
 impl<'a> Input<'a> {
     /// The start of a file.
-    pub(crate) fn new(bytes: &'a [u8]) -> Self
+    pub fn new(bytes: &'a [u8]) -> Self
         requires { length bytes.now < 2 ^ 32 }
         ensures { result ≡ record { offset = 0; rest = bytes.now } }
     {
@@ -36,21 +36,21 @@ impl<'a> Input<'a> {
     }
 
     /// How many bytes were before the next one.
-    pub(crate) fn offset(&self) -> u32
+    pub fn offset(&self) -> u32
         ensures { result ≡ self.now.offset }
     {
         self.offset
     }
 
     /// Whether no byte is left.
-    pub(crate) fn is_empty(&self) -> bool
+    pub fn is_empty(&self) -> bool
         ensures { IsTrue result ↔ (length self.now.rest ≡ 0) }
     {
         self.rest.is_empty()
     }
 
     /// That many bytes, as one field: where fewer are left, none is taken.
-    pub(crate) fn take(&mut self, count: usize) -> Result<&'a [u8], ReadRefusal>
+    pub fn take(&mut self, count: usize) -> Result<&'a [u8], ReadRefusal>
         ensures { Gives (λ bytes. bytes.now) result self.new (bytes_at count self.old) }
     {
         if self.rest.len() < count {
@@ -63,7 +63,7 @@ impl<'a> Input<'a> {
     }
 
     /// A number of one byte.
-    pub(crate) fn u1(&mut self) -> Result<u8, ReadRefusal>
+    pub fn u1(&mut self) -> Result<u8, ReadRefusal>
         ensures { Reads result self.new (byte_at self.old) }
     {
         let front = self.take(1)?;
@@ -71,7 +71,7 @@ impl<'a> Input<'a> {
     }
 
     /// A number of two bytes.
-    pub(crate) fn u2(&mut self) -> Result<u16, ReadRefusal>
+    pub fn u2(&mut self) -> Result<u16, ReadRefusal>
         ensures { Reads result self.new (number_at w16 self.old) }
     {
         let front = self.take(2)?;
@@ -79,7 +79,7 @@ impl<'a> Input<'a> {
     }
 
     /// A number of four bytes.
-    pub(crate) fn u4(&mut self) -> Result<u32, ReadRefusal>
+    pub fn u4(&mut self) -> Result<u32, ReadRefusal>
         ensures { Reads result self.new (number_at w32 self.old) }
     {
         let front = self.take(4)?;
@@ -87,7 +87,7 @@ impl<'a> Input<'a> {
     }
 
     /// A number of eight bytes.
-    pub(crate) fn u8(&mut self) -> Result<u64, ReadRefusal>
+    pub fn u8(&mut self) -> Result<u64, ReadRefusal>
         ensures { Reads result self.new (number_at w64 self.old) }
     {
         let front = self.take(8)?;

@@ -1,7 +1,7 @@
 use Rattle.std.proofs.lemmas.Result.{err_from_is_err_and}
-use Rattle.classfile_reader.specs.Reading.{items_at}
-use Rattle.classfile_reader.proofs.Loop.{goes_on, ends, is_done}
-use Rattle.classfile_reader.proofs.table.items.Goals as goal
+use Rattle.byte_reader.specs.Reading.{items_at}
+use Rattle.byte_reader.proofs.Loop.{goes_on, ends, is_done}
+use Rattle.byte_reader.proofs.structure.items.Goals as goal
 
 pub returns-in_err-item : goal.returns-in_err-item
 returns-in_err-item g c =

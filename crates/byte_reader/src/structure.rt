@@ -2,7 +2,7 @@
 
 ghost use Rattle.std.specs.Int.{w16};
 ghost use Rattle.std.specs.Prelude.{Result};
-ghost use Rattle.classfile_reader.specs.Reading.{Place, Fault, Reads, number_at, items_at, table_at};
+ghost use Rattle.byte_reader.specs.Reading.{Place, Fault, Reads, number_at, items_at, table_at};
 
 use crate::input::Input;
 use jvm_model::reason::ReadRefusal;
@@ -10,7 +10,7 @@ use jvm_model::sequence::Sequence;
 use std::alloc::Global;
 
 /// What a table lists: an index, an attribute, a field or a method.
-pub(crate) trait Structure: Drop {
+pub trait Structure: Drop {
     ghost reading: { Place → Result (Self × Place) Fault };
 
     /// The structure at the front of the input.
@@ -29,10 +29,7 @@ impl Structure for u16 {
 
 /// A table and its count.
 #[tactic(auto, unfolding(crate::specs::Reading::table_at))]
-pub(crate) fn table<X: Structure>(
-    input: &mut Input,
-    alloc: Global,
-) -> Result<Sequence<X>, ReadRefusal>
+pub fn table<X: Structure>(input: &mut Input, alloc: Global) -> Result<Sequence<X>, ReadRefusal>
     ensures { Reads result input.new (table_at X.reading input.old) }
 {
     let count = input.u2()?;
