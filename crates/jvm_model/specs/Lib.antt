@@ -11,6 +11,7 @@ pub mod Lookups
 pub mod Machine
 pub mod Names
 pub mod Programs
+pub mod RowViews
 pub mod Soundness
 pub mod Spelling
 pub mod States

@@ -14,6 +14,7 @@ pub mod layout;
 pub mod lookup;
 pub mod name;
 pub mod number;
+pub mod opcode;
 pub mod pool;
 pub mod reason;
 pub mod sequence;

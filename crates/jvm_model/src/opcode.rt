@@ -1,0 +1,152 @@
+//! The instruction table (JVMS 6.5), as the code has it: a row for each opcode. It is the table of specs/, row by row.
+
+ghost use Rattle.std.specs.Prelude.{◌≡◌, option_map};
+ghost use Rattle.jvm_model.specs.RowViews.{row_view};
+ghost use Rattle.jvm_model.specs.Table.{row_of};
+
+/// What an index of the constant pool has to lead to.
+#[derive(Clone, Copy, Debug, PartialEq, Eq)]
+pub enum PoolTarget {
+    /// What `ldc` loads: a number of one unit, a text, a class, a method handle or a method type.
+    Loadable,
+    /// What `ldc2_w` loads: a number of two units.
+    WideNumber,
+    Field,
+    ClassMethod,
+    /// A method of a class or of an interface.
+    AnyMethod,
+    InterfaceMethod,
+    /// What `invokedynamic` names.
+    CallSite,
+    /// A class, an interface or an array.
+    AnyClass,
+    /// A class or an interface.
+    NoArray,
+    Array,
+}
+
+/// What stands after an opcode. Numbers in the names are bytes.
+#[derive(Clone, Copy, Debug, PartialEq, Eq)]
+pub enum Operands {
+    Nothing,
+    /// None: the opcode itself says which local variable.
+    Implied(u8),
+    Value1,
+    Value2,
+    /// The code of a primitive type, of one byte.
+    TypeCode,
+    Local1,
+    Pool1(PoolTarget),
+    Pool2(PoolTarget),
+    Offset2,
+    Offset4,
+    /// A local variable and a constant, of one byte each.
+    LocalAndValue,
+    /// An index of two bytes, a count and a zero.
+    Pool2AndCount,
+    Pool2AndZeros,
+    Pool2AndDimensions,
+    /// Padding, and a table of branch offsets.
+    TableOfOffsets,
+    /// Padding, and pairs of keys and branch offsets.
+    PairsWithOffsets,
+    /// Another instruction, whose operands are widened.
+    Widened,
+}
+
+/// What a popped unit has to be.
+#[derive(Clone, Copy, Debug, PartialEq, Eq)]
+pub enum UnitKind {
+    Any,
+    Primitive,
+    Reference,
+}
+
+/// Where a unit that is written comes from.
+#[derive(Clone, Copy, Debug, PartialEq, Eq)]
+pub enum Origin {
+    /// A popped unit, counted from the lowest one.
+    Popped(u8),
+    /// The local variable that the operand names.
+    Local,
+    Null,
+    Primitive,
+    /// What the instruction's action makes.
+    Made,
+}
+
+/// Where an instruction goes on.
+#[derive(Clone, Copy, Debug, PartialEq, Eq)]
+pub enum Flow {
+    Onward,
+    /// At its target, or at any of its targets.
+    Jump,
+    /// At the next one, or at its target.
+    Branch,
+    BranchIfNull,
+    BranchIfObject,
+    BranchIfSame,
+    BranchIfOther,
+    /// Nowhere in its method.
+    Leave,
+    Subroutine,
+}
+
+/// What an instruction does beside popping and writing units.
+#[derive(Clone, Copy, Debug, PartialEq, Eq)]
+pub enum Action {
+    Plain,
+    LoadConstant,
+    LoadElement,
+    StoreElement,
+    /// It looks at an object that must be there.
+    Probe,
+    GetStatic,
+    PutStatic,
+    GetField,
+    PutField,
+    InvokeVirtual,
+    InvokeSpecial,
+    InvokeStatic,
+    InvokeInterface,
+    MakeObject,
+    MakeArray,
+    ThrowObject,
+    Cast,
+    LeaveMethod,
+    /// `jsr`, `ret`, `invokedynamic`, and the prefix `wide`.
+    Refused,
+}
+
+/// An exception that an instruction itself raises.
+#[derive(Clone, Copy, Debug, PartialEq, Eq)]
+pub enum Raise {
+    NullPointer,
+    ArrayIndex,
+    ArrayStore,
+    Arithmetic,
+    ClassCast,
+    NegativeSize,
+}
+
+/// A row of the table: the units that the instruction pops, those that it pushes, and those that it stores into the
+/// local variables from its operand on. What a call, an access to a field, `ldc` and `multianewarray` pop and push
+/// depends on the constant pool, and does not stand here.
+#[derive(Clone, Copy)]
+pub struct Row {
+    pub mnemonic: &'static str,
+    pub operands: Operands,
+    pub pops: &'static [UnitKind],
+    pub pushes: &'static [Origin],
+    pub stores: &'static [Origin],
+    pub flow: Flow,
+    pub action: Action,
+    pub raises: &'static [Raise],
+}
+
+/// The row of an opcode; `None` past 201.
+pub fn row_of_opcode(opcode: u8) -> Option<&'static Row>
+    ensures { option_map (λ r. row_view r.now) result ≡ row_of opcode }
+{
+    None
+}
