@@ -1,6 +1,6 @@
 -- The instructions in the code of a method (JVMS 4.7.3, 6.5), why none is read at an offset, and the rows of instructions
 -- once the constant pool is known.
-use Rattle.std.specs.Prelude.{◌≡◌, ℕ, zero, suc, ◌+◌, ◌-◌, ◌*◌, ◌%◌, ◌||◌, ◌==◌, nat_lt, List, [], ◌∷◌, ◌++◌, length, map, replicate, drop, slice_index, option_map, option_and_then, Option, Some, None, Result, Ok, Err, if◌then◌else◌}
+use Rattle.std.specs.Prelude.{◌≡◌, ℕ, zero, suc, ◌+◌, ◌-◌, ◌*◌, ◌%◌, Bool, ◌||◌, ◌==◌, nat_eq, nat_lt, List, [], ◌∷◌, ◌++◌, length, map, replicate, drop, slice_index, option_map, option_and_then, Option, Some, None, Result, Ok, Err, if◌then◌else◌}
 use Rattle.std.specs.List.{flat_map}
 use Rattle.jvm_model.specs.declared.pool.PoolEntry.{PoolEntry}
 use Rattle.jvm_model.specs.declared.pool.PoolEntry.TheVariants.{Integer, Float, Str, Class, MethodHandle, MethodType, Fieldref, Methodref, InterfaceMethodref}
@@ -94,40 +94,60 @@ pairs_switch opcode r offset bytes =
 
 -- ---- operands
 
+-- The first byte, as a number; and the first two.
+abbrev pub byte : List ℕ → ℕ
+byte bytes = slice_index bytes 0
+
+abbrev pub short : List ℕ → ℕ
+short bytes = number_2 (slice_index bytes 0) (slice_index bytes 1)
+
+-- The instruction, if there are so many bytes after its opcode.
+abbrev pub needs : ℕ → List ℕ → Instruction → Result Instruction Reason
+needs count bytes i = if nat_lt (length bytes) count then Err CodeCut else Ok i
+
+-- The same, unless something is wrong with what stands there.
+abbrev pub needs_right : ℕ → List ℕ → Bool → Instruction → Result Instruction Reason
+needs_right count bytes wrong i =
+    if nat_lt (length bytes) count then Err CodeCut
+    else if wrong then Err BadOpcode
+    else Ok i
+
 -- An instruction that the prefix wide stands before: one with a local variable, which takes two bytes here, and the
 -- value of iinc two (JVMS 6.5.wide).
 abbrev pub widened_by : ℕ → Row → Operands → List ℕ → Result Instruction Reason
-widened_by opcode r local_1 (a ∷ b ∷ bytes) = Ok (instruction opcode r (number_2 a b) 0 [] 4)
-widened_by opcode r local_1 _ = Err CodeCut
-widened_by opcode r local_and_value (a ∷ b ∷ c ∷ d ∷ bytes) = Ok (instruction opcode r (number_2 a b) 0 [] 6)
-widened_by opcode r local_and_value _ = Err CodeCut
+widened_by opcode r local_1 bytes = needs 2 bytes (instruction opcode r (short bytes) 0 [] 4)
+widened_by opcode r local_and_value bytes = needs 4 bytes (instruction opcode r (short bytes) 0 [] 6)
 widened_by opcode r _ bytes = Err BadOpcode
 
 abbrev pub widened_row : ℕ → Option Row → List ℕ → Result Instruction Reason
 widened_row opcode (Some r) bytes = widened_by opcode r r.operands bytes
 widened_row opcode None bytes = Err BadOpcode
 
+abbrev pub widened_first : List ℕ → Result Instruction Reason
+widened_first [] = Err CodeCut
+widened_first (opcode ∷ bytes) = widened_row opcode (row_of opcode) bytes
+
 -- The instruction of an opcode and its row at an offset, from the bytes after its opcode. It is cut where the code ends
 -- before its last operand; and newarray has the code of a type, from 4 to 11, and multianewarray a dimension.
 abbrev pub with_operands : ℕ → Row → ℕ → Operands → List ℕ → Result Instruction Reason
 with_operands opcode r offset nothing bytes = Ok (instruction opcode r 0 0 [] 1)
 with_operands opcode r offset (implied local) bytes = Ok (instruction opcode r local 0 [] 1)
-with_operands opcode r offset value_1 (a ∷ bytes) = Ok (instruction opcode r 0 0 [] 2)
-with_operands opcode r offset value_2 (a ∷ b ∷ bytes) = Ok (instruction opcode r 0 0 [] 3)
-with_operands opcode r offset type_code (a ∷ bytes) = if nat_lt a 4 || nat_lt 11 a then Err BadOpcode else Ok (instruction opcode r a 0 [] 2)
-with_operands opcode r offset local_1 (a ∷ bytes) = Ok (instruction opcode r a 0 [] 2)
-with_operands opcode r offset (pool_1 leads) (a ∷ bytes) = Ok (instruction opcode r a 0 [] 2)
-with_operands opcode r offset (pool_2 leads) (a ∷ b ∷ bytes) = Ok (instruction opcode r (number_2 a b) 0 [] 3)
-with_operands opcode r offset offset_2 (a ∷ b ∷ bytes) = Ok (instruction opcode r 0 0 (near_target offset (number_2 a b) ∷ []) 3)
-with_operands opcode r offset offset_4 (a ∷ b ∷ c ∷ d ∷ bytes) = Ok (instruction opcode r 0 0 (far_target offset (number_4 a b c d) ∷ []) 5)
-with_operands opcode r offset local_and_value (a ∷ b ∷ bytes) = Ok (instruction opcode r a 0 [] 3)
-with_operands opcode r offset pool_2_and_count (a ∷ b ∷ c ∷ d ∷ bytes) = Ok (instruction opcode r (number_2 a b) 0 [] 5)
-with_operands opcode r offset pool_2_and_zeros (a ∷ b ∷ c ∷ d ∷ bytes) = Ok (instruction opcode r (number_2 a b) 0 [] 5)
-with_operands opcode r offset pool_2_and_dimensions (a ∷ b ∷ d ∷ bytes) = if d == 0 then Err BadOpcode else Ok (instruction opcode r (number_2 a b) d [] 4)
+with_operands opcode r offset value_1 bytes = needs 1 bytes (instruction opcode r 0 0 [] 2)
+with_operands opcode r offset value_2 bytes = needs 2 bytes (instruction opcode r 0 0 [] 3)
+with_operands opcode r offset type_code bytes = needs_right 1 bytes (nat_lt (byte bytes) 4 || nat_lt 11 (byte bytes)) (instruction opcode r (byte bytes) 0 [] 2)
+with_operands opcode r offset local_1 bytes = needs 1 bytes (instruction opcode r (byte bytes) 0 [] 2)
+with_operands opcode r offset (pool_1 leads) bytes = needs 1 bytes (instruction opcode r (byte bytes) 0 [] 2)
+with_operands opcode r offset (pool_2 leads) bytes = needs 2 bytes (instruction opcode r (short bytes) 0 [] 3)
+with_operands opcode r offset offset_2 bytes = needs 2 bytes (instruction opcode r 0 0 (near_target offset (short bytes) ∷ []) 3)
+with_operands opcode r offset offset_4 bytes = needs 4 bytes (instruction opcode r 0 0 (far_target offset (word bytes) ∷ []) 5)
+with_operands opcode r offset local_and_value bytes = needs 2 bytes (instruction opcode r (byte bytes) 0 [] 3)
+with_operands opcode r offset pool_2_and_count bytes = needs 4 bytes (instruction opcode r (short bytes) 0 [] 5)
+with_operands opcode r offset pool_2_and_zeros bytes = needs 4 bytes (instruction opcode r (short bytes) 0 [] 5)
+with_operands opcode r offset pool_2_and_dimensions bytes =
+    needs_right 3 bytes (nat_eq (slice_index bytes 2) 0) (instruction opcode r (short bytes) (slice_index bytes 2) [] 4)
 with_operands opcode r offset table_of_offsets bytes = table_switch opcode r offset (drop (padding offset) bytes)
 with_operands opcode r offset pairs_with_offsets bytes = pairs_switch opcode r offset (drop (padding offset) bytes)
-with_operands opcode r offset widened (second ∷ bytes) = widened_row second (row_of second) bytes
-with_operands opcode r offset _ bytes = Err CodeCut
+with_operands opcode r offset widened bytes = widened_first bytes
 
 abbrev pub with_row : ℕ → Option Row → ℕ → List ℕ → Result Instruction Reason
 with_row opcode (Some r) offset bytes = with_operands opcode r offset r.operands bytes

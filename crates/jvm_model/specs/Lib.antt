@@ -6,6 +6,7 @@ pub mod DescriptorValues
 pub mod Executions
 pub mod Fronts
 pub mod Instructions
+pub mod InstructionUses
 pub mod Layout
 pub mod Lookups
 pub mod Machine

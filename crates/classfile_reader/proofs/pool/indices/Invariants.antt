@@ -1,6 +1,6 @@
 use Rattle.std.proofs.Common.{◌≡◌, ◌-◌, None}
 use Rattle.classfile_reader.specs.PoolReading.{indices_at}
-use Rattle.classfile_reader.proofs.Loop.{with_front}
+use Rattle.byte_reader.proofs.Loop.{with_front}
 use Rattle.classfile_reader.proofs.pool.indices.Given as goal
 
 abbrev pub invariant-loop : goal.invariant-loop
