@@ -1,5 +1,5 @@
 -- The runs of the examples, step by step: up to the first call on the object; one call; and the last steps.
-use Rattle.std.proofs.Common.{codes, ◌≡◌, ℕ, ◌+◌, ◌<◌, ◌^◌, Bool, false, true, List, [], ◌∷◌, length, Some, slice_get, refl, inl, arith, Ok}
+use Rattle.std.proofs.Common.{codes, ◌≡◌, ℕ, ◌+◌, ◌<◌, ◌^◌, Bool, false, true, List, [], ◌∷◌, length, drop, Some, slice_get, refl, inl, arith, Ok}
 use Rattle.jvm_model.specs.declared.automaton.Automaton.{Automaton}
 use Rattle.jvm_model.specs.Executions.{start, start_frame}
 use Rattle.jvm_model.specs.Instructions.{instruction_at, member_at}
@@ -9,7 +9,8 @@ use Rattle.jvm_model.specs.States.{Value, primitive_value, reference_to, Frame, 
 use Rattle.typestate_core.specs.Claims.{subject_of, made_at}
 use Rattle.typestate_core.specs.Examples.{example_pool, method_with, main_code, empty_code}
 use Rattle.typestate_core.specs.StraightLine.{plain_method}
-use Rattle.typestate_core.proofs.ExampleSteps.{Reaches, stays, steps_to, CodeOf, frame_at, stands_at, runs_at, enters_code, load_0, special_call, virtual_call, the_return, advance, return}
+use Rattle.typestate_core.proofs.FormCode.{two_there}
+use Rattle.typestate_core.proofs.ExampleSteps.{Reaches, stays, steps_to, CodeOf, frame_at, stands_at, runs_at, enters_code, new_of, load_0, special_call, virtual_call, the_return, advance, return}
 use Rattle.typestate_core.proofs.ExampleMethods.{plain_units, call_row, file, program, main as main_of, constructor as constructor_of, callee, found, found_above}
 
 module _ (called : List ℕ) (a : Automaton) (few : length (main_code called).bytes < 2 ^ 32) where
@@ -55,14 +56,14 @@ module _ (called : List ℕ) (a : Automaton) (few : length (main_code called).by
       (record { invokes = enters_code x.program 0 main [] [] start_frame 1 [] (start x).world })
 
   makes : Step x (main_at 0 (primitive_value ∷ []) (start x).world) (main_at 3 (primitive_value ∷ the_object ∷ []) (world_with a.initial))
-  makes = advance x 0 main 0 caller_of_main _ refl refl (primitive_value ∷ []) [] the_object _ _ (record { parts = refl; kinds = tt })
+  makes = advance x 0 main 0 caller_of_main (new_of 2) (two_there 0 2 (drop 3 main.code.bytes) (new_of 2)) refl (primitive_value ∷ []) [] the_object _ _ (record { parts = refl; kinds = tt })
       (record { class = codes "F"; named = refl; made_is = refl; after_is = refl }) refl
 
   dups : Step x (main_at 3 (primitive_value ∷ the_object ∷ []) (world_with a.initial)) (main_at 4 (primitive_value ∷ the_object ∷ the_object ∷ []) (world_with a.initial))
   dups = advance x 0 main 3 caller_of_main _ refl refl (primitive_value ∷ []) (the_object ∷ []) primitive_value _ _ (record { parts = refl; kinds = (tt, tt) }) (refl, refl) refl
 
   abbrev at_call_of_constructor : (slots : List Value) (waits : Bool) → AtInstruction x.program (frame_at 0 4 slots waits)
-  at_call_of_constructor slots waits = stands_at x.program 0 main 4 (special_call 13) refl slots waits _ (call_row (special_call 13) (plain_method (codes "F") (codes "<init>")) refl refl)
+  at_call_of_constructor slots waits = stands_at x.program 0 main 4 (special_call 13) (two_there 0 13 (drop 7 main.code.bytes) (special_call 13)) slots waits _ (call_row (special_call 13) (plain_method (codes "F") (codes "<init>")) refl refl)
 
   calls_constructor : Step x (main_at 4 (primitive_value ∷ the_object ∷ the_object ∷ []) (world_with a.initial)) (constructor_at 0 (the_object ∷ []))
   calls_constructor = calls_special (runs_at x.program _ caller_of_main (world_with a.initial) (at_call_of_constructor (primitive_value ∷ the_object ∷ the_object ∷ []) false)) (record {

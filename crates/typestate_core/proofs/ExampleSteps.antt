@@ -8,7 +8,7 @@ use Rattle.jvm_model.specs.Instructions.{Instruction, instruction, instruction_a
 use Rattle.jvm_model.specs.Machine.{Subject, AtInstruction, At, HasOperands, effect, Goes, Makes, entered, Invokes, enters, IsAfterCall, Step, advances, returns}
 use Rattle.jvm_model.specs.Programs.{Program, Method, in_file}
 use Rattle.jvm_model.specs.States.{Value, Frame, World, State, runs_on, moved_to, waiting}
-use Rattle.jvm_model.specs.Table.{Row, row, nothing, implied, pool_2, any_method, class_method, the_local, onward, leave, plain, invoke_special, invoke_virtual, leave_method, null_pointer}
+use Rattle.jvm_model.specs.Table.{Row, row, nothing, implied, pool_2, any_method, class_method, no_array, the_local, the_made, onward, leave, plain, make_object, invoke_special, invoke_virtual, leave_method, null_pointer}
 
 -- ---- paths
 
@@ -66,7 +66,10 @@ enters_code p number m arguments kept caller size below w =
 
 -- ---- steps in a method
 
--- the instructions aload_0, invokespecial, invokevirtual and return, as they are read
+-- the instructions new, aload_0, invokespecial, invokevirtual and return, as they are read
+abbrev pub new_of : ℕ → Instruction
+new_of index = instruction 187 (row (codes "new") (pool_2 no_array) [] (the_made ∷ []) [] onward make_object []) index 0 [] 3
+
 abbrev pub load_0 : Instruction
 load_0 = instruction 42 (row (codes "aload_0") (implied 0) [] (the_local ∷ []) [] onward plain []) 0 0 [] 1
 

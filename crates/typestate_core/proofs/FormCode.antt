@@ -1,11 +1,12 @@
 -- The code of the form, as the machine reads it: what instruction stands at an offset.
 use Rattle.std.proofs.Common.{◌≡◌, ℕ, zero, suc, ◌+◌, ◌*◌, ◌<◌, ◌≤◌, ◌^◌, ◌/◌, ◌%◌, List, [], ◌∷◌, ◌++◌, length, drop, Result, Ok, Err, refl, sym, ap, ◌∙◌, subst, arith}
+use Rattle.std.proofs.lemmas.Bool.{le-ltb}
 use Rattle.std.proofs.lemmas.List.{drop_at, append-nil, length-append}
 use Rattle.std.proofs.lemmas.Grind.{flat_map-append}
 use Rattle.jvm_model.specs.declared.reason.Reason.{Reason}
 use Rattle.jvm_model.specs.declared.reason.Reason.TheVariants.{CodeCut}
 use Rattle.jvm_model.specs.Table.{plain, make_object, invoke_virtual, invoke_special, leave_method, onward}
-use Rattle.jvm_model.specs.Instructions.{Instruction as Decoded, instruction_at, first_instruction}
+use Rattle.jvm_model.specs.Instructions.{Instruction as Decoded, instruction_at, first_instruction, needs}
 use Rattle.typestate_core.specs.StraightLine.{Instruction, instruction, new, dup, astore, aload, invokespecial, invokevirtual, return_void, code_of}
 
 -- what an instruction does, as a row of the table says it
@@ -38,11 +39,15 @@ pub record Reads (i : Instruction) (offset : ℕ) (rest : List ℕ) : Type 0 whe
   pub is : first_instruction offset (instruction i ++ rest) ≡ Ok read
   pub as_it : IsReadAs i read
 
+-- two bytes that stand there are not cut off
+pub two_there : (a b : ℕ) (rest : List ℕ) (d : Decoded) → needs 2 (a ∷ b ∷ rest) d ≡ Ok d
+two_there a b rest d = rw (le-ltb (length (a ∷ b ∷ rest)) 2 (omega arith)) refl
+
 number_of_u2 : (n : ℕ) → n < 2 ^ 16 → (n / 256 % 256) * 256 + n % 256 ≡ n
 number_of_u2 n fits = omega arith
 
 reads : (i : Instruction) → OperandFits i → (offset : ℕ) (rest : List ℕ) → Reads i offset rest
-reads (new index) fits offset rest = record { read = _; is = refl; as_it = record { size = refl; shape = (refl, refl, number_of_u2 index fits) } }
+reads (new index) fits offset rest = record { read = _; is = two_there (index / 256 % 256) (index % 256) rest _; as_it = record { size = refl; shape = (refl, refl, number_of_u2 index fits) } }
 reads dup fits offset rest = record { read = _; is = refl; as_it = record { size = refl; shape = (refl, refl) } }
 reads (astore zero) fits offset rest = record { read = _; is = refl; as_it = record { size = refl; shape = (refl, refl) } }
 reads (astore (suc zero)) fits offset rest = record { read = _; is = refl; as_it = record { size = refl; shape = (refl, refl) } }
@@ -54,8 +59,8 @@ reads (aload (suc zero)) fits offset rest = record { read = _; is = refl; as_it 
 reads (aload (suc (suc zero))) fits offset rest = record { read = _; is = refl; as_it = record { size = refl; shape = (refl, refl) } }
 reads (aload (suc (suc (suc zero)))) fits offset rest = record { read = _; is = refl; as_it = record { size = refl; shape = (refl, refl) } }
 reads (aload (suc (suc (suc (suc n))))) fits offset rest = absurd (omega arith)
-reads (invokespecial index) fits offset rest = record { read = _; is = refl; as_it = record { size = refl; shape = (refl, number_of_u2 index fits) } }
-reads (invokevirtual index) fits offset rest = record { read = _; is = refl; as_it = record { size = refl; shape = (refl, number_of_u2 index fits) } }
+reads (invokespecial index) fits offset rest = record { read = _; is = two_there (index / 256 % 256) (index % 256) rest _; as_it = record { size = refl; shape = (refl, number_of_u2 index fits) } }
+reads (invokevirtual index) fits offset rest = record { read = _; is = two_there (index / 256 % 256) (index % 256) rest _; as_it = record { size = refl; shape = (refl, number_of_u2 index fits) } }
 reads return_void fits offset rest = record { read = _; is = refl; as_it = record { size = refl; shape = refl } }
 
 -- the code of some instructions, and then of others
@@ -67,8 +72,11 @@ read_at : (bytes : List ℕ) (front after : List Instruction) (offset : ℕ) →
 read_at bytes front after offset is there =
     ap (first_instruction offset) (ap (drop offset) (is ∙ code_parts front after) ∙ drop_at (code_of front) (code_of after) offset (sym there))
 
-same_Ok : {X E : Type 0} (x y : X) → Ok {A = X} {B = E} x ≡ Ok y → x ≡ y
-same_Ok x y e = cc
+abbrev read_as : Decoded → Result Decoded Reason
+read_as d = Ok d
+
+same_Ok : (d e : Decoded) → read_as d ≡ Ok e → d ≡ e
+same_Ok d e h = cc
 
 abbrev cut_there : Result Decoded Reason
 cut_there = Err CodeCut

@@ -1,0 +1,3 @@
+pub mod Decoding
+pub mod Division
+pub mod CodeReading

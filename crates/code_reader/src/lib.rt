@@ -1,0 +1,7 @@
+//! The code reader: from the Code attribute of a method to its instructions and handlers, or to the first fault in it
+//! (JVMS 4.7.3, 4.9.1, 6.5). The layers above use `read_code`.
+#![tactic(auto)]
+
+mod decode;
+mod number;
+mod switch;
