@@ -24,6 +24,17 @@ impl<'a> Model for Input<'a> {
 }
 
 impl<'a> Input<'a> {
+    /// The part of a file from an offset on.
+    pub fn at(offset: u32, bytes: &'a [u8]) -> Self
+        requires { offset + length bytes.now < 2 ^ 32 }
+        ensures { result ≡ record { offset = offset; rest = bytes.now } }
+    {
+        Input {
+            offset,
+            rest: bytes,
+        }
+    }
+
     /// The start of a file.
     pub fn new(bytes: &'a [u8]) -> Self
         requires { length bytes.now < 2 ^ 32 }

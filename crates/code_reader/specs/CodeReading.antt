@@ -123,7 +123,7 @@ placed s = record { offset = s.offset; instruction = given s.instruction }
 -- The body at a place begins with this code, whose instructions are these.
 pub record BeginsWith (pool : List PoolEntry) (place : Place) (head : Head) (after : Place) (spots : List Spot) (stop : Option (ℕ × Reason)) : Type 0 where
   pub begins : head_at place ≡ Ok (head, after)
-  pub divided : Divides pool head.bytes 0 spots stop
+  pub divided : Divides pool head.bytes stop 0 spots
 
 -- What is wrong with the instructions of a method whose parameters take so many local variables.
 abbrev pub code_fault : List PoolEntry → ℕ → Head → List Spot → Option (ℕ × Reason) → Option (ℕ × Reason)

@@ -1,5 +1,5 @@
 -- How the code of a method is divided into instructions (JVMS 4.7.3, 4.9.1), and what is wrong with one of them.
-use Rattle.std.specs.Prelude.{◌≡◌, ℕ, ◌+◌, ◌<◌, Bool, true, false, ◌&&◌, ◌||◌, not, nat_eq, nat_le, nat_lt, List, [], ◌∷◌, Option, Some, None, Result, Ok, Err, if◌then◌else◌}
+use Rattle.std.specs.Prelude.{◌≡◌, ℕ, ◌+◌, ◌<◌, Bool, true, false, ◌&&◌, ◌||◌, not, nat_eq, nat_le, nat_lt, List, [], ◌∷◌, length, Option, Some, None, Result, Ok, Err, if◌then◌else◌}
 use Rattle.std.specs.List.{list_all, list_any}
 use Rattle.jvm_model.specs.declared.code.Handler.{Handler}
 use Rattle.jvm_model.specs.declared.pool.EntryKind.TheVariants as kinds
@@ -27,12 +27,12 @@ instruction_in pool code offset = within pool (instruction_at code offset)
 
 -- The instructions from an offset on, one after the other, and where they end: where the code does; or at the first
 -- offset at which no instruction stands, and why.
-pub data Divides (pool : List PoolEntry) (code : List ℕ) (offset : ℕ) (spots : List Spot) (stop : Option (ℕ × Reason)) : Type 0 where
-  at_end : offset ≡ length code → spots ≡ [] → stop ≡ None → Divides pool code offset spots stop
-  stops : (reason : Reason) → offset < length code → instruction_in pool code offset ≡ Err reason
-      → spots ≡ [] → stop ≡ Some (offset, reason) → Divides pool code offset spots stop
-  goes_on : (i : Instruction) (others : List Spot) → offset < length code → instruction_in pool code offset ≡ Ok i
-      → Divides pool code (offset + i.size) others stop → spots ≡ record { offset = offset; instruction = i } ∷ others → Divides pool code offset spots stop
+pub data Divides (pool : List PoolEntry) (code : List ℕ) (stop : Option (ℕ × Reason)) : ℕ → List Spot → Type 0 where
+  at_end : (offset : ℕ) (spots : List Spot) → offset ≡ length code → stop ≡ None → spots ≡ [] → Divides pool code stop offset spots
+  stops : (offset : ℕ) (spots : List Spot) (reason : Reason) → offset < length code → instruction_in pool code offset ≡ Err reason
+      → stop ≡ Some (offset, reason) → spots ≡ [] → Divides pool code stop offset spots
+  goes_on : (offset : ℕ) (spots : List Spot) (i : Instruction) (others : List Spot) → offset < length code → instruction_in pool code offset ≡ Ok i
+      → spots ≡ record { offset = offset; instruction = i } ∷ others → Divides pool code stop (offset + i.size) others → Divides pool code stop offset spots
 
 -- ---- what is wrong with an instruction
 
@@ -69,14 +69,14 @@ fault_of pool locals spots stop s =
     else if not (leads_right pool s.instruction) then Some BadIndex
     else None
 
--- The first of these instructions with which something is wrong, and what; and else why the division ended early.
-abbrev pub first_fault : (Spot → Option Reason) → Option (ℕ × Reason) → List Spot → Option (ℕ × Reason)
-
 abbrev pub first_or : ℕ → Option Reason → Option (ℕ × Reason) → Option (ℕ × Reason)
-first_fault test stop [] = stop
-first_fault test stop (s ∷ spots) = first_or s.offset (test s) (first_fault test stop spots)
 first_or offset (Some reason) others = Some (offset, reason)
 first_or offset None others = others
+
+-- The first of these instructions with which something is wrong, and what; and else why the division ended early.
+abbrev pub first_fault : (Spot → Option Reason) → Option (ℕ × Reason) → List Spot → Option (ℕ × Reason)
+first_fault test stop [] = stop
+first_fault test stop (s ∷ spots) = first_or s.offset (test s) (first_fault test stop spots)
 
 -- ---- handlers
 

@@ -1,3 +1,4 @@
 pub mod Decoding
 pub mod Division
 pub mod CodeReading
+pub mod Divided

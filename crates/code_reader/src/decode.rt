@@ -44,7 +44,7 @@ impl<T: Drop> From<AllocFailed<T>> for Undecoded {
 pub(crate) struct Decoded {
     pub(crate) opcode: u8,
     pub(crate) row: &'static Row,
-    pub(crate) operand: u32,
+    pub(crate) operand: u16,
     pub(crate) dimensions: u8,
     pub(crate) targets: Vec<Option<u32>>,
     pub(crate) size: u32,
@@ -65,7 +65,7 @@ pub(crate) struct Operation {
 
 impl Operation {
     /// Its instruction without targets.
-    fn plain(self, alloc: Global, operand: u32, dimensions: u8, size: u32) -> Decoded
+    fn plain(self, alloc: Global, operand: u16, dimensions: u8, size: u32) -> Decoded
         ensures { result ≡ instruction self.opcode (row_view self.row.now) operand dimensions [] size }
     {
         Decoded {
@@ -124,7 +124,7 @@ impl Operation {
         if bytes.len() < count {
             return Err(CUT);
         }
-        Ok(self.plain(alloc, u32::from(bytes[0]), 0, size))
+        Ok(self.plain(alloc, u16::from(bytes[0]), 0, size))
     }
 
     /// Its instruction with a number of two bytes, the first of so many.
@@ -141,7 +141,7 @@ impl Operation {
         if bytes.len() < count {
             return Err(CUT);
         }
-        Ok(self.plain(alloc, u32::from(short(bytes)), 0, size))
+        Ok(self.plain(alloc, short(bytes), 0, size))
     }
 
     /// `newarray`, with the code of a primitive type, 4 to 11.
@@ -155,7 +155,7 @@ impl Operation {
         if code < 4 || 11 < code {
             return Err(WRONG);
         }
-        Ok(self.plain(alloc, u32::from(code), 0, 2))
+        Ok(self.plain(alloc, u16::from(code), 0, 2))
     }
 
     /// `multianewarray`, with at least one dimension.
@@ -169,7 +169,7 @@ impl Operation {
         if dimensions == 0 {
             return Err(WRONG);
         }
-        Ok(self.plain(alloc, u32::from(short(bytes)), dimensions, 4))
+        Ok(self.plain(alloc, short(bytes), dimensions, 4))
     }
 
     /// A branch of two bytes from an offset.
@@ -213,7 +213,7 @@ impl Operation {
     {
         match self.row.operands {
             Operands::Nothing => self.without_number(alloc, bytes, 0, 1),
-            Operands::Implied(local) => Ok(self.plain(alloc, u32::from(local), 0, 1)),
+            Operands::Implied(local) => Ok(self.plain(alloc, u16::from(local), 0, 1)),
             Operands::Value1 => self.without_number(alloc, bytes, 1, 2),
             Operands::Value2 => self.without_number(alloc, bytes, 2, 3),
             Operands::TypeCode => self.with_type_code(alloc, bytes),

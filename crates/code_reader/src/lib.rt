@@ -3,5 +3,8 @@
 #![tactic(auto)]
 
 mod decode;
+mod division;
+mod fault;
 mod number;
+mod spot;
 mod switch;

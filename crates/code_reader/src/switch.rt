@@ -24,8 +24,8 @@ pub(crate) fn table_switch(
     if bytes.len() < 12 {
         return Err(Undecoded::Refused(Reason::CodeCut));
     }
-    let low = above_least(word(&bytes[4..]));
-    let high = above_least(word(&bytes[8..]));
+    let low = above_least(word(after(bytes, 4)));
+    let high = above_least(word(after(bytes, 8)));
     if high < low {
         return Err(Undecoded::Refused(Reason::BadOpcode));
     }
@@ -57,7 +57,7 @@ pub(crate) fn pairs_switch(
     if bytes.len() < 8 {
         return Err(Undecoded::Refused(Reason::CodeCut));
     }
-    let count = word(&bytes[4..]);
+    let count = word(after(bytes, 4));
     if count < 0x8000_0000 {
         let count = count as usize;
         return switch(
@@ -94,6 +94,7 @@ fn switch(
 ) -> Result<Decoded, Undecoded>
     requires offset { offset < 2 ^ 16 }
     requires bytes { length bytes.now < 2 ^ 16 }
+    requires least { 8 ≤ table.long }
     requires entry { 4 ≤ table.entry }
     requires long { table.entry * table.count + 16 ≤ table.long + table.entry }
     ensures { Gives result (switch operation.opcode (row_view operation.row.now) offset table.long table.entry table.count bytes.now) }

@@ -57,13 +57,14 @@ target_kinds no_array = kinds.Class ∷ []
 target_kinds an_array = kinds.Class ∷ []
 
 -- The name of a class at an index, if there is one, is that of an array, or not, as it should.
-abbrev pub has_shape : PoolTarget → Option (List ℕ) → Bool
-has_shape no_array (Some name) = not (is_array name)
-has_shape an_array (Some name) = is_array name
-has_shape _ _ = true
+abbrev pub has_shape : Option (List ℕ) → PoolTarget → Bool
+has_shape None target = true
+has_shape (Some name) no_array = not (is_array name)
+has_shape (Some name) an_array = is_array name
+has_shape (Some name) _ = true
 
 abbrev pub leads_there : List PoolEntry → ℕ → PoolTarget → Bool
-leads_there pool index target = leads_to pool (target_kinds target) index && has_shape target (class_name_at pool index)
+leads_there pool index target = leads_to pool (target_kinds target) index && has_shape (class_name_at pool index) target
 
 -- The index of the instruction, if it has one, leads to what it should.
 abbrev pub leads_right : List PoolEntry → Instruction → Bool

@@ -131,7 +131,7 @@ fn component_length(text: &[u8]) -> Option<usize>
 }
 
 /// How many `[` stand at the front of a text, or `None` where nothing else follows.
-pub(crate) fn dimensions_of(text: &[u8]) -> Option<usize>
+pub fn dimensions_of(text: &[u8]) -> Option<usize>
     ensures { result ≡ position (λ b. not (b == 91)) text.now }
 {
     text.iter().position(|byte| *byte != b'[')
