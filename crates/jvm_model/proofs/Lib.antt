@@ -6,3 +6,4 @@ pub mod Lengths
 pub mod MethodKinds
 pub mod Parameters
 pub mod SoundUses
+pub mod ViewedItems

@@ -1,8 +1,12 @@
 //! The instruction table (JVMS 6.5), as the code has it: a row for each opcode. It is the table of specs/, row by row.
 
-ghost use Rattle.std.specs.Prelude.{◌≡◌, option_map};
+ghost use Rattle.std.specs.Prelude.{◌≡◌, map, option_map};
 ghost use Rattle.jvm_model.specs.RowViews.{row_view};
-ghost use Rattle.jvm_model.specs.Table.{row_of};
+ghost use Rattle.jvm_model.specs.Table.{row_of, rows};
+
+mod rows;
+
+use rows::ROWS;
 
 /// What an index of the constant pool has to lead to.
 #[derive(Clone, Copy, Debug, PartialEq, Eq)]
@@ -148,5 +152,13 @@ pub struct Row {
 pub fn row_of_opcode(opcode: u8) -> Option<&'static Row>
     ensures { option_map (λ r. row_view r.now) result ≡ row_of opcode }
 {
-    None
+    row_among(&ROWS, opcode)
+}
+
+// The row of an opcode among all rows.
+fn row_among(all: &'static [Row], opcode: u8) -> Option<&'static Row>
+    requires { map (λ r. row_view r) all.now ≡ rows }
+    ensures { option_map (λ r. row_view r.now) result ≡ row_of opcode }
+{
+    all.get(opcode as usize)
 }
