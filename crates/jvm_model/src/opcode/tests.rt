@@ -241,6 +241,19 @@ const REFERENCES_AND_EXTENDED: [Line; 24] = [
     ("jsr_w", 201, 5, 0, 1),
 ];
 
+// Each opcode has its line.
+const _: () = prove!(
+    CONSTANTS.len()
+        + LOADS.len()
+        + STORES.len()
+        + STACK.len()
+        + ARITHMETIC.len()
+        + CONVERSIONS_AND_COMPARISONS.len()
+        + CONTROL.len()
+        + REFERENCES_AND_EXTENDED.len()
+        == 202
+);
+
 /// The bytes of an instruction, its opcode among them.
 fn bytes_with(operands: Operands) -> usize {
     match operands {
@@ -253,10 +266,57 @@ fn bytes_with(operands: Operands) -> usize {
     }
 }
 
-/// The table has a row for each line, and they agree. What is refused has no units.
-fn compare(rt: &impl Abort, lines: &[Line]) -> Result<(), Fail> {
-    for &(mnemonic, opcode, bytes, popped, pushed) in lines {
+/// Where the standard has an instruction go on.
+fn flow_of(opcode: u8) -> Flow {
+    match opcode {
+        153..=164 => Flow::Branch,
+        165 => Flow::BranchIfSame,
+        166 => Flow::BranchIfOther,
+        198 => Flow::BranchIfNull,
+        199 => Flow::BranchIfObject,
+        167 | 170 | 171 | 200 => Flow::Jump,
+        168 | 169 | 201 => Flow::Subroutine,
+        172..=177 | 191 => Flow::Leave,
+        _ => Flow::Onward,
+    }
+}
+
+/// The exceptions of an instruction, but for those of linking and of monitors that another thread has.
+fn raises_of(opcode: u8) -> &'static [Raise] {
+    match opcode {
+        46..=53 | 79..=82 | 84..=86 => &[Raise::NullPointer, Raise::ArrayIndex],
+        83 => &[Raise::NullPointer, Raise::ArrayIndex, Raise::ArrayStore],
+        108 | 109 | 112 | 113 => &[Raise::Arithmetic],
+        180..=183 | 185 | 190 | 191 | 194 | 195 => &[Raise::NullPointer],
+        188 | 189 | 197 => &[Raise::NegativeSize],
+        192 => &[Raise::ClassCast],
+        _ => &[],
+    }
+}
+
+/// How many of the units that an instruction pops are references, if its operand does not say so.
+fn references_of(opcode: u8) -> usize {
+    match opcode {
+        46..=53 | 79..=82 | 84..=86 | 176 | 190..=195 | 198 | 199 => 1,
+        83 | 165 | 166 => 2,
+        _ => 0,
+    }
+}
+
+/// How many units an instruction writes into local variables.
+fn stored_by(opcode: u8) -> usize {
+    match opcode {
+        54 | 56 | 58..=62 | 67..=70 | 75..=78 | 132 => 1,
+        55 | 57 | 63..=66 | 71..=74 => 2,
+        _ => 0,
+    }
+}
+
+/// The lines are those of the opcodes from the first one on, and the rows agree. The units of what is refused are not compared.
+fn compare(rt: &impl Abort, first: u8, lines: &[Line]) -> Result<(), Fail> {
+    for (opcode, &(mnemonic, said, bytes, popped, pushed)) in (first..=201).zip(lines) {
         let row = row_of_opcode(opcode).ok_or("no row")?;
+        assert_eq!(rt; opcode, said);
         assert_eq!(rt; row.mnemonic, mnemonic, "at {opcode}");
         assert_eq!(rt; bytes_with(row.operands), bytes, "at {opcode}");
         if row.action == Action::Refused {
@@ -277,56 +337,42 @@ fn compare(rt: &impl Abort, lines: &[Line]) -> Result<(), Fail> {
 }
 
 #[test]
-fn constants(rt: HostRuntime) -> Result<(), Fail> {
-    compare(&rt, &CONSTANTS)
+fn operands_and_units(rt: HostRuntime) -> Result<(), Fail> {
+    compare(&rt, 0, &CONSTANTS)?;
+    compare(&rt, 21, &LOADS)?;
+    compare(&rt, 54, &STORES)?;
+    compare(&rt, 87, &STACK)?;
+    compare(&rt, 96, &ARITHMETIC)?;
+    compare(&rt, 133, &CONVERSIONS_AND_COMPARISONS)?;
+    compare(&rt, 153, &CONTROL)?;
+    compare(&rt, 178, &REFERENCES_AND_EXTENDED)
 }
 
 #[test]
-fn loads(rt: HostRuntime) -> Result<(), Fail> {
-    compare(&rt, &LOADS)
+fn flows_exceptions_stores_and_references(rt: HostRuntime) -> Result<(), Fail> {
+    for opcode in 0..=201 {
+        let row = row_of_opcode(opcode).ok_or("no row")?;
+        assert_eq!(rt; row.flow, flow_of(opcode), "at {opcode}");
+        assert_eq!(rt; row.raises, raises_of(opcode), "at {opcode}");
+        assert_eq!(rt; row.stores.len(), stored_by(opcode), "at {opcode}");
+        let references = row
+            .pops
+            .iter()
+            .filter(|kind| **kind == UnitKind::Reference)
+            .count();
+        assert_eq!(rt; references, references_of(opcode), "at {opcode}");
+    }
+    Ok(())
 }
 
-#[test]
-fn stores(rt: HostRuntime) -> Result<(), Fail> {
-    compare(&rt, &STORES)
-}
-
-#[test]
-fn stack(rt: HostRuntime) -> Result<(), Fail> {
-    compare(&rt, &STACK)
-}
-
-#[test]
-fn arithmetic(rt: HostRuntime) -> Result<(), Fail> {
-    compare(&rt, &ARITHMETIC)
-}
-
-#[test]
-fn conversions_and_comparisons(rt: HostRuntime) -> Result<(), Fail> {
-    compare(&rt, &CONVERSIONS_AND_COMPARISONS)
-}
-
-#[test]
-fn control(rt: HostRuntime) -> Result<(), Fail> {
-    compare(&rt, &CONTROL)
-}
-
-#[test]
-fn references_and_extended(rt: HostRuntime) -> Result<(), Fail> {
-    compare(&rt, &REFERENCES_AND_EXTENDED)
-}
-
-/// Which local variable an opcode itself names (JVMS 6.5, iload_<n> to aload_<n> and istore_<n> to astore_<n>).
+/// The local variables of iload_0 to aload_3 and istore_0 to astore_3.
 #[test]
 fn implied_locals(rt: HostRuntime) -> Result<(), Fail> {
     for (first, end) in [(26u8, 46u8), (59, 79)] {
         for opcode in first..end {
             let row = row_of_opcode(opcode).ok_or("no row")?;
-            assert_eq!(rt;
-                row.operands,
-                Operands::Implied((opcode - first) % 4),
-                "at {opcode}"
-            );
+            let local = (opcode - first) % 4;
+            assert_eq!(rt; row.operands, Operands::Implied(local), "at {opcode}");
         }
     }
     Ok(())
