@@ -281,7 +281,7 @@ fn flow_of(opcode: u8) -> Flow {
     }
 }
 
-/// The exceptions of an instruction, but for those of linking and of monitors that another thread has.
+/// The exceptions of an instruction, but for those of linking, and those of a monitor that the thread does not own.
 fn raises_of(opcode: u8) -> &'static [Raise] {
     match opcode {
         46..=53 | 79..=82 | 84..=86 => &[Raise::NullPointer, Raise::ArrayIndex],
