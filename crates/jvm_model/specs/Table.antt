@@ -67,7 +67,7 @@ pub data Origin : Type 0 where
   a_primitive : Origin
   the_made : Origin
 
--- Where an instruction goes on: at the next one; at its target, or at any of them; at either; at its target
+-- Where an instruction goes on, if it raises and throws nothing: at the next one; at its target, or at any of them; at either; at its target
 -- just where its reference is null, or is not; where its two references are the same, or are not; nowhere in
 -- its method; or as a subroutine.
 pub data Flow : Type 0 where
@@ -115,8 +115,9 @@ pub data Raise : Type 0 where
   negative_size : Raise
 
 -- A row of the table. `pushes` are the units that it pushes, and `stores` those that it writes into the local
--- variables from its operand on. What a call, an access to a field, ldc and multianewarray pop and push depends
--- on the constant pool, and does not stand here.
+-- variables from its operand on. What a call, an access to a field and ldc pop and push depends on the constant
+-- pool, and what multianewarray pops on its dimensions; that does not stand here. An address to return to is a
+-- primitive (JVMS 2.3). IllegalMonitorStateException, and errors of linking, are left out.
 pub record Row : Type 0 where
   pub mnemonic : List ℕ
   pub operands : Operands
@@ -333,7 +334,7 @@ rows =
     ∷ row (codes "if_acmpeq") offset_2 (reference ∷ reference ∷ []) [] [] branch_if_same plain []
     ∷ row (codes "if_acmpne") offset_2 (reference ∷ reference ∷ []) [] [] branch_if_other plain []
     ∷ row (codes "goto") offset_2 [] [] [] jump plain []
-    ∷ row (codes "jsr") offset_2 [] [] [] subroutine refused []
+    ∷ row (codes "jsr") offset_2 [] (a_primitive ∷ []) [] subroutine refused []
     ∷ row (codes "ret") local_1 [] [] [] subroutine refused []
     ∷ row (codes "tableswitch") table_of_offsets (primitive ∷ []) [] [] jump plain []
     ∷ row (codes "lookupswitch") pairs_with_offsets (primitive ∷ []) [] [] jump plain []
@@ -366,7 +367,7 @@ rows =
     ∷ row (codes "ifnull") offset_2 (reference ∷ []) [] [] branch_if_null plain []
     ∷ row (codes "ifnonnull") offset_2 (reference ∷ []) [] [] branch_if_object plain []
     ∷ row (codes "goto_w") offset_4 [] [] [] jump plain []
-    ∷ row (codes "jsr_w") offset_4 [] [] [] subroutine refused []
+    ∷ row (codes "jsr_w") offset_4 [] (a_primitive ∷ []) [] subroutine refused []
     ∷ []
 
 -- The row of an opcode.

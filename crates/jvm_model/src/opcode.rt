@@ -134,8 +134,8 @@ pub enum Raise {
 }
 
 /// A row of the table: the units that the instruction pops, those that it pushes, and those that it stores into the
-/// local variables from its operand on. What a call, an access to a field, `ldc` and `multianewarray` pop and push
-/// depends on the constant pool, and does not stand here.
+/// local variables from its operand on. What a call, an access to a field and `ldc` pop and push depends on the
+/// constant pool, and what `multianewarray` pops on its dimensions; that does not stand here.
 #[derive(Clone, Copy)]
 pub struct Row {
     pub mnemonic: &'static str,

@@ -236,7 +236,7 @@ pub static ROWS: [Row; 202] = [
     row!("if_acmpeq", Offset2, [Reference, Reference] => [], goes BranchIfSame),
     row!("if_acmpne", Offset2, [Reference, Reference] => [], goes BranchIfOther),
     row!("goto", Offset2, [] => [], goes Jump),
-    row!("jsr", Offset2, [] => [], goes Subroutine, does Refused),
+    row!("jsr", Offset2, [] => [Primitive], goes Subroutine, does Refused),
     row!("ret", Local1, [] => [], goes Subroutine, does Refused),
     // 170: switches
     row!("tableswitch", TableOfOffsets, [Primitive] => [], goes Jump),
@@ -278,5 +278,5 @@ pub static ROWS: [Row; 202] = [
     row!("ifnonnull", Offset2, [Reference] => [], goes BranchIfObject),
     // 200
     row!("goto_w", Offset4, [] => [], goes Jump),
-    row!("jsr_w", Offset4, [] => [], goes Subroutine, does Refused),
+    row!("jsr_w", Offset4, [] => [Primitive], goes Subroutine, does Refused),
 ];
