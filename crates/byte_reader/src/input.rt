@@ -48,7 +48,9 @@ impl<'a> Input<'a> {
 
     /// How many bytes were before the next one.
     pub fn offset(&self) -> u32
-        ensures { result ≡ self.now.offset }
+        ensures is { result ≡ self.now.offset }
+        // Each offset of what is left is a number of four bytes too.
+        ensures fits { result + length self.now.rest < 2 ^ 32 }
     {
         self.offset
     }

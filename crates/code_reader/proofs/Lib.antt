@@ -1,2 +1,9 @@
 pub mod Dimensions
+pub mod Divided
+pub mod Front
+pub mod ParameterUnits
+pub mod Sizes
 pub mod SwitchTables
+pub mod Taken
+pub mod ToldBodies
+pub mod ToldCodes

@@ -1,7 +1,6 @@
 -- Reading the code of a method (JVMS 4.7.3): the code, or its first fault.
-use Rattle.std.specs.Prelude.{codes, ◌≡◌, ℕ, ◌+◌, ◌<◌, ◌&&◌, ◌||◌, ◌==◌, nat_lt, List, [], ◌∷◌, length, map, sum_by, slice_get, Option, Some, None, Result, Ok, Err, IsTrue, if◌then◌else◌}
+use Rattle.std.specs.Prelude.{codes, ◌≡◌, ℕ, ◌+◌, ◌&&◌, ◌||◌, ◌==◌, nat_lt, List, [], ◌∷◌, length, map, sum_by, slice_get, Option, Some, None, Result, Ok, Err, if◌then◌else◌}
 use Rattle.std.specs.Int.{w16, w32}
-use Rattle.std.specs.List.{flat_map}
 use Rattle.std.specs.Str.{bytes_eq}
 use Rattle.jvm_model.specs.declared.access.AccessFlag.TheVariants.{Static}
 use Rattle.jvm_model.specs.declared.class_file.Attribute.{Attribute}
@@ -26,7 +25,7 @@ use Rattle.jvm_model.specs.Lookups.{text_at}
 use Rattle.jvm_model.specs.Soundness.{plain_descriptor}
 use Rattle.byte_reader.specs.Reading.{Place, Fault, ◌>>=◌, fault_at, number_at, bytes_at, table_at}
 use Rattle.byte_reader.specs.Structures.{attribute_at}
-use Rattle.code_reader.specs.Division.{Spot, Divides, Locals, fault_of, first_fault, is_handler}
+use Rattle.code_reader.specs.Division.{Spot, Divides, fault_of, first_fault, is_handler}
 
 -- ---- the parameters
 

@@ -1,5 +1,5 @@
 -- What reading an instruction answers, beside what the standard says of it.
-use Rattle.std.specs.Prelude.{◌≡◌, ℕ, ◌≤◌, ◌+◌, Result, Ok, Err}
+use Rattle.std.specs.Prelude.{◌≡◌, Result, Ok, Err}
 use Rattle.jvm_model.specs.declared.reason.Reason.{Reason}
 use Rattle.jvm_model.specs.Instructions.{Instruction}
 use Rattle.code_reader.specs.declared.decode.Undecoded.{Undecoded}
@@ -10,8 +10,3 @@ abbrev pub Gives : Result Instruction Undecoded → Result Instruction Reason �
 Gives (Ok i) read = read ≡ Ok i
 Gives (Err undecoded.Memory) read = Unit {0}
 Gives (Err (undecoded.Refused reason)) read = read ≡ Err reason
-
--- The instruction takes its opcode, and no more bytes than there are after it.
-pub record Fits (bytes : ℕ) (i : Instruction) : Type 0 where
-  pub opcode : 1 ≤ i.size
-  pub operands : i.size ≤ 1 + bytes

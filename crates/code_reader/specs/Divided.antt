@@ -1,5 +1,5 @@
 -- What the code's division of a code array says.
-use Rattle.std.specs.Prelude.{◌≡◌, ℕ, false, List, length, get_or}
+use Rattle.std.specs.Prelude.{◌≡◌, ℕ, false, List, get_or}
 use Rattle.jvm_model.specs.declared.pool.PoolEntry.{PoolEntry}
 use Rattle.code_reader.specs.declared.division.Division.{Division as Divided}
 use Rattle.code_reader.specs.Division.{Divides, starts}

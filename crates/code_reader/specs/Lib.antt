@@ -2,3 +2,5 @@ pub mod Decoding
 pub mod Division
 pub mod CodeReading
 pub mod Divided
+pub mod Bodies
+pub mod Parameters

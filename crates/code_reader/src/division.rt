@@ -75,14 +75,14 @@ pub(crate) fn divide(alloc: Global, pool: &[PoolEntry], code: &[u8]) -> Result<D
                 })?;
                 offset += size;
             }
-            Err(Undecoded::Refused(reason)) => {
+            Err(undecoded) => {
+                let reason = reason_of(undecoded)?;
                 return Ok(Division {
                     spots,
                     starts,
                     stop: Some((offset as u32, reason)),
                 });
             }
-            Err(Undecoded::Memory) => return Err(AllocError),
         }
     }
     Ok(Division {
@@ -90,6 +90,16 @@ pub(crate) fn divide(alloc: Global, pool: &[PoolEntry], code: &[u8]) -> Result<D
         starts,
         stop: None,
     })
+}
+
+/// Why no instruction stands there, unless memory ran out.
+fn reason_of(undecoded: Undecoded) -> Result<Reason, AllocError>
+    ensures { IfOk result (λ reason. undecoded ≡ Undecoded.Refused reason) }
+{
+    match undecoded {
+        Undecoded::Refused(reason) => Ok(reason),
+        Undecoded::Memory => Err(AllocError),
+    }
 }
 
 /// The instruction at an offset of a code array.

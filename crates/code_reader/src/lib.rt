@@ -2,9 +2,14 @@
 //! (JVMS 4.7.3, 4.9.1, 6.5). The layers above use `read_code`.
 #![tactic(auto)]
 
+mod body;
 mod decode;
 mod division;
 mod fault;
+mod handler;
 mod number;
+mod read;
 mod spot;
 mod switch;
+
+pub use read::read_code;

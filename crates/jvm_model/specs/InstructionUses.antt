@@ -1,5 +1,5 @@
 -- What an instruction uses of the local variables of its method and of the constant pool (JVMS 4.9.1, 6.5).
-use Rattle.std.specs.Prelude.{ℕ, zero, suc, ◌+◌, Bool, true, false, ◌&&◌, ◌||◌, not, ◌==◌, nat_le, nat_eq, List, [], ◌∷◌, length, Option, Some, None, if◌then◌else◌}
+use Rattle.std.specs.Prelude.{ℕ, suc, ◌+◌, Bool, true, false, ◌&&◌, ◌||◌, not, ◌==◌, nat_le, nat_eq, List, [], ◌∷◌, length, Option, Some, None, if◌then◌else◌}
 use Rattle.std.specs.Option.{option_map_or}
 use Rattle.jvm_model.specs.declared.pool.EntryKind.{EntryKind}
 use Rattle.jvm_model.specs.declared.pool.EntryKind.TheVariants as kinds

@@ -1,5 +1,5 @@
 -- The rows of the code's instruction table, as rows of the table of JVMS 6.5.
-use Rattle.std.specs.Prelude.{ℕ, List, map}
+use Rattle.std.specs.Prelude.{map}
 use Rattle.jvm_model.specs.declared.opcode.PoolTarget.{PoolTarget as CodePoolTarget}
 use Rattle.jvm_model.specs.declared.opcode.PoolTarget.TheVariants as targets
 use Rattle.jvm_model.specs.declared.opcode.Operands.{Operands as CodeOperands}

@@ -79,8 +79,8 @@ pub fn code_of<'a>(class: &ClassFile, method: &'a Member) -> Option<&'a Attribut
     first_code(class.pool.as_slice(), method.attributes.as_slice())
 }
 
-/// The first attribute named `Code` (JVMS 4.7.3).
-fn first_code<'a>(pool: &[PoolEntry], attributes: &'a [Attribute]) -> Option<&'a Attribute>
+/// The first attribute named `Code`, if there is one (JVMS 4.7.3).
+pub fn first_code<'a>(pool: &[PoolEntry], attributes: &'a [Attribute]) -> Option<&'a Attribute>
     ensures first { IfSome result (λ code. HasFirstCode pool.now attributes.now code.now) }
     ensures none { IfNone result (list_any (is_code pool.now) attributes.now ≡ false) }
 {

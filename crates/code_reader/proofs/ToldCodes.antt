@@ -1,0 +1,77 @@
+-- What is answered on the code of a method is what its first attribute named Code gives.
+use Rattle.std.proofs.Common.{◌≡◌, ℕ, ◌+◌, ◌≤◌, Bool, true, false, ◌||◌, List, [], ◌∷◌, ◌++◌, length, get_or, Option, Some, IfSome, Bor, slice_get, Result, Ok, Err, sym, ap, ◌∙◌, subst}
+use Rattle.std.specs.List.{list_any}
+use Rattle.std.proofs.lemmas.Option.{same_Some, get_or_from_slice_get}
+use Rattle.jvm_model.specs.declared.class_file.Attribute.{Attribute}
+use Rattle.jvm_model.specs.declared.class_file.ClassFile.{ClassFile}
+use Rattle.jvm_model.specs.declared.class_file.Member.{Member}
+use Rattle.jvm_model.specs.declared.code.Code.{Code}
+use Rattle.jvm_model.specs.declared.pool.PoolEntry.{PoolEntry}
+use Rattle.jvm_model.specs.declared.reason.ReadRefusal.{ReadRefusal}
+use Rattle.jvm_model.specs.declared.reason.ReadRefusal.TheVariants as refusals
+use Rattle.jvm_model.specs.Layout.{HasFirstCode, IsCodePlace}
+use Rattle.jvm_model.specs.Soundness.{is_code}
+use Rattle.jvm_model.specs.Spelling.{spell}
+use Rattle.jvm_model.proofs.CodePlaces.{StandsAt-fits}
+use Rattle.code_reader.specs.Bodies.{TellsBody}
+use Rattle.code_reader.specs.CodeReading.{TakesLocals, TellsCode}
+
+-- the method that is read is the one at its place
+pub stands_there : (c : ClassFile) (method : ℕ) (owner d read : Member) (items : List Member) → slice_get c.methods method ≡ Some owner → items ≡ c.methods → read ≡ get_or items method d
+    → slice_get c.methods method ≡ Some read
+stands_there c method owner d read items there same is =
+    let one : owner ≡ read = sym (is ∙ ap (λ (ms : List Member). get_or ms method d) same ∙ get_or_from_slice_get c.methods method owner d there) in
+    subst (λ (m : Member). slice_get c.methods method ≡ Some m) one there
+
+-- the attribute that is found is the first one named Code
+pub is_first : (pool read_pool : List PoolEntry) (attributes read : List Attribute) (found : Option (Bor Attribute)) (code : Bor Attribute) → found ≡ Some code
+    → IfSome found (λ a. HasFirstCode read_pool read a.now) → read_pool ≡ pool → read ≡ attributes → HasFirstCode pool attributes code.now
+is_first pool read_pool attributes read found code is first same_pool same =
+    let told : HasFirstCode read_pool read code.now = subst (λ (o : Option (Bor Attribute)). IfSome o (λ a. HasFirstCode read_pool read a.now)) is first in
+    subst (λ (p : List PoolEntry). HasFirstCode p attributes code.now) same_pool (subst (λ (all : List Attribute). HasFirstCode read_pool all code.now) same told)
+
+not_before : {X : Type 0} (p : X → Bool) (x : X) (xs : List X) → list_any p (x ∷ xs) ≡ false → p x ≡ true → ⊥
+not_before p x xs none is =
+    let all : (true || list_any p xs) ≡ false = subst (λ (b : Bool). (b || list_any p xs) ≡ false) is none in
+    absurd cc
+
+later : {X : Type 0} (p : X → Bool) (x : X) (xs : List X) → list_any p (x ∷ xs) ≡ false → list_any p xs ≡ false
+later p x xs none = rest (p x) (list_any p xs) none
+  where
+    rest : (a b : Bool) → (a || b) ≡ false → b ≡ false
+    rest true b e = absurd cc
+    rest false b e = e
+
+one_front : {X : Type 0} (p : X → Bool) (front other : List X) (x y : X) (after behind : List X) → front ++ x ∷ after ≡ other ++ y ∷ behind
+    → list_any p front ≡ false → list_any p other ≡ false → p x ≡ true → p y ≡ true → x ≡ y
+one_front p [] [] x y after behind e none_x none_y is_x is_y = cc e
+one_front p [] (z ∷ other) x y after behind e none_x none_y is_x is_y =
+    let same : x ≡ z = cc e in absurd (not_before p z other none_y (ap p (sym same) ∙ is_x))
+one_front p (z ∷ front) [] x y after behind e none_x none_y is_x is_y =
+    let same : z ≡ y = cc e in absurd (not_before p z front none_x (ap p same ∙ is_y))
+one_front p (z ∷ front) (w ∷ other) x y after behind e none_x none_y is_x is_y =
+    one_front p front other x y after behind (cc e) (later p z front none_x) (later p w other none_y) is_x is_y
+
+-- a method has one first attribute named Code
+pub one_first : (pool : List PoolEntry) (attributes : List Attribute) (a b : Attribute) → HasFirstCode pool attributes a → HasFirstCode pool attributes b → a ≡ b
+one_first pool attributes a b x y =
+    one_front (is_code pool) x.before y.before a b x.after y.after (sym x.first.parts ∙ y.first.parts) x.first.none_before y.first.none_before x.first.named_code y.first.named_code
+
+-- its body ends in the file
+pub body_fits : (c : ClassFile) (method place : ℕ) (owner : Member) (code : Attribute) → slice_get c.methods method ≡ Some owner → HasFirstCode c.pool owner.attributes code → IsCodePlace c method place
+    → place + length code.body ≤ length (spell c)
+body_fits c method place owner code there first is =
+    let same_owner : is.owner ≡ owner = same_Some _ _ (sym is.there ∙ there) in
+    let placed : HasFirstCode c.pool owner.attributes is.code = subst (λ (m : Member). HasFirstCode c.pool m.attributes is.code) same_owner (record { before = is.before; after = is.after; first = is.first }) in
+    let same : is.code ≡ code = one_first c.pool owner.attributes is.code code placed first in
+    subst (λ (a : Attribute). place + length a.body ≤ length (spell c)) same
+    (StandsAt-fits (spell c) is.code.body place (record { front = is.front; rest = is.rest; spelled = is.spelled; front_length = is.front_length }))
+
+pub tells : (c : ClassFile) (method place parameters : ℕ) (owner : Member) (code : Attribute) (answer : Result Code ReadRefusal) → slice_get c.methods method ≡ Some owner
+    → HasFirstCode c.pool owner.attributes code → IsCodePlace c method place → TakesLocals c.pool owner parameters
+    → TellsBody c.pool parameters (record { offset = place; rest = code.body }) answer → TellsCode c method answer
+tells c method place parameters owner code (Ok read) there first is taken body =
+    record { owner = owner; there = there; code = code; first = first; place = place; is_place = is; parameters = parameters; taken = taken; body = body }
+tells c method place parameters owner code (Err refusals.Memory) there first is taken body = tt
+tells c method place parameters owner code (Err (refusals.Refused offset reason)) there first is taken body =
+    record { owner = owner; there = there; code = code; first = first; place = place; is_place = is; parameters = parameters; taken = taken; body = body }
