@@ -3,7 +3,7 @@ use Rattle.std.proofs.Common.{◌≡◌, ◌≢◌, ℕ, suc, ◌<◌, ◌≤◌
 use Rattle.std.specs.Bool.{OnTrue, OnFalse}
 use Rattle.std.specs.Str.{bytes_eq}
 use Rattle.std.proofs.lemmas.Slice.Eq.{bytes_eq-Decides}
-use Rattle.std.proofs.lemmas.Bool.{false≢true}
+use Rattle.std.proofs.lemmas.Bool.{cases_lt, false≢true}
 use Rattle.std.proofs.lemmas.List.{length-map, length-take, take_all}
 use Rattle.std.proofs.lemmas.List.Sorted.{Contains-permutation, IsPermutation-sym}
 use Rattle.std.proofs.lemmas.Option.{same_Some, none-some}
@@ -14,7 +14,7 @@ use Rattle.jvm_model.specs.declared.class_file.ClassFile.{ClassFile}
 use Rattle.jvm_model.specs.declared.reason.ReadRefusal.{ReadRefusal}
 use Rattle.jvm_model.specs.declared.reason.ReadRefusal.TheVariants as refusals
 use Rattle.jvm_model.specs.declared.reason.Reason.{Reason}
-use Rattle.jvm_model.specs.declared.reason.Reason.TheVariants.{NotYet}
+use Rattle.jvm_model.specs.declared.reason.Reason.TheVariants.{BadToml, BadProperty, NotYet}
 use Rattle.classfile_reader.specs.ClassReading.{SpellsReadable}
 use Rattle.classfile_reader.specs.Faults.{IsRefusal, IsFaulty}
 use Rattle.classfile_reader.proofs.Refusals.{faulty_cut}
@@ -23,11 +23,14 @@ use Rattle.jvm_model.specs.Soundness.{IsSoundClass}
 use Rattle.typestate_core.specs.declared.status.Status.{Status}
 use Rattle.typestate_core.specs.declared.status.Status.TheVariants as statuses
 use Rattle.typestate_core.specs.Lines.{no_file, refused_line, missing_line, safe_line, unproved_line, summary_line}
-use Rattle.typestate_core.specs.Outcomes.{Outcome, Asks, HasOneClass, IsOfForm, IsJudged, IsRefusedAs, by_fault, by_form, entry_site, safe, unproved, refused_class, other_count, no_property, other_property}
+use Rattle.typestate_core.specs.Outcomes.{Outcome, Asks, HasOneClass, IsOfForm, IsJudged, IsRefusedAs, by_fault, by_form, entry_site, safe, unproved, refused_class, other_count, no_property, no_document, broken_property}
 use Rattle.typestate_core.specs.Requests.{AreWords}
-use Rattle.typestate_core.specs.PropertyFile.{IsPropertyFile}
+use Rattle.property_file.specs.declared.refusal.PropertyRefusal.{PropertyRefusal}
+use Rattle.property_file.specs.declared.refusal.PropertyRefusal.TheVariants as properties
+use Rattle.property_file.specs.PropertyFile.{IsPropertyFile}
+use Rattle.property_file.specs.Refusals.{IsNoDocument, too_large, IsBrokenFile, IsRefusal as IsPropertyRefusal}
 use Rattle.typestate_core.specs.declared.verifier.Answer.{Answer}
-use Rattle.typestate_core.specs.Answers.{Says, IsReported, IsVerdict, AnswersRun, lines_of}
+use Rattle.typestate_core.specs.Answers.{Says, SaysRefusal, IsReported, IsVerdict, AnswersRun, lines_of}
 use Rattle.typestate_core.specs.Output.{TakesAll, text_of}
 
 -- What holds of each value that an option may have, holds of the option.
@@ -109,11 +112,25 @@ class_told words files class method name whole bytes n a offset reason status li
 
 -- The same of a property file.
 pub property_whole : (n : ℕ) (whole bytes : List ℕ) (a : Automaton) → 1048576 < n → take n whole ≡ bytes → IsPropertyFile bytes a → IsPropertyFile whole a
-property_whole n whole bytes a past is p = subst (λ (x : List ℕ). IsPropertyFile x a) (cut_whole n 1048576 whole bytes past is p.limit) p
+property_whole n whole bytes a past is p = subst (λ (x : List ℕ). IsPropertyFile x a) (cut_whole n 1048576 whole bytes past is p.document.limit) p
 
-pub property_front : (n : ℕ) (whole bytes : List ℕ) (a : Automaton) → 1048576 < n → take n whole ≡ bytes → IsPropertyFile whole a → IsPropertyFile bytes a
-property_front n whole bytes a past is p =
-    subst (λ (x : List ℕ). IsPropertyFile x a) (sym (take_all n whole (let l = p.limit in omega arith)) ∙ is) p
+-- bytes that are too many, or all of the file
+whole_or_large : (n : ℕ) (whole bytes : List ℕ) → 1048576 < n → take n whole ≡ bytes → (bytes ≡ whole) ⊎ (1048576 < length whole)
+whole_or_large n whole bytes past is =
+    elim (cases_lt 1048576 (length whole)) [
+      | inl large ↦ inr large
+      | inr small ↦ inl (sym is ∙ take_all n whole (omega arith))
+    ]
+
+document_whole : (n : ℕ) (whole bytes : List ℕ) → 1048576 < n → take n whole ≡ bytes → IsNoDocument bytes → IsNoDocument whole
+document_whole n whole bytes past is bad =
+    elim (whole_or_large n whole bytes past is) [
+      | inl same ↦ subst IsNoDocument same bad
+      | inr large ↦ too_large large
+    ]
+
+broken_whole : (n : ℕ) (whole bytes key : List ℕ) → 1048576 < n → take n whole ≡ bytes → IsBrokenFile bytes key → IsBrokenFile whole key
+broken_whole n whole bytes key past is b = subst (λ (x : List ℕ). IsBrokenFile x key) (cut_whole n 1048576 whole bytes past is b.document.limit) b
 
 first_of_none : (b : Bool) (f : File) (rest : Option File) → option_map (λ (x : File). x.bytes) (cond b (Some f) rest) ≡ None
     → (b ≡ false) × (option_map (λ (x : File). x.bytes) rest ≡ None)
@@ -238,18 +255,25 @@ no_property_told o words property class method text (Ok x) are missing text_is s
     (λ files e. no_property property class method are (at_some o (λ held. file_at held property ≡ None) files e missing) says.status_is
     (says.lines_are ∙ ap (λ (t : List ℕ). missing_line t ∷ []) text_is))
 
-pub other_property_told : {E : Type 0} (o : Option (List File)) (words : List (List ℕ)) (property class method text bytes : List ℕ) (n : ℕ) (r : Result Answer E)
+pub refused_property_told : {E : Type 0} (o : Option (List File)) (words : List (List ℕ)) (property class method text bytes : List ℕ) (n : ℕ) (refusal : PropertyRefusal) (r : Result Answer E)
     → 1048576 < n → AreWords words property class method → IfSome o (λ held. option_map (take n) (file_at held property) ≡ Some bytes)
-    → ((a : Automaton) → IsPropertyFile bytes a → ⊥) → text ≡ property
-    → IfOk r (λ x. Says x statuses.Refused (refused_line text 0 NotYet ∷ []))
+    → IsPropertyRefusal bytes refusal → text ≡ property
+    → IfOk r (SaysRefusal text refusal)
     → IfOk r (ToldOfWords o words)
-other_property_told o words property class method text bytes n (Err e) past are read none text_is says = tt
-other_property_told o words property class method text bytes n (Ok x) past are read none text_is says =
+refused_property_told o words property class method text bytes n refusal (Err e) past are read refused text_is says = tt
+refused_property_told o words property class method text bytes n properties.BadToml (Ok x) past are read refused text_is says =
     if_some o (λ files. Outcome words files x.status (lines_of x))
     (λ files e.
     let w = whole_of (file_at files property) n bytes (at_some o (λ held. option_map (take n) (file_at held property) ≡ Some bytes) files e read) in
-    other_property property class method w.0 are w.1 (λ a p. none a (property_front n w.0 bytes a past w.2 p)) says.status_is
-    (says.lines_are ∙ ap (λ (t : List ℕ). refused_line t 0 NotYet ∷ []) text_is))
+    no_document property class method w.0 are w.1 (document_whole n w.0 bytes past w.2 refused) says.status_is
+    (says.lines_are ∙ ap (λ (t : List ℕ). refused_line t 0 BadToml ∷ []) text_is))
+refused_property_told o words property class method text bytes n (properties.BadProperty key) (Ok x) past are read refused text_is says =
+    if_some o (λ files. Outcome words files x.status (lines_of x))
+    (λ files e.
+    let w = whole_of (file_at files property) n bytes (at_some o (λ held. option_map (take n) (file_at held property) ≡ Some bytes) files e read) in
+    broken_property property class method w.0 key are w.1 (broken_whole n w.0 bytes key past w.2 refused) says.status_is
+    (says.lines_are ∙ ap (λ (t : List ℕ). refused_line t 0 BadProperty ∷ []) text_is))
+refused_property_told o words property class method text bytes n properties.Memory (Ok x) past are read refused text_is says = absurd says
 
 pub asked_told : {E : Type 0} (o o1 : Option (List File)) (words : List (List ℕ)) (property class method bytes : List ℕ) (n : ℕ) (a : Automaton) (r : Result Answer E)
     → 1048576 < n → o1 ≡ o → AreWords words property class method → IfSome o (λ held. option_map (take n) (file_at held property) ≡ Some bytes)

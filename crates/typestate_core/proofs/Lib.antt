@@ -1,7 +1,3 @@
-mod PropertyLists
-mod PropertyParts
-mod PropertyValues
-mod PropertyWhole
 pub mod Judging
 pub mod Reach
 pub mod WordLists

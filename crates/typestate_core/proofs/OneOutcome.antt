@@ -3,15 +3,16 @@ use Rattle.std.proofs.Common.{◌≡◌, ◌≢◌, ℕ, List, [], ◌∷◌, le
 use Rattle.ts_outside.specs.Files.{File, file_at, IsListing}
 use Rattle.jvm_model.specs.declared.automaton.Automaton.{Automaton}
 use Rattle.jvm_model.specs.declared.reason.Reason.{Reason}
-use Rattle.jvm_model.specs.declared.reason.Reason.TheVariants.{NotYet}
+use Rattle.jvm_model.specs.declared.reason.Reason.TheVariants.{BadToml, BadProperty, NotYet}
 use Rattle.typestate_core.specs.declared.status.Status.{Status}
 use Rattle.typestate_core.specs.declared.status.Status.TheVariants as statuses
 use Rattle.typestate_core.specs.Lines.{no_file, refused_line, missing_line, safe_line, unproved_line, summary_line}
 use Rattle.typestate_core.specs.Requests.{AreWords}
-use Rattle.typestate_core.specs.PropertyFile.{IsPropertyFile}
+use Rattle.property_file.specs.Refusals.{IsNoDocument, IsBrokenFile}
+use Rattle.property_file.proofs.Broken.{IsNoDocument-not, IsBrokenFile-not}
 use Rattle.typestate_core.specs.StageOne.{IsSafe, events_of}
-use Rattle.typestate_core.specs.Outcomes.{Outcome, Asks, HasOneClass, IsJudged, IsRefusedAs, entry_site, other_words, no_property, other_property, other_count, refused_class, safe, unproved}
-use Rattle.typestate_core.proofs.OneRequest.{AreWords-same, IsListing-long, HasOneClass-same, Asks-same, not_held, not_spelled}
+use Rattle.typestate_core.specs.Outcomes.{Outcome, Asks, HasOneClass, IsJudged, IsRefusedAs, entry_site, other_words, no_property, no_document, broken_property, other_count, refused_class, safe, unproved}
+use Rattle.typestate_core.proofs.OneRequest.{AreWords-same, IsListing-long, HasOneClass-same, Asks-same, not_held, not_spelled, not_refused_twice}
 use Rattle.typestate_core.proofs.OneForm.{IsJudged-same, IsJudged-moved, refused_or_judged, one_refusal}
 
 -- two answers with one status and one list of lines
@@ -46,7 +47,8 @@ module _ (words : List (List ℕ)) (files : List File) (s t : Status) (l k : Lis
   if_other_words : ((p c m : List ℕ) → AreWords words p c m → ⊥) → s ≡ statuses.Refused → l ≡ refused_line no_file 0 NotYet ∷ [] → Outcome words files t k → (s ≡ t) × (l ≡ k)
   if_other_words none si li (other_words none2 ti ki) = agree s t statuses.Refused l k _ _ si li ti ki refl
   if_other_words none si li (no_property p c m are missing ti ki) = absurd (none p c m are)
-  if_other_words none si li (other_property p c m b are held bad ti ki) = absurd (none p c m are)
+  if_other_words none si li (no_document p c m b are held bad ti ki) = absurd (none p c m are)
+  if_other_words none si li (broken_property p c m b key are held bad ti ki) = absurd (none p c m are)
   if_other_words none si li (other_count c m a names asks listing other ti ki) = absurd (none asks.property c m asks.are)
   if_other_words none si li (refused_class c m x b a o r asks one bad ti ki) = absurd (none asks.property c m asks.are)
   if_other_words none si li (safe c m x b a calls asks one judged is ti ki) = absurd (none asks.property c m asks.are)
@@ -56,28 +58,43 @@ module _ (words : List (List ℕ)) (files : List File) (s t : Status) (l k : Lis
   if_no_property p c m are missing si li (other_words none ti ki) = absurd (none p c m are)
   if_no_property p c m are missing si li (no_property q d n are2 missing2 ti ki) =
       agree s t statuses.Usage l k _ _ si li ti ki (ap (λ (w : List ℕ). missing_line w ∷ []) (AreWords-same words p q c d m n are are2).0)
-  if_no_property p c m are missing si li (other_property q d n b are2 held bad ti ki) = absurd (not_held words files p q c d m n b are missing are2 held)
+  if_no_property p c m are missing si li (no_document q d n b are2 held bad ti ki) = absurd (not_held words files p q c d m n b are missing are2 held)
+  if_no_property p c m are missing si li (broken_property q d n b key are2 held bad ti ki) = absurd (not_held words files p q c d m n b are missing are2 held)
   if_no_property p c m are missing si li (other_count d n a names asks listing other ti ki) = absurd (not_held words files p asks.property c d m n asks.bytes are missing asks.are asks.held)
   if_no_property p c m are missing si li (refused_class d n x b a o r asks one bad ti ki) = absurd (not_held words files p asks.property c d m n asks.bytes are missing asks.are asks.held)
   if_no_property p c m are missing si li (safe d n x b a calls asks one judged is ti ki) = absurd (not_held words files p asks.property c d m n asks.bytes are missing asks.are asks.held)
   if_no_property p c m are missing si li (unproved d n x b a calls asks one judged is ti ki) = absurd (not_held words files p asks.property c d m n asks.bytes are missing asks.are asks.held)
 
-  if_other_property : (p c m b : List ℕ) → AreWords words p c m → file_at files p ≡ Some b → ((a : Automaton) → IsPropertyFile b a → ⊥)
-      → s ≡ statuses.Refused → l ≡ refused_line p 0 NotYet ∷ [] → Outcome words files t k → (s ≡ t) × (l ≡ k)
-  if_other_property p c m b are held bad si li (other_words none ti ki) = absurd (none p c m are)
-  if_other_property p c m b are held bad si li (no_property q d n are2 missing ti ki) = absurd (not_held words files q p d c n m b are2 missing are held)
-  if_other_property p c m b are held bad si li (other_property q d n e are2 held2 bad2 ti ki) =
-      agree s t statuses.Refused l k _ _ si li ti ki (ap (λ (w : List ℕ). refused_line w 0 NotYet ∷ []) (AreWords-same words p q c d m n are are2).0)
-  if_other_property p c m b are held bad si li (other_count d n a names asks listing other ti ki) = absurd (not_spelled words files p asks.property c d m n b asks.bytes a are held bad asks.are asks.held asks.spells)
-  if_other_property p c m b are held bad si li (refused_class d n x e a o r asks one bad2 ti ki) = absurd (not_spelled words files p asks.property c d m n b asks.bytes a are held bad asks.are asks.held asks.spells)
-  if_other_property p c m b are held bad si li (safe d n x e a calls asks one judged is ti ki) = absurd (not_spelled words files p asks.property c d m n b asks.bytes a are held bad asks.are asks.held asks.spells)
-  if_other_property p c m b are held bad si li (unproved d n x e a calls asks one judged is ti ki) = absurd (not_spelled words files p asks.property c d m n b asks.bytes a are held bad asks.are asks.held asks.spells)
+  if_no_document : (p c m b : List ℕ) → AreWords words p c m → file_at files p ≡ Some b → IsNoDocument b
+      → s ≡ statuses.Refused → l ≡ refused_line p 0 BadToml ∷ [] → Outcome words files t k → (s ≡ t) × (l ≡ k)
+  if_no_document p c m b are held bad si li (other_words none ti ki) = absurd (none p c m are)
+  if_no_document p c m b are held bad si li (no_property q d n are2 missing ti ki) = absurd (not_held words files q p d c n m b are2 missing are held)
+  if_no_document p c m b are held bad si li (no_document q d n e are2 held2 bad2 ti ki) =
+      agree s t statuses.Refused l k _ _ si li ti ki (ap (λ (w : List ℕ). refused_line w 0 BadToml ∷ []) (AreWords-same words p q c d m n are are2).0)
+  if_no_document p c m b are held bad si li (broken_property q d n e key are2 held2 bad2 ti ki) = absurd (not_refused_twice words files p q c d m n b e key are held bad are2 held2 bad2)
+  if_no_document p c m b are held bad si li (other_count d n a names asks listing other ti ki) = absurd (not_spelled words files p asks.property c d m n b asks.bytes a are held (λ x. IsNoDocument-not b x bad) asks.are asks.held asks.spells)
+  if_no_document p c m b are held bad si li (refused_class d n x e a o r asks one bad2 ti ki) = absurd (not_spelled words files p asks.property c d m n b asks.bytes a are held (λ y. IsNoDocument-not b y bad) asks.are asks.held asks.spells)
+  if_no_document p c m b are held bad si li (safe d n x e a calls asks one judged is ti ki) = absurd (not_spelled words files p asks.property c d m n b asks.bytes a are held (λ y. IsNoDocument-not b y bad) asks.are asks.held asks.spells)
+  if_no_document p c m b are held bad si li (unproved d n x e a calls asks one judged is ti ki) = absurd (not_spelled words files p asks.property c d m n b asks.bytes a are held (λ y. IsNoDocument-not b y bad) asks.are asks.held asks.spells)
+
+  if_broken_property : (p c m b key : List ℕ) → AreWords words p c m → file_at files p ≡ Some b → IsBrokenFile b key
+      → s ≡ statuses.Refused → l ≡ refused_line p 0 BadProperty ∷ [] → Outcome words files t k → (s ≡ t) × (l ≡ k)
+  if_broken_property p c m b key are held bad si li (other_words none ti ki) = absurd (none p c m are)
+  if_broken_property p c m b key are held bad si li (no_property q d n are2 missing ti ki) = absurd (not_held words files q p d c n m b are2 missing are held)
+  if_broken_property p c m b key are held bad si li (no_document q d n e are2 held2 bad2 ti ki) = absurd (not_refused_twice words files q p d c n m e b key are2 held2 bad2 are held bad)
+  if_broken_property p c m b key are held bad si li (broken_property q d n e key2 are2 held2 bad2 ti ki) =
+      agree s t statuses.Refused l k _ _ si li ti ki (ap (λ (w : List ℕ). refused_line w 0 BadProperty ∷ []) (AreWords-same words p q c d m n are are2).0)
+  if_broken_property p c m b key are held bad si li (other_count d n a names asks listing other ti ki) = absurd (not_spelled words files p asks.property c d m n b asks.bytes a are held (λ x. IsBrokenFile-not b key x bad) asks.are asks.held asks.spells)
+  if_broken_property p c m b key are held bad si li (refused_class d n x e a o r asks one bad2 ti ki) = absurd (not_spelled words files p asks.property c d m n b asks.bytes a are held (λ y. IsBrokenFile-not b key y bad) asks.are asks.held asks.spells)
+  if_broken_property p c m b key are held bad si li (safe d n x e a calls asks one judged is ti ki) = absurd (not_spelled words files p asks.property c d m n b asks.bytes a are held (λ y. IsBrokenFile-not b key y bad) asks.are asks.held asks.spells)
+  if_broken_property p c m b key are held bad si li (unproved d n x e a calls asks one judged is ti ki) = absurd (not_spelled words files p asks.property c d m n b asks.bytes a are held (λ y. IsBrokenFile-not b key y bad) asks.are asks.held asks.spells)
 
   if_other_count : (c m : List ℕ) (a : Automaton) (names : List (List ℕ)) → Asks words files c m a → IsListing files names → length names ≢ 1
       → s ≡ statuses.Refused → l ≡ refused_line no_file 0 NotYet ∷ [] → Outcome words files t k → (s ≡ t) × (l ≡ k)
   if_other_count c m a names asks listing other si li (other_words none ti ki) = absurd (none asks.property c m asks.are)
   if_other_count c m a names asks listing other si li (no_property q d n are missing ti ki) = absurd (not_held words files q asks.property d c n m asks.bytes are missing asks.are asks.held)
-  if_other_count c m a names asks listing other si li (other_property q d n b are held bad ti ki) = absurd (not_spelled words files q asks.property d c n m b asks.bytes a are held bad asks.are asks.held asks.spells)
+  if_other_count c m a names asks listing other si li (no_document q d n b are held bad ti ki) = absurd (not_spelled words files q asks.property d c n m b asks.bytes a are held (λ y. IsNoDocument-not b y bad) asks.are asks.held asks.spells)
+  if_other_count c m a names asks listing other si li (broken_property q d n b key are held bad ti ki) = absurd (not_spelled words files q asks.property d c n m b asks.bytes a are held (λ y. IsBrokenFile-not b key y bad) asks.are asks.held asks.spells)
   if_other_count c m a names asks listing other si li (other_count d n f names2 asks2 listing2 other2 ti ki) = agree s t statuses.Refused l k _ _ si li ti ki refl
   if_other_count c m a names asks listing other si li (refused_class d n x b f o r asks2 one bad ti ki) = absurd (two_counts names x listing other one.listing)
   if_other_count c m a names asks listing other si li (safe d n x b f calls asks2 one judged is ti ki) = absurd (two_counts names x listing other one.listing)
@@ -87,7 +104,8 @@ module _ (words : List (List ℕ)) (files : List File) (s t : Status) (l k : Lis
       → s ≡ statuses.Refused → l ≡ refused_line x o r ∷ [] → Outcome words files t k → (s ≡ t) × (l ≡ k)
   if_refused_class c m x b a o r asks one bad si li (other_words none ti ki) = absurd (none asks.property c m asks.are)
   if_refused_class c m x b a o r asks one bad si li (no_property q d n are missing ti ki) = absurd (not_held words files q asks.property d c n m asks.bytes are missing asks.are asks.held)
-  if_refused_class c m x b a o r asks one bad si li (other_property q d n e are held bad2 ti ki) = absurd (not_spelled words files q asks.property d c n m e asks.bytes a are held bad2 asks.are asks.held asks.spells)
+  if_refused_class c m x b a o r asks one bad si li (no_document q d n e are held bad2 ti ki) = absurd (not_spelled words files q asks.property d c n m e asks.bytes a are held (λ y. IsNoDocument-not e y bad2) asks.are asks.held asks.spells)
+  if_refused_class c m x b a o r asks one bad si li (broken_property q d n e key are held bad2 ti ki) = absurd (not_spelled words files q asks.property d c n m e asks.bytes a are held (λ y. IsBrokenFile-not e key y bad2) asks.are asks.held asks.spells)
   if_refused_class c m x b a o r asks one bad si li (other_count d n f names asks2 listing other ti ki) = absurd (two_counts names x listing other one.listing)
   if_refused_class c m x b a o r asks one bad si li (refused_class d n y e f o2 r2 asks2 two bad2 ti ki) =
       let files_same = HasOneClass-same files x y b e one two in
@@ -100,7 +118,8 @@ module _ (words : List (List ℕ)) (files : List File) (s t : Status) (l k : Lis
       → s ≡ statuses.AllSafe → l ≡ safe_line 1 (entry_site c m) ∷ summary_line 1 1 0 0 ∷ [] → Outcome words files t k → (s ≡ t) × (l ≡ k)
   if_safe c m x b a calls asks one judged is si li (other_words none ti ki) = absurd (none asks.property c m asks.are)
   if_safe c m x b a calls asks one judged is si li (no_property q d n are missing ti ki) = absurd (not_held words files q asks.property d c n m asks.bytes are missing asks.are asks.held)
-  if_safe c m x b a calls asks one judged is si li (other_property q d n e are held bad ti ki) = absurd (not_spelled words files q asks.property d c n m e asks.bytes a are held bad asks.are asks.held asks.spells)
+  if_safe c m x b a calls asks one judged is si li (no_document q d n e are held bad ti ki) = absurd (not_spelled words files q asks.property d c n m e asks.bytes a are held (λ y. IsNoDocument-not e y bad) asks.are asks.held asks.spells)
+  if_safe c m x b a calls asks one judged is si li (broken_property q d n e key are held bad ti ki) = absurd (not_spelled words files q asks.property d c n m e asks.bytes a are held (λ y. IsBrokenFile-not e key y bad) asks.are asks.held asks.spells)
   if_safe c m x b a calls asks one judged is si li (other_count d n f names asks2 listing other ti ki) = absurd (two_counts names x listing other one.listing)
   if_safe c m x b a calls asks one judged is si li (refused_class d n y e f o r asks2 two bad ti ki) = absurd (refused_or_judged e f d n o r calls bad (judged_too words files c d m n x y b e a f asks asks2 one two calls judged))
   if_safe c m x b a calls asks one judged is si li (safe d n y e f calls2 asks2 two judged2 is2 ti ki) =
@@ -112,7 +131,8 @@ module _ (words : List (List ℕ)) (files : List File) (s t : Status) (l k : Lis
       → s ≡ statuses.SomeUnproved → l ≡ unproved_line (entry_site c m) ∷ summary_line 1 0 1 0 ∷ [] → Outcome words files t k → (s ≡ t) × (l ≡ k)
   if_unproved c m x b a calls asks one judged is_not si li (other_words none ti ki) = absurd (none asks.property c m asks.are)
   if_unproved c m x b a calls asks one judged is_not si li (no_property q d n are missing ti ki) = absurd (not_held words files q asks.property d c n m asks.bytes are missing asks.are asks.held)
-  if_unproved c m x b a calls asks one judged is_not si li (other_property q d n e are held bad ti ki) = absurd (not_spelled words files q asks.property d c n m e asks.bytes a are held bad asks.are asks.held asks.spells)
+  if_unproved c m x b a calls asks one judged is_not si li (no_document q d n e are held bad ti ki) = absurd (not_spelled words files q asks.property d c n m e asks.bytes a are held (λ y. IsNoDocument-not e y bad) asks.are asks.held asks.spells)
+  if_unproved c m x b a calls asks one judged is_not si li (broken_property q d n e key are held bad ti ki) = absurd (not_spelled words files q asks.property d c n m e asks.bytes a are held (λ y. IsBrokenFile-not e key y bad) asks.are asks.held asks.spells)
   if_unproved c m x b a calls asks one judged is_not si li (other_count d n f names asks2 listing other ti ki) = absurd (two_counts names x listing other one.listing)
   if_unproved c m x b a calls asks one judged is_not si li (refused_class d n y e f o r asks2 two bad ti ki) = absurd (refused_or_judged e f d n o r calls bad (judged_too words files c d m n x y b e a f asks asks2 one two calls judged))
   if_unproved c m x b a calls asks one judged is_not si li (safe d n y e f calls2 asks2 two judged2 is ti ki) =
@@ -123,7 +143,8 @@ module _ (words : List (List ℕ)) (files : List File) (s t : Status) (l k : Lis
 pub Outcome-same : (words : List (List ℕ)) (files : List File) (s t : Status) (l k : List (List ℕ)) → Outcome words files s l → Outcome words files t k → (s ≡ t) × (l ≡ k)
 Outcome-same words files s t l k (other_words none si li) o = if_other_words words files s t l k none si li o
 Outcome-same words files s t l k (no_property p c m are missing si li) o = if_no_property words files s t l k p c m are missing si li o
-Outcome-same words files s t l k (other_property p c m b are held bad si li) o = if_other_property words files s t l k p c m b are held bad si li o
+Outcome-same words files s t l k (no_document p c m b are held bad si li) o = if_no_document words files s t l k p c m b are held bad si li o
+Outcome-same words files s t l k (broken_property p c m b key are held bad si li) o = if_broken_property words files s t l k p c m b key are held bad si li o
 Outcome-same words files s t l k (other_count c m a names asks listing other si li) o = if_other_count words files s t l k c m a names asks listing other si li o
 Outcome-same words files s t l k (refused_class c m x b a at r asks one bad si li) o = if_refused_class words files s t l k c m x b a at r asks one bad si li o
 Outcome-same words files s t l k (safe c m x b a calls asks one judged is si li) o = if_safe words files s t l k c m x b a calls asks one judged is si li o

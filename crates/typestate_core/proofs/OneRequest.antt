@@ -1,24 +1,18 @@
 -- Words ask for one thing, a property file spells one automaton, and a tree has one listing.
-use Rattle.std.proofs.Common.{codes, ◌≡◌, ℕ, zero, suc, Bool, true, not, List, [], ◌∷◌, ◌++◌, length, None, Some, slice_get, IsTrue, refl, sym, ap, ◌∙◌, subst}
+use Rattle.std.proofs.Common.{◌≡◌, ℕ, zero, suc, Bool, true, not, List, [], ◌∷◌, ◌++◌, length, None, Some, slice_get, IsTrue, refl, sym, ap, ◌∙◌, subst}
 use Rattle.std.specs.Prelude.{◌==◌}
-use Rattle.std.specs.List.{AllZip, list_all}
-use Rattle.std.specs.Str.{bytes_eq}
+use Rattle.std.specs.List.{list_all}
 use Rattle.std.proofs.lemmas.Bool.{and_parts, false≢true}
 use Rattle.std.proofs.lemmas.List.Sorted.{Contains-permutation, IsPermutation-sym, IsPermutation-trans, length_permutation}
 use Rattle.std.proofs.lemmas.Option.{same_Some, none-some}
 use Rattle.ts_outside.specs.Files.{File, file_at, class_names, IsListing}
-use Rattle.toml.specs.Data.{Members}
 use Rattle.jvm_model.specs.declared.automaton.Automaton.{Automaton}
-use Rattle.jvm_model.specs.declared.automaton.Event.{Event}
-use Rattle.jvm_model.specs.Automata.{all_differ}
 use Rattle.typestate_core.specs.Requests.{NamesMethod, AreWords}
-use Rattle.typestate_core.specs.PropertyFile.{texts, tables, NamesState, SpellsEvent, IsPropertyFile}
-use Rattle.typestate_core.specs.PropertyReading.{GivesAutomaton}
+use Rattle.property_file.specs.PropertyFile.{IsPropertyFile}
+use Rattle.property_file.specs.Refusals.{IsNoDocument, IsBrokenFile}
+use Rattle.property_file.proofs.Broken.{IsNoDocument-not_broken}
+use Rattle.property_file.proofs.Whole.{IsPropertyFile-same}
 use Rattle.typestate_core.specs.Outcomes.{Asks, HasOneClass}
-use Rattle.typestate_core.proofs.PropertyLists.{AllZip-unique, place-unique}
-use Rattle.typestate_core.proofs.PropertyValues.{Stands, texts-unique}
-use Rattle.typestate_core.proofs.PropertyParts.{array_same, text_same, NamesState-unique}
-use Rattle.typestate_core.proofs.PropertyWhole.{GivesStates-from_automaton, GivesStates-unique}
 use Rattle.typestate_core.proofs.Reach.{place_of, contains_at}
 
 -- ---- the words
@@ -57,48 +51,6 @@ AreWords-same words p q c d m n a b =
     let entry : a.entry ≡ b.entry = same_Some a.entry b.entry (ap (λ (ws : List (List ℕ)). slice_get ws 5) whole) in
     let names = NamesMethod-same b.entry c d m n (subst (λ (w : List ℕ). NamesMethod w c m) entry a.names) b.names in
     (property, names.0, names.1)
-
--- ---- the property file
-
-tables-unique : (ts us : List Members) → tables ts ≡ tables us → ts ≡ us
-tables-unique [] [] e = refl
-tables-unique [] (u ∷ us) e = cc
-tables-unique (t ∷ ts) [] e = cc
-tables-unique (t ∷ ts) (u ∷ us) e =
-    let heads : t ≡ u = cc in
-    let tails : ts ≡ us = tables-unique ts us cc in
-    cc
-
-SpellsEvent-unique : (states : List (List ℕ)) → IsTrue (all_differ bytes_eq states) → (ms : Members) (e f : Event) → SpellsEvent states ms e → SpellsEvent states ms f → e ≡ f
-SpellsEvent-unique states differ ms e f g h =
-    let names : g.next_names ≡ h.next_names = texts-unique _ _ (array_same _ (texts g.next_names) (texts h.next_names) g.next h.next) in
-    let name : e.name ≡ f.name = text_same _ e.name f.name g.name h.name in
-    let descriptor : e.descriptor ≡ f.descriptor = text_same _ e.descriptor f.descriptor g.descriptor h.descriptor in
-    let next : e.next ≡ f.next = AllZip-unique (Stands states) (λ n i j. place-unique n states i j differ) h.next_names e.next f.next
-    (subst (λ ns. AllZip (Stands states) ns e.next) names g.stand) h.stand in
-    (λ i. record { name = name i; descriptor = descriptor i; next = next i })
-
-GivesAutomaton-unique : (ms : Members) (a b : Automaton) → GivesAutomaton ms a → GivesAutomaton ms b → a ≡ b
-GivesAutomaton-unique ms a b g h =
-    let class_name : a.class_name ≡ b.class_name = text_same _ a.class_name b.class_name g.spells.class_name h.spells.class_name in
-    let states : a.states ≡ b.states = GivesStates-unique ms a.states b.states (GivesStates-from_automaton ms a g) (GivesStates-from_automaton ms b h) in
-    let differ = h.sound.states_differ in
-    let initial : a.initial ≡ b.initial = NamesState-unique b.states (codes "initial") ms a.initial b.initial differ
-    (subst (λ (ss : List (List ℕ)). NamesState ss (codes "initial") ms a.initial) states g.spells.initial) h.spells.initial in
-    let error : a.error ≡ b.error = NamesState-unique b.states (codes "error") ms a.error b.error differ
-    (subst (λ (ss : List (List ℕ)). NamesState ss (codes "error") ms a.error) states g.spells.error) h.spells.error in
-    let at_key : g.spells.event_tables ≡ h.spells.event_tables = tables-unique _ _ (array_same _ (tables g.spells.event_tables) (tables h.spells.event_tables) g.spells.event h.spells.event) in
-    let here = subst (λ (ss : List (List ℕ)). AllZip (SpellsEvent ss) g.spells.event_tables a.events) states g.spells.events in
-    let there = subst (λ (ts : List Members). AllZip (SpellsEvent b.states) ts a.events) at_key here in
-    let events : a.events ≡ b.events = AllZip-unique (SpellsEvent b.states) (SpellsEvent-unique b.states differ) h.spells.event_tables a.events b.events there h.spells.events in
-    (λ i. record { class_name = class_name i; states = states i; initial = initial i; error = error i; events = events i })
-
-pub IsPropertyFile-same : (bytes : List ℕ) (a b : Automaton) → IsPropertyFile bytes a → IsPropertyFile bytes b → a ≡ b
-IsPropertyFile-same bytes a b p q =
-    let members : p.members ≡ q.members = same_Some p.members q.members (sym p.document ∙ q.document) in
-    let here : GivesAutomaton p.members a = record { spells = p.spells; sound = p.sound } in
-    let there : GivesAutomaton q.members b = record { spells = q.spells; sound = q.sound } in
-    GivesAutomaton-unique q.members a b (subst (λ (ms : Members). GivesAutomaton ms a) members here) there
 
 -- ---- the listing
 
@@ -144,3 +96,11 @@ not_spelled words files p q c d m n b e a x held none y there spells =
     let same = AreWords-same words p q c d m n x y in
     let bytes = same_bytes files p q b e same.0 held there in
     none a (subst (λ (t : List ℕ). IsPropertyFile t a) (sym bytes) spells)
+
+-- the file that the words name is not both no document and one that breaks a rule
+pub not_refused_twice : (words : List (List ℕ)) (files : List File) (p q c d m n b e key : List ℕ) → AreWords words p c m → file_at files p ≡ Some b → IsNoDocument b
+    → AreWords words q d n → file_at files q ≡ Some e → IsBrokenFile e key → ⊥
+not_refused_twice words files p q c d m n b e key x held bad y there broken =
+    let same = AreWords-same words p q c d m n x y in
+    let bytes = same_bytes files p q b e same.0 held there in
+    IsNoDocument-not_broken e key (subst IsNoDocument bytes bad) broken

@@ -13,7 +13,7 @@ use Rattle.typestate_core.specs.declared.status.Status.TheVariants.{AllSafe, Som
 use Rattle.typestate_core.specs.Answers.{AnswersRun}
 use Rattle.typestate_core.specs.Claims.{safe_text, WroteLine}
 use Rattle.typestate_core.specs.Lines.{no_file, refused_line, missing_line, safe_line, unproved_line, summary_line}
-use Rattle.typestate_core.specs.Outcomes.{Outcome, Asks, HasOneClass, IsJudged, entry_site, other_words, no_property, other_property, other_count, refused_class, safe, unproved}
+use Rattle.typestate_core.specs.Outcomes.{Outcome, Asks, HasOneClass, IsJudged, entry_site, other_words, no_property, no_document, broken_property, other_count, refused_class, safe, unproved}
 use Rattle.typestate_core.specs.Output.{TakesAll, TakesFront, text_of}
 use Rattle.typestate_core.specs.StageOne.{IsSafe, events_of}
 use Rattle.typestate_core.proofs.PlainLines.{IsPlain, IsFront, IsLine, Among, IsPlain-all, IsPlain-test, IsPlain-append, word, number, name, ended, line_among}
@@ -158,7 +158,8 @@ module _ (words : List (List ℕ)) (files : List File) (text : List ℕ) where
     of_outcome : Outcome words files status lines → IsSafeOutcome words files text
     of_outcome (other_words none si li) = absurd (not_refused no_file 0 NotYet li)
     of_outcome (no_property p c m are missing si li) = absurd (not_missing p li)
-    of_outcome (other_property p c m b are held bad si li) = absurd (not_refused p 0 NotYet li)
+    of_outcome (no_document p c m b are held bad si li) = absurd (not_refused p 0 BadToml li)
+    of_outcome (broken_property p c m b key are held bad si li) = absurd (not_refused p 0 BadProperty li)
     of_outcome (other_count c m a names asks listing other si li) = absurd (not_refused no_file 0 NotYet li)
     of_outcome (refused_class c m x b a o r asks one bad si li) = absurd (not_refused x o r li)
     of_outcome (safe c m x b a calls asks one judged is si li) = safe_outcome words files text c m x b a calls asks one judged is (its_site c m li)
@@ -201,7 +202,8 @@ safe_line_tells words files WriteFault old new text (status, lines, outcome, tak
 safe_status : (words : List (List ℕ)) (files : List File) (lines : List (List ℕ)) → Outcome words files AllSafe lines → (text : List ℕ) × IsSafeOutcome words files text
 safe_status words files lines (other_words none si li) = absurd (cc)
 safe_status words files lines (no_property p c m are missing si li) = absurd (cc)
-safe_status words files lines (other_property p c m b are held bad si li) = absurd (cc)
+safe_status words files lines (no_document p c m b are held bad si li) = absurd (cc)
+safe_status words files lines (broken_property p c m b key are held bad si li) = absurd (cc)
 safe_status words files lines (other_count c m a names asks listing other si li) = absurd (cc)
 safe_status words files lines (refused_class c m x b a o r asks one bad si li) = absurd (cc)
 safe_status words files lines (safe c m x b a calls asks one judged is si li) =

@@ -1,13 +1,17 @@
 -- What a run answers, and what the sink has taken then.
-use Rattle.std.specs.Prelude.{◌≡◌, ◌↔◌, ℕ, Bool, List, map, Option, IsTrue}
+use Rattle.std.specs.Prelude.{◌≡◌, ◌↔◌, ℕ, Bool, List, [], ◌∷◌, map, Option, IsTrue}
 use Rattle.ts_outside.specs.Files.{File}
 use Rattle.jvm_model.specs.declared.automaton.Automaton.{Automaton}
 use Rattle.jvm_model.specs.declared.class_file.ClassFile.{ClassFile}
+use Rattle.jvm_model.specs.declared.reason.Reason.TheVariants.{BadToml, BadProperty}
+use Rattle.property_file.specs.declared.refusal.PropertyRefusal.{PropertyRefusal}
+use Rattle.property_file.specs.declared.refusal.PropertyRefusal.TheVariants as refusals
 use Rattle.typestate_core.specs.declared.status.Status.{Status}
 use Rattle.typestate_core.specs.declared.status.Status.TheVariants.{AllSafe, SomeUnproved, Refused, RejectedCertificate, ReadFault, WriteFault, Usage, Memory}
 use Rattle.typestate_core.specs.declared.verifier.Answer.{Answer}
 use Rattle.typestate_core.specs.declared.verifier.Judgement.{Judgement}
 use Rattle.typestate_core.specs.declared.verifier.Judgement.TheVariants as judgements
+use Rattle.typestate_core.specs.Lines.{refused_line}
 use Rattle.typestate_core.specs.Outcomes.{Outcome, IsOfForm, IsJudged, IsRefusedAs}
 use Rattle.typestate_core.specs.Output.{TakesAll, TakesFront, text_of}
 use Rattle.typestate_core.specs.StageOne.{IsSafe, events_of}
@@ -20,6 +24,12 @@ lines_of a = map (λ line. line.items) a.lines.items
 pub record Says (a : Answer) (status : Status) (lines : List (List ℕ)) : Type 0 where
   pub status_is : a.status ≡ status
   pub lines_are : lines_of a ≡ lines
+
+-- The answer says that the property file is refused.
+abbrev pub SaysRefusal : List ℕ → PropertyRefusal → Answer → Type 0
+SaysRefusal file refusals.BadToml a = Says a Refused (refused_line file 0 BadToml ∷ [])
+SaysRefusal file (refusals.BadProperty key) a = Says a Refused (refused_line file 0 BadProperty ∷ [])
+SaysRefusal file refusals.Memory a = ⊥
 
 -- A status that comes with lines of its own.
 abbrev pub IsReported : Status → Type 0

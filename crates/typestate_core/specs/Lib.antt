@@ -8,8 +8,6 @@ pub mod Lines
 pub mod Outcomes
 pub mod Output
 pub mod Printed
-pub mod PropertyFile
-pub mod PropertyReading
 pub mod Reaching
 pub mod Requests
 pub mod StageOne

@@ -5,14 +5,15 @@ use Rattle.ts_outside.specs.Files.{File, file_at, IsListing}
 use Rattle.jvm_model.specs.declared.automaton.Automaton.{Automaton}
 use Rattle.jvm_model.specs.declared.class_file.ClassFile.{ClassFile}
 use Rattle.jvm_model.specs.declared.reason.Reason.{Reason}
-use Rattle.jvm_model.specs.declared.reason.Reason.TheVariants.{NotYet}
+use Rattle.jvm_model.specs.declared.reason.Reason.TheVariants.{BadToml, BadProperty, NotYet}
 use Rattle.jvm_model.specs.Soundness.{plain_descriptor, IsSoundClass}
 use Rattle.classfile_reader.specs.ClassReading.{SpellsReadable}
 use Rattle.classfile_reader.specs.Faults.{IsFaulty}
+use Rattle.property_file.specs.PropertyFile.{IsPropertyFile}
+use Rattle.property_file.specs.Refusals.{IsNoDocument, IsBrokenFile}
 use Rattle.typestate_core.specs.declared.status.Status.{Status}
 use Rattle.typestate_core.specs.declared.status.Status.TheVariants as statuses
 use Rattle.typestate_core.specs.Lines.{no_file, refused_line, missing_line, site_text, safe_line, unproved_line, summary_line}
-use Rattle.typestate_core.specs.PropertyFile.{IsPropertyFile}
 use Rattle.typestate_core.specs.Requests.{AreWords}
 use Rattle.typestate_core.specs.StageOne.{IsSafe, events_of}
 use Rattle.typestate_core.specs.StraightLine.{IsStraightLine}
@@ -60,10 +61,14 @@ pub data Outcome (words : List (List ℕ)) (files : List File) (status : Status)
   -- The tree does not hold the property file.
   no_property : (property class method : List ℕ) → AreWords words property class method → file_at files property ≡ None
       → status ≡ statuses.Usage → lines ≡ missing_line property ∷ [] → Outcome words files status lines
-  -- The property file spells no automaton.
-  other_property : (property class method bytes : List ℕ) → AreWords words property class method → file_at files property ≡ Some bytes
-      → ((a : Automaton) → IsPropertyFile bytes a → ⊥)
-      → status ≡ statuses.Refused → lines ≡ refused_line property 0 NotYet ∷ [] → Outcome words files status lines
+  -- The property file is too large, is not UTF-8, or is no TOML document.
+  no_document : (property class method bytes : List ℕ) → AreWords words property class method → file_at files property ≡ Some bytes
+      → IsNoDocument bytes
+      → status ≡ statuses.Refused → lines ≡ refused_line property 0 BadToml ∷ [] → Outcome words files status lines
+  -- The property file breaks a rule of a key.
+  broken_property : (property class method bytes key : List ℕ) → AreWords words property class method → file_at files property ≡ Some bytes
+      → IsBrokenFile bytes key
+      → status ≡ statuses.Refused → lines ≡ refused_line property 0 BadProperty ∷ [] → Outcome words files status lines
   -- The tree holds another number of class files than one.
   other_count : (class method : List ℕ) (a : Automaton) (names : List (List ℕ)) → Asks words files class method a
       → IsListing files names → length names ≢ 1

@@ -7,7 +7,6 @@ mod laws;
 mod lines;
 mod output;
 mod printed;
-mod property_file;
 mod request;
 mod stage_one;
 mod status;

@@ -382,10 +382,17 @@ const CASES: &[Case] = &[
         ..CASE
     },
     Case {
-        title: "no property",
+        title: "no TOML document as the property",
         property: Some("class ="),
         status: Status::Refused,
-        text: "refused p.toml 0 NotYet\n",
+        text: "refused p.toml 0 BadToml\n",
+        ..CASE
+    },
+    Case {
+        title: "an empty property file",
+        property: Some(""),
+        status: Status::Refused,
+        text: "refused p.toml 0 BadProperty\n",
         ..CASE
     },
     Case {

@@ -8,19 +8,19 @@ ghost use Rattle.typestate_core.specs.declared.verifier.End.TheVariants.{Memory}
 ghost use Rattle.typestate_core.specs.Lines.{no_file, refused_line, missing_line, site_text, safe_line, unproved_line, summary_line};
 ghost use Rattle.typestate_core.specs.Outcomes.{Outcome, Asks, IsOfForm, entry_site};
 ghost use Rattle.typestate_core.specs.Claims.{KeepsProtocol, WroteLine, safe_text};
-ghost use Rattle.typestate_core.specs.Answers.{Says, IsReported, IsSiteVerdict, IsJudgement, AnswersRun, lines_of};
+ghost use Rattle.typestate_core.specs.Answers.{Says, SaysRefusal, IsReported, IsSiteVerdict, IsJudgement, AnswersRun, lines_of};
 
 use crate::lines::{
     Counts, PrintedSite, missing_line, refused_line, safe_line, summary_line, unproved_line,
 };
 use crate::output::write_lines;
-use crate::property_file::read_property;
 use crate::request::Request;
 use crate::stage_one::is_safe;
 use crate::status::Status;
 use crate::straight_line::occurring_events;
 use classfile_reader::read_class;
 use jvm_model::{Automaton, ClassFile, ReadRefusal, Reason};
+use property_file::{PropertyRefusal, read_property};
 use std::alloc::{AllocError, AllocFailed, Global};
 use ts_outside::{Sink, Tree, TreeEnd};
 
@@ -126,8 +126,9 @@ fn judge<T: Tree>(alloc: Global, words: &[String], tree: &mut T) -> Result<Answe
         Err(TreeEnd::Failed) => return Err(End::ReadFault),
         Err(TreeEnd::Memory) => return Err(End::Memory),
     };
-    let Some(automaton) = read_property(alloc, &bytes)? else {
-        return refuse(alloc, request.property.as_bytes(), 0, Reason::NotYet);
+    let automaton = match read_property(alloc, &bytes) {
+        Ok(automaton) => automaton,
+        Err(refusal) => return refuse_property(alloc, request.property.as_bytes(), &refusal),
     };
     judge_class(alloc, &request, &automaton, tree)
 }
@@ -222,6 +223,19 @@ fn refuse(alloc: Global, file: &[u8], offset: u32, reason: Reason) -> Result<Ans
         status: Status::Refused,
         lines,
     })
+}
+
+// The property file is refused; the key of a broken rule is not printed.
+fn refuse_property(alloc: Global, file: &[u8], refusal: &PropertyRefusal) -> Result<Answer, End>
+    ensures ok { IfOk result (SaysRefusal file.now refusal.now) }
+    ensures reported { IfOk result (λ a. IsReported a.status) }
+    ensures memory { IfErr result (λ e. e ≡ End.Memory) }
+{
+    match refusal {
+        PropertyRefusal::BadToml => refuse(alloc, file, 0, Reason::BadToml),
+        PropertyRefusal::BadProperty(_) => refuse(alloc, file, 0, Reason::BadProperty),
+        PropertyRefusal::Memory => Err(End::Memory),
+    }
 }
 
 // A file of this name is not there.

@@ -1,0 +1,5 @@
+pub mod Documents
+pub mod PropertyFile
+pub mod Reading
+pub mod Refusals
+pub mod Rules

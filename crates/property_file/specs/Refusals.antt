@@ -1,0 +1,53 @@
+-- Why a property file is not read: it is no TOML document, or a rule of a key is broken.
+use Rattle.std.specs.Prelude.{codes, ◌≡◌, ℕ, ◌<◌, List, length, None}
+use Rattle.std.specs.Str.{IsUtf8}
+use Rattle.toml.specs.Data.{Members}
+use Rattle.toml.specs.Parse.{parse_document}
+use Rattle.jvm_model.specs.declared.automaton.Automaton.{Automaton}
+use Rattle.jvm_model.specs.declared.automaton.Event.{Event}
+use Rattle.property_file.specs.declared.refusal.PropertyRefusal.{PropertyRefusal}
+use Rattle.property_file.specs.declared.refusal.PropertyRefusal.TheVariants.{BadToml, BadProperty, Memory}
+use Rattle.property_file.specs.Documents.{property_limit, IsDocument, other_keys, IsLeast}
+use Rattle.property_file.specs.Rules.{GivesVersion, GivesClass, GivesStates, GivesInitial, GivesError, GivesEvents}
+use Rattle.property_file.specs.PropertyFile.{file_keys, GivesParts}
+
+-- The bytes are no document of a property file: they are too many, or not UTF-8, or not in the grammar of TOML.
+pub data IsNoDocument (bytes : List ℕ) : Type 0 where
+  too_large : property_limit < length bytes → IsNoDocument bytes
+  no_text : (IsUtf8 bytes → ⊥) → IsNoDocument bytes
+  no_toml : parse_document bytes ≡ None → IsNoDocument bytes
+
+-- The first key, in the order of `file_keys`, of which a rule is broken. A rule that speaks of two keys counts for the
+-- later one. Where none of the six is broken it is the least of the other keys.
+pub data IsBroken (members : Members) (key : List ℕ) : Type 0 where
+  -- The version is not given.
+  version : (GivesVersion members → ⊥) → key ≡ codes "version" → IsBroken members key
+  -- The version is given, and no name of a class.
+  class : GivesVersion members → ((name : List ℕ) → GivesClass members name → ⊥) → key ≡ codes "class" → IsBroken members key
+  -- The class is given too, and no list of states.
+  states : (name : List ℕ) → GivesVersion members → GivesClass members name
+      → ((states : List (List ℕ)) → GivesStates members states → ⊥) → key ≡ codes "states" → IsBroken members key
+  -- The states are given too, and no initial one of them.
+  initial : (name : List ℕ) (states : List (List ℕ)) → GivesVersion members → GivesClass members name → GivesStates members states
+      → ((initial : ℕ) → GivesInitial states members initial → ⊥) → key ≡ codes "initial" → IsBroken members key
+  -- The initial state is given too, and no error state that goes with it.
+  error : (name : List ℕ) (states : List (List ℕ)) (initial : ℕ) → GivesVersion members → GivesClass members name → GivesStates members states
+      → GivesInitial states members initial → ((error : ℕ) → GivesError states initial members error → ⊥) → key ≡ codes "error" → IsBroken members key
+  -- The error state is given too, and no list of events that goes with the states.
+  event : (name : List ℕ) (states : List (List ℕ)) (initial error : ℕ) → GivesVersion members → GivesClass members name → GivesStates members states
+      → GivesInitial states members initial → GivesError states initial members error
+      → ((events : List Event) → GivesEvents states error members events → ⊥) → key ≡ codes "event" → IsBroken members key
+  -- Each part of an automaton is given, and there are other keys.
+  other : (a : Automaton) → GivesParts members a → IsLeast (other_keys file_keys members) key → IsBroken members key
+
+-- The bytes are a document, and this key of its table is the one that is named.
+pub record IsBrokenFile (bytes : List ℕ) (key : List ℕ) : Type 0 where
+  pub members : Members
+  pub document : IsDocument bytes members
+  pub broken : IsBroken members key
+
+-- What a refusal says of the bytes.
+abbrev pub IsRefusal : List ℕ → PropertyRefusal → Type 0
+IsRefusal bytes BadToml = IsNoDocument bytes
+IsRefusal bytes (BadProperty key) = IsBrokenFile bytes key
+IsRefusal bytes Memory = Unit {0}

@@ -1,0 +1,29 @@
+//! Laws of the definitions that the contract of `read_property` names: they call nothing, and hold of all bytes.
+
+ghost use Rattle.std.specs.Prelude.{◌≡◌, ◌≢◌, ℕ, List};
+ghost use Rattle.jvm_model.specs.declared.automaton.Automaton.{Automaton};
+ghost use Rattle.jvm_model.specs.Automata.{IsAutomaton};
+ghost use Rattle.property_file.specs.declared.refusal.PropertyRefusal.{PropertyRefusal};
+ghost use Rattle.property_file.specs.declared.refusal.PropertyRefusal.TheVariants.{Memory};
+ghost use Rattle.property_file.specs.PropertyFile.{IsPropertyFile};
+ghost use Rattle.property_file.specs.Refusals.{IsRefusal};
+
+/// What a property file gives is the automaton of a property.
+pub fn property_is_sound()
+    ensures { (bytes : List ℕ) (a : Automaton) → IsPropertyFile bytes a → IsAutomaton a }
+{}
+
+/// Bytes are the property file of at most one automaton.
+pub fn one_automaton()
+    ensures { (bytes : List ℕ) (a b : Automaton) → IsPropertyFile bytes a → IsPropertyFile bytes b → a ≡ b }
+{}
+
+/// Bytes have at most one refusal but that for memory: no document, or one key.
+pub fn one_refusal()
+    ensures { (bytes : List ℕ) (r s : PropertyRefusal) → r ≢ Memory → s ≢ Memory → IsRefusal bytes r → IsRefusal bytes s → r ≡ s }
+{}
+
+/// The bytes of a property file have no refusal but that for memory.
+pub fn automaton_or_refusal()
+    ensures { (bytes : List ℕ) (a : Automaton) (r : PropertyRefusal) → r ≢ Memory → IsPropertyFile bytes a → IsRefusal bytes r → ⊥ }
+{}

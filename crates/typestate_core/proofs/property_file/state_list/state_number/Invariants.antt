@@ -1,6 +1,0 @@
-use Rattle.std.proofs.Common.{◌≡◌, ℕ, ◌<◌, Some, slice_get}
-use Rattle.typestate_core.proofs.property_file.state_list.state_number.Given as goal
-
--- no state so far has the name
-abbrev pub invariant-loop-number : goal.invariant-loop-number
-invariant-loop-number l = (k : ℕ) → k < l.number → slice_get l.states k ≡ Some l.name → ⊥

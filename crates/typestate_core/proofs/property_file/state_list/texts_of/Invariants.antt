@@ -1,8 +1,0 @@
-use Rattle.std.proofs.Common.{take}
-use Rattle.std.specs.List.{AllZip}
-use Rattle.typestate_core.specs.PropertyReading.{IsText}
-use Rattle.typestate_core.proofs.property_file.state_list.texts_of.Given as goal
-
--- the texts of the values so far
-abbrev pub invariant-loop-value : goal.invariant-loop-value
-invariant-loop-value l = AllZip IsText (take l.value-index l.values) l.texts.items
