@@ -30,12 +30,12 @@ is_first pool read_pool attributes read found code is first same_pool same =
     let told : HasFirstCode read_pool read code.now = subst (λ (o : Option (Bor Attribute)). IfSome o (λ a. HasFirstCode read_pool read a.now)) is first in
     subst (λ (p : List PoolEntry). HasFirstCode p attributes code.now) same_pool (subst (λ (all : List Attribute). HasFirstCode read_pool all code.now) same told)
 
-not_before : {X : Type 0} (p : X → Bool) (x : X) (xs : List X) → list_any p (x ∷ xs) ≡ false → p x ≡ true → ⊥
+pub not_before : {X : Type 0} (p : X → Bool) (x : X) (xs : List X) → list_any p (x ∷ xs) ≡ false → p x ≡ true → ⊥
 not_before p x xs none is =
     let all : (true || list_any p xs) ≡ false = subst (λ (b : Bool). (b || list_any p xs) ≡ false) is none in
     absurd cc
 
-later : {X : Type 0} (p : X → Bool) (x : X) (xs : List X) → list_any p (x ∷ xs) ≡ false → list_any p xs ≡ false
+pub later : {X : Type 0} (p : X → Bool) (x : X) (xs : List X) → list_any p (x ∷ xs) ≡ false → list_any p xs ≡ false
 later p x xs none = rest (p x) (list_any p xs) none
   where
     rest : (a b : Bool) → (a || b) ≡ false → b ≡ false

@@ -7,6 +7,7 @@ mod decode;
 mod division;
 mod fault;
 mod handler;
+pub mod laws;
 mod number;
 mod read;
 mod spot;

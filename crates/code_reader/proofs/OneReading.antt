@@ -1,0 +1,190 @@
+-- The code of a method reads as one value, or has one first fault.
+use Rattle.std.proofs.Common.{◌≡◌, ℕ, ◌+◌, ◌<◌, Bool, true, false, List, [], ◌∷◌, ◌++◌, length, map, Option, Some, None, slice_get, Result, Ok, Err, refl, sym, ap, ◌∙◌, subst, sum_by, arith}
+use Rattle.std.specs.List.{list_any, flat_map}
+use Rattle.std.proofs.lemmas.Option.{same_Some}
+use Rattle.jvm_model.specs.declared.class_file.Attribute.{Attribute}
+use Rattle.jvm_model.specs.declared.class_file.ClassFile.{ClassFile}
+use Rattle.jvm_model.specs.declared.class_file.Member.{Member}
+use Rattle.jvm_model.specs.declared.code.Code.{Code}
+use Rattle.jvm_model.specs.declared.code.Handler.{Handler}
+use Rattle.jvm_model.specs.declared.descriptor.Descriptor.{Descriptor}
+use Rattle.jvm_model.specs.declared.descriptor.Descriptor.TheVariants.{Method}
+use Rattle.jvm_model.specs.declared.descriptor.Kind.{Kind}
+use Rattle.jvm_model.specs.declared.pool.PoolEntry.{PoolEntry}
+use Rattle.jvm_model.specs.declared.reason.Reason.{Reason}
+use Rattle.jvm_model.specs.DescriptorValues.{IsMethodOf}
+use Rattle.jvm_model.specs.Instructions.{Instruction}
+use Rattle.jvm_model.specs.Layout.{IsCodePlace, HasFirstCode}
+use Rattle.jvm_model.specs.Soundness.{is_code}
+use Rattle.jvm_model.specs.Spelling.{attribute}
+use Rattle.jvm_model.proofs.MethodKinds.{one_value}
+use Rattle.byte_reader.specs.Reading.{Place, Fault}
+use Rattle.code_reader.specs.CodeReading.{in_code, placed, TakesUnits, by_kinds, no_method, kind_units, receiver_units, TakesLocals, Head, head_at, tail_at, BeginsWith, code_fault, ReadsBody, cut_before, wrong_code, wrong_after, reads, ReadsCode}
+use Rattle.code_reader.specs.Division.{Spot, instruction_in, Divides, at_end, stops, goes_on}
+use Rattle.code_reader.proofs.ToldCodes.{not_before, later, one_first}
+
+-- ---- the division
+
+-- a division gives instructions, and where and why it stops
+abbrev Divided : Type 0
+Divided = List Spot × Option (ℕ × Reason)
+
+abbrev divided : List Spot → Option (ℕ × Reason) → Divided
+divided spots stop = (spots, stop)
+
+abbrev found : Instruction → Result Instruction Reason
+found i = Ok i
+
+abbrev refused : Reason → Result Instruction Reason
+refused r = Err r
+
+not_both : (r : Result Instruction Reason) (i : Instruction) (reason : Reason) → r ≡ found i → r ≡ refused reason → ⊥
+not_both r i reason x y = let e : found i ≡ refused reason = sym x ∙ y in absurd cc
+
+same_reason : (r : Result Instruction Reason) (a b : Reason) → r ≡ refused a → r ≡ refused b → a ≡ b
+same_reason r a b x y = let e : refused a ≡ refused b = sym x ∙ y in cc
+
+same_instruction : (r : Result Instruction Reason) (i j : Instruction) → r ≡ found i → r ≡ found j → i ≡ j
+same_instruction r i j x y = let e : found i ≡ found j = sym x ∙ y in cc
+
+abbrev spot_at : ℕ → Instruction → Spot
+spot_at offset i = record { offset = offset; instruction = i }
+
+join : (xs ys others others2 : List Spot) (offset : ℕ) (i j : Instruction) (s t : Option (ℕ × Reason)) → xs ≡ spot_at offset i ∷ others → ys ≡ spot_at offset j ∷ others2 → j ≡ i
+    → divided others s ≡ divided others2 t → divided xs s ≡ divided ys t
+join xs ys others others2 offset i j s t is is2 same more =
+    ap (λ (zs : List Spot). divided zs s) is ∙ ap (λ (d : Divided). divided (spot_at offset i ∷ d.0) d.1) more
+    ∙ sym (ap (λ (k : Instruction). divided (spot_at offset k ∷ others2) t) same) ∙ sym (ap (λ (zs : List Spot). divided zs t) is2)
+
+one_division : (pool : List PoolEntry) (code : List ℕ) (s t : Option (ℕ × Reason)) (offset : ℕ) (xs ys : List Spot) → Divides pool code s offset xs → Divides pool code t offset ys → divided xs s ≡ divided ys t
+one_division pool code s t offset xs ys (at_end o zs end none is) (at_end o2 zs2 end2 none2 is2) = cc (is, is2, none, none2)
+one_division pool code s t offset xs ys (at_end o zs end none is) (stops o2 zs2 why lt2 refused2 early2 is2) = absurd (omega (arith, end, lt2))
+one_division pool code s t offset xs ys (at_end o zs end none is) (goes_on o2 zs2 j others2 lt2 read2 is2 rest2) = absurd (omega (arith, end, lt2))
+one_division pool code s t offset xs ys (stops o zs why lt wrong early is) (at_end o2 zs2 end2 none2 is2) = absurd (omega (arith, end2, lt))
+one_division pool code s t offset xs ys (stops o zs why lt wrong early is) (stops o2 zs2 why2 lt2 wrong2 early2 is2) =
+    let same = same_reason (instruction_in pool code offset) why why2 wrong wrong2 in
+    cc (is, is2, early, early2, same)
+one_division pool code s t offset xs ys (stops o zs why lt wrong early is) (goes_on o2 zs2 j others2 lt2 read2 is2 rest2) = absurd (not_both (instruction_in pool code offset) j why read2 wrong)
+one_division pool code s t offset xs ys (goes_on o zs i others lt read is rest) (at_end o2 zs2 end2 none2 is2) = absurd (omega (arith, end2, lt))
+one_division pool code s t offset xs ys (goes_on o zs i others lt read is rest) (stops o2 zs2 why2 lt2 wrong2 early2 is2) = absurd (not_both (instruction_in pool code offset) i why2 read wrong2)
+one_division pool code s t offset xs ys (goes_on o zs i others lt read is rest) (goes_on o2 zs2 j others2 lt2 read2 is2 rest2) =
+    let same : j ≡ i = same_instruction (instruction_in pool code offset) j i read2 read in
+    let rest_of : Divides pool code t (offset + i.size) others2 = subst (λ (k : Instruction). Divides pool code t (offset + k.size) others2) same rest2 in
+    let more = one_division pool code s t (offset + i.size) others others2 rest rest_of in
+    join xs ys others others2 offset i j s t is is2 same more
+
+-- ---- the body
+
+abbrev head_told : Fault → Result (Head × Place) Fault
+head_told f = Err f
+
+abbrev head_read : Head × Place → Result (Head × Place) Fault
+head_read h = Ok h
+
+head_faults : (r : Result (Head × Place) Fault) (f g : Fault) → r ≡ head_told f → r ≡ head_told g → f ≡ g
+head_faults r f g x y = let e : head_told f ≡ head_told g = sym x ∙ y in cc
+
+head_not_both : (r : Result (Head × Place) Fault) (f : Fault) (h : Head × Place) → r ≡ head_told f → r ≡ head_read h → ⊥
+head_not_both r f h x y = let e : head_told f ≡ head_read h = sym x ∙ y in absurd cc
+
+head_reads : (r : Result (Head × Place) Fault) (g h : Head × Place) → r ≡ head_read g → r ≡ head_read h → g ≡ h
+head_reads r g h x y = let e : head_read g ≡ head_read h = sym x ∙ y in cc
+
+abbrev refused_as : Fault → Result Code Fault
+refused_as f = Err f
+
+-- what a body gives whose head is read and whose code is divided
+abbrev by_parts : Option (ℕ × Reason) → Result (List Handler) Fault → Head → List Spot → Result Code Fault
+by_parts (Some f) tail head spots = Err (record { offset = head.at + f.0; reason = f.1 })
+by_parts None (Err f) head spots = Err (in_code f)
+by_parts None (Ok handlers) head spots =
+    Ok (record { at = head.at; instructions = map placed spots; handlers = handlers; max_stack = head.max_stack; max_locals = head.max_locals })
+
+abbrev given_by : List PoolEntry → ℕ → Head × Place → Divided → Result Code Fault
+given_by pool parameters begun d = by_parts (code_fault pool parameters begun.0 d.0 d.1) (tail_at pool (length begun.0.bytes) d.0 begun.1) begun.0 d.0
+
+-- a body is cut before its code's end, or gives what its parts give
+data Gives (pool : List PoolEntry) (parameters : ℕ) (place : Place) (outcome : Result Code Fault) : Type 0 where
+  cut : (f : Fault) → head_at place ≡ head_told f → outcome ≡ Err (in_code f) → Gives pool parameters place outcome
+  begun : (h : Head × Place) (d : Divided) → head_at place ≡ head_read h → Divides pool h.0.bytes d.1 0 d.0 → outcome ≡ given_by pool parameters h d → Gives pool parameters place outcome
+
+gives : (pool : List PoolEntry) (parameters : ℕ) (place : Place) (outcome : Result Code Fault) → ReadsBody pool parameters place outcome → Gives pool parameters place outcome
+gives pool parameters place outcome (cut_before f e is) = cut f e is
+gives pool parameters place outcome (wrong_code head after spots stop offset reason b told is) =
+    begun (head, after) (spots, stop) b.begins b.divided (is ∙ sym (ap (λ (f : Option (ℕ × Reason)). by_parts f (tail_at pool (length head.bytes) spots after) head spots) told))
+gives pool parameters place outcome (wrong_after head after spots stop f b none told is) =
+    begun (head, after) (spots, stop) b.begins b.divided
+    (is ∙ sym (ap (λ (g : Option (ℕ × Reason)). by_parts g (tail_at pool (length head.bytes) spots after) head spots) none ∙ ap (λ (r : Result (List Handler) Fault). by_parts None r head spots) told))
+gives pool parameters place outcome (reads head after spots stop handlers b none told is) =
+    begun (head, after) (spots, stop) b.begins b.divided
+    (is ∙ sym (ap (λ (g : Option (ℕ × Reason)). by_parts g (tail_at pool (length head.bytes) spots after) head spots) none ∙ ap (λ (r : Result (List Handler) Fault). by_parts None r head spots) told))
+
+same_given : (pool : List PoolEntry) (parameters : ℕ) (place : Place) (a b : Result Code Fault) → Gives pool parameters place a → Gives pool parameters place b → a ≡ b
+same_given pool parameters place a b (cut f e is) (cut g e2 is2) = is ∙ ap (λ (h : Fault). refused_as (in_code h)) (head_faults (head_at place) f g e e2) ∙ sym is2
+same_given pool parameters place a b (cut f e is) (begun h d e2 divides is2) = absurd (head_not_both (head_at place) f h e e2)
+same_given pool parameters place a b (begun h d e divides is) (cut g e2 is2) = absurd (head_not_both (head_at place) g h e2 e)
+same_given pool parameters place a b (begun h d e divides is) (begun h2 d2 e2 divides2 is2) =
+    let same : h2 ≡ h = head_reads (head_at place) h2 h e2 e in
+    let other : Divides pool h.0.bytes d2.1 0 d2.0 = subst (λ (x : Head × Place). Divides pool x.0.bytes d2.1 0 d2.0) same divides2 in
+    let parts : d ≡ d2 = one_division pool h.0.bytes d.1 d2.1 0 d.0 d2.0 divides other in
+    is ∙ ap (λ (x : Divided). given_by pool parameters h x) parts ∙ sym (ap (λ (x : Head × Place). given_by pool parameters x d2) same) ∙ sym is2
+
+-- ---- the parameters
+
+one_sum : (text : List ℕ) (ks ls : List Kind) (k l : Option Kind) → IsMethodOf text ks k → IsMethodOf text ls l → sum_by kind_units ks ≡ sum_by kind_units ls
+one_sum text ks ls k l x y = let same = one_value text (Method ks k) (Method ls l) x y in
+    let kinds : ks ≡ ls = cc same in
+    ap (λ (all : List Kind). sum_by kind_units all) kinds
+
+one_count : (text : List ℕ) (m n : ℕ) → TakesUnits text m → TakesUnits text n → m ≡ n
+one_count text m n (by_kinds ks k x is) (by_kinds ls l y is2) = is ∙ one_sum text ks ls k l x y ∙ sym is2
+one_count text m n (by_kinds ks k x is) (no_method none is2) = absurd (none ks k x)
+one_count text m n (no_method none is) (by_kinds ls l y is2) = absurd (none ls l y)
+one_count text m n (no_method none is) (no_method none2 is2) = is ∙ sym is2
+
+one_locals : (pool : List PoolEntry) (m : Member) (a b : ℕ) → TakesLocals pool m a → TakesLocals pool m b → a ≡ b
+one_locals pool m a b x y =
+    let name : x.name ≡ y.name = same_Some _ _ (sym x.named ∙ y.named) in
+    let descriptor : x.descriptor ≡ y.descriptor = same_Some _ _ (sym x.described ∙ y.described) in
+    let count : x.parameters ≡ y.parameters = one_count y.descriptor x.parameters y.parameters (subst (λ (t : List ℕ). TakesUnits t x.parameters) descriptor x.taken) y.taken in
+    let receiver : receiver_units m x.name x.descriptor ≡ receiver_units m y.name y.descriptor =
+      ap (λ (t : List ℕ). receiver_units m t x.descriptor) name ∙ ap (λ (t : List ℕ). receiver_units m y.name t) descriptor in
+    omega (arith, x.units_are, y.units_are, count, receiver)
+
+-- ---- the method
+
+one_before : {X : Type 0} (p : X → Bool) (front other : List X) (x y : X) (after behind : List X) → front ++ x ∷ after ≡ other ++ y ∷ behind
+    → list_any p front ≡ false → list_any p other ≡ false → p x ≡ true → p y ≡ true → front ≡ other
+one_before p [] [] x y after behind e none_x none_y is_x is_y = refl
+one_before p [] (z ∷ other) x y after behind e none_x none_y is_x is_y =
+    let same : x ≡ z = cc e in absurd (not_before p z other none_y (ap p (sym same) ∙ is_x))
+one_before p (z ∷ front) [] x y after behind e none_x none_y is_x is_y =
+    let same : z ≡ y = cc e in absurd (not_before p z front none_x (ap p same ∙ is_y))
+one_before p (z ∷ front) (w ∷ other) x y after behind e none_x none_y is_x is_y =
+    let same : z ≡ w = cc e in
+    let rest = one_before p front other x y after behind (cc e) (later p z front none_x) (later p w other none_y) is_x is_y in
+    cc (same, rest)
+
+one_place : (c : ClassFile) (method m n : ℕ) → IsCodePlace c method m → IsCodePlace c method n → m ≡ n
+one_place c method m n x y =
+    let owners : x.owner ≡ y.owner = same_Some _ _ (sym x.there ∙ y.there) in
+    let whole : x.before ++ x.code ∷ x.after ≡ y.before ++ y.code ∷ y.after = sym x.first.parts ∙ ap (λ (o : Member). o.attributes) owners ∙ y.first.parts in
+    let fronts : x.before ≡ y.before =
+      one_before (is_code c.pool) x.before y.before x.code y.code x.after y.after whole x.first.none_before y.first.none_before x.first.named_code y.first.named_code in
+    omega (arith, x.offset, y.offset, ap (λ (all : List Attribute). length (flat_map attribute all)) fronts)
+
+pub one_reading : (c : ClassFile) (method : ℕ) (a b : Result Code Fault) → ReadsCode c method a → ReadsCode c method b → a ≡ b
+one_reading c method a b x y =
+    let owners : x.owner ≡ y.owner = same_Some _ _ (sym x.there ∙ y.there) in
+    let first : HasFirstCode c.pool y.owner.attributes x.code = subst (λ (o : Member). HasFirstCode c.pool o.attributes x.code) owners x.first in
+    let codes_are : x.code ≡ y.code = one_first c.pool y.owner.attributes x.code y.code first y.first in
+    let places : x.place ≡ y.place = one_place c method x.place y.place x.is_place y.is_place in
+    let taken : TakesLocals c.pool y.owner x.parameters = subst (λ (o : Member). TakesLocals c.pool o x.parameters) owners x.taken in
+    let counts : x.parameters ≡ y.parameters = one_locals c.pool y.owner x.parameters y.parameters taken y.taken in
+    let there : ReadsBody c.pool x.parameters (record { offset = y.place; rest = x.code.body }) a = subst (λ (n : ℕ). ReadsBody c.pool x.parameters (record { offset = n; rest = x.code.body }) a) places x.body in
+    let of_code : ReadsBody c.pool x.parameters (record { offset = y.place; rest = y.code.body }) a =
+      subst (λ (d : Attribute). ReadsBody c.pool x.parameters (record { offset = y.place; rest = d.body }) a) codes_are there in
+    let of_count : ReadsBody c.pool y.parameters (record { offset = y.place; rest = y.code.body }) a =
+      subst (λ (n : ℕ). ReadsBody c.pool n (record { offset = y.place; rest = y.code.body }) a) counts of_code in
+    let place : Place = record { offset = y.place; rest = y.code.body } in
+    same_given c.pool y.parameters place a b (gives c.pool y.parameters place a of_count) (gives c.pool y.parameters place b y.body)
