@@ -148,7 +148,7 @@ one_locals pool m a b x y =
     let descriptor : x.descriptor ≡ y.descriptor = same_Some _ _ (sym x.described ∙ y.described) in
     let count : x.parameters ≡ y.parameters = one_count y.descriptor x.parameters y.parameters (subst (λ (t : List ℕ). TakesUnits t x.parameters) descriptor x.taken) y.taken in
     let receiver : receiver_units m x.name x.descriptor ≡ receiver_units m y.name y.descriptor =
-      ap (λ (t : List ℕ). receiver_units m t x.descriptor) name ∙ ap (λ (t : List ℕ). receiver_units m y.name t) descriptor in
+    ap (λ (t : List ℕ). receiver_units m t x.descriptor) name ∙ ap (λ (t : List ℕ). receiver_units m y.name t) descriptor in
     omega (arith, x.units_are, y.units_are, count, receiver)
 
 -- ---- the method
@@ -170,7 +170,7 @@ one_place c method m n x y =
     let owners : x.owner ≡ y.owner = same_Some _ _ (sym x.there ∙ y.there) in
     let whole : x.before ++ x.code ∷ x.after ≡ y.before ++ y.code ∷ y.after = sym x.first.parts ∙ ap (λ (o : Member). o.attributes) owners ∙ y.first.parts in
     let fronts : x.before ≡ y.before =
-      one_before (is_code c.pool) x.before y.before x.code y.code x.after y.after whole x.first.none_before y.first.none_before x.first.named_code y.first.named_code in
+    one_before (is_code c.pool) x.before y.before x.code y.code x.after y.after whole x.first.none_before y.first.none_before x.first.named_code y.first.named_code in
     omega (arith, x.offset, y.offset, ap (λ (all : List Attribute). length (flat_map attribute all)) fronts)
 
 pub one_reading : (c : ClassFile) (method : ℕ) (a b : Result Code Fault) → ReadsCode c method a → ReadsCode c method b → a ≡ b
@@ -183,8 +183,8 @@ one_reading c method a b x y =
     let counts : x.parameters ≡ y.parameters = one_locals c.pool y.owner x.parameters y.parameters taken y.taken in
     let there : ReadsBody c.pool x.parameters (record { offset = y.place; rest = x.code.body }) a = subst (λ (n : ℕ). ReadsBody c.pool x.parameters (record { offset = n; rest = x.code.body }) a) places x.body in
     let of_code : ReadsBody c.pool x.parameters (record { offset = y.place; rest = y.code.body }) a =
-      subst (λ (d : Attribute). ReadsBody c.pool x.parameters (record { offset = y.place; rest = d.body }) a) codes_are there in
+    subst (λ (d : Attribute). ReadsBody c.pool x.parameters (record { offset = y.place; rest = d.body }) a) codes_are there in
     let of_count : ReadsBody c.pool y.parameters (record { offset = y.place; rest = y.code.body }) a =
-      subst (λ (n : ℕ). ReadsBody c.pool n (record { offset = y.place; rest = y.code.body }) a) counts of_code in
+    subst (λ (n : ℕ). ReadsBody c.pool n (record { offset = y.place; rest = y.code.body }) a) counts of_code in
     let place : Place = record { offset = y.place; rest = y.code.body } in
     same_given c.pool y.parameters place a b (gives c.pool y.parameters place a of_count) (gives c.pool y.parameters place b y.body)

@@ -1,9 +1,10 @@
 //! One instruction of a code array: its opcode, and what its operands say (JVMS 6.5).
 
-ghost use Rattle.std.specs.Prelude.{◌≡◌, ◌≤◌, ◌<◌, ◌^◌, [], ◌∷◌, length, Ok};
+ghost use Rattle.std.specs.Prelude.{◌≡◌, ◌≤◌, ◌<◌, ◌^◌, [], ◌∷◌, length, Some, None, Ok, IfOk, IfErr};
 ghost use Rattle.jvm_model.specs.Instructions.{Instruction, instruction, byte, short, needs, with_operands, widened_by, widened_first, first_instruction};
 ghost use Rattle.jvm_model.specs.RowViews.{row_view, operands_view};
-ghost use Rattle.jvm_model.specs.Table.{type_code, offset_2, offset_4, pool_2_and_dimensions};
+ghost use Rattle.jvm_model.specs.declared.reason.Reason.TheVariants.{BadOpcode};
+ghost use Rattle.jvm_model.specs.Table.{row_of, type_code, offset_2, offset_4, pool_2_and_dimensions};
 ghost use Rattle.code_reader.specs.Decoding.{Gives};
 ghost use Rattle.code_reader.specs.declared.decode.Undecoded.TheVariants.{Memory};
 
@@ -249,20 +250,24 @@ const CUT: Undecoded = Undecoded::Refused(Reason::CodeCut);
 /// The refusal of an instruction that is none of JVMS 6.5.
 const WRONG: Undecoded = Undecoded::Refused(Reason::BadOpcode);
 
+/// The operation of an opcode; the table has none past 201.
+fn operation_of(opcode: u8) -> Result<Operation, Undecoded>
+    ensures found { IfOk result (λ o. (o.opcode ≡ opcode) × (row_of opcode ≡ Some (row_view o.row.now))) }
+    ensures wrong { IfErr result (λ e. (e ≡ Undecoded.Refused BadOpcode) × (row_of opcode ≡ None)) }
+{
+    match row_of_opcode(opcode) {
+        Some(row) => Ok(Operation { opcode, row }),
+        None => Err(WRONG),
+    }
+}
+
 /// The instruction that the bytes after the prefix `wide` begin with (JVMS 6.5.wide).
 fn widened_first(alloc: Global, bytes: &[u8]) -> Result<Decoded, Undecoded>
     ensures { Gives result (widened_first bytes.now) }
 {
-    let [opcode, operands @ ..] = bytes else {
-        return Err(CUT);
-    };
-    match row_of_opcode(*opcode) {
-        Some(row) => Operation {
-            opcode: *opcode,
-            row,
-        }
-        .widened(alloc, operands),
-        None => Err(WRONG),
+    match bytes {
+        [opcode, operands @ ..] => operation_of(*opcode)?.widened(alloc, operands),
+        [] => Err(CUT),
     }
 }
 
@@ -276,15 +281,8 @@ pub(crate) fn first_instruction(
     requires bytes { length bytes.now < 2 ^ 16 }
     ensures { Gives result (first_instruction offset bytes.now) }
 {
-    let [opcode, operands @ ..] = bytes else {
-        return Err(CUT);
-    };
-    match row_of_opcode(*opcode) {
-        Some(row) => Operation {
-            opcode: *opcode,
-            row,
-        }
-        .with_operands(alloc, offset, operands),
-        None => Err(WRONG),
+    match bytes {
+        [opcode, operands @ ..] => operation_of(*opcode)?.with_operands(alloc, offset, operands),
+        [] => Err(CUT),
     }
 }
