@@ -5,6 +5,7 @@ pub mod Entries
 pub mod Classes
 pub mod OneSpelling
 pub mod FirstPlaces
+pub mod Ascending
 pub mod TextNumbers
 pub mod Repeats
 pub mod Refusals

@@ -1,11 +1,11 @@
 -- Reading the indices of the constant pool one after the other, as a loop does.
-use Rattle.std.proofs.Common.{◌≡◌, ℕ, suc, ◌-◌, ◌+◌, ◌≤◌, ◌<◌, List, [], ◌∷◌, ◌++◌, Option, Some, None, Result, Ok, Err, refl, sym, ap, ◌∙◌, append_assoc, arith}
+use Rattle.std.proofs.Common.{◌≡◌, ℕ, suc, ◌-◌, ◌+◌, ◌≤◌, ◌<◌, List, [], ◌∷◌, ◌++◌, Option, Some, None, Result, Ok, Err, refl, sym, ap, ◌∙◌, arith}
 use Rattle.std.proofs.lemmas.List.{append-nil}
 use Rattle.jvm_model.specs.declared.reason.Reason.TheVariants.{BadIndex}
 use Rattle.jvm_model.specs.declared.reason.ReadRefusal.{ReadRefusal}
 use Rattle.jvm_model.specs.declared.reason.ReadRefusal.TheVariants as refusals
 use Rattle.jvm_model.specs.declared.pool.PoolEntry.{PoolEntry}
-use Rattle.byte_reader.specs.Reading.{Place, Fault, ◌>>=◌, Fails}
+use Rattle.byte_reader.specs.Reading.{Place, Fault, Fails}
 use Rattle.byte_reader.proofs.Loop.{with_front, regroup}
 use Rattle.classfile_reader.specs.PoolReading.{index_at, indices_at}
 

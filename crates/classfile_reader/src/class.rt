@@ -5,10 +5,9 @@ ghost use Rattle.jvm_model.specs.declared.class_file.ClassFile.{ClassFile};
 ghost use Rattle.byte_reader.specs.Reading.{Reads, Tells};
 ghost use Rattle.classfile_reader.specs.ClassReading.{magic_at, major_at, class_at, class_of, SpellsReadable};
 
-use byte_reader::Input;
 use crate::limit::CLASS_FILE_LIMIT;
 use crate::pool::pool;
-use byte_reader::table;
+use byte_reader::{Input, table};
 use jvm_model::class_file::ClassFile;
 use jvm_model::reason::{ReadRefusal, Reason};
 use std::alloc::Global;
