@@ -1,0 +1,11 @@
+pub mod BaseChecks
+pub mod Differing
+pub mod Finding
+pub mod Lists
+pub mod SoundParts
+pub mod Spelling
+pub mod SuperClass
+pub mod TableKeys
+pub mod Whole
+pub mod OneAnswer
+pub mod OneWord

@@ -1,0 +1,14 @@
+pub mod BaseExceptions
+pub mod BaseInterfaces
+pub mod BaseLanguage
+pub mod BaseLaws
+pub mod BaseLists
+pub mod BaseRead
+pub mod BaseRows
+pub mod BaseStreams
+pub mod BaseStubs
+pub mod Signatures
+pub mod StubFile
+pub mod StubReading
+pub mod StubRules
+pub mod StubSpelling

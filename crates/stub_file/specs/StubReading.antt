@@ -1,0 +1,80 @@
+-- What the parts of a stub file's reader answer.
+use Rattle.std.specs.Prelude.{codes, ◌≡◌, ℕ, List, All, Option, Some, None, MatchOption, IsTrue}
+use Rattle.toml.specs.declared.value.Value.{Value}
+use Rattle.toml.specs.Data.{Data, array, get_member, Members}
+use Rattle.toml.specs.View.{items_view, view}
+use Rattle.jvm_model.specs.declared.descriptor.Kind.{Kind}
+use Rattle.jvm_model.specs.declared.stub.StubResult.{StubResult}
+use Rattle.jvm_model.specs.declared.stub.StubResult.TheVariants.{Given, New}
+use Rattle.jvm_model.specs.declared.stub.StubMethod.{StubMethod}
+use Rattle.jvm_model.specs.declared.stub.StubField.{StubField}
+use Rattle.jvm_model.specs.declared.stub.StubClass.{StubClass}
+use Rattle.jvm_model.specs.Automata.{all_differ}
+use Rattle.jvm_model.specs.Names.{is_method_name, IsClassName}
+use Rattle.stub_file.specs.declared.refusal.StubRefusal.{StubRefusal}
+use Rattle.stub_file.specs.declared.refusal.StubRefusal.TheVariants.{BadToml, BadStub, Memory}
+use Rattle.stub_file.specs.StubFile.{tables, IsFirstBreach}
+use Rattle.stub_file.specs.StubRules.{is_object_argument, is_same_field, is_same_method, lists_outcomes, patches_methods_alone, HasSuper, IsSoundField, IsSoundMethod, MayReturn}
+use Rattle.stub_file.specs.StubSpelling.{SpellsResult}
+
+-- The answer has the property, and None is answered only where nothing has it.
+abbrev pub Finds : {X : Type 0} → (X → Type 0) → Option X → Type 0
+Finds {X} P answer = MatchOption answer ((x : X) → P x → ⊥) P
+
+-- The value spells this.
+abbrev pub ValueSpells : {X : Type 0} → (Data → X → Type 0) → Value → X → Type 0
+ValueSpells Spells value x = Spells (view value) x
+
+-- The result is one word alone, and the text is that word.
+abbrev pub IsPlainWord : List ℕ → StubResult → Type 0
+IsPlainWord text (Given argument) = ⊥
+IsPlainWord text (New name) = ⊥
+IsPlainWord text outcome = SpellsResult text outcome
+
+-- What is asked of a method beside its descriptor, whose parameters and result these are.
+pub record AreSoundParts (m : StubMethod) (parameters : List Kind) (outcome : Option Kind) : Type 0 where
+  pub name : IsTrue (is_method_name m.name)
+  pub returns : All (MayReturn m.is_static parameters outcome) m.returns
+  pub throws : All IsClassName m.throws
+  pub keeps : All (λ argument. IsTrue (is_object_argument m.is_static parameters argument)) m.keeps
+  pub lists : IsTrue (lists_outcomes m)
+
+-- Methods, or fields, that keep the rules and differ.
+pub record AreSoundMethods (methods : List StubMethod) : Type 0 where
+  pub each : All IsSoundMethod methods
+  pub differ : IsTrue (all_differ is_same_method methods)
+
+pub record AreSoundFields (fields : List StubField) : Type 0 where
+  pub each : All IsSoundField fields
+  pub differ : IsTrue (all_differ is_same_field fields)
+
+-- What is asked of a class beside its methods and fields.
+pub record HasSoundHead (c : StubClass) : Type 0 where
+  pub name : IsClassName c.name
+  pub super_class : HasSuper c
+  pub interfaces : All IsClassName c.interfaces
+  pub patch : IsTrue (patches_methods_alone c)
+
+-- Values that are tables.
+pub record AreTables (values : List Value) : Type 0 where
+  pub class_tables : List Members
+  pub spelled : items_view values ≡ tables class_tables
+
+-- The table has these values for classes, and each is a table.
+pub record GivesTables (members : Members) (values : List Value) : Type 0 where
+  pub class : get_member (codes "class") members ≡ Some (array (items_view values))
+  pub each : AreTables values
+
+-- Why a list of tables is refused: a class is the first that breaks a rule, or memory ran out.
+abbrev pub IsListRefusal : List ℕ → List Members → StubRefusal → Type 0
+IsListRefusal file class_tables BadToml = ⊥
+IsListRefusal file class_tables (BadStub None) = ⊥
+IsListRefusal file class_tables (BadStub (Some number)) = IsFirstBreach file class_tables number
+IsListRefusal file class_tables Memory = Unit {0}
+
+-- The refusal names the class with this number, or says that memory ran out.
+abbrev pub IsBreachAt : ℕ → StubRefusal → Type 0
+IsBreachAt number BadToml = ⊥
+IsBreachAt number (BadStub None) = ⊥
+IsBreachAt number (BadStub (Some named)) = named ≡ number
+IsBreachAt number Memory = Unit {0}
