@@ -14,3 +14,6 @@ mod spot;
 mod switch;
 
 pub use read::read_code;
+
+#[cfg(test)]
+mod tests;

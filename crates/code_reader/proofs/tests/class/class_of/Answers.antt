@@ -1,0 +1,152 @@
+use Rattle.std.proofs.Common.{codes, ◌≡◌, ◌⊎◌, inl, inr, ℕ, true, false, IsTrue, List, [], ◌∷◌, Some, refl, ap, sym, ◌∙◌, subst, arith}
+use Rattle.std.proofs.lemmas.List.Elements.{All-nil, All-from_recursion}
+use Rattle.jvm_model.specs.declared.grammar.Grammar.TheVariants as grammars
+use Rattle.jvm_model.specs.declared.pool.EntryKind.TheVariants as kinds
+use Rattle.jvm_model.specs.declared.pool.PoolEntry.{PoolEntry}
+use Rattle.jvm_model.specs.declared.pool.PoolEntry.TheVariants as entries
+use Rattle.jvm_model.specs.declared.class_file.ClassFile.{ClassFile}
+use Rattle.jvm_model.specs.declared.class_file.Member.{Member}
+use Rattle.jvm_model.specs.declared.class_file.Attribute.{Attribute}
+use Rattle.jvm_model.specs.Descriptors.{IsFieldDescriptor, IsMethodDescriptor, is_base_letter}
+use Rattle.jvm_model.specs.Names.{is_unqualified_name, IsClassName}
+use Rattle.jvm_model.specs.Soundness.{Place, Holds, IsIn, IsSoundClass, TextIsIn, is_array, leads_to, places_of, wants_code}
+use Rattle.code_reader.proofs.tests.class.class_of.Goals as goal
+
+abbrev entries_are : List PoolEntry
+entries_are =
+    entries.Utf8 (codes "Code") ∷ entries.Utf8 (codes "A") ∷ entries.Utf8 (codes "m") ∷ entries.Utf8 (codes "<clinit>") ∷ entries.Utf8 (codes "()V")
+    ∷ entries.Utf8 (codes "(JID)V") ∷ entries.Class 2 ∷ []
+
+abbrev method_of : ℕ → ℕ → ℕ → List ℕ → Member
+method_of flags name descriptor body = record { flags = flags; name = name; descriptor = descriptor; attributes = record { name = 1; body = body } ∷ [] }
+
+abbrev class_of : List PoolEntry → List ℕ → List Member → List Member → List Attribute → ClassFile
+class_of pool interfaces fields methods attributes =
+    record { minor = 0; major = 52; pool = pool; flags = 0; this_class = 7; super_class = 7; interfaces = interfaces; fields = fields; methods = methods; attributes = attributes }
+
+some_is : {X : Type 0} (P : X → Type 0) (x y : X) → Some x ≡ Some y → P x → P y
+some_is P x y e h =
+    let is : x ≡ y = cc in
+    subst P is h
+
+class_A : IsClassName (codes "A")
+class_A = record { parts = codes "A" ∷ []; some = omega arith; each = All-from_recursion (λ part. IsTrue (is_unqualified_name part)) (codes "A" ∷ []) (refl, tt); joined = refl }
+
+letter : (l : ℕ) → IsTrue (is_base_letter l) → IsFieldDescriptor (l ∷ [])
+letter l is = record { dimensions = 0; limit = omega arith; type_is = inl (l, is, refl) }
+
+plain : IsMethodDescriptor (codes "()V")
+plain = record { parameters = []; outcome = codes "V"; spelled = refl; each = All-nil IsFieldDescriptor; units = omega arith; outcome_is = inl refl }
+
+three : IsMethodDescriptor (codes "(JID)V")
+three = record {
+  parameters = codes "J" ∷ codes "I" ∷ codes "D" ∷ [];
+  outcome = codes "V";
+  spelled = refl;
+  each = All-from_recursion IsFieldDescriptor (codes "J" ∷ codes "I" ∷ codes "D" ∷ []) (letter 74 refl, (letter 73 refl, (letter 68 refl, tt)));
+  units = omega arith;
+  outcome_is = inl refl;
+}
+
+abbrev IsText : ℕ → Type 0
+IsText index = leads_to entries_are (kinds.Text ∷ []) index ≡ true
+
+name_there : (name : ℕ) → (name ≡ 3) ⊎ (name ≡ 4) → IsText name
+name_there name (inl e) = subst IsText (sym e) refl
+name_there name (inr e) = subst IsText (sym e) refl
+
+m_in : TextIsIn entries_are grammars.MethodName 3
+m_in text e = some_is (IsIn grammars.MethodName) (codes "m") text e refl
+
+clinit_in : TextIsIn entries_are grammars.MethodName 4
+clinit_in text e = some_is (IsIn grammars.MethodName) (codes "<clinit>") text e refl
+
+name_in : (name : ℕ) → (name ≡ 3) ⊎ (name ≡ 4) → TextIsIn entries_are grammars.MethodName name
+name_in name (inl e) = subst (TextIsIn entries_are grammars.MethodName) (sym e) m_in
+name_in name (inr e) = subst (TextIsIn entries_are grammars.MethodName) (sym e) clinit_in
+
+descriptor_there : (descriptor : ℕ) → (descriptor ≡ 5) ⊎ (descriptor ≡ 6) → IsText descriptor
+descriptor_there descriptor (inl e) = subst IsText (sym e) refl
+descriptor_there descriptor (inr e) = subst IsText (sym e) refl
+
+plain_in : TextIsIn entries_are grammars.MethodDescriptor 5
+plain_in text e = some_is (IsIn grammars.MethodDescriptor) (codes "()V") text e plain
+
+three_in : TextIsIn entries_are grammars.MethodDescriptor 6
+three_in text e = some_is (IsIn grammars.MethodDescriptor) (codes "(JID)V") text e three
+
+descriptor_in : (descriptor : ℕ) → (descriptor ≡ 5) ⊎ (descriptor ≡ 6) → TextIsIn entries_are grammars.MethodDescriptor descriptor
+descriptor_in descriptor (inl e) = subst (TextIsIn entries_are grammars.MethodDescriptor) (sym e) plain_in
+descriptor_in descriptor (inr e) = subst (TextIsIn entries_are grammars.MethodDescriptor) (sym e) three_in
+
+wants : (flags name descriptor : ℕ) (body : List ℕ) → (flags ≡ 0) ⊎ (flags ≡ 8) → wants_code (method_of flags name descriptor body) ≡ true
+wants flags name descriptor body (inl e) = subst (λ (f : ℕ). wants_code (method_of f name descriptor body) ≡ true) (sym e) refl
+wants flags name descriptor body (inr e) = subst (λ (f : ℕ). wants_code (method_of f name descriptor body) ≡ true) (sym e) refl
+
+sound : (flags name descriptor : ℕ) (body : List ℕ) → (flags ≡ 0) ⊎ (flags ≡ 8) → (name ≡ 3) ⊎ (name ≡ 4) → (descriptor ≡ 5) ⊎ (descriptor ≡ 6)
+    → IsSoundClass (class_of entries_are [] [] (method_of flags name descriptor body ∷ []) [])
+sound flags name descriptor body f n d = All-from_recursion (λ (p : Place). Holds entries_are p.use_) (places_of (class_of entries_are [] [] (method_of flags name descriptor body ∷ []) [])) (
+  refl,
+  (
+    refl,
+    (
+      refl,
+      (
+        refl,
+        (
+          refl,
+          (
+            refl,
+            (
+              refl,
+              (
+                (λ text e. some_is (IsIn grammars.ClassOrArray) (codes "A") text e (inl class_A)),
+                (
+                  refl,
+                  (
+                    (λ name e. some_is (λ n. is_array n ≡ false) (codes "A") name e refl),
+                    (
+                      inl refl,
+                      (
+                        (λ name e. some_is (λ n. is_array n ≡ false) (codes "A") name e refl),
+                        (
+                          (λ _. refl),
+                          (
+                            name_there name n,
+                            (
+                              name_in name n,
+                              (
+                                (λ name descriptor e f m there. omega (arith, there.1)),
+                                (descriptor_there descriptor d, (descriptor_in descriptor d, (refl, ((λ _. (wants flags name descriptor body f, refl)), tt)))),
+                              ),
+                            ),
+                          ),
+                        ),
+                      ),
+                    ),
+                  ),
+                ),
+              ),
+            ),
+          ),
+        ),
+      ),
+    ),
+  ),
+)
+
+sound_at : (pool : List PoolEntry) (interfaces : List ℕ) (fields methods : List Member) (attributes : List Attribute) (m : Member)
+    → pool ≡ entries_are → interfaces ≡ [] → fields ≡ [] → methods ≡ m ∷ [] → attributes ≡ []
+    → IsSoundClass (class_of entries_are [] [] (m ∷ []) []) → IsSoundClass (class_of pool interfaces fields methods attributes)
+sound_at pool interfaces fields methods attributes m e f g h k is =
+    let one = subst (λ (xs : List Attribute). IsSoundClass (class_of entries_are [] [] (m ∷ []) xs)) (sym k) is in
+    let two = subst (λ (ms : List Member). IsSoundClass (class_of entries_are [] [] ms attributes)) (sym h) one in
+    let three = subst (λ (fs : List Member). IsSoundClass (class_of entries_are [] fs methods attributes)) (sym g) two in
+    let four = subst (λ (is : List ℕ). IsSoundClass (class_of entries_are is fields methods attributes)) (sym f) three in
+    subst (λ (p : List PoolEntry). IsSoundClass (class_of p interfaces fields methods attributes)) (sym e) four
+
+pub returns-clause-sound : goal.returns-clause-sound
+returns-clause-sound c =
+    let methods = c.from_vec-3.ensures ∙ c.in_ok-vec.ensures.items ∙ ap (λ (m : Member). m ∷ []) c.in_ok-method.ensures in
+    sound_at _ _ _ _ _ _ (c.pool.view_is ∙ c.in_ok-pool.ensures) (c.from_vec.ensures ∙ c.new.ensures.items) (c.from_vec-2.ensures ∙ c.new-2.ensures.items) methods (c.from_vec-4.ensures ∙ c.new-3.ensures.items)
+    (sound _ _ _ _ c.requires.flags c.requires.name c.requires.descriptor)
