@@ -64,11 +64,11 @@ pub record IsFirstBreach (file : List ℕ) (class_tables : List Members) (number
 
 -- Why a table is refused: a key outside the classes breaks a rule; or none does, and a class is the first that breaks one.
 abbrev pub IsTableRefusal : List ℕ → Members → StubRefusal → Type 0
-IsTableRefusal file members BadToml = ⊥
+IsTableRefusal file _ BadToml = ⊥
 IsTableRefusal file members (BadStub None) = (class_tables : List Members) → HasOuterKeys members class_tables → ⊥
 IsTableRefusal file members (BadStub (Some number)) =
     (class_tables : List Members) × HasOuterKeys members class_tables × IsFirstBreach file class_tables number
-IsTableRefusal file members Memory = Unit {0}
+IsTableRefusal file _ Memory = Unit {0}
 
 -- A document of few enough bytes whose table is refused for this.
 pub record IsRefusedDocument (file bytes : List ℕ) (refusal : StubRefusal) : Type 0 where
