@@ -1,5 +1,5 @@
 -- The code of calls, from left to right, and the marks of the methods that are called.
-use Rattle.std.proofs.Common.{◌≡◌, ℕ, zero, suc, ◌<◌, ◌^◌, Bool, true, false, eqb, ◌||◌, List, [], ◌∷◌, ◌++◌, length, get_or, set, take, drop, map, replicate, position, All, Contains, Option, Some, None, refl, sym, ap, ◌∙◌, subst, append_assoc, arith}
+use Rattle.std.proofs.Common.{◌≡◌, ℕ, zero, suc, ◌<◌, Bool, true, false, eqb, ◌||◌, List, [], ◌∷◌, ◌++◌, length, get_or, set, take, drop, map, replicate, position, All, Contains, Option, Some, None, refl, sym, ap, ◌∙◌, subst, append_assoc, arith}
 use Rattle.std.specs.List.{AllZip, list_any}
 use Rattle.std.specs.Str.{bytes_eq}
 use Rattle.std.proofs.lemmas.Bool.{false≢true, false_from_ne_true}
@@ -10,10 +10,11 @@ use Rattle.std.proofs.lemmas.List.Folds.{list_any-append}
 use Rattle.jvm_model.specs.declared.class_file.ClassFile.{ClassFile}
 use Rattle.jvm_model.specs.Automata.{all_differ}
 use Rattle.jvm_model.specs.Lookups.{MethodName, method_at}
-use Rattle.jvm_model.specs.Spelling.{u2}
-use Rattle.typestate_core.specs.StraightLine.{Instruction, instruction, aload, invokevirtual, code_of, plain_method, calls_on}
+use Rattle.typestate_core.specs.declared.simple.Simple.{Simple}
+use Rattle.typestate_core.specs.declared.simple.Simple.TheVariants.{Load, InvokeVirtual}
+use Rattle.typestate_core.specs.StraightLine.{plain_method, calls_on}
 use Rattle.typestate_core.specs.FormParts.{StartsWithCall, AreCalls, Marks}
-use Rattle.typestate_core.proofs.Spelled.{All-first, All-rest, number_front}
+use Rattle.typestate_core.proofs.AllParts.{All-first, All-rest}
 use Rattle.typestate_core.proofs.Named.{same_bytes, bytes_same, and_both, not_true, any_at, contains_any, place_some, place_none}
 
 -- ---- marks
@@ -109,13 +110,11 @@ not_called names calls called x e marks =
 -- ---- the code of calls
 
 -- one call more at the end
-code_push : (slot : ℕ) (indices : List ℕ) (index : ℕ) (rest : List ℕ) → code_of (calls_on slot (indices ++ index ∷ [])) ++ rest ≡ code_of (calls_on slot indices) ++ (code_of (aload slot ∷ invokevirtual index ∷ []) ++ rest)
+code_push : (slot : ℕ) (indices : List ℕ) (index : ℕ) (rest : List Simple) → calls_on slot (indices ++ index ∷ []) ++ rest ≡ calls_on slot indices ++ (Load slot ∷ InvokeVirtual index ∷ rest)
 code_push slot indices index rest =
-    let one : List Instruction = aload slot ∷ invokevirtual index ∷ [] in
-    let calls : calls_on slot (indices ++ index ∷ []) ≡ calls_on slot indices ++ one = flat_map-append (λ (i : ℕ). aload slot ∷ invokevirtual i ∷ []) indices (index ∷ []) in
-    ap (λ (is : List Instruction). code_of is ++ rest) calls
-    ∙ ap (λ (t : List ℕ). t ++ rest) (flat_map-append instruction (calls_on slot indices) one)
-    ∙ append_assoc (code_of (calls_on slot indices)) (code_of one) rest
+    let one : List Simple = Load slot ∷ InvokeVirtual index ∷ [] in
+    let calls : calls_on slot (indices ++ index ∷ []) ≡ calls_on slot indices ++ one = flat_map-append (λ (i : ℕ). Load slot ∷ InvokeVirtual i ∷ []) indices (index ∷ []) in
+    ap (λ (is : List Simple). is ++ rest) calls ∙ append_assoc (calls_on slot indices) one rest
 
 AllZip-last : {A B : Type 0} (R : A → B → Type 0) (xs : List A) (ys : List B) (x : A) (y : B) → AllZip R xs ys → R x y → AllZip R (xs ++ x ∷ []) (ys ++ y ∷ [])
 AllZip-last R [] [] x y h r = (r, tt)
@@ -128,20 +127,18 @@ abbrev Names : ClassFile → List ℕ → ℕ → List ℕ → Type 0
 Names c class index name = method_at c.pool index ≡ Some (plain_method class name)
 
 -- after some calls this code is left, and these methods are marked
-pub record Walked (c : ClassFile) (names : List (List ℕ)) (class : List ℕ) (slot : ℕ) (code rest : List ℕ) (called : List Bool) : Type 0 where
+pub record Walked (c : ClassFile) (names : List (List ℕ)) (class : List ℕ) (slot : ℕ) (code rest : List Simple) (called : List Bool) : Type 0 where
   pub calls : List (List ℕ)
   pub indices : List ℕ
-  pub fit : All (λ index. index < 2 ^ 16) indices
-  pub parts : code ≡ code_of (calls_on slot indices) ++ rest
+  pub parts : code ≡ calls_on slot indices ++ rest
   pub zipped : AllZip (λ index name. method_at c.pool index ≡ Some (plain_method class name)) indices calls
   pub marks : Marks names calls called
   pub left : (all : List (List ℕ)) → AreCalls c class slot code all → All (Contains names) all → (more : List (List ℕ)) × AreCalls c class slot rest more × All (Contains names) more
 
-pub Walked-init : (c : ClassFile) (names : List (List ℕ)) (class : List ℕ) (slot : ℕ) (code : List ℕ) (called : List Bool) → Marks names [] called → Walked c names class slot code code called
+pub Walked-init : (c : ClassFile) (names : List (List ℕ)) (class : List ℕ) (slot : ℕ) (code : List Simple) (called : List Bool) → Marks names [] called → Walked c names class slot code code called
 Walked-init c names class slot code called marks = record {
   calls = [];
   indices = [];
-  fit = λ k d lt. absurd (omega arith);
   parts = refl;
   zipped = tt;
   marks = marks;
@@ -149,9 +146,9 @@ Walked-init c names class slot code called marks = record {
 }
 
 -- what is left, if it is not empty, begins with a call of a method of the class
-pub record Next (c : ClassFile) (names : List (List ℕ)) (class : List ℕ) (slot : ℕ) (rest : List ℕ) : Type 0 where
+pub record Next (c : ClassFile) (names : List (List ℕ)) (class : List ℕ) (slot : ℕ) (rest : List Simple) : Type 0 where
   pub index : ℕ
-  pub after : List ℕ
+  pub after : List Simple
   pub starts : StartsWithCall slot rest index after
   pub name : List ℕ
   pub named : method_at c.pool index ≡ Some (plain_method class name)
@@ -160,26 +157,36 @@ pub record Next (c : ClassFile) (names : List (List ℕ)) (class : List ℕ) (sl
   pub are : AreCalls c class slot after more
   pub all_known : All (Contains names) more
 
-next_of : (c : ClassFile) (names : List (List ℕ)) (class : List ℕ) (slot : ℕ) (rest : List ℕ) (indices : List ℕ) (more : List (List ℕ)) → All (λ index. index < 2 ^ 16) indices → rest ≡ code_of (calls_on slot indices)
+next_of : (c : ClassFile) (names : List (List ℕ)) (class : List ℕ) (slot : ℕ) (rest : List Simple) (indices : List ℕ) (more : List (List ℕ)) → rest ≡ calls_on slot indices
     → AllZip (λ index name. method_at c.pool index ≡ Some (plain_method class name)) indices more → All (Contains names) more → 0 < length rest → Next c names class slot rest
-next_of c names class slot rest [] more fit e zip known some = absurd (let none : length rest ≡ 0 = ap length e in omega arith)
-next_of c names class slot rest (j ∷ js) [] fit e zip known some = absurd zip
-next_of c names class slot rest (j ∷ js) (n ∷ ns) fit e zip known some = record {
+next_of c names class slot rest [] more e zip known some = absurd (let none : length rest ≡ 0 = ap length e in omega arith)
+next_of c names class slot rest (j ∷ js) [] e zip known some = absurd zip
+next_of c names class slot rest (j ∷ js) (n ∷ ns) e zip known some = record {
   index = j;
-  after = code_of (calls_on slot js);
-  starts = record { fits = All-first (λ index. index < 2 ^ 16) j js fit; parts = e };
+  after = calls_on slot js;
+  starts = record { parts = e };
   name = n;
   named = zip.0;
   known = All-first (Contains names) n ns known;
   more = ns;
-  are = record { called = js; fit = All-rest (λ index. index < 2 ^ 16) j js fit; parts = refl; names = zip.1 };
+  are = record { called = js; parts = refl; names = zip.1 };
   all_known = All-rest (Contains names) n ns known;
 }
 
-one_call : (slot : ℕ) (code : List ℕ) (i : ℕ) (xs : List ℕ) (j : ℕ) (ys : List ℕ) → StartsWithCall slot code i xs → StartsWithCall slot code j ys → (i ≡ j) × (xs ≡ ys)
-one_call slot code i xs j ys a b =
-    let e : u2 i ++ xs ≡ u2 j ++ ys = ap (drop 2) (sym a.parts ∙ b.parts) in
-    number_front i j xs ys a.fits b.fits e
+operand_of : Simple → ℕ
+operand_of (InvokeVirtual index) = index
+operand_of _ = 0
+
+first_of : List Simple → ℕ
+first_of [] = 0
+first_of (i ∷ others) = operand_of i
+
+same_call : (slot i j : ℕ) (xs ys : List Simple) → Load slot ∷ InvokeVirtual i ∷ xs ≡ Load slot ∷ InvokeVirtual j ∷ ys → (i ≡ j) × (xs ≡ ys)
+unfolding first_of operand_of
+same_call slot i j xs ys e = (ap first_of (ap (drop 1) e), ap (drop 2) e)
+
+one_call : (slot : ℕ) (code : List Simple) (i : ℕ) (xs : List Simple) (j : ℕ) (ys : List Simple) → StartsWithCall slot code i xs → StartsWithCall slot code j ys → (i ≡ j) × (xs ≡ ys)
+one_call slot code i xs j ys a b = same_call slot i j xs ys (sym a.parts ∙ b.parts)
 
 some_method : (class x y : List ℕ) (o : Option MethodName) → o ≡ Some (plain_method class x) → o ≡ Some (plain_method class y) → x ≡ y
 some_method class x y o a b =
@@ -187,31 +194,30 @@ some_method class x y o a b =
     let methods : plain_method class x ≡ plain_method class y = cc in
     ap (λ (m : MethodName). m.signature.name) methods
 
-module _ (c : ClassFile) (names : List (List ℕ)) (class : List ℕ) (slot : ℕ) (code rest : List ℕ) (called : List Bool) (h : Walked c names class slot code rest called) where
+module _ (c : ClassFile) (names : List (List ℕ)) (class : List ℕ) (slot : ℕ) (code rest : List Simple) (called : List Bool) (h : Walked c names class slot code rest called) where
   pub next_left : (all : List (List ℕ)) → AreCalls c class slot code all → All (Contains names) all → 0 < length rest → Next c names class slot rest
   next_left all are known some =
       let l = h.left all are known in
-      next_of c names class slot rest l.1.called l.0 l.1.fit l.1.parts l.1.names l.2 some
+      next_of c names class slot rest l.1.called l.0 l.1.parts l.1.names l.2 some
 
-  pub Walked-more : (index : ℕ) (after : List ℕ) (place : ℕ) → 0 < length rest → all_differ bytes_eq names ≡ true → StartsWithCall slot rest index after
+  pub Walked-more : (index : ℕ) (after : List Simple) (place : ℕ) → 0 < length rest → all_differ bytes_eq names ≡ true → StartsWithCall slot rest index after
       → (name : List ℕ) × (method_at c.pool index ≡ Some (plain_method class name)) × (position (bytes_eq name) names ≡ Some place) → Walked c names class slot code after (set called place true)
   Walked-more index after place some differ starts found = record {
     calls = h.calls ++ found.0 ∷ [];
     indices = h.indices ++ index ∷ [];
-    fit = All-push (λ i. i < 2 ^ 16) h.indices index h.fit starts.fits;
-    parts = h.parts ∙ ap (λ (t : List ℕ). code_of (calls_on slot h.indices) ++ t) starts.parts ∙ sym (code_push slot h.indices index after);
+    parts = h.parts ∙ ap (λ (t : List Simple). calls_on slot h.indices ++ t) starts.parts ∙ sym (code_push slot h.indices index after);
     zipped = AllZip-last (λ i name. method_at c.pool i ≡ Some (plain_method class name)) h.indices h.calls index found.0 h.zipped found.1;
     marks = Marks-more names h.calls called found.0 place differ found.2 h.marks;
     left = λ all are known.
         let next = next_left all are known some in
         let same = one_call slot rest next.index next.after index after next.starts starts in
-        (next.more, subst (λ (t : List ℕ). AreCalls c class slot t next.more) same.1 next.are, next.all_known);
+        (next.more, subst (λ (t : List Simple). AreCalls c class slot t next.more) same.1 next.are, next.all_known);
   }
 
-  pub no_call : 0 < length rest → ((index : ℕ) (after : List ℕ) → StartsWithCall slot rest index after → ⊥) → (all : List (List ℕ)) → AreCalls c class slot code all → All (Contains names) all → ⊥
+  pub no_call : 0 < length rest → ((index : ℕ) (after : List Simple) → StartsWithCall slot rest index after → ⊥) → (all : List (List ℕ)) → AreCalls c class slot code all → All (Contains names) all → ⊥
   no_call some none all are known = let next = next_left all are known some in none next.index next.after next.starts
 
-  pub no_method_called : (index : ℕ) (after : List ℕ) → 0 < length rest → StartsWithCall slot rest index after → ((name : List ℕ) → method_at c.pool index ≡ Some (plain_method class name) → Contains names name → ⊥)
+  pub no_method_called : (index : ℕ) (after : List Simple) → 0 < length rest → StartsWithCall slot rest index after → ((name : List ℕ) → method_at c.pool index ≡ Some (plain_method class name) → Contains names name → ⊥)
       → (all : List (List ℕ)) → AreCalls c class slot code all → All (Contains names) all → ⊥
   no_method_called index after some starts none all are known =
       let next = next_left all are known some in
@@ -219,22 +225,21 @@ module _ (c : ClassFile) (names : List (List ℕ)) (class : List ℕ) (slot : �
       none next.name (ap (method_at c.pool) (sym same.0) ∙ next.named) next.known
 
   pub Walked-ends : length rest ≡ 0 → (reached : List (List ℕ)) × AreCalls c class slot code reached × Marks names reached called
-  Walked-ends none = (h.calls, record { called = h.indices; fit = h.fit; parts = h.parts ∙ nothing_left (code_of (calls_on slot h.indices)) rest none; names = h.zipped }, h.marks)
+  Walked-ends none = (h.calls, record { called = h.indices; parts = h.parts ∙ nothing_left (calls_on slot h.indices) rest none; names = h.zipped }, h.marks)
     where
-      nothing_left : (xs ys : List ℕ) → length ys ≡ 0 → xs ++ ys ≡ xs
+      nothing_left : (xs ys : List Simple) → length ys ≡ 0 → xs ++ ys ≡ xs
       nothing_left [] [] e = refl
       nothing_left [] (y ∷ ys) e = absurd (omega arith)
-      nothing_left (x ∷ xs) ys e = ap (λ (t : List ℕ). x ∷ t) (nothing_left xs ys e)
+      nothing_left (x ∷ xs) ys e = ap (λ (t : List Simple). x ∷ t) (nothing_left xs ys e)
 
 -- code calls one list of methods
-same_indices : (slot : ℕ) (is js : List ℕ) → All (λ i. i < 2 ^ 16) is → All (λ i. i < 2 ^ 16) js → code_of (calls_on slot is) ≡ code_of (calls_on slot js) → is ≡ js
-same_indices slot [] [] fi fj e = refl
-same_indices slot [] (j ∷ js) fi fj e = absurd (let none : 0 ≡ length (code_of (calls_on slot (j ∷ js))) = ap length e in omega arith)
-same_indices slot (i ∷ is) [] fi fj e = absurd (let none : length (code_of (calls_on slot (i ∷ is))) ≡ 0 = ap length e in omega arith)
-same_indices slot (i ∷ is) (j ∷ js) fi fj e =
-    let rest : u2 i ++ code_of (calls_on slot is) ≡ u2 j ++ code_of (calls_on slot js) = ap (drop 2) e in
-    let both = number_front i j (code_of (calls_on slot is)) (code_of (calls_on slot js)) (All-first (λ k. k < 2 ^ 16) i is fi) (All-first (λ k. k < 2 ^ 16) j js fj) rest in
-    let others = same_indices slot is js (All-rest (λ k. k < 2 ^ 16) i is fi) (All-rest (λ k. k < 2 ^ 16) j js fj) both.1 in
+same_indices : (slot : ℕ) (is js : List ℕ) → calls_on slot is ≡ calls_on slot js → is ≡ js
+same_indices slot [] [] e = refl
+same_indices slot [] (j ∷ js) e = absurd (let none : 0 ≡ length (calls_on slot (j ∷ js)) = ap length e in omega arith)
+same_indices slot (i ∷ is) [] e = absurd (let none : length (calls_on slot (i ∷ is)) ≡ 0 = ap length e in omega arith)
+same_indices slot (i ∷ is) (j ∷ js) e =
+    let both = same_call slot i j (calls_on slot is) (calls_on slot js) e in
+    let others = same_indices slot is js both.1 in
     (λ t. both.0 t ∷ others t)
 
 same_calls : (c : ClassFile) (class : List ℕ) (indices : List ℕ) (xs ys : List (List ℕ)) → AllZip (λ index name. method_at c.pool index ≡ Some (plain_method class name)) indices xs
@@ -249,9 +254,9 @@ same_calls c class (i ∷ is) (x ∷ xs) (y ∷ ys) a b =
     let rest = same_calls c class is xs ys a.1 b.1 in
     (λ t. first t ∷ rest t)
 
-pub AreCalls-same : (c : ClassFile) (class : List ℕ) (slot : ℕ) (code : List ℕ) (xs ys : List (List ℕ)) → AreCalls c class slot code xs → AreCalls c class slot code ys → xs ≡ ys
+pub AreCalls-same : (c : ClassFile) (class : List ℕ) (slot : ℕ) (code : List Simple) (xs ys : List (List ℕ)) → AreCalls c class slot code xs → AreCalls c class slot code ys → xs ≡ ys
 AreCalls-same c class slot code xs ys a b =
-    let indices = same_indices slot a.called b.called a.fit b.fit (sym a.parts ∙ b.parts) in
+    let indices = same_indices slot a.called b.called (sym a.parts ∙ b.parts) in
     same_calls c class a.called xs ys a.names (subst (λ (l : List ℕ). AllZip (λ index name. method_at c.pool index ≡ Some (plain_method class name)) l ys) (sym indices) b.names)
 
 pub some_left : (t : Bool) (n : ℕ) → t ≡ eqb n 0 → t ≡ false → 0 < n

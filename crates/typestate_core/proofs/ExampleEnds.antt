@@ -1,5 +1,5 @@
 -- What the runs of the examples come to.
-use Rattle.std.proofs.Common.{codes, ◌≡◌, ℕ, ◌+◌, ◌<◌, ◌^◌, List, [], ◌∷◌, length, Some, slice_index, refl, arith, Ok}
+use Rattle.std.proofs.Common.{codes, ◌≡◌, ℕ, ◌+◌, ◌<◌, ◌^◌, List, [], ◌∷◌, length, slice_index, refl, arith, Ok}
 use Rattle.jvm_model.specs.Executions.{Errs, start}
 use Rattle.jvm_model.specs.Instructions.{instruction_at}
 use Rattle.jvm_model.specs.Machine.{Subject, by_event}

@@ -9,8 +9,7 @@ use Rattle.jvm_model.specs.States.{Value, primitive_value, reference_to, Frame, 
 use Rattle.typestate_core.specs.Claims.{subject_of, made_at}
 use Rattle.typestate_core.specs.Examples.{example_pool, method_with, main_code, empty_code}
 use Rattle.typestate_core.specs.StraightLine.{plain_method}
-use Rattle.typestate_core.proofs.FormCode.{two_there}
-use Rattle.typestate_core.proofs.ExampleSteps.{Reaches, stays, steps_to, CodeOf, frame_at, stands_at, runs_at, enters_code, new_of, load_0, special_call, virtual_call, the_return, advance, return}
+use Rattle.typestate_core.proofs.ExampleSteps.{Reaches, stays, steps_to, CodeOf, frame_at, stands_at, runs_at, enters_code, two_there, new_of, load_0, special_call, virtual_call, the_return, advance, return}
 use Rattle.typestate_core.proofs.ExampleMethods.{plain_units, call_row, file, program, main as main_of, constructor as constructor_of, callee, found, found_above}
 
 module _ (called : List ℕ) (a : Automaton) (few : length (main_code called).bytes < 2 ^ 32) where

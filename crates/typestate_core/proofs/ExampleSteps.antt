@@ -1,10 +1,11 @@
 -- Steps of the machine, and paths of steps.
-use Rattle.std.proofs.Common.{codes, ◌≡◌, ℕ, suc, ◌+◌, Bool, true, false, List, [], ◌∷◌, ◌++◌, Contains, Some, slice_get, refl, arith, Ok}
+use Rattle.std.proofs.Common.{codes, ◌≡◌, ℕ, suc, ◌+◌, Bool, true, false, List, [], ◌∷◌, ◌++◌, length, Contains, Some, slice_get, refl, arith, Ok}
+use Rattle.std.proofs.lemmas.Bool.{le-ltb}
 use Rattle.jvm_model.specs.declared.class_file.ClassFile.{ClassFile}
 use Rattle.jvm_model.specs.declared.class_file.Member.{Member}
 use Rattle.jvm_model.specs.Code.{Code, HasCode}
 use Rattle.jvm_model.specs.Executions.{AreSteps}
-use Rattle.jvm_model.specs.Instructions.{Instruction, instruction, instruction_at, IsRowAt, HasUnits}
+use Rattle.jvm_model.specs.Instructions.{Instruction, needs, instruction, instruction_at, IsRowAt, HasUnits}
 use Rattle.jvm_model.specs.Machine.{Subject, AtInstruction, At, HasOperands, effect, Goes, Makes, entered, Invokes, enters, IsAfterCall, Step, advances, returns}
 use Rattle.jvm_model.specs.Programs.{Program, Method, in_file}
 use Rattle.jvm_model.specs.States.{Value, Frame, World, State, runs_on, moved_to, waiting}
@@ -65,6 +66,10 @@ enters_code p number m arguments kept caller size below w =
     enters (record { method = m.method; stands = m.stands; file = m.file; member = m.member; of_file = m.of_file; code = m.code; has = m.has; after = refl })
 
 -- ---- steps in a method
+
+-- two bytes that stand there are not cut off
+pub two_there : (a b : ℕ) (rest : List ℕ) (i : Instruction) → needs 2 (a ∷ b ∷ rest) i ≡ Ok i
+two_there a b rest i = rw (le-ltb (length (a ∷ b ∷ rest)) 2 (omega arith)) refl
 
 -- the instructions new, aload_0, invokespecial, invokevirtual and return, as they are read
 abbrev pub new_of : ℕ → Instruction

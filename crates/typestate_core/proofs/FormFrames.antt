@@ -1,7 +1,7 @@
 -- The methods of the form's program, and where frames stand in it: at the start, or at an instruction of the
 -- entry, of the constructor, or of a method that is called.
-use Rattle.std.proofs.Common.{codes, ◌≡◌, ◌⊎◌, inl, inr, ℕ, zero, suc, ◌<◌, ◌≤◌, ◌^◌, Bool, true, false, cond, List, [], ◌∷◌, ◌++◌, length, map, All, Contains, Option, Some, slice_get, unwrap_or, refl, sym, ap, ◌∙◌, subst, append_assoc, arith}
-use Rattle.std.specs.List.{flat_map, AllByRecursion, AllZip}
+use Rattle.std.proofs.Common.{codes, ◌≡◌, ◌⊎◌, inl, inr, ℕ, zero, suc, Bool, true, false, cond, List, [], ◌∷◌, ◌++◌, length, map, All, Contains, Option, Some, slice_get, unwrap_or, refl, sym, ap, ◌∙◌, subst, arith}
+use Rattle.std.specs.List.{AllByRecursion, AllZip}
 use Rattle.std.specs.Ordering.{nat_cmp, is_lt}
 use Rattle.std.specs.Cmp.Lexicographic.{slice_cmp}
 use Rattle.std.specs.List.{list_any}
@@ -11,91 +11,62 @@ use Rattle.std.proofs.lemmas.List.Elements.{All-contains, All-contains_itself, C
 use Rattle.std.proofs.lemmas.Option.{same_Some, slice_get_within, get_or_from_slice_get}
 use Rattle.jvm_model.specs.declared.class_file.ClassFile.{ClassFile}
 use Rattle.jvm_model.specs.declared.class_file.Member.{Member}
-use Rattle.jvm_model.specs.declared.class_file.Attribute.{Attribute}
-use Rattle.jvm_model.specs.declared.code.Handler.{Handler}
-use Rattle.jvm_model.specs.Code.{Code, handler, IsCode, HasCode, spell_code}
+use Rattle.jvm_model.specs.Code.{Code, HasCode}
 use Rattle.jvm_model.specs.Lookups.{text_at, method_at}
 use Rattle.jvm_model.specs.Machine.{InCode}
 use Rattle.jvm_model.specs.Programs.{Body as MethodBody, in_file, returns_at_once, Method, program_of, method_of, object_constructor, object_name, class_or_none}
 use Rattle.jvm_model.specs.States.{Frame}
-use Rattle.jvm_model.specs.Spelling.{u2, u4, table, attribute}
-use Rattle.typestate_core.specs.Bodies.{Body, HasBody, without_handlers}
-use Rattle.typestate_core.specs.StraightLine.{Instruction, new, dup, astore, aload, invokespecial, invokevirtual, return_void, code_of, calls_on, plain_method, barred_names, IsEntry, IsConstructor, IsCallee, IsStraightLine, HasMethod}
+use Rattle.typestate_core.specs.Bodies.{Body, HasBody}
+use Rattle.typestate_core.specs.declared.simple.Simple.{Simple}
+use Rattle.typestate_core.specs.declared.simple.Simple.TheVariants.{New, Dup, Store, Load, InvokeSpecial, InvokeVirtual, Return}
+use Rattle.typestate_core.specs.SimpleCode.{code_of}
+use Rattle.typestate_core.specs.StraightLine.{calls_on, plain_method, barred_names, IsEntry, IsConstructor, IsCallee, IsStraightLine, HasMethod}
 use Rattle.typestate_core.specs.FormParts.{IsMethod}
-use Rattle.typestate_core.proofs.FormCode.{OperandFits}
+use Rattle.typestate_core.proofs.CodeOfBody.{one_code}
+use Rattle.typestate_core.proofs.FormCode.{Stands, stands_after}
 use Rattle.typestate_core.proofs.Forms.{names_of}
 use Rattle.typestate_core.proofs.Named.{one_method, name_there, name_known}
-use Rattle.typestate_core.proofs.Spelled.{number_front, counted_front}
-
--- ---- one code
-
-one_attribute : (xs : List Attribute) (a b : Attribute) → xs ≡ a ∷ [] → xs ≡ b ∷ [] → a ≡ b
-one_attribute xs a b e f = cc
-
-no_handlers : (handlers : List Handler) → length handlers ≡ 0 → handlers ≡ []
-no_handlers [] e = refl
-no_handlers (h ∷ handlers) e = absurd (omega (arith, e))
-
-code_parts : (k : Code) → spell_code k ≡ u2 k.max_stack ++ (u2 k.max_locals ++ (u4 (length k.bytes) ++ (k.bytes ++ (u2 (length k.handlers) ++ (flat_map handler k.handlers ++ table attribute k.attributes)))))
-code_parts k = simp append_assoc
-
-one_spelling : (bytes : List ℕ) (j k : Code) → IsCode bytes j → IsCode bytes k → (j.bytes ≡ k.bytes) × (length j.handlers ≡ length k.handlers)
-one_spelling bytes j k is_j is_k =
-    let whole = sym (code_parts j) ∙ sym is_j.spelled ∙ is_k.spelled ∙ code_parts k in
-    let one = number_front j.max_stack k.max_stack _ _ is_j.max_stack is_k.max_stack whole in
-    let two = number_front j.max_locals k.max_locals _ _ is_j.max_locals is_k.max_locals one.1 in
-    let three = counted_front j.bytes k.bytes _ _ is_j.code_length is_k.code_length two.1 in
-    let four = number_front (length j.handlers) (length k.handlers) _ _ is_j.handler_count is_k.handler_count three.1 in
-    (three.0, four.0)
-
--- a method has one code; where it was read without handlers, it has none
-one_code : (c : ClassFile) (m : Member) (b : Body) (k : Code) → HasBody c m b → HasCode c m k → (k.bytes ≡ b.code) × (k.handlers ≡ [])
-one_code c m b k has_b has_k =
-    let same : has_k.code.body ≡ has_b.is.code.body = ap (λ (a : Attribute). a.body) (one_attribute _ _ _ has_k.only has_b.is.only) in
-    let one = one_spelling has_b.is.code.body k (without_handlers b) (subst (λ (t : List ℕ). IsCode t k) same has_k.body) has_b.is.body in
-    (one.0, no_handlers k.handlers one.1)
 
 -- ---- instructions of the form
 
 -- what the operand of a call leads to
-abbrev pub CallsOfForm : ClassFile → List (List ℕ) → Instruction → Type 0
-CallsOfForm c calls (invokespecial index) = (owner : List ℕ) × (method_at c.pool index ≡ Some (plain_method owner (codes "<init>")))
-CallsOfForm c calls (invokevirtual index) = (owner : List ℕ) × (name : List ℕ) × Contains calls name × (method_at c.pool index ≡ Some (plain_method owner name))
+abbrev pub CallsOfForm : ClassFile → List (List ℕ) → Simple → Type 0
+CallsOfForm c calls (InvokeSpecial index) = (owner : List ℕ) × (method_at c.pool index ≡ Some (plain_method owner (codes "<init>")))
+CallsOfForm c calls (InvokeVirtual index) = (owner : List ℕ) × (name : List ℕ) × Contains calls name × (method_at c.pool index ≡ Some (plain_method owner name))
 CallsOfForm c calls _ = Unit {0}
 
-pub record IsOfForm (c : ClassFile) (calls : List (List ℕ)) (i : Instruction) : Type 0 where
-  pub fits : OperandFits i
+pub record IsOfForm (c : ClassFile) (calls : List (List ℕ)) (i : Simple) : Type 0 where
   pub is : CallsOfForm c calls i
 
 -- the method's code is a list of such instructions, without handlers
 pub record HasForm (c : ClassFile) (calls : List (List ℕ)) (m : Member) : Type 0 where
-  pub instructions : List Instruction
+  pub instructions : List Simple
   pub each : AllByRecursion (IsOfForm c calls) instructions
-  pub spelled : (k : Code) → HasCode c m k → (k.bytes ≡ code_of instructions) × (k.handlers ≡ [])
+  pub spelled : (k : Code) → HasCode c m k → Stands k.bytes 0 instructions × (k.handlers ≡ [])
 
-has_form : (c : ClassFile) (calls : List (List ℕ)) (m : Member) (b : Body) (instructions : List Instruction) → HasBody c m b → b.code ≡ code_of instructions → AllByRecursion (IsOfForm c calls) instructions → HasForm c calls m
+has_form : (c : ClassFile) (calls : List (List ℕ)) (m : Member) (b : Body) (instructions : List Simple) → HasBody c m b → b.code ≡ instructions → AllByRecursion (IsOfForm c calls) instructions → HasForm c calls m
 has_form c calls m b instructions has code each = record {
   instructions = instructions;
   each = each;
-  spelled = λ k has_k. let one = one_code c m b k has has_k in (one.0 ∙ code, one.1);
+  spelled = λ k has_k. let one = one_code c m b k has has_k in (subst (Stands k.bytes 0) code one.0, one.1);
 }
 
 pub constructor_form : (c : ClassFile) (calls : List (List ℕ)) (m : Member) → IsConstructor c m → HasForm c calls m
 constructor_form c calls m is =
-    has_form c calls m is.body (aload 0 ∷ invokespecial is.initialiser ∷ return_void ∷ []) is.has is.code
-    (record { fits = omega arith; is = tt }, (record { fits = is.initialiser_fits; is = (codes "java/lang/Object", is.initialises) }, (record { fits = tt; is = tt }, tt)))
+    has_form c calls m is.body (Load 0 ∷ InvokeSpecial is.initialiser ∷ Return ∷ []) is.has is.code
+    (record { is = tt }, (record { is = (codes "java/lang/Object", is.initialises) }, (record { is = tt }, tt)))
 
 pub callee_form : (c : ClassFile) (calls : List (List ℕ)) (m : Member) → IsCallee c m → HasForm c calls m
-callee_form c calls m is = has_form c calls m is.body (return_void ∷ []) is.has is.code (record { fits = tt; is = tt }, tt)
+callee_form c calls m is = has_form c calls m is.body (Return ∷ []) is.has is.code (record { is = tt }, tt)
 
 -- the calls of the entry, where each of some names is among all calls
-calls_of_form : (c : ClassFile) (class : List ℕ) (calls : List (List ℕ)) (slot : ℕ) → slot ≤ 3 → (called : List ℕ) (names : List (List ℕ)) (last : List Instruction) → AllByRecursion (λ index. index < 2 ^ 16) called
+calls_of_form : (c : ClassFile) (class : List ℕ) (calls : List (List ℕ)) (slot : ℕ) (called : List ℕ) (names : List (List ℕ)) (last : List Simple)
     → AllByRecursion (λ name. Contains calls name) names → AllZip (λ index name. method_at c.pool index ≡ Some (plain_method class name)) called names → AllByRecursion (IsOfForm c calls) last
     → AllByRecursion (IsOfForm c calls) (calls_on slot called ++ last)
-calls_of_form c class calls slot small [] names last fit among are rest = rest
-calls_of_form c class calls slot small (index ∷ called) [] last fit among are rest = absurd are
-calls_of_form c class calls slot small (index ∷ called) (name ∷ names) last fit among are rest =
-    (record { fits = small; is = tt }, (record { fits = fit.0; is = (class, name, among.0, are.0) }, calls_of_form c class calls slot small called names last fit.1 among.1 are.1 rest))
+calls_of_form c class calls slot [] names last among are rest = rest
+calls_of_form c class calls slot (index ∷ called) [] last among are rest = absurd are
+calls_of_form c class calls slot (index ∷ called) (name ∷ names) last among are rest =
+    (record { is = tt }, (record { is = (class, name, among.0, are.0) }, calls_of_form c class calls slot called names last among.1 are.1 rest))
 
 -- what holds of each item
 pub each_by_recursion : {X : Type 0} (P : X → Type 0) (xs : List X) → All P xs → AllByRecursion P xs
@@ -104,12 +75,11 @@ each_by_recursion P (x ∷ xs) h = (h 0 x (omega arith), each_by_recursion P xs 
 
 pub entry_form : (c : ClassFile) (class : List ℕ) (calls : List (List ℕ)) (m : Member) → IsEntry c class calls m → HasForm c calls m
 entry_form c class calls m is =
-    let fit = each_by_recursion (λ index. index < 2 ^ 16) is.called is.called_fit in
     let among = each_by_recursion (λ name. Contains calls name) calls (All-contains_itself calls) in
-    let last : AllByRecursion (IsOfForm c calls) (return_void ∷ []) = (record { fits = tt; is = tt }, tt) in
-    let rest = calls_of_form c class calls is.slot is.slot_limit is.called calls (return_void ∷ []) fit among is.names last in
-    has_form c calls m is.body (new is.made ∷ dup ∷ invokespecial is.initialiser ∷ astore is.slot ∷ (calls_on is.slot is.called ++ return_void ∷ [])) is.has is.code
-    (record { fits = is.made_fits; is = tt }, (record { fits = tt; is = tt }, (record { fits = is.initialiser_fits; is = (class, is.initialises) }, (record { fits = is.slot_limit; is = tt }, rest))))
+    let last : AllByRecursion (IsOfForm c calls) (Return ∷ []) = (record { is = tt }, tt) in
+    let rest = calls_of_form c class calls is.slot is.called calls (Return ∷ []) among is.names last in
+    has_form c calls m is.body (New is.made ∷ Dup ∷ InvokeSpecial is.initialiser ∷ Store is.slot ∷ (calls_on is.slot is.called ++ Return ∷ [])) is.has is.code
+    (record { is = tt }, (record { is = tt }, (record { is = (class, is.initialises) }, (record { is = tt }, rest))))
 
 -- ---- methods of the program
 
@@ -170,8 +140,8 @@ pub record IsInside (c : ClassFile) (calls : List (List ℕ)) (method : Option �
   pub member : Member
   pub stands : slice_get (program_of c).methods number ≡ Some (method_of c member)
   pub form : HasForm c calls member
-  pub front : List Instruction
-  pub after : List Instruction
+  pub front : List Simple
+  pub after : List Simple
   pub parts : form.instructions ≡ front ++ after
   pub there : offset ≡ length (code_of front)
 
@@ -231,7 +201,7 @@ no_barred_code c class method calls form name barred number n stands named file 
 -- what the machine finds in code of the form
 pub record IsSameCode (c : ClassFile) (calls : List (List ℕ)) (f : Frame) (inside : IsInside c calls f.method f.offset) (here : InCode (program_of c) f) : Type 0 where
   pub file : here.file ≡ c
-  pub bytes : here.code.bytes ≡ code_of (inside.front ++ inside.after)
+  pub stands : Stands here.code.bytes f.offset inside.after
   pub handlers : here.code.handlers ≡ []
 
 pub same_code_there : (c : ClassFile) (calls : List (List ℕ)) (f : Frame) (inside : IsInside c calls f.method f.offset) (here : InCode (program_of c) f) → IsSameCode c calls f inside here
@@ -243,4 +213,5 @@ same_code_there c calls f inside here =
     let of_file = subst (λ (d : ClassFile). HasCode d here.member here.code) (sym both.0) here.has in
     let of_member = subst (λ (m : Member). HasCode c m here.code) (sym both.1) of_file in
     let code = inside.form.spelled here.code of_member in
-    record { file = sym both.0; bytes = code.0 ∙ ap code_of inside.parts; handlers = code.1 }
+    let after = stands_after here.code.bytes 0 inside.front inside.after (subst (Stands here.code.bytes 0) inside.parts code.0) in
+    record { file = sym both.0; stands = subst (λ (n : ℕ). Stands here.code.bytes n inside.after) (omega (arith, inside.there)) after; handlers = code.1 }

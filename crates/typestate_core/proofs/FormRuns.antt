@@ -15,8 +15,9 @@ use Rattle.jvm_model.specs.Programs.{program_of}
 use Rattle.jvm_model.specs.States.{Object, Frame, State}
 use Rattle.jvm_model.specs.Table.{Row, Action, plain, invoke_virtual, invoke_special, make_object, leave_method, onward}
 use Rattle.typestate_core.specs.StageOne.{events_of, state_after}
-use Rattle.typestate_core.specs.StraightLine.{Instruction, new, dup, astore, aload, invokespecial, invokevirtual, return_void, code_of}
-use Rattle.typestate_core.proofs.FormCode.{IsReadAs, none_at_end, read_there, offset_after}
+use Rattle.typestate_core.specs.declared.simple.Simple.{Simple}
+use Rattle.typestate_core.specs.declared.simple.Simple.TheVariants.{New, Dup, Store, Load, InvokeSpecial, InvokeVirtual, Return}
+use Rattle.typestate_core.proofs.FormCode.{IsReadAs, Stands, none_at_end, read_there, offset_after}
 use Rattle.typestate_core.proofs.FormFrames.{IsOfForm, IsInside, IsSameCode, same_code_there}
 
 -- ---- the invariant
@@ -115,28 +116,28 @@ row_virtual pool d r e h =
     ap (λ (x : Row). x.action) is.row_is ∙ e
 
 -- what an instruction of the form is, once its row is known
-abbrev pub HasAction : Instruction → Decoded → Row → Type 0
-HasAction (new index) d r = (r.action ≡ make_object) × (r.flow ≡ onward)
-HasAction dup d r = (r.action ≡ plain) × (r.flow ≡ onward)
-HasAction (astore slot) d r = (r.action ≡ plain) × (r.flow ≡ onward)
-HasAction (aload slot) d r = (r.action ≡ plain) × (r.flow ≡ onward)
-HasAction (invokespecial index) d r = (r.action ≡ invoke_special) × (d.operand ≡ index)
-HasAction (invokevirtual index) d r = (r.action ≡ invoke_virtual) × (d.operand ≡ index)
-HasAction return_void d r = r.action ≡ leave_method
+abbrev pub HasAction : Simple → Decoded → Row → Type 0
+HasAction (New index) d r = (r.action ≡ make_object) × (r.flow ≡ onward)
+HasAction Dup d r = (r.action ≡ plain) × (r.flow ≡ onward)
+HasAction (Store slot) d r = (r.action ≡ plain) × (r.flow ≡ onward)
+HasAction (Load slot) d r = (r.action ≡ plain) × (r.flow ≡ onward)
+HasAction (InvokeSpecial index) d r = (r.action ≡ invoke_special) × (d.operand ≡ index)
+HasAction (InvokeVirtual index) d r = (r.action ≡ invoke_virtual) × (d.operand ≡ index)
+HasAction Return d r = r.action ≡ leave_method
 
-has_action : (pool : List PoolEntry) (i : Instruction) (d : Decoded) (r : Row) → IsReadAs i d → IsRowAt pool d r → HasAction i d r
-has_action pool (new index) d r as_it h = let e = row_makes pool d r as_it.shape.0 h in (ap (λ (x : Row). x.action) e ∙ as_it.shape.0, ap (λ (x : Row). x.flow) e ∙ as_it.shape.1)
-has_action pool dup d r as_it h = let e = row_plain pool d r as_it.shape.0 h in (ap (λ (x : Row). x.action) e ∙ as_it.shape.0, ap (λ (x : Row). x.flow) e ∙ as_it.shape.1)
-has_action pool (astore slot) d r as_it h = let e = row_plain pool d r as_it.shape.0 h in (ap (λ (x : Row). x.action) e ∙ as_it.shape.0, ap (λ (x : Row). x.flow) e ∙ as_it.shape.1)
-has_action pool (aload slot) d r as_it h = let e = row_plain pool d r as_it.shape.0 h in (ap (λ (x : Row). x.action) e ∙ as_it.shape.0, ap (λ (x : Row). x.flow) e ∙ as_it.shape.1)
-has_action pool (invokespecial index) d r as_it h = (row_special pool d r as_it.shape.0 h, as_it.shape.1)
-has_action pool (invokevirtual index) d r as_it h = (row_virtual pool d r as_it.shape.0 h, as_it.shape.1)
-has_action pool return_void d r as_it h = let e = row_leaves pool d r as_it.shape h in ap (λ (x : Row). x.action) e ∙ as_it.shape
+has_action : (pool : List PoolEntry) (i : Simple) (d : Decoded) (r : Row) → IsReadAs i d → IsRowAt pool d r → HasAction i d r
+has_action pool (New index) d r as_it h = let e = row_makes pool d r as_it.shape.0 h in (ap (λ (x : Row). x.action) e ∙ as_it.shape.0, ap (λ (x : Row). x.flow) e ∙ as_it.shape.1)
+has_action pool Dup d r as_it h = let e = row_plain pool d r as_it.shape.0 h in (ap (λ (x : Row). x.action) e ∙ as_it.shape.0, ap (λ (x : Row). x.flow) e ∙ as_it.shape.1)
+has_action pool (Store slot) d r as_it h = let e = row_plain pool d r as_it.shape.0 h in (ap (λ (x : Row). x.action) e ∙ as_it.shape.0, ap (λ (x : Row). x.flow) e ∙ as_it.shape.1)
+has_action pool (Load slot) d r as_it h = let e = row_plain pool d r as_it.shape.0 h in (ap (λ (x : Row). x.action) e ∙ as_it.shape.0, ap (λ (x : Row). x.flow) e ∙ as_it.shape.1)
+has_action pool (InvokeSpecial index) d r as_it h = (row_special pool d r as_it.shape.0 h, as_it.shape.1)
+has_action pool (InvokeVirtual index) d r as_it h = (row_virtual pool d r as_it.shape.0 h, as_it.shape.1)
+has_action pool Return d r as_it h = let e = row_leaves pool d r as_it.shape h in ap (λ (x : Row). x.action) e ∙ as_it.shape
 
 -- a frame of the form at an instruction: which one it is, and that it stands right after it too
 pub record IsAt (c : ClassFile) (calls : List (List ℕ)) (f : Frame) (now : AtInstruction (program_of c) f) : Type 0 where
   pub file : now.here.file ≡ c
-  pub it : Instruction
+  pub it : Simple
   pub of_form : IsOfForm c calls it
   pub action : HasAction it now.instruction now.row
   pub next : StandsRight c calls f.method (f.offset + now.instruction.size)
@@ -151,14 +152,13 @@ is_at c calls f (at_start none) now =
     absurd cc
 is_at c calls f (inside there) now = by there.after refl (same_code_there c calls f there now.here)
   where
-    by : (after : List Instruction) → there.after ≡ after → IsSameCode c calls f there now.here → IsAt c calls f now
-    by [] e code = absurd (none_at_end now.here.code.bytes there.front f.offset now.instruction (code.bytes ∙ ap (λ (t : List Instruction). code_of (there.front ++ t)) e) there.there now.is)
+    by : (after : List Simple) → there.after ≡ after → IsSameCode c calls f there now.here → IsAt c calls f now
+    by [] e code = absurd (none_at_end now.here.code.bytes f.offset now.instruction (subst (Stands now.here.code.bytes f.offset) e code.stands) now.is)
     by (i ∷ rest) e code =
-        let parts : there.form.instructions ≡ there.front ++ i ∷ rest = there.parts ∙ ap (λ (t : List Instruction). there.front ++ t) e in
+        let parts : there.form.instructions ≡ there.front ++ i ∷ rest = there.parts ∙ ap (λ (t : List Simple). there.front ++ t) e in
         let among : AllByRecursion (IsOfForm c calls) (there.front ++ i ∷ rest) = subst (AllByRecursion (IsOfForm c calls)) parts there.form.each in
         let of_form : IsOfForm c calls i = (each_right (IsOfForm c calls) there.front (i ∷ rest) among).0 in
-        let bytes : now.here.code.bytes ≡ code_of (there.front ++ i ∷ rest) = code.bytes ∙ ap (λ (t : List Instruction). code_of (there.front ++ t)) e in
-        let as_it : IsReadAs i now.instruction = read_there now.here.code.bytes there.front rest i f.offset now.instruction of_form.fits bytes there.there now.is in
+        let as_it : IsReadAs i now.instruction = read_there now.here.code.bytes f.offset i rest now.instruction (subst (Stands now.here.code.bytes f.offset) e code.stands) now.is in
         record {
           file = code.file;
           it = i;

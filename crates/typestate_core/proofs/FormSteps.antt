@@ -19,7 +19,9 @@ use Rattle.jvm_model.specs.States.{Object, Frame, World, State, Value}
 use Rattle.jvm_model.specs.Table.{Row, Action, Flow, plain, invoke_virtual, invoke_special, invoke_static, make_object, onward}
 use Rattle.typestate_core.specs.Claims.{IsEntryOf, subject_of}
 use Rattle.typestate_core.specs.StageOne.{events_of, is_called}
-use Rattle.typestate_core.specs.StraightLine.{Instruction, new, dup, astore, aload, invokespecial, invokevirtual, return_void, plain_method, IsStraightLine}
+use Rattle.typestate_core.specs.declared.simple.Simple.{Simple}
+use Rattle.typestate_core.specs.declared.simple.Simple.TheVariants.{New, Dup, Store, Load, InvokeSpecial, InvokeVirtual, Return}
+use Rattle.typestate_core.specs.StraightLine.{plain_method, IsStraightLine}
 use Rattle.typestate_core.proofs.FormFrames.{IsOfForm, IsCallable, constructor_callable, entry_callable, callee_callable, enters_callable, no_barred_code, same_code_there}
 use Rattle.typestate_core.proofs.FormRuns.{StandsRight, at_start, inside, StandRight, IsLedTo, AreLedTo, IsRight, led_initially, led_further, each_push, each_set, each_at, find_parts, filter_contains, HasAction, is_at}
 use Rattle.typestate_core.proofs.Named.{same_bytes, bytes_same, and_both, any_contains}
@@ -33,15 +35,15 @@ heap_made make_object c calls a entry f pool operand before made after m h =
 heap_made _ c calls a entry f pool operand before made after m h = absurd m
 
 -- an action that makes an object or nothing goes on at the next instruction
-onward_of : (i : Instruction) (d : Decoded) (r : Row) → HasAction i d r → (x : Subject) (f : Frame) (pool : List PoolEntry) (operand : ℕ) (before : World) (made : Value) (after : World)
+onward_of : (i : Simple) (d : Decoded) (r : Row) → HasAction i d r → (x : Subject) (f : Frame) (pool : List PoolEntry) (operand : ℕ) (before : World) (made : Value) (after : World)
     → Makes r.action x f pool operand before made after → r.flow ≡ onward
-onward_of (new index) d r h x f pool operand before made after m = h.1
-onward_of dup d r h x f pool operand before made after m = h.1
-onward_of (astore slot) d r h x f pool operand before made after m = h.1
-onward_of (aload slot) d r h x f pool operand before made after m = h.1
-onward_of (invokespecial index) d r h x f pool operand before made after m = absurd (subst (λ (act : Action). Makes act x f pool operand before made after) h.0 m)
-onward_of (invokevirtual index) d r h x f pool operand before made after m = absurd (subst (λ (act : Action). Makes act x f pool operand before made after) h.0 m)
-onward_of return_void d r h x f pool operand before made after m = absurd (subst (λ (act : Action). Makes act x f pool operand before made after) h m)
+onward_of (New index) d r h x f pool operand before made after m = h.1
+onward_of Dup d r h x f pool operand before made after m = h.1
+onward_of (Store slot) d r h x f pool operand before made after m = h.1
+onward_of (Load slot) d r h x f pool operand before made after m = h.1
+onward_of (InvokeSpecial index) d r h x f pool operand before made after m = absurd (subst (λ (act : Action). Makes act x f pool operand before made after) h.0 m)
+onward_of (InvokeVirtual index) d r h x f pool operand before made after m = absurd (subst (λ (act : Action). Makes act x f pool operand before made after) h.0 m)
+onward_of Return d r h x f pool operand before made after m = absurd (subst (λ (act : Action). Makes act x f pool operand before made after) h m)
 
 -- what a call of the form names
 abbrev pub NamesSpecial : ClassFile → ℕ → Type 0
@@ -50,32 +52,32 @@ NamesSpecial c operand = (owner : List ℕ) × (method_at c.pool operand ≡ Som
 abbrev pub NamesVirtual : ClassFile → List (List ℕ) → ℕ → Type 0
 NamesVirtual c calls operand = (owner : List ℕ) × (name : List ℕ) × Contains calls name × (method_at c.pool operand ≡ Some (plain_method owner name))
 
-names_special : (c : ClassFile) (calls : List (List ℕ)) (i : Instruction) (d : Decoded) (r : Row) → IsOfForm c calls i → HasAction i d r → r.action ≡ invoke_special → NamesSpecial c d.operand
-names_special c calls (new index) d r of_form h e = absurd (cc (h.0, e))
-names_special c calls dup d r of_form h e = absurd (cc (h.0, e))
-names_special c calls (astore slot) d r of_form h e = absurd (cc (h.0, e))
-names_special c calls (aload slot) d r of_form h e = absurd (cc (h.0, e))
-names_special c calls (invokespecial index) d r of_form h e = subst (NamesSpecial c) (sym h.1) of_form.is
-names_special c calls (invokevirtual index) d r of_form h e = absurd (cc (h.0, e))
-names_special c calls return_void d r of_form h e = absurd (cc (h, e))
+names_special : (c : ClassFile) (calls : List (List ℕ)) (i : Simple) (d : Decoded) (r : Row) → IsOfForm c calls i → HasAction i d r → r.action ≡ invoke_special → NamesSpecial c d.operand
+names_special c calls (New index) d r of_form h e = absurd (cc (h.0, e))
+names_special c calls Dup d r of_form h e = absurd (cc (h.0, e))
+names_special c calls (Store slot) d r of_form h e = absurd (cc (h.0, e))
+names_special c calls (Load slot) d r of_form h e = absurd (cc (h.0, e))
+names_special c calls (InvokeSpecial index) d r of_form h e = subst (NamesSpecial c) (sym h.1) of_form.is
+names_special c calls (InvokeVirtual index) d r of_form h e = absurd (cc (h.0, e))
+names_special c calls Return d r of_form h e = absurd (cc (h, e))
 
-names_virtual : (c : ClassFile) (calls : List (List ℕ)) (i : Instruction) (d : Decoded) (r : Row) → IsOfForm c calls i → HasAction i d r → r.action ≡ invoke_virtual → NamesVirtual c calls d.operand
-names_virtual c calls (new index) d r of_form h e = absurd (cc (h.0, e))
-names_virtual c calls dup d r of_form h e = absurd (cc (h.0, e))
-names_virtual c calls (astore slot) d r of_form h e = absurd (cc (h.0, e))
-names_virtual c calls (aload slot) d r of_form h e = absurd (cc (h.0, e))
-names_virtual c calls (invokespecial index) d r of_form h e = absurd (cc (h.0, e))
-names_virtual c calls (invokevirtual index) d r of_form h e = subst (NamesVirtual c calls) (sym h.1) of_form.is
-names_virtual c calls return_void d r of_form h e = absurd (cc (h, e))
+names_virtual : (c : ClassFile) (calls : List (List ℕ)) (i : Simple) (d : Decoded) (r : Row) → IsOfForm c calls i → HasAction i d r → r.action ≡ invoke_virtual → NamesVirtual c calls d.operand
+names_virtual c calls (New index) d r of_form h e = absurd (cc (h.0, e))
+names_virtual c calls Dup d r of_form h e = absurd (cc (h.0, e))
+names_virtual c calls (Store slot) d r of_form h e = absurd (cc (h.0, e))
+names_virtual c calls (Load slot) d r of_form h e = absurd (cc (h.0, e))
+names_virtual c calls (InvokeSpecial index) d r of_form h e = absurd (cc (h.0, e))
+names_virtual c calls (InvokeVirtual index) d r of_form h e = subst (NamesVirtual c calls) (sym h.1) of_form.is
+names_virtual c calls Return d r of_form h e = absurd (cc (h, e))
 
-no_static : (c : ClassFile) (calls : List (List ℕ)) (i : Instruction) (d : Decoded) (r : Row) → HasAction i d r → r.action ≡ invoke_static → ⊥
-no_static c calls (new index) d r h e = cc (h.0, e)
-no_static c calls dup d r h e = cc (h.0, e)
-no_static c calls (astore slot) d r h e = cc (h.0, e)
-no_static c calls (aload slot) d r h e = cc (h.0, e)
-no_static c calls (invokespecial index) d r h e = cc (h.0, e)
-no_static c calls (invokevirtual index) d r h e = cc (h.0, e)
-no_static c calls return_void d r h e = cc (h, e)
+no_static : (c : ClassFile) (calls : List (List ℕ)) (i : Simple) (d : Decoded) (r : Row) → HasAction i d r → r.action ≡ invoke_static → ⊥
+no_static c calls (New index) d r h e = cc (h.0, e)
+no_static c calls Dup d r h e = cc (h.0, e)
+no_static c calls (Store slot) d r h e = cc (h.0, e)
+no_static c calls (Load slot) d r h e = cc (h.0, e)
+no_static c calls (InvokeSpecial index) d r h e = cc (h.0, e)
+no_static c calls (InvokeVirtual index) d r h e = cc (h.0, e)
+no_static c calls Return d r h e = cc (h, e)
 
 -- a Methodref names the same method for the machine
 named_member : (pool : List PoolEntry) (operand : ℕ) (m : MethodName) → method_at pool operand ≡ Some m → member_at pool operand ≡ Some m

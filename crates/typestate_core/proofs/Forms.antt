@@ -1,49 +1,42 @@
 -- The form as a whole, from its parts and into them.
-use Rattle.std.proofs.Common.{◌≡◌, ℕ, zero, suc, ◌<◌, Bool, true, false, List, [], ◌∷◌, ◌++◌, length, get_or, map, All, Contains, Option, Some, None, IfNone, refl, sym, ap, ◌∙◌, subst, arith}
-use Rattle.std.proofs.lemmas.Grind.{flat_map-append}
+use Rattle.std.proofs.Common.{◌≡◌, inl, inr, ℕ, zero, suc, ◌+◌, ◌<◌, Bool, true, false, List, [], ◌∷◌, ◌++◌, length, get_or, map, All, Contains, Option, Some, None, IfNone, refl, sym, ap, ◌∙◌, subst, arith}
+use Rattle.std.proofs.lemmas.Bool.{cases_lt}
+use Rattle.std.proofs.lemmas.Option.{same_Some, slice_get-get_or}
 use Rattle.jvm_model.specs.declared.class_file.ClassFile.{ClassFile}
 use Rattle.jvm_model.specs.declared.class_file.Member.{Member}
 use Rattle.jvm_model.specs.declared.automaton.Event.{Event}
 use Rattle.jvm_model.specs.Lookups.{text_at}
-use Rattle.typestate_core.specs.Bodies.{Body, HasBody}
+use Rattle.typestate_core.specs.declared.simple.Simple.{Simple}
+use Rattle.typestate_core.specs.declared.simple.Simple.TheVariants.{New, Dup, Store, InvokeSpecial, Return}
+use Rattle.typestate_core.specs.Bodies.{Body, HasBody, AreDistinct}
 use Rattle.typestate_core.specs.StageOne.{is_called}
-use Rattle.typestate_core.specs.StraightLine.{Instruction, instruction, new, dup, astore, invokespecial, return_void, code_of, calls_on, IsEntry, IsCallee, HasMethod, IsStraightLine, Occurs}
+use Rattle.typestate_core.specs.StraightLine.{calls_on, IsEntry, IsCallee, HasMethod, IsStraightLine, Occurs}
 use Rattle.typestate_core.specs.FormParts.{HasShape, AreNames, IsMethod, IsEntryCode, IsEntryAround, HasParts, AreCalls, Marks, AreCallees, HasForms}
-use Rattle.typestate_core.proofs.BodySteps.{HasBody-same}
+use Rattle.typestate_core.proofs.OneBody.{HasBody-same}
 use Rattle.typestate_core.proofs.FormTests.{one_entry_code}
-use Rattle.typestate_core.proofs.Named.{any_at, contains_any, method_count, name_there, name_known, one_method}
+use Rattle.typestate_core.proofs.Named.{distinct_of, any_at, contains_any, method_count, name_there, name_known, one_method}
 use Rattle.typestate_core.proofs.CallMarks.{is_among, mark_there, AreCalls-same}
-
-pub none_weaker : {T : Type 0} (r : Option T) (A B : Type 0) → (A → B) → IfNone r A → IfNone r B
-none_weaker None A B f h = f h
-none_weaker (Some x) A B f h = tt
 
 -- ---- the entry and its calls
 
-entry_parts : (made initialiser slot : ℕ) (called : List ℕ) → code_of (new made ∷ dup ∷ invokespecial initialiser ∷ astore slot ∷ (calls_on slot called ++ return_void ∷ [])) ≡ code_of (new made ∷ dup ∷ invokespecial initialiser ∷ astore slot ∷ []) ++ (code_of (calls_on slot called) ++ code_of (return_void ∷ []))
-entry_parts made initialiser slot called =
-    let first : List Instruction = new made ∷ dup ∷ invokespecial initialiser ∷ astore slot ∷ [] in
-    let last : List Instruction = return_void ∷ [] in
-    flat_map-append instruction first (calls_on slot called ++ last) ∙ ap (λ (t : List ℕ). code_of first ++ t) (flat_map-append instruction (calls_on slot called) last)
-
-entry_around : (c : ClassFile) (class : List ℕ) (calls : List (List ℕ)) (m : Member) (is : IsEntry c class calls m) → IsEntryAround c class m is.slot (code_of (calls_on is.slot is.called))
+entry_around : (c : ClassFile) (class : List ℕ) (calls : List (List ℕ)) (m : Member) (is : IsEntry c class calls m) → IsEntryAround c class m is.slot (calls_on is.slot is.called)
 entry_around c class calls m is = record {
   static = is.static;
   body = is.body;
   has = is.has;
   made = is.made;
   initialiser = is.initialiser;
-  code = record { made_fits = is.made_fits; initialiser_fits = is.initialiser_fits; slot_limit = is.slot_limit; parts = is.code ∙ entry_parts is.made is.initialiser is.slot is.called };
+  code = record { parts = is.code };
   makes = is.makes;
   initialises = is.initialises;
   stack = is.stack;
   locals = is.locals;
 }
 
-entry_calls : (c : ClassFile) (class : List ℕ) (calls : List (List ℕ)) (m : Member) (is : IsEntry c class calls m) → AreCalls c class is.slot (code_of (calls_on is.slot is.called)) calls
-entry_calls c class calls m is = record { called = is.called; fit = is.called_fit; parts = refl; names = is.names }
+entry_calls : (c : ClassFile) (class : List ℕ) (calls : List (List ℕ)) (m : Member) (is : IsEntry c class calls m) → AreCalls c class is.slot (calls_on is.slot is.called) calls
+entry_calls c class calls m is = record { called = is.called; parts = refl; names = is.names }
 
-entry_with_calls : (c : ClassFile) (class : List ℕ) (calls : List (List ℕ)) (m : Member) (slot : ℕ) (code : List ℕ) → IsEntryAround c class m slot code → AreCalls c class slot code calls → IsEntry c class calls m
+entry_with_calls : (c : ClassFile) (class : List ℕ) (calls : List (List ℕ)) (m : Member) (slot : ℕ) (code : List Simple) → IsEntryAround c class m slot code → AreCalls c class slot code calls → IsEntry c class calls m
 entry_with_calls c class calls m slot code a are = record {
   static = a.static;
   body = a.body;
@@ -52,24 +45,18 @@ entry_with_calls c class calls m slot code a are = record {
   initialiser = a.initialiser;
   slot = slot;
   called = are.called;
-  made_fits = a.code.made_fits;
-  initialiser_fits = a.code.initialiser_fits;
-  called_fit = are.fit;
-  code = a.code.parts
-      ∙ ap (λ (t : List ℕ). code_of (new a.made ∷ dup ∷ invokespecial a.initialiser ∷ astore slot ∷ []) ++ (t ++ code_of (return_void ∷ []))) are.parts
-      ∙ sym (entry_parts a.made a.initialiser slot are.called);
+  code = a.code.parts ∙ ap (λ (t : List Simple). New a.made ∷ Dup ∷ InvokeSpecial a.initialiser ∷ Store slot ∷ (t ++ Return ∷ [])) are.parts;
   makes = a.makes;
   initialises = a.initialises;
-  slot_limit = a.code.slot_limit;
   names = are.names;
   stack = a.stack;
   locals = a.locals;
 }
 
-one_around : (c : ClassFile) (class : List ℕ) (m : Member) (slot : ℕ) (code : List ℕ) (slot2 : ℕ) (code2 : List ℕ) → IsEntryAround c class m slot code → IsEntryAround c class m slot2 code2 → (slot ≡ slot2) × (code ≡ code2)
-one_around c class m slot code slot2 code2 a b =
-    let bodies = HasBody-same c m a.body b.body a.has b.has in
-    let at_b = subst (λ (t : List ℕ). IsEntryCode t a.made a.initialiser slot code) bodies.2 a.code in
+one_around : (c : ClassFile) (class : List ℕ) (m : Member) (slot : ℕ) (code : List Simple) (slot2 : ℕ) (code2 : List Simple) → AreDistinct c → IsEntryAround c class m slot code → IsEntryAround c class m slot2 code2 → (slot ≡ slot2) × (code ≡ code2)
+one_around c class m slot code slot2 code2 distinct a b =
+    let bodies = HasBody-same c m a.body b.body distinct a.has b.has in
+    let at_b = subst (λ (t : List Simple). IsEntryCode t a.made a.initialiser slot code) bodies.2 a.code in
     let one = one_entry_code b.body.code a.made a.initialiser slot code b.made b.initialiser slot2 code2 at_b b.code in
     (one.2, one.3)
 
@@ -85,7 +72,7 @@ some_method (x ∷ ms) (suc k) lt = some_method ms k (omega arith)
 
 module _ (c : ClassFile) (class method : List ℕ) where
   -- the parts of a class of the form
-  pub parts_of : (calls : List (List ℕ)) (h : HasForms c class method calls) → HasParts c class method h.entry.is.slot (code_of (calls_on h.entry.is.slot h.entry.is.called))
+  pub parts_of : (calls : List (List ℕ)) (h : HasForms c class method calls) → HasParts c class method h.entry.is.slot (calls_on h.entry.is.slot h.entry.is.called)
   parts_of calls h = record {
     entry = record { method = h.entry.method; stands = h.entry.stands; named = h.entry.named; is = entry_around c class calls h.entry.method h.entry.is };
     constructor = h.constructor;
@@ -98,16 +85,16 @@ module _ (c : ClassFile) (class method : List ℕ) where
         name_known c names are (get_or calls k d) callee.method (is_method c (get_or calls k d) (IsCallee c) callee)
 
     -- the calls of a form are those of the code that was found
-    calls_at : (slot : ℕ) (code : List ℕ) → HasParts c class method slot code → (calls : List (List ℕ)) → HasForms c class method calls → AreCalls c class slot code calls
+    calls_at : (slot : ℕ) (code : List Simple) → HasParts c class method slot code → (calls : List (List ℕ)) → HasForms c class method calls → AreCalls c class slot code calls
     calls_at slot code parts calls h =
         let same : parts.entry.method ≡ h.entry.method = one_method c names are method parts.entry.method h.entry.method (is_method c method _ parts.entry) (is_method c method _ h.entry) in
         let around = subst (λ (m : Member). IsEntryAround c class m slot code) same parts.entry.is in
         let is = h.entry.is in
-        let one = one_around c class h.entry.method slot code is.slot (code_of (calls_on is.slot is.called)) around (entry_around c class calls h.entry.method is) in
-        let at_slot = subst (λ (s : ℕ). AreCalls c class s (code_of (calls_on is.slot is.called)) calls) (sym one.0) (entry_calls c class calls h.entry.method is) in
-        subst (λ (t : List ℕ). AreCalls c class slot t calls) (sym one.1) at_slot
+        let one = one_around c class h.entry.method slot code is.slot (calls_on is.slot is.called) (distinct_of c names are) around (entry_around c class calls h.entry.method is) in
+        let at_slot = subst (λ (s : ℕ). AreCalls c class s (calls_on is.slot is.called) calls) (sym one.0) (entry_calls c class calls h.entry.method is) in
+        subst (λ (t : List Simple). AreCalls c class slot t calls) (sym one.1) at_slot
 
-    pub other_calls : (slot : ℕ) (code : List ℕ) → HasParts c class method slot code → ((reached : List (List ℕ)) → AreCalls c class slot code reached → All (Contains names) reached → ⊥) → (calls : List (List ℕ)) → HasForms c class method calls → ⊥
+    pub other_calls : (slot : ℕ) (code : List Simple) → HasParts c class method slot code → ((reached : List (List ℕ)) → AreCalls c class slot code reached → All (Contains names) reached → ⊥) → (calls : List (List ℕ)) → HasForms c class method calls → ⊥
     other_calls slot code parts none calls h = none calls (calls_at slot code parts calls h) (all_known calls h)
 
     -- each name that is called is that of a callee
@@ -135,13 +122,13 @@ module _ (c : ClassFile) (class method : List ℕ) where
           subst (IsCallee c) (sym (one_method c names are name m callee.method at_m (is_method c name (IsCallee c) callee))) callee.is;
     }
 
-    pub no_callees : (slot : ℕ) (code : List ℕ) → HasParts c class method slot code → (reached : List (List ℕ)) (called : List Bool) → AreCalls c class slot code reached → Marks names reached called → (AreCallees c called (length c.methods) → ⊥)
+    pub no_callees : (slot : ℕ) (code : List Simple) → HasParts c class method slot code → (reached : List (List ℕ)) (called : List Bool) → AreCalls c class slot code reached → Marks names reached called → (AreCallees c called (length c.methods) → ⊥)
         → (calls : List (List ℕ)) → HasForms c class method calls → ⊥
     no_callees slot code parts reached called at_code marks none calls h =
         let same : calls ≡ reached = AreCalls-same c class slot code calls reached (calls_at slot code parts calls h) at_code in
         none (marked_callees reached called marks (subst (All (λ name. HasMethod c name (IsCallee c))) same h.callees))
 
-    pub forms_found : (slot : ℕ) (code : List ℕ) → HasParts c class method slot code → (reached : List (List ℕ)) (called : List Bool) → AreCalls c class slot code reached → Marks names reached called → AreCallees c called (length c.methods) → HasForms c class method reached
+    pub forms_found : (slot : ℕ) (code : List Simple) → HasParts c class method slot code → (reached : List (List ℕ)) (called : List Bool) → AreCalls c class slot code reached → Marks names reached called → AreCallees c called (length c.methods) → HasForms c class method reached
     forms_found slot code parts reached called at_code marks callees = record {
       entry = record {
         method = parts.entry.method;
@@ -189,10 +176,33 @@ pub if_none : {T : Type 0} (r : Option T) (P : Type 0) → r ≡ None → IfNone
 if_none {T} r P e h = let none : IfNone {T = T} None P = subst (λ (o : Option T). IfNone o P) e h in none
 
 -- a method with another code is no entry
-pub no_entry_code : (c : ClassFile) (class : List ℕ) (m : Member) (b : Body) → HasBody c m b → ((made initialiser slot : ℕ) (calls : List ℕ) → IsEntryCode b.code made initialiser slot calls → ⊥) → (slot : ℕ) (code : List ℕ) → IsEntryAround c class m slot code → ⊥
-no_entry_code c class m b has none slot code a =
-    none a.made a.initialiser slot code (subst (λ (t : List ℕ). IsEntryCode t a.made a.initialiser slot code) (HasBody-same c m a.body b a.has has).2 a.code)
+pub no_entry_code : (c : ClassFile) (class : List ℕ) (m : Member) (b : Body) → AreDistinct c → HasBody c m b → ((made initialiser slot : ℕ) (calls : List Simple) → IsEntryCode b.code made initialiser slot calls → ⊥) → (slot : ℕ) (code : List Simple) → IsEntryAround c class m slot code → ⊥
+no_entry_code c class m b distinct has none slot code a =
+    none a.made a.initialiser slot code (subst (λ (t : List Simple). IsEntryCode t a.made a.initialiser slot code) (HasBody-same c m a.body b distinct a.has has).2 a.code)
 
 -- a method without a body is none
-pub no_entry_body : (c : ClassFile) (class : List ℕ) (m : Member) → ((b : Body) → HasBody c m b → ⊥) → (slot : ℕ) (code : List ℕ) → IsEntryAround c class m slot code → ⊥
+pub no_entry_body : (c : ClassFile) (class : List ℕ) (m : Member) → ((b : Body) → HasBody c m b → ⊥) → (slot : ℕ) (code : List Simple) → IsEntryAround c class m slot code → ⊥
 no_entry_body c class m none slot code a = none a.body a.has
+
+-- one method more that may be called
+pub AreCallees-more : (c : ClassFile) (called : List Bool) (place : ℕ) (member : Member) → place < length c.methods → member ≡ get_or c.methods place member → (get_or called place false ≡ true → IsCallee c member)
+    → AreCallees c called place → AreCallees c called (place + 1)
+AreCallees-more c called place member below here is h = record {
+  each = λ k m lt at mark.
+      elim (cases_lt k place) [
+        | inl less ↦ h.each k m less at mark
+        | inr past ↦
+            let same : k ≡ place = omega (arith, past, lt) in
+            let at_place : m ≡ get_or c.methods place m = subst (λ (n : ℕ). m ≡ get_or c.methods n m) same at in
+            let one : get_or c.methods place member ≡ get_or c.methods place m = same_Some _ _ (sym (slice_get-get_or c.methods place member below) ∙ slice_get-get_or c.methods place m below) in
+            subst (IsCallee c) (here ∙ one ∙ sym at_place) (is (subst (λ (n : ℕ). get_or called n false ≡ true) same mark))
+      ];
+}
+
+-- the same of equal code
+pub are_called : (c : ClassFile) (class : List ℕ) (slot : ℕ) (code simple : List Simple) (calls : List (List ℕ)) → code ≡ simple → AreCalls c class slot code calls → AreCalls c class slot simple calls
+are_called c class slot code simple calls e are = subst (λ (t : List Simple). AreCalls c class slot t calls) e are
+
+pub none_called : (c : ClassFile) (class : List ℕ) (names : List (List ℕ)) (slot : ℕ) (code simple : List Simple) → code ≡ simple → ((calls : List (List ℕ)) → AreCalls c class slot code calls → All (Contains names) calls → ⊥)
+    → (calls : List (List ℕ)) → AreCalls c class slot simple calls → All (Contains names) calls → ⊥
+none_called c class names slot code simple e none calls are known = none calls (are_called c class slot simple code calls (sym e) are) known

@@ -312,3 +312,14 @@ written_told (Some files) words status answer lines old new is lines_are reporte
 pub true_of_not : (b : Bool) → false ≡ not b → b ≡ true
 true_of_not true e = refl
 true_of_not false e = absurd (false≢true e)
+
+-- what holds of what is found, and of nothing being found, goes over
+pub if_found : {A E : Type 0} (r : Result (Option A) E) (P Q : A → Type 0) → ((a : A) → P a → Q a) → IfOk r (λ found. IfSome found P) → IfOk r (λ found. IfSome found Q)
+if_found (Ok (Some a)) P Q h p = h a p
+if_found (Ok None) P Q h p = tt
+if_found (Err e) P Q h p = tt
+
+pub if_missing : {A E : Type 0} (r : Result (Option A) E) (P Q : Type 0) → (P → Q) → IfOk r (λ found. IfNone found P) → IfOk r (λ found. IfNone found Q)
+if_missing (Ok (Some a)) P Q h p = tt
+if_missing (Ok None) P Q h p = h p
+if_missing (Err e) P Q h p = tt

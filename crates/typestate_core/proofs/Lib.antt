@@ -2,8 +2,11 @@ pub mod Judging
 pub mod Reach
 pub mod WordLists
 pub mod Written
-pub mod BodySteps
-pub mod Spelled
+pub mod Decoding
+pub mod FormCode
+pub mod CodeOfBody
+pub mod OneBody
+pub mod AllParts
 pub mod Named
 pub mod FormTests
 pub mod CallMarks
@@ -11,7 +14,6 @@ pub mod Forms
 pub mod OneRequest
 pub mod OneForm
 pub mod OneOutcome
-pub mod FormCode
 pub mod FormFrames
 pub mod FormRuns
 pub mod FormSteps

@@ -1,8 +1,8 @@
 -- Names that differ: the place of a name, and the method that stands there.
-use Rattle.std.proofs.Common.{◌≡◌, ℕ, zero, suc, ◌+◌, ◌<◌, ◌≤◌, Bool, true, false, cond, ltb, not, ◌&&◌, ◌||◌, List, [], ◌∷◌, ◌++◌, length, get_or, take, map, position, All, Contains, Option, Some, None, refl, sym, ap, ◌∙◌, subst, arith}
+use Rattle.std.proofs.Common.{◌≡◌, ℕ, zero, suc, ◌+◌, ◌<◌, ◌≤◌, Bool, true, false, cond, ltb, not, ◌&&◌, ◌||◌, List, [], ◌∷◌, ◌++◌, length, get_or, take, map, position, All, Contains, Option, Some, None, slice_get, refl, sym, ap, ◌∙◌, subst, arith}
 use Rattle.std.specs.List.{list_any, position_or_len}
 use Rattle.std.specs.Str.{bytes_eq}
-use Rattle.std.proofs.lemmas.Bool.{false≢true, false_from_ne_true, ltb-true, ltb-false}
+use Rattle.std.proofs.lemmas.Bool.{false≢true, false_from_ne_true, ltb-false}
 use Rattle.std.proofs.lemmas.List.Quantifiers.{position-Some}
 use Rattle.std.proofs.lemmas.Slice.Eq.{bytes_eq-Decides}
 use Rattle.jvm_model.specs.declared.class_file.ClassFile.{ClassFile}
@@ -15,9 +15,11 @@ use Rattle.std.proofs.lemmas.List.{length-map, map-append, take_all, length-take
 use Rattle.std.proofs.lemmas.List.Elements.{All-push}
 use Rattle.std.proofs.lemmas.List.Folds.{list_any-append}
 use Rattle.std.proofs.lemmas.Grind.{take_at_read}
-use Rattle.std.proofs.Common.{IfNone, IfSome, is_some}
+use Rattle.std.proofs.lemmas.Option.{slice_get-get_or, slice_get_within, get_or_from_slice_get}
+use Rattle.std.proofs.Common.{IfNone}
 use Rattle.jvm_model.specs.Lookups.{MethodName}
 use Rattle.jvm_model.specs.Soundness.{plain_descriptor}
+use Rattle.typestate_core.specs.Bodies.{AreDistinct}
 use Rattle.typestate_core.specs.StraightLine.{plain_method, barred_names}
 use Rattle.typestate_core.specs.FormParts.{AreNames, IsAllowed, IsMethod, texts}
 
@@ -169,27 +171,29 @@ module _ (c : ClassFile) (names : List (List ℕ)) (are : AreNames c names) wher
       get_or_any (x ∷ ms) zero d e lt = refl
       get_or_any (x ∷ ms) (suc k) d e lt = get_or_any ms k d e (omega arith)
 
+  -- no method stands at two places
+  pub distinct_of : AreDistinct c
+  distinct_of = record {
+    one_place = λ a b m at_a at_b.
+        let below_a = slice_get_within c.methods a m at_a in
+        let below_b = slice_get_within c.methods b m at_b in
+        let named_a = name_there a m [] below_a (sym (get_or_from_slice_get c.methods a m m at_a)) in
+        let named_b = name_there b m [] below_b (sym (get_or_from_slice_get c.methods b m m at_b)) in
+        one_place names a b [] are.names_differ (omega (arith, below_a, method_count)) (omega (arith, below_b, method_count)) (some_same _ _ (sym named_a ∙ named_b));
+  }
+
   -- a name that has no place is no method's
   pub no_method : (name : List ℕ) → position (bytes_eq name) names ≡ None → (m : Member) → IsMethod c name m → ⊥
   no_method name e m is = place_none name names e (name_known name m is)
 
--- what a look-up of the method at the place of a name gives
-module _ (c : ClassFile) (names : List (List ℕ)) (are : AreNames c names) (name : List ℕ) (k : ℕ) (at_name : position (bytes_eq name) names ≡ Some k) (items : List Member) (e : items ≡ c.methods) where
-  pub got_method : (r : Option (Bor Member)) → is_some r ≡ ltb k (length items) → IfSome r (λ m. m.now ≡ get_or items k m.now) → IfSome r (λ m. IsMethod c name m.now)
-  got_method None there at_k = tt
-  got_method (Some m) there at_k =
-      method_there c names are name k m.now at_name (subst (λ (l : List Member). k < length l) e (ltb-true k (length items) (sym there))) (at_k ∙ ap (λ (l : List Member). get_or l k m.now) e)
+-- what stands at a place
+pub stands_there : (ms : List Member) (k : ℕ) (m : Member) → k < length ms → m ≡ get_or ms k m → slice_get ms k ≡ Some m
+stands_there ms k m lt is = slice_get-get_or ms k m lt ∙ ap (λ (y : Member). Some y) (sym is)
 
-  pub got_only : (r : Option (Bor Member)) → is_some r ≡ ltb k (length items) → IfSome r (λ m. m.now ≡ get_or items k m.now) → IfSome r (λ m. (other : Member) → IsMethod c name other → other ≡ m.now)
-  got_only None there at_k = tt
-  got_only (Some m) there at_k = λ other is. one_method c names are name other m.now is (got_method (Some m) there at_k)
-
-  pub got_none : (r : Option (Bor Member)) → is_some r ≡ ltb k (length items) → IfNone r ((m : Member) → IsMethod c name m → ⊥)
-  got_none None there = λ m is.
-      let past : length items ≤ k = ltb-false k (length items) (sym there) in
-      let many : length items ≡ length names = ap length e ∙ method_count c names are in
-      absurd (omega (arith, past, many, (place_some name names k at_name).0))
-  got_none (Some m) there = tt
+-- what holds in any case holds of a missing value
+pub whatever : {T : Type 0} (r : Option T) (P : Type 0) → P → IfNone r P
+whatever None P h = h
+whatever (Some x) P h = tt
 
 -- ---- the names of the first methods
 

@@ -8,12 +8,14 @@ use Rattle.byte_reader.specs.Reading.{Fault}
 use Rattle.classfile_reader.specs.ClassReading.{class_of}
 use Rattle.classfile_reader.proofs.Classes.{class_of_again}
 use Rattle.classfile_reader.proofs.Refusals.{faulty_or_sound, one_fault}
-use Rattle.typestate_core.specs.StraightLine.{code_of, calls_on, IsStraightLine}
+use Rattle.typestate_core.specs.declared.simple.Simple.{Simple}
+use Rattle.typestate_core.specs.Bodies.{AreDistinct}
+use Rattle.typestate_core.specs.StraightLine.{calls_on, IsStraightLine}
 use Rattle.typestate_core.specs.FormParts.{AreNames, IsEntryCode, IsEntryAround, HasParts, AreCalls}
 use Rattle.typestate_core.specs.Outcomes.{IsJudged, IsRefusedAs, by_fault, by_form}
-use Rattle.typestate_core.proofs.BodySteps.{HasBody-same}
+use Rattle.typestate_core.proofs.OneBody.{HasBody-same}
 use Rattle.typestate_core.proofs.FormTests.{one_entry_code}
-use Rattle.typestate_core.proofs.Named.{one_method}
+use Rattle.typestate_core.proofs.Named.{one_method, distinct_of}
 use Rattle.typestate_core.proofs.CallMarks.{AreCalls-same}
 use Rattle.typestate_core.proofs.Forms.{parts_of, names_of}
 
@@ -24,35 +26,35 @@ same_ok r c d e f = cc
 
 -- ---- the entry
 
-one_around : (c : ClassFile) (class : List ℕ) (m : Member) (slot : ℕ) (code : List ℕ) (slot2 : ℕ) (code2 : List ℕ) → IsEntryAround c class m slot code → IsEntryAround c class m slot2 code2 → (slot ≡ slot2) × (code ≡ code2)
-one_around c class m slot code slot2 code2 a b =
-    let bodies = HasBody-same c m a.body b.body a.has b.has in
-    let at_b = subst (λ (t : List ℕ). IsEntryCode t a.made a.initialiser slot code) bodies.2 a.code in
+one_around : (c : ClassFile) (class : List ℕ) (m : Member) (slot : ℕ) (code : List Simple) (slot2 : ℕ) (code2 : List Simple) → AreDistinct c → IsEntryAround c class m slot code → IsEntryAround c class m slot2 code2 → (slot ≡ slot2) × (code ≡ code2)
+one_around c class m slot code slot2 code2 distinct a b =
+    let bodies = HasBody-same c m a.body b.body distinct a.has b.has in
+    let at_b = subst (λ (t : List Simple). IsEntryCode t a.made a.initialiser slot code) bodies.2 a.code in
     let one = one_entry_code b.body.code a.made a.initialiser slot code b.made b.initialiser slot2 code2 at_b b.code in
     (one.2, one.3)
 
-HasParts-same : (c : ClassFile) (class method : List ℕ) (names : List (List ℕ)) → AreNames c names → (slot : ℕ) (code : List ℕ) (slot2 : ℕ) (code2 : List ℕ) → HasParts c class method slot code → HasParts c class method slot2 code2 → (slot ≡ slot2) × (code ≡ code2)
+HasParts-same : (c : ClassFile) (class method : List ℕ) (names : List (List ℕ)) → AreNames c names → (slot : ℕ) (code : List Simple) (slot2 : ℕ) (code2 : List Simple) → HasParts c class method slot code → HasParts c class method slot2 code2 → (slot ≡ slot2) × (code ≡ code2)
 HasParts-same c class method names are slot code slot2 code2 a b =
     let same : a.entry.method ≡ b.entry.method = one_method c names are method a.entry.method b.entry.method
     (record { stands = a.entry.stands; named = a.entry.named }) (record { stands = b.entry.stands; named = b.entry.named }) in
-    one_around c class b.entry.method slot code slot2 code2 (subst (λ (m : Member). IsEntryAround c class m slot code) same a.entry.is) b.entry.is
+    one_around c class b.entry.method slot code slot2 code2 (distinct_of c names are) (subst (λ (m : Member). IsEntryAround c class m slot code) same a.entry.is) b.entry.is
 
 -- the calls of the entry
-calls_there : (c : ClassFile) (class method : List ℕ) (calls : List (List ℕ)) (h : IsStraightLine c class method calls) → AreCalls c class h.entry.is.slot (code_of (calls_on h.entry.is.slot h.entry.is.called)) calls
-calls_there c class method calls h = record { called = h.entry.is.called; fit = h.entry.is.called_fit; parts = refl; names = h.entry.is.names }
+calls_there : (c : ClassFile) (class method : List ℕ) (calls : List (List ℕ)) (h : IsStraightLine c class method calls) → AreCalls c class h.entry.is.slot (calls_on h.entry.is.slot h.entry.is.called) calls
+calls_there c class method calls h = record { called = h.entry.is.called; parts = refl; names = h.entry.is.names }
 
-parts_there : (c : ClassFile) (class method : List ℕ) (calls : List (List ℕ)) (h : IsStraightLine c class method calls) → HasParts c class method h.entry.is.slot (code_of (calls_on h.entry.is.slot h.entry.is.called))
+parts_there : (c : ClassFile) (class method : List ℕ) (calls : List (List ℕ)) (h : IsStraightLine c class method calls) → HasParts c class method h.entry.is.slot (calls_on h.entry.is.slot h.entry.is.called)
 parts_there c class method calls h = parts_of c class method calls (record { entry = h.entry; constructor = h.constructor; callees = h.callees })
 
 pub IsStraightLine-same : (c : ClassFile) (class method : List ℕ) (xs ys : List (List ℕ)) → IsStraightLine c class method xs → IsStraightLine c class method ys → xs ≡ ys
 IsStraightLine-same c class method xs ys g h =
     let slot = g.entry.is.slot in
-    let code = code_of (calls_on g.entry.is.slot g.entry.is.called) in
+    let code = calls_on g.entry.is.slot g.entry.is.called in
     let slot2 = h.entry.is.slot in
-    let code2 = code_of (calls_on h.entry.is.slot h.entry.is.called) in
+    let code2 = calls_on h.entry.is.slot h.entry.is.called in
     let same = HasParts-same c class method h.names (names_of c class method ys h) slot code slot2 code2 (parts_there c class method xs g) (parts_there c class method ys h) in
     let here = subst (λ (s : ℕ). AreCalls c class s code xs) same.0 (calls_there c class method xs g) in
-    let there = subst (λ (t : List ℕ). AreCalls c class slot2 t xs) same.1 here in
+    let there = subst (λ (t : List Simple). AreCalls c class slot2 t xs) same.1 here in
     AreCalls-same c class slot2 code2 xs ys there (calls_there c class method ys h)
 
 -- ---- the judged class

@@ -6,7 +6,7 @@ use Rattle.std.specs.Fmt.{digits, digits_onto, digit_glyph}
 use Rattle.typestate_core.specs.Output.{text_of}
 use Rattle.typestate_core.specs.Printed.{printed, printed_byte, is_printed_plainly, hex_digit}
 use Rattle.typestate_core.proofs.Named.{and_both, not_true}
-use Rattle.typestate_core.proofs.Spelled.{All-first, All-rest}
+use Rattle.typestate_core.proofs.AllParts.{All-first, All-rest}
 
 -- A text without a newline.
 pub record IsPlain (text : List ℕ) : Type 0 where

@@ -12,7 +12,10 @@ use Rattle.jvm_model.specs.Executions.{IsExecution}
 use Rattle.jvm_model.specs.Machine.{Subject}
 use Rattle.jvm_model.specs.Soundness.{plain_descriptor}
 use Rattle.jvm_model.specs.States.{Object, State, ended}
-use Rattle.typestate_core.specs.StraightLine.{Instruction, new, dup, astore, aload, invokespecial, return_void, code_of, calls_on}
+use Rattle.typestate_core.specs.declared.simple.Simple.{Simple}
+use Rattle.typestate_core.specs.declared.simple.Simple.TheVariants.{New, Dup, Store, Load, InvokeSpecial, Return}
+use Rattle.typestate_core.specs.SimpleCode.{code_of}
+use Rattle.typestate_core.specs.StraightLine.{calls_on}
 
 -- ---- class files
 
@@ -39,7 +42,7 @@ example_pool =
     ∷ []
 
 -- A code of these instructions, with its two limits, and without handlers.
-abbrev pub code_with : ℕ → ℕ → List Instruction → Code
+abbrev pub code_with : ℕ → ℕ → List Simple → Code
 code_with max_stack max_locals instructions =
     record { max_stack = max_stack; max_locals = max_locals; bytes = code_of instructions; handlers = []; attributes = [] }
 
@@ -50,15 +53,15 @@ method_with flags name code =
 
 -- The entry makes an object, keeps it in its local variable 0, and calls the methods at these indices on it.
 abbrev pub main_code : List ℕ → Code
-main_code called = code_with 2 1 (new 2 ∷ dup ∷ invokespecial 13 ∷ astore 0 ∷ (calls_on 0 called ++ return_void ∷ []))
+main_code called = code_with 2 1 (New 2 ∷ Dup ∷ InvokeSpecial 13 ∷ Store 0 ∷ (calls_on 0 called ++ Return ∷ []))
 
 -- The constructor calls the one of java/lang/Object.
 abbrev pub constructor_code : Code
-constructor_code = code_with 1 1 (aload 0 ∷ invokespecial 12 ∷ return_void ∷ [])
+constructor_code = code_with 1 1 (Load 0 ∷ InvokeSpecial 12 ∷ Return ∷ [])
 
 -- A method that only returns.
 abbrev pub empty_code : Code
-empty_code = code_with 0 1 (return_void ∷ [])
+empty_code = code_with 0 1 (Return ∷ [])
 
 -- The class F, with the static entry `main` that makes these calls, a constructor, and the methods `read` and
 -- `close`, which do nothing.

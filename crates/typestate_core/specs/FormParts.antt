@@ -1,5 +1,5 @@
 -- The parts of the straight-line form, as they are tested one after the other.
-use Rattle.std.specs.Prelude.{codes, ◌≡◌, ℕ, ◌<◌, ◌≤◌, ◌^◌, Bool, true, false, nat_eq, List, [], ◌∷◌, ◌++◌, map, Some, All, Contains, IsTrue, slice_index_or}
+use Rattle.std.specs.Prelude.{codes, ◌≡◌, ℕ, ◌<◌, ◌≤◌, Bool, true, false, nat_eq, List, [], ◌∷◌, ◌++◌, map, Some, All, Contains, IsTrue, slice_index_or}
 use Rattle.std.specs.List.{AllZip, list_any, starts_with}
 use Rattle.std.specs.Str.{bytes_eq}
 use denote.Ref.{Bor}
@@ -11,8 +11,10 @@ use Rattle.jvm_model.specs.Access.{has_flag}
 use Rattle.jvm_model.specs.Automata.{all_differ}
 use Rattle.jvm_model.specs.Lookups.{text_at, class_name_at, method_at}
 use Rattle.jvm_model.specs.Soundness.{plain_descriptor}
+use Rattle.typestate_core.specs.declared.simple.Simple.{Simple}
+use Rattle.typestate_core.specs.declared.simple.Simple.TheVariants.{New, Dup, Store, Load, InvokeSpecial, InvokeVirtual, Return}
 use Rattle.typestate_core.specs.Bodies.{Body, HasBody}
-use Rattle.typestate_core.specs.StraightLine.{new, dup, astore, aload, invokespecial, invokevirtual, return_void, code_of, plain_method, barred_names, calls_on, IsEntry, IsConstructor, IsCallee, HasMethod}
+use Rattle.typestate_core.specs.StraightLine.{plain_method, barred_names, calls_on, IsEntry, IsConstructor, IsCallee, HasMethod}
 
 -- The class is this one, outside java/, right below java/lang/Object, without interfaces and fields.
 pub record HasShape (c : ClassFile) (class : List ℕ) : Type 0 where
@@ -45,19 +47,15 @@ pub record IsMethod (c : ClassFile) (name : List ℕ) (m : Member) : Type 0 wher
   pub named : text_at c.pool m.name ≡ Some name
 
 -- The code of the constructor, which calls the method at an index.
-pub record IsConstructorCode (code : List ℕ) (initialiser : ℕ) : Type 0 where
-  pub fits : initialiser < 2 ^ 16
-  pub parts : code ≡ code_of (aload 0 ∷ invokespecial initialiser ∷ return_void ∷ [])
+pub record IsConstructorCode (code : List Simple) (initialiser : ℕ) : Type 0 where
+  pub parts : code ≡ Load 0 ∷ InvokeSpecial initialiser ∷ Return ∷ []
 
 -- The code of the entry: the indices of the class and of its constructor, the slot, and the code of the calls.
-pub record IsEntryCode (code : List ℕ) (made initialiser slot : ℕ) (calls : List ℕ) : Type 0 where
-  pub made_fits : made < 2 ^ 16
-  pub initialiser_fits : initialiser < 2 ^ 16
-  pub slot_limit : slot ≤ 3
-  pub parts : code ≡ code_of (new made ∷ dup ∷ invokespecial initialiser ∷ astore slot ∷ []) ++ (calls ++ code_of (return_void ∷ []))
+pub record IsEntryCode (code : List Simple) (made initialiser slot : ℕ) (calls : List Simple) : Type 0 where
+  pub parts : code ≡ New made ∷ Dup ∷ InvokeSpecial initialiser ∷ Store slot ∷ (calls ++ Return ∷ [])
 
 -- The entry, but for its calls: they are on the object in this slot, and this is their code.
-pub record IsEntryAround (c : ClassFile) (class : List ℕ) (m : Member) (slot : ℕ) (calls : List ℕ) : Type 0 where
+pub record IsEntryAround (c : ClassFile) (class : List ℕ) (m : Member) (slot : ℕ) (calls : List Simple) : Type 0 where
   pub static : IsTrue (has_flag m.flags Static)
   pub body : Body
   pub has : HasBody c m body
@@ -71,20 +69,18 @@ pub record IsEntryAround (c : ClassFile) (class : List ℕ) (m : Member) (slot :
 
 -- A method named <init> is the constructor of the form, and the method of this name is an entry but for
 -- its calls.
-pub record HasParts (c : ClassFile) (class method : List ℕ) (slot : ℕ) (calls : List ℕ) : Type 0 where
+pub record HasParts (c : ClassFile) (class method : List ℕ) (slot : ℕ) (calls : List Simple) : Type 0 where
   pub entry : HasMethod c method (λ m. IsEntryAround c class m slot calls)
   pub constructor : HasMethod c (codes "<init>") (IsConstructor c)
 
 -- The code begins with a call on the object in a slot, of the method at an index.
-pub record StartsWithCall (slot : ℕ) (code : List ℕ) (index : ℕ) (rest : List ℕ) : Type 0 where
-  pub fits : index < 2 ^ 16
-  pub parts : code ≡ code_of (aload slot ∷ invokevirtual index ∷ []) ++ rest
+pub record StartsWithCall (slot : ℕ) (code : List Simple) (index : ℕ) (rest : List Simple) : Type 0 where
+  pub parts : code ≡ Load slot ∷ InvokeVirtual index ∷ rest
 
 -- The code calls methods of the class by these names on the object in a slot.
-pub record AreCalls (c : ClassFile) (class : List ℕ) (slot : ℕ) (code : List ℕ) (calls : List (List ℕ)) : Type 0 where
+pub record AreCalls (c : ClassFile) (class : List ℕ) (slot : ℕ) (code : List Simple) (calls : List (List ℕ)) : Type 0 where
   pub called : List ℕ
-  pub fit : All (λ index. index < 2 ^ 16) called
-  pub parts : code ≡ code_of (calls_on slot called)
+  pub parts : code ≡ calls_on slot called
   pub names : AllZip (λ index name. method_at c.pool index ≡ Some (plain_method class name)) called calls
 
 -- The calls are of methods with these names, and a mark stands at each name that is called.
@@ -112,12 +108,12 @@ pub record Enters (c : ClassFile) (class : List ℕ) (m : Member) (made initiali
   pub locals : slot < max_locals
 
 -- What is asked of a method that may be called, beside that this is its body.
-pub record Returns (m : Member) (bytes : List ℕ) (max_locals : ℕ) : Type 0 where
+pub record Returns (m : Member) (simple : List Simple) (max_locals : ℕ) : Type 0 where
   pub instance : has_flag m.flags Static ≡ false
   pub visible : has_flag m.flags Private ≡ false
   pub concrete : has_flag m.flags Abstract ≡ false
   pub own : has_flag m.flags Native ≡ false
-  pub code : bytes ≡ code_of (return_void ∷ [])
+  pub code : simple ≡ Return ∷ []
   pub locals : 1 ≤ max_locals
 
 -- The methods of the form: an entry of this name with these calls, the constructor, and the methods that

@@ -1,6 +1,5 @@
 pub mod Answers
 pub mod Bodies
-pub mod BodyParts
 pub mod Claims
 pub mod Examples
 pub mod FormParts
@@ -10,6 +9,8 @@ pub mod Output
 pub mod Printed
 pub mod Reaching
 pub mod Requests
+pub mod SimpleCode
+pub mod SimpleParts
 pub mod StageOne
 pub mod Statuses
 pub mod StraightLine

@@ -1,6 +1,6 @@
 -- The form of class that is analysed so far: its entry makes one object, calls methods of it one after
 -- another, and returns.
-use Rattle.std.specs.Prelude.{codes, ◌≡◌, ℕ, ◌+◌, ◌<◌, ◌≤◌, ◌^◌, Bool, false, nat_eq, List, [], ◌∷◌, ◌++◌, map, Some, All, Contains, IsTrue}
+use Rattle.std.specs.Prelude.{codes, ◌≡◌, ℕ, ◌<◌, ◌≤◌, Bool, false, nat_eq, List, [], ◌∷◌, ◌++◌, map, Some, All, Contains, IsTrue}
 use Rattle.std.specs.List.{flat_map, AllZip, list_any, starts_with}
 use Rattle.std.specs.Str.{bytes_eq}
 use Rattle.jvm_model.specs.declared.class_file.ClassFile.{ClassFile}
@@ -9,34 +9,12 @@ use Rattle.jvm_model.specs.declared.access.AccessFlag.TheVariants.{Private, Stat
 use Rattle.jvm_model.specs.Access.{has_flag}
 use Rattle.jvm_model.specs.Automata.{all_differ}
 use Rattle.jvm_model.specs.Lookups.{MethodName, text_at, class_name_at, method_at}
-use Rattle.jvm_model.specs.Spelling.{u2}
 use Rattle.jvm_model.specs.declared.automaton.Event.{Event}
 use Rattle.jvm_model.specs.Soundness.{plain_descriptor}
+use Rattle.typestate_core.specs.declared.simple.Simple.{Simple}
+use Rattle.typestate_core.specs.declared.simple.Simple.TheVariants.{New, Dup, Store, Load, InvokeSpecial, InvokeVirtual, Return}
 use Rattle.typestate_core.specs.Bodies.{Body, HasBody}
 use Rattle.typestate_core.specs.StageOne.{is_called}
-
--- The instructions of the form, with their operands: an index of the pool, or a local slot.
-pub data Instruction : Type 0 where
-  new : ℕ → Instruction
-  dup : Instruction
-  astore : ℕ → Instruction
-  aload : ℕ → Instruction
-  invokespecial : ℕ → Instruction
-  invokevirtual : ℕ → Instruction
-  return_void : Instruction
-
--- An instruction as bytes (JVMS 6.5). The slots 0 to 3 have opcodes of their own.
-abbrev pub instruction : Instruction → List ℕ
-instruction (new index) = 187 ∷ u2 index
-instruction dup = 89 ∷ []
-instruction (astore slot) = (75 + slot) ∷ []
-instruction (aload slot) = (42 + slot) ∷ []
-instruction (invokespecial index) = 183 ∷ u2 index
-instruction (invokevirtual index) = 182 ∷ u2 index
-instruction return_void = 177 ∷ []
-
-abbrev pub code_of : List Instruction → List ℕ
-code_of instructions = flat_map instruction instructions
 
 -- A method of a class without parameters and result.
 abbrev pub plain_method : List ℕ → List ℕ → MethodName
@@ -47,11 +25,11 @@ abbrev pub barred_names : List (List ℕ)
 barred_names = codes "<clinit>" ∷ codes "finalize" ∷ codes "fillInStackTrace" ∷ codes "wait" ∷ codes "notify" ∷ codes "notifyAll" ∷ []
 
 -- Calls of these methods, one after another, on the object in a slot.
-abbrev pub calls_on : ℕ → List ℕ → List Instruction
-calls_on slot called = flat_map (λ index. aload slot ∷ invokevirtual index ∷ []) called
+abbrev pub calls_on : ℕ → List ℕ → List Simple
+calls_on slot called = flat_map (λ index. Load slot ∷ InvokeVirtual index ∷ []) called
 
 -- The entry: a static method that makes an object of the class, keeps it in a slot, calls methods of it
--- by these names, and returns. An index of the pool is a number of two bytes.
+-- by these names, and returns.
 pub record IsEntry (c : ClassFile) (class : List ℕ) (calls : List (List ℕ)) (m : Member) : Type 0 where
   pub static : IsTrue (has_flag m.flags Static)
   pub body : Body
@@ -60,13 +38,9 @@ pub record IsEntry (c : ClassFile) (class : List ℕ) (calls : List (List ℕ)) 
   pub initialiser : ℕ
   pub slot : ℕ
   pub called : List ℕ
-  pub made_fits : made < 2 ^ 16
-  pub initialiser_fits : initialiser < 2 ^ 16
-  pub called_fit : All (λ index. index < 2 ^ 16) called
-  pub code : body.code ≡ code_of (new made ∷ dup ∷ invokespecial initialiser ∷ astore slot ∷ (calls_on slot called ++ return_void ∷ []))
+  pub code : body.code ≡ New made ∷ Dup ∷ InvokeSpecial initialiser ∷ Store slot ∷ (calls_on slot called ++ Return ∷ [])
   pub makes : class_name_at c.pool made ≡ Some class
   pub initialises : method_at c.pool initialiser ≡ Some (plain_method class (codes "<init>"))
-  pub slot_limit : slot ≤ 3
   pub names : AllZip (λ index name. method_at c.pool index ≡ Some (plain_method class name)) called calls
   pub stack : 2 ≤ body.max_stack
   pub locals : slot < body.max_locals
@@ -77,8 +51,7 @@ pub record IsConstructor (c : ClassFile) (m : Member) : Type 0 where
   pub body : Body
   pub has : HasBody c m body
   pub initialiser : ℕ
-  pub initialiser_fits : initialiser < 2 ^ 16
-  pub code : body.code ≡ code_of (aload 0 ∷ invokespecial initialiser ∷ return_void ∷ [])
+  pub code : body.code ≡ Load 0 ∷ InvokeSpecial initialiser ∷ Return ∷ []
   pub initialises : method_at c.pool initialiser ≡ Some (plain_method (codes "java/lang/Object") (codes "<init>"))
   pub stack : 1 ≤ body.max_stack
   pub locals : 1 ≤ body.max_locals
@@ -92,7 +65,7 @@ pub record IsCallee (c : ClassFile) (m : Member) : Type 0 where
   pub own : has_flag m.flags Native ≡ false
   pub body : Body
   pub has : HasBody c m body
-  pub code : body.code ≡ code_of (return_void ∷ [])
+  pub code : body.code ≡ Return ∷ []
   pub locals : 1 ≤ body.max_locals
 
 -- The class has a method of this name of which the fact holds.

@@ -2,12 +2,12 @@
 //! The program above it calls `run` and ends with the status.
 #![tactic(auto)]
 
-mod body;
 mod laws;
 mod lines;
 mod output;
 mod printed;
 mod request;
+mod simple;
 mod stage_one;
 mod status;
 mod straight_line;

@@ -2,17 +2,22 @@
 //! another, and returns. The calls are given by the methods that they reach, so that a method is looked
 //! at once however often it is called.
 
-ghost use Rattle.std.specs.Prelude.{◌≡◌, ◌↔◌, ◌≤◌, ℕ, List, [], ◌∷◌, length, map, position, slice_index_or, true, false, All, Contains, IsTrue, IfOk, IfSome, IfNone};
-ghost use Rattle.std.specs.List.{list_any};
+ghost use Rattle.std.specs.Prelude.{◌≡◌, ◌↔◌, ◌<◌, ◌^◌, ℕ, List, [], ◌∷◌, length, map, position, slice_index_or, true, false, All, Contains, IsTrue, IfOk, IfSome, IfNone};
+ghost use Rattle.std.specs.List.{list_any, slice_get};
 ghost use Rattle.std.specs.Str.{bytes_eq};
 ghost use Rattle.jvm_model.specs.declared.class_file.Member.{Member};
-ghost use Rattle.jvm_model.specs.Lookups.{class_name_at, method_at};
+ghost use Rattle.jvm_model.specs.Lookups.{text_at, class_name_at, method_at};
+ghost use Rattle.jvm_model.specs.Soundness.{IsSoundClass};
+ghost use Rattle.jvm_model.specs.Spelling.{spell};
 ghost use Rattle.typestate_core.specs.StageOne.{is_called as is_chosen};
-ghost use Rattle.typestate_core.specs.StraightLine.{return_void, code_of, plain_method, barred_names, IsConstructor, IsCallee, IsStraightLine, Occurs};
+ghost use Rattle.typestate_core.specs.declared.simple.Simple.{Simple as OfForm};
+ghost use Rattle.typestate_core.specs.declared.simple.Simple.TheVariants.{Return};
+ghost use Rattle.typestate_core.specs.Bodies.{AreDistinct};
+ghost use Rattle.typestate_core.specs.StraightLine.{plain_method, barred_names, IsConstructor, IsCallee, IsStraightLine, Occurs};
 ghost use Rattle.typestate_core.specs.FormParts.{HasShape, IsAllowed, AreNames, texts, IsMethod, IsConstructorCode, IsEntryCode, IsEntryAround, HasParts, Constructs, Enters, Returns, StartsWithCall, AreCalls, Marks, AreCallees, HasForms};
 
-use crate::body::{Body, body_of, is_text_at};
 use crate::request::Request;
+use crate::simple::{Body, Method, Simple, body_of};
 use indexmap::IndexSet;
 use jvm_model::lookup::{class_name_at, method_at, text_at};
 use jvm_model::{AccessFlag, Automaton, ClassFile, Event, Member, MethodName, PoolEntry};
@@ -33,6 +38,8 @@ pub(crate) fn occurring_events(
     automaton: &Automaton,
     request: &Request<'_>,
 ) -> Result<Option<Vec<bool>>, AllocError>
+    requires sound { IsSoundClass class.now }
+    requires size { length (spell class.now) < 2 ^ 32 }
     ensures found { IfOk result (λ found. IfSome found (λ occurs. Occurs class.now request.now.class.now request.now.method.now automaton.now.events occurs.items)) }
     ensures none { IfOk result (λ found. IfNone found ((calls : List (List ℕ)) → IsStraightLine class.now request.now.class.now request.now.method.now calls → ⊥)) }
 {
@@ -131,6 +138,16 @@ fn allowed_name<'a>(pool: &'a [PoolEntry], method: &Member) -> Option<&'a [u8]>
     Some(name)
 }
 
+// Whether this text stands at the index.
+fn is_text_at(pool: &[PoolEntry], index: u16, text: &[u8]) -> bool
+    ensures { IsTrue result ↔ (text_at pool.now index ≡ Some text.now) }
+{
+    match text_at(pool, index) {
+        Some(found) => found == text,
+        None => false,
+    }
+}
+
 // Whether no method of the class may have this name.
 fn is_barred(name: &[u8]) -> bool
     ensures { result ≡ list_any (bytes_eq name.now) barred_names }
@@ -151,11 +168,13 @@ fn called_methods(
     names: &IndexSet<&[u8]>,
     request: &Request<'_>,
 ) -> Result<Option<Vec<bool>>, AllocError>
-    requires { AreNames class.now (texts names.now.keys) }
+    requires sound { IsSoundClass class.now }
+    requires size { length (spell class.now) < 2 ^ 32 }
+    requires names { AreNames class.now (texts names.now.keys) }
     ensures found { IfOk result (λ found. IfSome found (λ called. (calls : List (List ℕ)) × HasForms class.now request.now.class.now request.now.method.now calls × Marks (texts names.now.keys) calls called.items)) }
     ensures none { IfOk result (λ found. IfNone found ((calls : List (List ℕ)) → HasForms class.now request.now.class.now request.now.method.now calls → ⊥)) }
 {
-    let Some(calls) = calls_of_form(class, names, request) else {
+    let Some(calls) = calls_of_form(alloc, class, names, request)? else {
         return Ok(None);
     };
     let mut called = vec![in alloc; false; class.methods.len()]?;
@@ -164,40 +183,47 @@ fn called_methods(
         names,
         request.class,
         calls.slot,
-        calls.code,
+        &calls.code,
         &mut called,
     ) {
         return Ok(None);
     }
-    if !are_callees(class, &called) {
+    if !are_callees(alloc, class, &called)? {
         return Ok(None);
     }
     Ok(Some(called))
 }
 
-/// The calls of an entry: the slot of the object, and the code of the calls, four bytes for each.
-#[derive(Clone, Copy)]
-struct Calls<'a> {
-    slot: u8,
-    code: &'a [u8],
+/// The calls of an entry: the slot of the object, and the code of the calls, two instructions for each.
+#[derive(Drop)]
+struct Calls {
+    slot: u16,
+    code: Vec<Simple>,
 }
 
 // The calls of the entry, if there is one, and a constructor.
-fn calls_of_form<'a>(
-    class: &'a ClassFile,
+fn calls_of_form(
+    alloc: Global,
+    class: &ClassFile,
     names: &IndexSet<&[u8]>,
     request: &Request<'_>,
-) -> Option<Calls<'a>>
-    requires { AreNames class.now (texts names.now.keys) }
-    ensures found { IfSome result (λ calls. HasParts class.now request.now.class.now request.now.method.now calls.slot calls.code.now) }
-    ensures none { IfNone result ((slot : ℕ) (code : List ℕ) → HasParts class.now request.now.class.now request.now.method.now slot code → ⊥) }
+) -> Result<Option<Calls>, AllocError>
+    requires sound { IsSoundClass class.now }
+    requires size { length (spell class.now) < 2 ^ 32 }
+    requires names { AreNames class.now (texts names.now.keys) }
+    ensures found { IfOk result (λ found. IfSome found (λ calls. HasParts class.now request.now.class.now request.now.method.now calls.slot calls.code.items)) }
+    ensures none { IfOk result (λ found. IfNone found ((slot : ℕ) (code : List OfForm) → HasParts class.now request.now.class.now request.now.method.now slot code → ⊥)) }
 {
-    let constructor = method_named(class, names, CONSTRUCTOR)?;
-    if !is_constructor(class, constructor) {
-        return None;
+    let Some(constructor) = method_named(class, names, CONSTRUCTOR) else {
+        return Ok(None);
+    };
+    if !is_constructor(alloc, class, &constructor)? {
+        return Ok(None);
     }
-    let entry = method_named(class, names, request.method)?;
-    calls_of_entry(class, request.class, entry)
+    let Some(entry) = method_named(class, names, request.method) else {
+        return Ok(None);
+    };
+    calls_of_entry(alloc, class, request.class, &entry)
 }
 
 // The method of this name.
@@ -205,31 +231,37 @@ fn method_named<'a>(
     class: &'a ClassFile,
     names: &IndexSet<&[u8]>,
     name: &[u8],
-) -> Option<&'a Member>
+) -> Option<Method<'a>>
     requires { AreNames class.now (texts names.now.keys) }
-    ensures found { IfSome result (λ method. IsMethod class.now name.now method.now) }
-    ensures only { IfSome result (λ method. (other : Member) → IsMethod class.now name.now other → other ≡ method.now) }
+    ensures found { IfSome result (λ method. IsMethod class.now name.now method.member.now) }
+    ensures there { IfSome result (λ method. slice_get class.now.methods method.place ≡ Some method.member.now) }
+    ensures only { IfSome result (λ method. (other : Member) → IsMethod class.now name.now other → other ≡ method.member.now) }
     ensures none { IfNone result ((method : Member) → IsMethod class.now name.now method → ⊥) }
 {
     let place = place_of(names, name)?;
-    class.methods.as_slice().get(place)
+    let member = class.methods.as_slice().get(place)?;
+    Some(Method { place, member })
 }
 
 // Whether the method is the constructor of the form.
-fn is_constructor(class: &ClassFile, method: &Member) -> bool
-    ensures { IsTrue result ↔ IsConstructor class.now method.now }
+fn is_constructor(alloc: Global, class: &ClassFile, method: &Method<'_>) -> Result<bool, AllocError>
+    requires sound { IsSoundClass class.now }
+    requires size { length (spell class.now) < 2 ^ 32 }
+    requires distinct { AreDistinct class.now }
+    requires there { slice_get class.now.methods method.now.place ≡ Some method.now.member.now }
+    ensures { IfOk result (λ is. IsTrue is ↔ IsConstructor class.now method.now.member.now) }
 {
-    let Some(body) = body_of(class, method) else {
-        return false;
+    let Some(body) = body_of(alloc, class, method)? else {
+        return Ok(false);
     };
-    let Some(initialiser) = initialiser_of(body.code) else {
-        return false;
+    let Some(initialiser) = initialiser_of(&body.code) else {
+        return Ok(false);
     };
-    constructs(class, method, &body, initialiser)
+    Ok(constructs(class, method.member, &body, initialiser))
 }
 
 // Whether a method with this body, which calls the method at an index, is the constructor.
-fn constructs(class: &ClassFile, method: &Member, body: &Body<'_>, initialiser: u16) -> bool
+fn constructs(class: &ClassFile, method: &Member, body: &Body, initialiser: u16) -> bool
     ensures { IsTrue result ↔ Constructs class.now method.now initialiser body.now.max_stack body.now.max_locals }
 {
     !AccessFlag::Static.is_set_in(method.flags)
@@ -239,14 +271,19 @@ fn constructs(class: &ClassFile, method: &Member, body: &Body<'_>, initialiser: 
 }
 
 // The method that the code of the constructor calls.
-fn initialiser_of(code: &[u8]) -> Option<u16>
+fn initialiser_of(code: &[Simple]) -> Option<u16>
     ensures found { IfSome result (λ initialiser. IsConstructorCode code.now initialiser) }
     ensures none { IfNone result ((initialiser : ℕ) → IsConstructorCode code.now initialiser → ⊥) }
 {
-    let [42, 183, high, low, 177] = code else {
+    let [
+        Simple::Load(0),
+        Simple::InvokeSpecial(initialiser),
+        Simple::Return,
+    ] = code
+    else {
         return None;
     };
-    Some(u16::from_be_bytes([*high, *low]))
+    Some(*initialiser)
 }
 
 /// The code of an entry: the index of the class and of its constructor, the slot of the object, and the
@@ -255,24 +292,37 @@ fn initialiser_of(code: &[u8]) -> Option<u16>
 struct EntryCode<'a> {
     made: u16,
     initialiser: u16,
-    slot: u8,
-    calls: &'a [u8],
+    slot: u16,
+    calls: &'a [Simple],
 }
 
 // The calls of the method, if it is an entry of the form.
-fn calls_of_entry<'a>(class: &'a ClassFile, name: &[u8], method: &'a Member) -> Option<Calls<'a>>
-    ensures found { IfSome result (λ calls. IsEntryAround class.now name.now method.now calls.slot calls.code.now) }
-    ensures none { IfNone result ((slot : ℕ) (code : List ℕ) → IsEntryAround class.now name.now method.now slot code → ⊥) }
+fn calls_of_entry(
+    alloc: Global,
+    class: &ClassFile,
+    name: &[u8],
+    method: &Method<'_>,
+) -> Result<Option<Calls>, AllocError>
+    requires sound { IsSoundClass class.now }
+    requires size { length (spell class.now) < 2 ^ 32 }
+    requires distinct { AreDistinct class.now }
+    requires there { slice_get class.now.methods method.now.place ≡ Some method.now.member.now }
+    ensures found { IfOk result (λ found. IfSome found (λ calls. IsEntryAround class.now name.now method.now.member.now calls.slot calls.code.items)) }
+    ensures none { IfOk result (λ found. IfNone found ((slot : ℕ) (code : List OfForm) → IsEntryAround class.now name.now method.now.member.now slot code → ⊥)) }
 {
-    let body = body_of(class, method)?;
-    let code = entry_code(body.code)?;
-    if !enters(class, name, method, &body, &code) {
-        return None;
+    let Some(body) = body_of(alloc, class, method)? else {
+        return Ok(None);
+    };
+    let Some(code) = entry_code(&body.code) else {
+        return Ok(None);
+    };
+    if !enters(class, name, method.member, &body, &code) {
+        return Ok(None);
     }
-    Some(Calls {
+    Ok(Some(Calls {
         slot: code.slot,
-        code: code.calls,
-    })
+        code: code.calls.to_vec(alloc)?,
+    }))
 }
 
 // Whether a method with this body and code is the entry, whatever it calls.
@@ -280,7 +330,7 @@ fn enters(
     class: &ClassFile,
     name: &[u8],
     method: &Member,
-    body: &Body<'_>,
+    body: &Body,
     code: &EntryCode<'_>,
 ) -> bool
     ensures { IsTrue result ↔ Enters class.now name.now method.now code.now.made code.now.initialiser code.now.slot body.now.max_stack body.now.max_locals }
@@ -290,37 +340,29 @@ fn enters(
         && is_class_at(pool, code.made, name)
         && is_method_at(pool, code.initialiser, name, CONSTRUCTOR)
         && body.max_stack >= 2
-        && body.max_locals > u16::from(code.slot)
+        && body.max_locals > code.slot
 }
 
 // The parts of the code of an entry.
-fn entry_code(code: &[u8]) -> Option<EntryCode<'_>>
+fn entry_code(code: &[Simple]) -> Option<EntryCode<'_>>
     ensures found { IfSome result (λ entry. IsEntryCode code.now entry.made entry.initialiser entry.slot entry.calls.now) }
-    ensures none { IfNone result ((made initialiser slot : ℕ) (calls : List ℕ) → IsEntryCode code.now made initialiser slot calls → ⊥) }
+    ensures none { IfNone result ((made initialiser slot : ℕ) (calls : List OfForm) → IsEntryCode code.now made initialiser slot calls → ⊥) }
 {
     let [
-        187,
-        c_high,
-        c_low,
-        89,
-        183,
-        i_high,
-        i_low,
-        store,
+        Simple::New(made),
+        Simple::Dup,
+        Simple::InvokeSpecial(initialiser),
+        Simple::Store(slot),
         calls @ ..,
-        177,
+        Simple::Return,
     ] = code
     else {
         return None;
     };
-    let slot = store.checked_sub(75)?;
-    if slot > 3 {
-        return None;
-    }
     Some(EntryCode {
-        made: u16::from_be_bytes([*c_high, *c_low]),
-        initialiser: u16::from_be_bytes([*i_high, *i_low]),
-        slot,
+        made: *made,
+        initialiser: *initialiser,
+        slot: *slot,
         calls,
     })
 }
@@ -330,13 +372,12 @@ fn mark_calls(
     class: &ClassFile,
     names: &IndexSet<&[u8]>,
     owner: &[u8],
-    slot: u8,
-    code: &[u8],
+    slot: u16,
+    code: &[Simple],
     called: &mut [bool],
 ) -> bool
     requires names { AreNames class.now (texts names.now.keys) }
     requires start { Marks (texts names.now.keys) [] called.old }
-    requires limit { slot ≤ 3 }
     ensures found { IsTrue result → (reached : List (List ℕ)) × AreCalls class.now owner.now slot code.now reached × Marks (texts names.now.keys) reached called.new }
     ensures none { result ≡ false → (reached : List (List ℕ)) → AreCalls class.now owner.now slot code.now reached → All (Contains (texts names.now.keys)) reached → ⊥ }
 {
@@ -356,18 +397,22 @@ fn mark_calls(
 }
 
 // The index that the call at the front of the code has, on the object in the slot, and the code after it.
-fn split_call(slot: u8, code: &[u8]) -> Option<(u16, &[u8])>
-    requires { slot ≤ 3 }
+fn split_call(slot: u16, code: &[Simple]) -> Option<(u16, &[Simple])>
     ensures found { IfSome result (λ parts. StartsWithCall slot code.now parts.0 parts.1.now) }
-    ensures none { IfNone result ((index : ℕ) (rest : List ℕ) → StartsWithCall slot code.now index rest → ⊥) }
+    ensures none { IfNone result ((index : ℕ) (rest : List OfForm) → StartsWithCall slot code.now index rest → ⊥) }
 {
-    let [load, 182, high, low, rest @ ..] = code else {
+    let [
+        Simple::Load(loaded),
+        Simple::InvokeVirtual(index),
+        rest @ ..,
+    ] = code
+    else {
         return None;
     };
-    if *load != 42 + slot {
+    if *loaded != slot {
         return None;
     }
-    Some((u16::from_be_bytes([*high, *low]), rest))
+    Some((*index, rest))
 }
 
 // The place of the method that a call names.
@@ -392,52 +437,71 @@ fn place_of(names: &IndexSet<&[u8]>, name: &[u8]) -> Option<usize>
 }
 
 // Whether each method that is called has the form of a method that may be.
-fn are_callees(class: &ClassFile, called: &[bool]) -> bool
-    requires { length called.now ≡ length class.now.methods }
-    ensures { IsTrue result ↔ AreCallees class.now called.now (length class.now.methods) }
+fn are_callees(alloc: Global, class: &ClassFile, called: &[bool]) -> Result<bool, AllocError>
+    requires sound { IsSoundClass class.now }
+    requires size { length (spell class.now) < 2 ^ 32 }
+    requires distinct { AreDistinct class.now }
+    requires many { length called.now ≡ length class.now.methods }
+    ensures { IfOk result (λ are. IsTrue are ↔ AreCallees class.now called.now (length class.now.methods)) }
 {
-    for (place, method) in class.methods.as_slice().iter().enumerate() {
-        if !may_stand(class, method, called[place]) {
-            return false;
+    for (place, member) in class.methods.as_slice().iter().enumerate() {
+        if !may_stand(alloc, class, &Method { place, member }, called[place])? {
+            return Ok(false);
         }
     }
-    true
+    Ok(true)
 }
 
 // Whether the method has the form of a method that may be called, if it is.
-fn may_stand(class: &ClassFile, method: &Member, is_called: bool) -> bool
-    ensures { IsTrue result ↔ (is_called ≡ true → IsCallee class.now method.now) }
+fn may_stand(
+    alloc: Global,
+    class: &ClassFile,
+    method: &Method<'_>,
+    is_called: bool,
+) -> Result<bool, AllocError>
+    requires sound { IsSoundClass class.now }
+    requires size { length (spell class.now) < 2 ^ 32 }
+    requires distinct { AreDistinct class.now }
+    requires there { slice_get class.now.methods method.now.place ≡ Some method.now.member.now }
+    ensures { IfOk result (λ may. IsTrue may ↔ (is_called ≡ true → IsCallee class.now method.now.member.now)) }
 {
-    !is_called || is_callee(class, method)
+    if !is_called {
+        return Ok(true);
+    }
+    is_callee(alloc, class, method)
 }
 
 // Whether the method may be called, and only returns.
-fn is_callee(class: &ClassFile, method: &Member) -> bool
-    ensures { IsTrue result ↔ IsCallee class.now method.now }
+fn is_callee(alloc: Global, class: &ClassFile, method: &Method<'_>) -> Result<bool, AllocError>
+    requires sound { IsSoundClass class.now }
+    requires size { length (spell class.now) < 2 ^ 32 }
+    requires distinct { AreDistinct class.now }
+    requires there { slice_get class.now.methods method.now.place ≡ Some method.now.member.now }
+    ensures { IfOk result (λ is. IsTrue is ↔ IsCallee class.now method.now.member.now) }
 {
-    let Some(body) = body_of(class, method) else {
-        return false;
+    let Some(body) = body_of(alloc, class, method)? else {
+        return Ok(false);
     };
-    returns(method, &body)
+    Ok(returns(method.member, &body))
 }
 
 // Whether a method with this body may be called, and only returns.
-fn returns(method: &Member, body: &Body<'_>) -> bool
-    ensures { IsTrue result ↔ Returns method.now body.now.code.now body.now.max_locals }
+fn returns(method: &Member, body: &Body) -> bool
+    ensures { IsTrue result ↔ Returns method.now body.now.code.items body.now.max_locals }
 {
     !AccessFlag::Static.is_set_in(method.flags)
         && !AccessFlag::Private.is_set_in(method.flags)
         && !AccessFlag::Abstract.is_set_in(method.flags)
         && !AccessFlag::Native.is_set_in(method.flags)
-        && is_return(body.code)
+        && is_return(&body.code)
         && body.max_locals >= 1
 }
 
 // Whether the code only returns.
-fn is_return(code: &[u8]) -> bool
-    ensures { IsTrue result ↔ (code.now ≡ code_of (return_void ∷ [])) }
+fn is_return(code: &[Simple]) -> bool
+    ensures { IsTrue result ↔ (code.now ≡ Return ∷ []) }
 {
-    code == [177].as_slice()
+    matches!(code, [Simple::Return])
 }
 
 // Which events are chosen by a call of one of the methods that are called.

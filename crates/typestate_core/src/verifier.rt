@@ -1,9 +1,11 @@
 //! The run: the checks in their order, and then the writing of the lines.
 
-ghost use Rattle.std.specs.Prelude.{◌≡◌, ◌≤◌, ℕ, List, [], ◌∷◌, map, string_bytes, IfOk, IfErr, IfSome, IfNone, IsErrOf};
+ghost use Rattle.std.specs.Prelude.{◌≡◌, ◌<◌, ◌≤◌, ◌^◌, ℕ, List, [], ◌∷◌, length, map, string_bytes, IfOk, IfErr, IfSome, IfNone, IsErrOf};
 ghost use Rattle.std.specs.Bool.{OnTrue, OnFalse};
 ghost use Rattle.ts_outside.specs.Counts.{Rose};
 ghost use Rattle.jvm_model.specs.Automata.{IsAutomaton};
+ghost use Rattle.jvm_model.specs.Soundness.{IsSoundClass};
+ghost use Rattle.jvm_model.specs.Spelling.{spell};
 ghost use Rattle.typestate_core.specs.declared.verifier.End.TheVariants.{Memory};
 ghost use Rattle.typestate_core.specs.Lines.{no_file, refused_line, missing_line, site_text, safe_line, unproved_line, summary_line};
 ghost use Rattle.typestate_core.specs.Outcomes.{Outcome, Asks, IsOfForm, entry_site};
@@ -198,7 +200,9 @@ fn site_verdict(
     automaton: &Automaton,
     class: &ClassFile,
 ) -> Result<Option<bool>, AllocError>
-    requires { IsAutomaton automaton.now }
+    requires automaton { IsAutomaton automaton.now }
+    requires sound { IsSoundClass class.now }
+    requires size { length (spell class.now) < 2 ^ 32 }
     ensures found { IfOk result (λ r. IfSome r (IsSiteVerdict class.now automaton.now request.now.class.now request.now.method.now)) }
     ensures none { IfOk result (λ r. IfNone r ((calls : List (List ℕ)) → IsOfForm class.now automaton.now request.now.class.now request.now.method.now calls → ⊥)) }
 {

@@ -1,9 +1,19 @@
 use Rattle.std.proofs.lemmas.Bool.{false≢true}
+use Rattle.typestate_core.specs.declared.simple.Body.{Body as Read}
+use Rattle.typestate_core.specs.Bodies.{Body, HasBody, body_of}
 use Rattle.typestate_core.proofs.FormTests.{callee_iff}
+use Rattle.typestate_core.proofs.Judging.{at_none, at_some}
 use Rattle.typestate_core.proofs.straight_line.is_callee.Goals as goal
 
 pub returns-in_default : goal.returns-in_default
-returns-in_default c = (λ e. absurd (false≢true e), λ is. absurd (c.in_default.ensures.none is.body is.has))
+returns-in_default c =
+    let none = at_none c.in_ok-body.field-0 ((b : Body) → HasBody c.args.class.now c.args.method.now.member.now b → ⊥) c.in_default.is c.in_ok-body.ensures.none in
+    (λ e. absurd (false≢true e), λ is. absurd (none is.body is.has))
 
 pub returns : goal.returns
-returns c = callee_iff c.args.class.now c.args.method.now c.in-Some.body.max_stack c.in-Some.body.max_locals c.in-Some.body.code.now c.returns.result c.in-Some.ensures.found c.returns.ensures
+returns c =
+    let class = c.args.class.now in
+    let m = c.args.method.now.member.now in
+    let body = c.in-Some.body in
+    let found = at_some c.in_ok-body.field-0 (λ (b : Read). HasBody class m (body_of b.max_stack b.max_locals b.code.items)) body c.in-Some.is c.in_ok-body.ensures.found in
+    callee_iff class m body.max_stack body.max_locals body.code.items c.returns.result c.requires.distinct found c.returns.ensures
