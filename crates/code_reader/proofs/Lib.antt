@@ -1,6 +1,7 @@
 pub mod Dimensions
 pub mod Divided
 pub mod Front
+pub mod MethodPlaces
 pub mod OneReading
 pub mod ParameterUnits
 pub mod Sizes

@@ -1,5 +1,5 @@
 -- The code of a method reads as one value, or has one first fault.
-use Rattle.std.proofs.Common.{◌≡◌, ℕ, ◌+◌, ◌<◌, Bool, true, false, List, [], ◌∷◌, ◌++◌, length, map, Option, Some, None, slice_get, Result, Ok, Err, refl, sym, ap, ◌∙◌, subst, sum_by, arith}
+use Rattle.std.proofs.Common.{◌≡◌, ℕ, ◌+◌, Bool, true, false, List, [], ◌∷◌, ◌++◌, length, map, Option, Some, None, Result, Ok, Err, refl, sym, ap, ◌∙◌, subst, sum_by, arith}
 use Rattle.std.specs.List.{list_any, flat_map}
 use Rattle.std.proofs.lemmas.Option.{same_Some}
 use Rattle.jvm_model.specs.declared.class_file.Attribute.{Attribute}
@@ -7,7 +7,6 @@ use Rattle.jvm_model.specs.declared.class_file.ClassFile.{ClassFile}
 use Rattle.jvm_model.specs.declared.class_file.Member.{Member}
 use Rattle.jvm_model.specs.declared.code.Code.{Code}
 use Rattle.jvm_model.specs.declared.code.Handler.{Handler}
-use Rattle.jvm_model.specs.declared.descriptor.Descriptor.{Descriptor}
 use Rattle.jvm_model.specs.declared.descriptor.Descriptor.TheVariants.{Method}
 use Rattle.jvm_model.specs.declared.descriptor.Kind.{Kind}
 use Rattle.jvm_model.specs.declared.pool.PoolEntry.{PoolEntry}
@@ -19,7 +18,7 @@ use Rattle.jvm_model.specs.Soundness.{is_code}
 use Rattle.jvm_model.specs.Spelling.{attribute}
 use Rattle.jvm_model.proofs.MethodKinds.{one_value}
 use Rattle.byte_reader.specs.Reading.{Place, Fault}
-use Rattle.code_reader.specs.CodeReading.{in_code, placed, TakesUnits, by_kinds, no_method, kind_units, receiver_units, TakesLocals, Head, head_at, tail_at, BeginsWith, code_fault, ReadsBody, cut_before, wrong_code, wrong_after, reads, ReadsCode}
+use Rattle.code_reader.specs.CodeReading.{in_code, placed, TakesUnits, by_kinds, no_method, kind_units, receiver_units, TakesLocals, Head, head_at, tail_at, code_fault, ReadsBody, cut_before, wrong_code, wrong_after, reads, ReadsCode}
 use Rattle.code_reader.specs.Division.{Spot, instruction_in, Divides, at_end, stops, goes_on}
 use Rattle.code_reader.proofs.ToldCodes.{not_before, later, one_first}
 

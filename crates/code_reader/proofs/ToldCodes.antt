@@ -1,5 +1,5 @@
 -- What is answered on the code of a method is what its first attribute named Code gives.
-use Rattle.std.proofs.Common.{◌≡◌, ℕ, ◌+◌, ◌≤◌, Bool, true, false, ◌||◌, List, [], ◌∷◌, ◌++◌, length, get_or, Option, Some, IfSome, Bor, slice_get, Result, Ok, Err, sym, ap, ◌∙◌, subst}
+use Rattle.std.proofs.Common.{◌≡◌, ℕ, ◌+◌, ◌≤◌, Bool, true, false, ◌||◌, List, [], ◌∷◌, ◌++◌, length, get_or, Option, Some, IfSome, Bor, slice_get, Result, Ok, Err, sym, ap, ◌∙◌, subst, arith}
 use Rattle.std.specs.List.{list_any}
 use Rattle.std.proofs.lemmas.Option.{same_Some, get_or_from_slice_get}
 use Rattle.jvm_model.specs.declared.class_file.Attribute.{Attribute}
@@ -12,8 +12,9 @@ use Rattle.jvm_model.specs.declared.reason.ReadRefusal.TheVariants as refusals
 use Rattle.jvm_model.specs.Layout.{HasFirstCode, IsCodePlace}
 use Rattle.jvm_model.specs.Soundness.{is_code}
 use Rattle.jvm_model.specs.Spelling.{spell}
-use Rattle.jvm_model.proofs.CodePlaces.{StandsAt-fits}
+use Rattle.jvm_model.proofs.CodePlaces.{StandsAt-fits, place_is}
 use Rattle.code_reader.specs.Bodies.{TellsBody}
+use Rattle.code_reader.specs.Places.{method_offset, IsCodeAfter}
 use Rattle.code_reader.specs.CodeReading.{TakesLocals, TellsCode}
 
 -- the method that is read is the one at its place
@@ -75,3 +76,19 @@ tells c method place parameters owner code (Ok read) there first is taken body =
 tells c method place parameters owner code (Err refusals.Memory) there first is taken body = tt
 tells c method place parameters owner code (Err (refusals.Refused offset reason)) there first is taken body =
     record { owner = owner; there = there; code = code; first = first; place = place; is_place = is; parameters = parameters; taken = taken; body = body }
+
+-- ---- the code, found by where the method stands
+
+-- what was found in what was read is found in the method
+pub found_there : (pool read_pool : List PoolEntry) (attributes read : List Attribute) (bytes : ℕ) (code : Attribute) → read_pool ≡ pool → read ≡ attributes
+    → IsCodeAfter read_pool read bytes code → IsCodeAfter pool attributes bytes code
+found_there pool read_pool attributes read bytes code same_pool same found =
+    subst (λ (p : List PoolEntry). IsCodeAfter p attributes bytes code) same_pool (subst (λ (all : List Attribute). IsCodeAfter read_pool all bytes code) same found)
+
+pub first_of_found : (pool : List PoolEntry) (attributes : List Attribute) (bytes : ℕ) (code : Attribute) → IsCodeAfter pool attributes bytes code → HasFirstCode pool attributes code
+first_of_found pool attributes bytes code found = record { before = found.before; after = found.after; first = found.first }
+
+pub place_of_found : (c : ClassFile) (method offset bytes : ℕ) (owner : Member) (code : Attribute) → slice_get c.methods method ≡ Some owner → IsCodeAfter c.pool owner.attributes bytes code
+    → offset ≡ method_offset c method → IsCodePlace c method (offset + 8 + bytes + 6)
+place_of_found c method offset bytes owner code there found is =
+    place_is c method owner (offset + 8 + bytes + 6) bytes there (record { before = found.before; code = code; after = found.after; first = found.first; counted = found.counted }) (omega (arith, is))

@@ -4,3 +4,4 @@ pub mod CodeReading
 pub mod Divided
 pub mod Bodies
 pub mod Parameters
+pub mod Places

@@ -9,11 +9,13 @@ mod fault;
 mod handler;
 pub mod laws;
 mod number;
+mod place;
 mod read;
 mod spot;
 mod switch;
 
-pub use read::read_code;
+pub use place::method_offset;
+pub use read::{read_code, read_code_at};
 
 #[cfg(test)]
 mod tests;

@@ -6,10 +6,11 @@ ghost use Rattle.jvm_model.specs.Soundness.{IsSoundClass};
 ghost use Rattle.jvm_model.specs.Spelling.{spell};
 ghost use Rattle.code_reader.specs.CodeReading.{kind_units, receiver_units, TakesUnits, TakesLocals, TellsCode};
 ghost use Rattle.code_reader.specs.Parameters.{HasUnits, HasFewUnits};
+ghost use Rattle.code_reader.specs.Places.{method_offset};
 
 use crate::body::read_body;
-use jvm_model::layout::code_place;
-use jvm_model::sound::{first_code, member_signature};
+use crate::place::{found_code, method_offset};
+use jvm_model::sound::member_signature;
 use jvm_model::{
     AccessFlag, ClassFile, Code, Descriptor, Kind, Member, ReadRefusal, descriptor_of,
 };
@@ -38,19 +39,36 @@ use std::alloc::{AllocError, Global};
 /// The first instruction with `BadOpcode` or `CodeCut` ends the division; what its operands say, and whether branches
 /// to bytes behind its first one are right, is not judged. Of several faults the one with the least offset is told, and
 /// at one offset the one that stands first in `Reason`, `BadIndex` after all others. The time taken is linear in the
-/// size of the body, but for the class file's methods before this one, which are passed over once.
+/// size of the body, but for the class file's methods before this one, which are passed over once: `read_code_at` spares
+/// that.
 pub fn read_code(alloc: Global, class: &ClassFile, method: usize) -> Result<Code, ReadRefusal>
     requires sound { IsSoundClass class.now }
     requires size { length (spell class.now) < 2 ^ 32 }
     requires code { HasCodeAttribute class.now method }
     ensures { TellsCode class.now method result }
 {
-    let place = code_place(class, method);
+    read_code_at(alloc, class, method, method_offset(class, method))
+}
+
+/// The same, where the file offset of the first byte of the method is known: the methods before it are not passed over.
+pub fn read_code_at(
+    alloc: Global,
+    class: &ClassFile,
+    method: usize,
+    offset: u32,
+) -> Result<Code, ReadRefusal>
+    requires sound { IsSoundClass class.now }
+    requires size { length (spell class.now) < 2 ^ 32 }
+    requires code { HasCodeAttribute class.now method }
+    requires offset { offset ≡ method_offset class.now method }
+    ensures { TellsCode class.now method result }
+{
     let owner = &class.methods.as_slice()[method];
     let pool = class.pool.as_slice();
-    let code = first_code(pool, owner.attributes.as_slice()).unwrap();
+    let found = found_code(pool, owner.attributes.as_slice());
+    let place = offset + 8 + found.before + 6;
     let parameters = locals_taken(alloc, class, owner)?;
-    read_body(alloc, pool, parameters, place, code.body.as_slice())
+    read_body(alloc, pool, parameters, place, found.code.body.as_slice())
 }
 
 /// How many local variables the receiver and the parameters of a method take (JVMS 2.6.1).

@@ -4,12 +4,13 @@ ghost use Rattle.std.specs.Prelude.{◌≡◌, ◌<◌, ◌^◌, ℕ, List, leng
 ghost use Rattle.std.specs.List.{slice_get};
 ghost use Rattle.jvm_model.specs.Soundness.{IsSoundClass};
 ghost use Rattle.jvm_model.specs.Spelling.{spell};
+ghost use Rattle.code_reader.specs.Places.{method_offset};
 ghost use Rattle.typestate_core.specs.declared.simple.Simple.{Simple as OfForm};
 ghost use Rattle.typestate_core.specs.Bodies.{Body as BodyOf, HasBody, AreDistinct, body_of as these};
 ghost use Rattle.typestate_core.specs.SimpleCode.{instruction};
 ghost use Rattle.typestate_core.specs.SimpleParts.{IsPlaced, IsSimple, short_of, simple_of};
 
-use code_reader::read_code;
+use code_reader::{method_offset, read_code_at};
 use jvm_model::sound::first_code;
 use jvm_model::{ClassFile, Member, PlacedInstruction, ReadRefusal};
 use std::alloc::{AllocError, Global};
@@ -66,11 +67,29 @@ pub(crate) fn body_of(
     ensures found { IfOk result (λ found. IfSome found (λ b. HasBody class.now method.now.member.now (these b.max_stack b.max_locals b.code.items))) }
     ensures none { IfOk result (λ found. IfNone found ((b : BodyOf) → HasBody class.now method.now.member.now b → ⊥)) }
 {
+    body_at(alloc, class, method, method_offset(class, method.place))
+}
+
+/// The same, where the file offset of the method's first byte is known.
+pub(crate) fn body_at(
+    alloc: Global,
+    class: &ClassFile,
+    method: &Method<'_>,
+    offset: u32,
+) -> Result<Option<Body>, AllocError>
+    requires sound { IsSoundClass class.now }
+    requires size { length (spell class.now) < 2 ^ 32 }
+    requires distinct { AreDistinct class.now }
+    requires there { slice_get class.now.methods method.now.place ≡ Some method.now.member.now }
+    requires offset { offset ≡ method_offset class.now method.now.place }
+    ensures found { IfOk result (λ found. IfSome found (λ b. HasBody class.now method.now.member.now (these b.max_stack b.max_locals b.code.items))) }
+    ensures none { IfOk result (λ found. IfNone found ((b : BodyOf) → HasBody class.now method.now.member.now b → ⊥)) }
+{
     let attributes = method.member.attributes.as_slice();
     if first_code(class.pool.as_slice(), attributes).is_none() {
         return Ok(None);
     }
-    let code = match read_code(alloc, class, method.place) {
+    let code = match read_code_at(alloc, class, method.place, offset) {
         Ok(code) => code,
         Err(ReadRefusal::Refused(..)) => return Ok(None),
         Err(ReadRefusal::Memory) => return Err(AllocError),

@@ -9,6 +9,7 @@ ghost use Rattle.jvm_model.specs.declared.class_file.Member.{Member};
 ghost use Rattle.jvm_model.specs.Lookups.{text_at, class_name_at, method_at};
 ghost use Rattle.jvm_model.specs.Soundness.{IsSoundClass};
 ghost use Rattle.jvm_model.specs.Spelling.{spell};
+ghost use Rattle.code_reader.specs.Places.{method_offset};
 ghost use Rattle.typestate_core.specs.StageOne.{is_called as is_chosen};
 ghost use Rattle.typestate_core.specs.declared.simple.Simple.{Simple as OfForm};
 ghost use Rattle.typestate_core.specs.declared.simple.Simple.TheVariants.{Return};
@@ -17,8 +18,9 @@ ghost use Rattle.typestate_core.specs.StraightLine.{plain_method, barred_names, 
 ghost use Rattle.typestate_core.specs.FormParts.{HasShape, IsAllowed, AreNames, texts, IsMethod, IsConstructorCode, IsEntryCode, IsEntryAround, HasParts, Constructs, Enters, Returns, StartsWithCall, AreCalls, Marks, AreCallees, HasForms};
 
 use crate::request::Request;
-use crate::simple::{Body, Method, Simple, body_of};
+use crate::simple::{Body, Method, Simple, body_at, body_of};
 use indexmap::IndexSet;
+use jvm_model::layout::{member_length, methods_offset};
 use jvm_model::lookup::{class_name_at, method_at, text_at};
 use jvm_model::{AccessFlag, Automaton, ClassFile, Event, Member, MethodName, PoolEntry};
 use std::alloc::{AllocError, Global};
@@ -444,42 +446,53 @@ fn are_callees(alloc: Global, class: &ClassFile, called: &[bool]) -> Result<bool
     requires many { length called.now ≡ length class.now.methods }
     ensures { IfOk result (λ are. IsTrue are ↔ AreCallees class.now called.now (length class.now.methods)) }
 {
+    let mut offset = methods_offset(class);
     for (place, member) in class.methods.as_slice().iter().enumerate() {
-        if !may_stand(alloc, class, &Method { place, member }, called[place])? {
+        let method = Method { place, member };
+        if !may_stand(alloc, class, &method, offset, called[place])? {
             return Ok(false);
         }
+        offset += member_length(member);
     }
     Ok(true)
 }
 
-// Whether the method has the form of a method that may be called, if it is.
+// Whether the method, whose first byte stands at this file offset, has the form of one that may be called, if it is.
 fn may_stand(
     alloc: Global,
     class: &ClassFile,
     method: &Method<'_>,
+    offset: u32,
     is_called: bool,
 ) -> Result<bool, AllocError>
     requires sound { IsSoundClass class.now }
     requires size { length (spell class.now) < 2 ^ 32 }
     requires distinct { AreDistinct class.now }
     requires there { slice_get class.now.methods method.now.place ≡ Some method.now.member.now }
+    requires offset { offset ≡ method_offset class.now method.now.place }
     ensures { IfOk result (λ may. IsTrue may ↔ (is_called ≡ true → IsCallee class.now method.now.member.now)) }
 {
     if !is_called {
         return Ok(true);
     }
-    is_callee(alloc, class, method)
+    is_callee(alloc, class, method, offset)
 }
 
-// Whether the method may be called, and only returns.
-fn is_callee(alloc: Global, class: &ClassFile, method: &Method<'_>) -> Result<bool, AllocError>
+// Whether the method, whose first byte stands at this file offset, may be called, and only returns.
+fn is_callee(
+    alloc: Global,
+    class: &ClassFile,
+    method: &Method<'_>,
+    offset: u32,
+) -> Result<bool, AllocError>
     requires sound { IsSoundClass class.now }
     requires size { length (spell class.now) < 2 ^ 32 }
     requires distinct { AreDistinct class.now }
     requires there { slice_get class.now.methods method.now.place ≡ Some method.now.member.now }
+    requires offset { offset ≡ method_offset class.now method.now.place }
     ensures { IfOk result (λ is. IsTrue is ↔ IsCallee class.now method.now.member.now) }
 {
-    let Some(body) = body_of(alloc, class, method)? else {
+    let Some(body) = body_at(alloc, class, method, offset)? else {
         return Ok(false);
     };
     Ok(returns(method.member, &body))
