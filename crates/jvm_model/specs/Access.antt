@@ -1,7 +1,7 @@
--- Access flags (JVMS 4.5, 4.6).
+-- Access flags (JVMS 4.1, 4.5, 4.6).
 use Rattle.std.specs.Prelude.{ℕ, Bool, not, ◌==◌, bit_and}
 use Rattle.jvm_model.specs.declared.access.AccessFlag.{AccessFlag}
-use Rattle.jvm_model.specs.declared.access.AccessFlag.TheVariants.{Public, Private, Protected, Static, Native, Abstract}
+use Rattle.jvm_model.specs.declared.access.AccessFlag.TheVariants.{Public, Private, Protected, Static, Native, Interface, Abstract}
 
 -- The bit of a flag.
 abbrev pub mask_of : AccessFlag → ℕ
@@ -10,6 +10,7 @@ mask_of Private = 0x0002
 mask_of Protected = 0x0004
 mask_of Static = 0x0008
 mask_of Native = 0x0100
+mask_of Interface = 0x0200
 mask_of Abstract = 0x0400
 
 -- The flag is set.

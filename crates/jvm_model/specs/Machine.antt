@@ -1,7 +1,7 @@
 -- The machine (JVMS 2.6, 2.10, 5.5, 6.5): its steps, one instruction each. Every choice that the model leaves
 -- open has a step of its own. The instructions that have no step yet are those on fields and arrays, ldc of a
--- reference, checkcast, invokeinterface, and the refused ones of the table. Errors of
--- the virtual machine itself (JVMS 6.3), as for want of memory, are left out.
+-- reference, checkcast, invokeinterface, and the refused ones of the table; nor has the call of a method that a stub
+-- describes. Errors of the virtual machine itself (JVMS 6.3), as for want of memory, are left out.
 use Rattle.std.specs.Prelude.{codes, ◌≡◌, ◌⊎◌, ℕ, ◌+◌, ◌-◌, Bool, true, false, ◌&&◌, nat_eq, nat_le, nat_lt, List, [], ◌∷◌, ◌++◌, length, map, replicate, find, Option, Some, None, slice_get, slice_set, slice_index, Contains, MatchBool, IsTrue, Ok}
 use Rattle.std.specs.List.{AllZip}
 use Rattle.std.specs.Str.{bytes_eq}
@@ -17,8 +17,11 @@ use Rattle.jvm_model.specs.declared.code.Handler.{Handler}
 use Rattle.jvm_model.specs.Code.{Code, HasCode}
 use Rattle.jvm_model.specs.Instructions.{Instruction, instruction_at, IsRowAt, member_at, HasUnits}
 use Rattle.jvm_model.specs.Lookups.{MethodName, Signature, class_name_at}
-use Rattle.jvm_model.specs.Programs.{Program, Method, in_file, returns_at_once, IsSubtype, Resolves, Selects, SelectsSpecial}
+use Rattle.jvm_model.specs.Programs.{Program, Method, in_file, returns_at_once}
+use Rattle.jvm_model.specs.Resolution.{Resolves}
+use Rattle.jvm_model.specs.Selection.{IsInstance, Selects, SelectsSpecial}
 use Rattle.jvm_model.specs.Soundness.{plain_descriptor}
+use Rattle.jvm_model.specs.Subtypes.{IsSubtype}
 use Rattle.jvm_model.specs.States.{Value, primitive_value, null_value, reference_to, Object, Frame, running, throwing, World, State, with_object, with_automaton, with_kept, with_started, runs_on, throws_on, ends_with, moved_to, waiting, site_at, new_object, slot_at}
 use Rattle.jvm_model.specs.Table.{Row, Kind, any_kind, primitive, reference, Origin, popped, the_local, a_null, a_primitive, the_made, Flow, onward, jump, branch, branch_if_null, branch_if_object, branch_if_same, branch_if_other, Action, plain, make_object, invoke_virtual, invoke_special, invoke_static, throw_object, leave_method, Raise, null_pointer, array_index, array_store, arithmetic, class_cast, negative_size}
 
@@ -219,6 +222,7 @@ pub data IsMoved (x : Subject) (s : Signature) (o : Object) (state : ℕ) : Type
 pub record CallsVirtual (x : Subject) (s t : State) (at : At x.program s) : Type 0 where
   pub action : at.now.row.action ≡ invoke_virtual
   pub names : NamesMethod x.program at.now.here.file.pool at.now.instruction.operand
+  pub instance : IsInstance names.method
   pub kept : List Value
   pub units : List Value
   pub operands : HasOperands at.now.row at.frame.slots kept units
@@ -226,7 +230,7 @@ pub record CallsVirtual (x : Subject) (s t : State) (at : At x.program s) : Type
   pub state : ℕ
   pub moved : IsMoved x names.called.signature receiver.object state
   pub target : ℕ
-  pub selects : Selects x.program receiver.object.class names.resolved target
+  pub selects : Selects x.program false receiver.object.class names.resolved target
   pub invokes : Invokes x.program target units kept at.frame at.now.instruction.size at.below (with_automaton s.world receiver.place receiver.object state) t
 
 -- A call of a constructor, a private method, or a method of a superclass (JVMS 6.5.invokespecial).

@@ -1,9 +1,9 @@
-//! Access flags of members (JVMS 4.5, 4.6).
+//! Access flags of classes and members (JVMS 4.1, 4.5, 4.6).
 
 ghost use Rattle.std.specs.Prelude.{◌≡◌};
 ghost use Rattle.jvm_model.specs.Access.{mask_of, has_flag};
 
-/// An access flag of a member.
+/// An access flag of a class or a member.
 #[derive(Clone, Copy, Debug, PartialEq, Eq)]
 pub enum AccessFlag {
     /// ACC_PUBLIC, 0x0001.
@@ -16,6 +16,8 @@ pub enum AccessFlag {
     Static,
     /// ACC_NATIVE, 0x0100.
     Native,
+    /// ACC_INTERFACE, 0x0200: of a class alone.
+    Interface,
     /// ACC_ABSTRACT, 0x0400.
     Abstract,
 }
@@ -31,6 +33,7 @@ impl AccessFlag {
             AccessFlag::Protected => 0x0004,
             AccessFlag::Static => 0x0008,
             AccessFlag::Native => 0x0100,
+            AccessFlag::Interface => 0x0200,
             AccessFlag::Abstract => 0x0400,
         }
     }

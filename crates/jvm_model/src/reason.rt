@@ -4,6 +4,7 @@ ghost use Rattle.std.specs.Prelude.{◌≡◌};
 ghost use Rattle.jvm_model.specs.Words.{word_of};
 ghost use Rattle.jvm_model.specs.declared.reason.ReadRefusal.TheVariants.{Memory};
 
+use crate::name::Name;
 use std::alloc::{AllocError, AllocFailed};
 
 /// The reason of a refusal, in the order in which reasons at one offset are named; in code `BadIndex` comes last.
@@ -37,12 +38,40 @@ pub enum Reason {
     BadTarget,
     /// The body of a Code attribute ends too early or too late, or an instruction runs past the end of the code.
     CodeCut,
+    /// An instruction takes more units of the operand stack than there are.
+    StackUnder,
+    /// The operand stack grows past the limit of the method.
+    StackOver,
+    /// Two ways reach an instruction with different heights of the operand stack.
+    StackMerge,
+    /// An instruction goes on past the end of the code.
+    FallsOff,
     /// A local variable that is used is not below the limit of the method.
     BadLocal,
     /// An exception handler covers no code, is not at instructions, or names no class.
     BadHandler,
     /// An instruction of a subroutine: `jsr`, `jsr_w` or `ret`.
     Subroutine,
+    /// Two classes have one name.
+    DuplicateClass,
+    /// A class that a class, a stub or a property names is not in the program.
+    MissingClass,
+    /// A class is a proper supertype of itself.
+    Cycle,
+    /// A field is not found, and the class named with it is one of the folder.
+    MissingField,
+    /// A method is not found, and the class named with it is one of the folder.
+    MissingMethod,
+    /// A class or a member of the library, or a native method, is used that no stub describes.
+    NoStub,
+    /// The method to be called is not there, or is abstract.
+    NoImplementation,
+    /// Several superinterfaces have a method that could be called, and none of them is more specific than the others.
+    ClashingDefaults,
+    /// A method of another package hides a method that no modifier lets it override.
+    PackageOverride,
+    /// An interface stands where a class has to, a static member where an instance member has to, or the reverse.
+    KindMismatch,
     /// A file is too large, is not UTF-8, or is no TOML document.
     BadToml,
     /// A property file breaks a rule of its keys.
@@ -72,14 +101,37 @@ pub fn reason_word(reason: Reason) -> &'static str
         Reason::BadOpcode => "BadOpcode",
         Reason::BadTarget => "BadTarget",
         Reason::CodeCut => "CodeCut",
+        Reason::StackUnder => "StackUnder",
+        Reason::StackOver => "StackOver",
+        Reason::StackMerge => "StackMerge",
+        Reason::FallsOff => "FallsOff",
         Reason::BadLocal => "BadLocal",
         Reason::BadHandler => "BadHandler",
         Reason::Subroutine => "Subroutine",
+        Reason::DuplicateClass => "DuplicateClass",
+        Reason::MissingClass => "MissingClass",
+        Reason::Cycle => "Cycle",
+        Reason::MissingField => "MissingField",
+        Reason::MissingMethod => "MissingMethod",
+        Reason::NoStub => "NoStub",
+        Reason::NoImplementation => "NoImplementation",
+        Reason::ClashingDefaults => "ClashingDefaults",
+        Reason::PackageOverride => "PackageOverride",
+        Reason::KindMismatch => "KindMismatch",
         Reason::BadToml => "BadToml",
         Reason::BadProperty => "BadProperty",
         Reason::BadStub => "BadStub",
         Reason::NotYet => "NotYet",
     }
+}
+
+/// A refusal of a file: its name, the offset in the file, counted from its first byte, and the reason. A property file, a
+/// stub file and what no file says have the offset 0.
+#[derive(Debug, Drop)]
+pub struct Refusal {
+    pub file: Name,
+    pub offset: u32,
+    pub reason: Reason,
 }
 
 /// Why a class file is not read.

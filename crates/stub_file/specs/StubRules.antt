@@ -13,6 +13,7 @@ use Rattle.jvm_model.specs.declared.stub.StubField.{StubField}
 use Rattle.jvm_model.specs.declared.stub.StubClass.{StubClass}
 use Rattle.jvm_model.specs.Automata.{all_differ}
 use Rattle.jvm_model.specs.DescriptorValues.{IsKind, IsMethodOf}
+use Rattle.jvm_model.specs.Stubs.{is_same_method, is_same_field}
 use Rattle.jvm_model.specs.Names.{is_method_name, is_unqualified_name, IsClassName}
 
 -- A class or an array: what is no primitive type.
@@ -80,13 +81,6 @@ pub record IsSoundField (f : StubField) : Type 0 where
   pub kind : Kind
   pub descriptor : IsKind f.descriptor kind
   pub holds : MayHold f.is_static kind f.holds
-
--- Two methods, and two fields, that agree in name and descriptor.
-abbrev pub is_same_method : StubMethod → StubMethod → Bool
-is_same_method m n = bytes_eq m.name n.name && bytes_eq m.descriptor n.descriptor
-
-abbrev pub is_same_field : StubField → StubField → Bool
-is_same_field f g = bytes_eq f.name g.name && bytes_eq f.descriptor g.descriptor
 
 -- A patch and java/lang/Object may be without a superclass. A class that is no patch may name one.
 abbrev pub may_lack_super : StubClass → Bool

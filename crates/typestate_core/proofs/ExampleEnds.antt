@@ -3,7 +3,7 @@ use Rattle.std.proofs.Common.{codes, ◌≡◌, ℕ, ◌+◌, ◌<◌, ◌^◌, 
 use Rattle.jvm_model.specs.Executions.{Errs, start}
 use Rattle.jvm_model.specs.Instructions.{instruction_at}
 use Rattle.jvm_model.specs.Machine.{Subject, by_event}
-use Rattle.jvm_model.specs.Programs.{same}
+use Rattle.jvm_model.specs.Subtypes.{same}
 use Rattle.jvm_model.specs.States.{State, ends_with}
 use Rattle.typestate_core.specs.Claims.{made_at, subject_of}
 use Rattle.typestate_core.specs.Examples.{RunsToEnd, call_close, call_read, close_twice_then_read, event_of, main_code, one_read, read_then_close, two_reads, with_reads}

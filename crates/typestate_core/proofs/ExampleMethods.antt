@@ -5,7 +5,9 @@ use Rattle.jvm_model.specs.declared.class_file.ClassFile.{ClassFile}
 use Rattle.jvm_model.specs.Code.{Code, HandlerFits, HasCode}
 use Rattle.jvm_model.specs.Instructions.{Instruction, HasUnits, IsCallRow, member_at, with_units}
 use Rattle.jvm_model.specs.Lookups.{MethodName}
-use Rattle.jvm_model.specs.Programs.{Program, Method, IsFound, class_of, object_name, object_class, object_constructor, method_of, program_of}
+use Rattle.jvm_model.specs.Programs.{Program, Method, class_of, object_name, object_class, object_constructor, method_of, program_of}
+use Rattle.jvm_model.specs.Resolution.{HasSignature, IsFound, Resolves, itself}
+use Rattle.jvm_model.specs.Subtypes.{class_named}
 use Rattle.jvm_model.specs.Soundness.{plain_descriptor}
 use Rattle.jvm_model.specs.Spelling.{AttributeFits}
 use Rattle.jvm_model.specs.Table.{reference}
@@ -79,7 +81,7 @@ module _ (called : List ℕ) where
   pub found : (Is : ℕ → Method → Type 0) (number : ℕ) (m : Method) → slice_get program.methods number ≡ Some m
       → m.class ≡ codes "F" → Is number m → IsFound program (codes "F") Is number
   found Is number m stands of_class is = record {
-    chain = class_of file ∷ object_class ∷ [];
+    chain = class_of [] file ∷ object_class ∷ [];
     of_start = (refl, (refl, tt));
     first = inl (record { method = m; stands = stands; of_class = of_class; is = is });
   }
@@ -90,4 +92,20 @@ module _ (called : List ℕ) where
     chain = object_class ∷ [];
     of_start = (refl, tt);
     first = inl (record { method = object_constructor; stands = refl; of_class = refl; is = is });
+  }
+
+  -- a reference to a method of the class, or to that constructor, resolves to it
+  pub resolves : (name : MethodName) (number : ℕ) (m : Method) → slice_get program.methods number ≡ Some m
+      → name.class ≡ codes "F" → m.class ≡ codes "F" → m.signature ≡ name.signature → Resolves program name number
+  resolves name number m stands named of_class same_call = record {
+    class = class_of [] file;
+    named = ap (class_named program) named;
+    search = itself (found (HasSignature name.signature) number m stands of_class same_call);
+  }
+
+  pub resolves_above : (name : MethodName) → name.class ≡ object_name → object_constructor.signature ≡ name.signature → Resolves program name 4
+  resolves_above name named same_call = record {
+    class = object_class;
+    named = ap (class_named program) named;
+    search = itself (found_above (HasSignature name.signature) same_call);
   }

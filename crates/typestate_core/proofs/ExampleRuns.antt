@@ -4,13 +4,15 @@ use Rattle.jvm_model.specs.declared.automaton.Automaton.{Automaton}
 use Rattle.jvm_model.specs.Executions.{start, start_frame}
 use Rattle.jvm_model.specs.Instructions.{instruction_at, member_at}
 use Rattle.jvm_model.specs.Machine.{Subject, AtInstruction, IsMoved, Step, calls_entry, calls_special, calls_virtual, ends, returns_now, of_start, of_code}
-use Rattle.jvm_model.specs.Programs.{class_of, object_name, object_constructor, method_of, text_or_none, same, below, at_named}
+use Rattle.jvm_model.specs.Programs.{class_of, object_name, object_class, object_constructor, method_of, text_or_none}
+use Rattle.jvm_model.specs.Selection.{at_named, upward}
+use Rattle.jvm_model.specs.Subtypes.{same, below}
 use Rattle.jvm_model.specs.States.{Value, primitive_value, reference_to, Frame, World, State, Object, runs_on, ends_with, waiting, with_object, new_object}
 use Rattle.typestate_core.specs.Claims.{subject_of, made_at}
 use Rattle.typestate_core.specs.Examples.{example_pool, method_with, main_code, empty_code}
 use Rattle.typestate_core.specs.StraightLine.{plain_method}
 use Rattle.typestate_core.proofs.ExampleSteps.{Reaches, stays, steps_to, CodeOf, frame_at, stands_at, runs_at, enters_code, two_there, new_of, load_0, special_call, virtual_call, the_return, advance, return}
-use Rattle.typestate_core.proofs.ExampleMethods.{plain_units, call_row, file, program, main as main_of, constructor as constructor_of, callee, found, found_above}
+use Rattle.typestate_core.proofs.ExampleMethods.{plain_units, call_row, file, program, main as main_of, constructor as constructor_of, callee, found, found_above, resolves, resolves_above}
 
 module _ (called : List ℕ) (a : Automaton) (few : length (main_code called).bytes < 2 ^ 32) where
   abbrev pub x : Subject
@@ -71,7 +73,7 @@ module _ (called : List ℕ) (a : Automaton) (few : length (main_code called).by
       called = plain_method (codes "F") (codes "<init>");
       named = refl;
       resolved = 1;
-      resolves = found called _ 1 constructor.method refl refl refl;
+      resolves = resolves called _ 1 constructor.method refl refl refl refl;
       method = constructor.method;
       stands = refl;
     };
@@ -80,7 +82,13 @@ module _ (called : List ℕ) (a : Automaton) (few : length (main_code called).by
     operands = record { parts = refl; kinds = (tt, tt) };
     receiver = record { place = 2; arguments = []; units_are = refl; object = object_in a.initial; held = refl; fits = same _ refl };
     target = 1;
-    selects = record { start = codes "F"; begins = at_named (λ above. above.no_constructor refl) refl; found = found called _ 1 constructor.method refl refl (refl, refl) };
+    selects = record {
+      start = codes "F";
+      begins = at_named (λ above. above.no_constructor refl) refl;
+      class = class_of [] (file called);
+      named = refl;
+      chosen = upward (found called _ 1 constructor.method refl refl (refl, refl));
+    };
     invokes = enters_code x.program 1 constructor _ _ _ 3 _ _;
   })
 
@@ -94,7 +102,7 @@ module _ (called : List ℕ) (a : Automaton) (few : length (main_code called).by
       let now = stands_at x.program 1 constructor 1 (special_call 12) refl (the_object ∷ the_object ∷ []) false _ (call_row (special_call 12) name refl refl) in
       calls_special (runs_at x.program _ _ (world_with a.initial) now) (record {
         action = refl;
-        names = record { called = name; named = refl; resolved = 4; resolves = found_above called _ refl; method = object_constructor; stands = refl };
+        names = record { called = name; named = refl; resolved = 4; resolves = resolves_above called name refl refl; method = object_constructor; stands = refl };
         kept = the_object ∷ [];
         units = the_object ∷ [];
         operands = record { parts = refl; kinds = (tt, tt) };
@@ -104,10 +112,16 @@ module _ (called : List ℕ) (a : Automaton) (few : length (main_code called).by
           units_are = refl;
           object = object_in a.initial;
           held = refl;
-          fits = below _ (class_of (file called)) object_name refl (inl refl) (same _ refl);
+          fits = below _ (class_of [] (file called)) object_name refl (inl refl) (same _ refl);
         };
         target = 4;
-        selects = record { start = object_name; begins = at_named (λ above. above.no_constructor refl) refl; found = found_above called _ (refl, refl) };
+        selects = record {
+          start = object_name;
+          begins = at_named (λ above. above.no_constructor refl) refl;
+          class = object_class;
+          named = refl;
+          chosen = upward (found_above called _ (refl, refl));
+        };
         invokes = returns_now (record { method = object_constructor; stands = refl; of_library = refl; after = refl });
       })
 
@@ -147,7 +161,8 @@ module _ (called : List ℕ) (a : Automaton) (few : length (main_code called).by
     calls : (state next : ℕ) → Moves state next → Step x (main_at (offset + 1) (the_object ∷ the_object ∷ []) (world_with state)) (target_at next)
     calls state next moved = calls_virtual (runs_at x.program _ caller_of_main (world_with state) (at_call (the_object ∷ the_object ∷ []) false)) (record {
       action = refl;
-      names = record { called = _; named = named; resolved = number; resolves = found called _ number target.method stands refl refl; method = target.method; stands = stands };
+      names = record { called = _; named = named; resolved = number; resolves = resolves called _ number target.method stands refl refl refl; method = target.method; stands = stands };
+      instance = refl;
       kept = the_object ∷ [];
       units = the_object ∷ [];
       operands = record { parts = refl; kinds = (tt, tt) };
@@ -155,7 +170,7 @@ module _ (called : List ℕ) (a : Automaton) (few : length (main_code called).by
       state = next;
       moved = moved;
       target = number;
-      selects = record { method = target.method; stands = stands; instance = refl; chosen = found called _ number target.method stands refl (refl, inl refl) };
+      selects = record { method = target.method; stands = stands; chosen = upward (found called _ number target.method stands refl (refl, inl refl)) };
       invokes = enters_code x.program number target _ _ _ 3 _ _;
     })
 

@@ -14,7 +14,7 @@ use Rattle.jvm_model.specs.declared.class_file.Member.{Member}
 use Rattle.jvm_model.specs.Code.{Code, HasCode}
 use Rattle.jvm_model.specs.Lookups.{text_at, method_at}
 use Rattle.jvm_model.specs.Machine.{InCode}
-use Rattle.jvm_model.specs.Programs.{Body as MethodBody, in_file, returns_at_once, Method, program_of, method_of, object_constructor, object_name, class_or_none}
+use Rattle.jvm_model.specs.Programs.{Body as MethodBody, in_file, described, returns_at_once, Method, program_of, method_of, object_constructor, object_name, class_or_none}
 use Rattle.jvm_model.specs.States.{Frame}
 use Rattle.typestate_core.specs.Bodies.{Body, HasBody}
 use Rattle.typestate_core.specs.declared.simple.Simple.{Simple}
@@ -147,10 +147,12 @@ pub record IsInside (c : ClassFile) (calls : List (List ℕ)) (method : Option �
 
 file_of : ClassFile → MethodBody → ClassFile
 file_of d (in_file c m) = c
+file_of d (described stub) = d
 file_of d returns_at_once = d
 
 member_of : Member → MethodBody → Member
 member_of d (in_file c m) = m
+member_of d (described stub) = d
 member_of d returns_at_once = d
 
 pub same_file : (c d : ClassFile) (m n : Member) → in_file c m ≡ in_file d n → (c ≡ d) × (m ≡ n)

@@ -2,18 +2,18 @@
 use Rattle.std.proofs.Common.{codes, ◌≡◌, ◌⊎◌, inl, inr, ℕ, ◌+◌, Bool, true, false, List, [], ◌∷◌, ◌++◌, ◌&&◌, Contains, Option, Some, None, slice_get, MatchBool, refl, sym, ap, ◌∙◌, subst, option_and_then}
 use Rattle.std.specs.Str.{bytes_eq}
 use Rattle.std.proofs.lemmas.Option.{same_Some}
-use Rattle.jvm_model.specs.declared.access.AccessFlag.TheVariants.{Private}
 use Rattle.jvm_model.specs.declared.automaton.Automaton.{Automaton}
 use Rattle.jvm_model.specs.declared.automaton.Event.{Event}
 use Rattle.jvm_model.specs.declared.class_file.ClassFile.{ClassFile}
 use Rattle.jvm_model.specs.declared.pool.PoolEntry.{PoolEntry}
 use Rattle.jvm_model.specs.declared.pool.PoolEntry.TheVariants.{Methodref}
-use Rattle.jvm_model.specs.Access.{has_flag}
 use Rattle.jvm_model.specs.declared.code.Handler.{Handler}
 use Rattle.jvm_model.specs.Instructions.{Instruction as Decoded, member_at, member_of}
 use Rattle.jvm_model.specs.Lookups.{MethodName, Signature, method_at, method_in, entry_at}
 use Rattle.jvm_model.specs.Machine.{Subject, At, AtStart, Makes, Goes, Advances, Invokes, enters, returns_now, IsMoved, by_event, no_event, other_class, CallsVirtual, CallsSpecial, CallsEntry, IsAfterCall, of_start, of_code, Returns, Resumes, Raises, Throws, Throwing, IsFirstHandler, Catches, unwound, Unwinds, IsInitialiser, Wraps, Step, advances, calls_virtual, calls_special, calls_static, calls_entry, returns, resumes, ends, raises, throws, catches, unwinds, starts, denies, wraps}
-use Rattle.jvm_model.specs.Programs.{Program, Method, program_of, Class, IsFirst, IsFound, IsInstance, Overrides, Selects}
+use Rattle.jvm_model.specs.Programs.{Program, Method, program_of, Class}
+use Rattle.jvm_model.specs.Resolution.{IsFirst, IsFound, IsFoundIn, IsFoundInInterface, declared_there, of_object, HasSignature, IsInstanceWith, IsOnlyDefault, ResolvesFrom, itself, by_default, by_name, Resolves}
+use Rattle.jvm_model.specs.Selection.{is_direct, IsSelectable, Overrides, SelectsFrom, upward, by_default as default_selected, Selects, SelectsSpecial}
 use Rattle.jvm_model.specs.Soundness.{plain_descriptor}
 use Rattle.jvm_model.specs.States.{Object, Frame, World, State, Value}
 use Rattle.jvm_model.specs.Table.{Row, Action, Flow, plain, invoke_virtual, invoke_special, invoke_static, make_object, onward}
@@ -91,32 +91,69 @@ named_member pool operand m e = by (entry_at pool operand) e
     by None f = absurd cc
     by (Some entry) f = at entry f
 
--- the target of a search has the signature that is looked for
-first_has : (p : Program) (Is : ℕ → Method → Type 0) (chain : List Class) (number : ℕ) → IsFirst p Is chain number → (n : Method) × (slice_get p.methods number ≡ Some n) × Is number n
-first_has p Is [] number h = absurd h
-first_has p Is (c ∷ chain) number (inl d) = (d.method, d.stands, d.is)
-first_has p Is (c ∷ chain) number (inr h) = first_has p Is chain number h.1
+-- a method of this number has the signature
+abbrev Has : Program → Signature → ℕ → Type 0
+Has p s number = (n : Method) × (slice_get p.methods number ≡ Some n) × (n.signature ≡ s)
 
 same_method : (p : Program) (number : ℕ) (m n : Method) → slice_get p.methods number ≡ Some m → slice_get p.methods number ≡ Some n → m ≡ n
 same_method p number m n e f = same_Some m n (sym e ∙ f)
 
+-- what a search finds has the signature that is looked for
+first_has : (p : Program) (Is : ℕ → Method → Type 0) (s : Signature) → ((k : ℕ) (n : Method) → slice_get p.methods k ≡ Some n → Is k n → n.signature ≡ s) → (chain : List Class) (number : ℕ)
+    → IsFirst p Is chain number → Has p s number
+first_has p Is s tells [] number h = absurd h
+first_has p Is s tells (c ∷ chain) number (inl d) = (d.method, d.stands, tells number d.method d.stands d.is)
+first_has p Is s tells (c ∷ chain) number (inr h) = first_has p Is s tells chain number h.1
+
+found_has : (p : Program) (Is : ℕ → Method → Type 0) (s : Signature) → ((k : ℕ) (n : Method) → slice_get p.methods k ≡ Some n → Is k n → n.signature ≡ s) → (c : Class) (number : ℕ)
+    → IsFoundIn p Is s c number → Has p s number
+found_has p Is s tells c number found = by c.is_interface found
+  where
+    by : (b : Bool) → MatchBool b (IsFoundInInterface p Is s c.name number) (IsFound p c.name Is number) → Has p s number
+    by true (declared_there d) = (d.method, d.stands, tells number d.method d.stands d.is)
+    by true (of_object nowhere d) = (d.method, d.stands, d.is.0)
+    by false upon = first_has p Is s tells upon.chain number upon.first
+
+default_has : (p : Program) (class : List ℕ) (s : Signature) (number : ℕ) → IsOnlyDefault p class s number → Has p s number
+default_has p class s number o =
+    let m = o.default.specific.inherited in
+    (m.method, m.stands, m.same_call)
+
+-- so has what a reference resolves to
+resolved_has : (p : Program) (m : MethodName) (number : ℕ) → Resolves p m number → Has p m.signature number
+resolved_has p m number r = by r.search
+  where
+    by : ResolvesFrom p m.class m.signature (IsFoundIn p (HasSignature m.signature) m.signature r.class) number → Has p m.signature number
+    by (itself own) = found_has p (HasSignature m.signature) m.signature (λ k n at is. is) r.class number own
+    by (by_default nowhere o) = default_has p m.class m.signature number o
+    by (by_name nowhere several l) = (l.inherited.method, l.inherited.stands, l.inherited.same_call)
+
+-- and the target of a special call
+special_has : (p : Program) (current : List ℕ) (m : MethodName) (target : ℕ) → SelectsSpecial p current m target → Has p m.signature target
+special_has p current m target selects = by selects.chosen
+  where
+    by : SelectsFrom p selects.start m.signature (IsFoundIn p (IsInstanceWith m.signature) m.signature selects.class) target → Has p m.signature target
+    by (upward own) = found_has p (IsInstanceWith m.signature) m.signature (λ k n at is. is.0) selects.class target own
+    by (default_selected nowhere o) = default_has p selects.start m.signature target o
+
 -- the target that an object's class selects has the signature of the resolved method
-selected_has : (p : Program) (class : List ℕ) (resolved target : ℕ) (r : Method) → slice_get p.methods resolved ≡ Some r → Selects p class resolved target → (n : Method) × (slice_get p.methods target ≡ Some n) × (n.signature ≡ r.signature)
-selected_has p class resolved target r stands selects = by (has_flag selects.method.flags Private) selects.chosen
+selected_has : (p : Program) (class : List ℕ) (resolved target : ℕ) (r : Method) → slice_get p.methods resolved ≡ Some r → Selects p false class resolved target → Has p r.signature target
+selected_has p class resolved target r stands selects = by (is_direct false selects.method) selects.chosen
   where
     same : selects.method ≡ r
     same = same_method p resolved selects.method r selects.stands stands
 
-    of_other : (m : Method) → slice_get p.methods target ≡ Some m → (target ≡ resolved) ⊎ Overrides p m selects.method → m.signature ≡ r.signature
-    of_other m at (inl e) = ap (λ (x : Method). x.signature) (same_method p resolved m r (subst (λ (k : ℕ). slice_get p.methods k ≡ Some m) e at) stands)
-    of_other m at (inr o) = o.same_call ∙ ap (λ (x : Method). x.signature) same
+    of_other : (k : ℕ) (m : Method) → slice_get p.methods k ≡ Some m → IsSelectable p false resolved selects.method k m → m.signature ≡ r.signature
+    of_other k m at (instance, inl e) = ap (λ (x : Method). x.signature) (same_method p resolved m r (subst (λ (j : ℕ). slice_get p.methods j ≡ Some m) e at) stands)
+    of_other k m at (instance, inr o) = o.same_call ∙ ap (λ (x : Method). x.signature) same
 
-    by : (b : Bool) → MatchBool b (target ≡ resolved) (IsFound p class (λ number (m : Method). IsInstance m × ((number ≡ resolved) ⊎ Overrides p m selects.method)) target)
-        → (n : Method) × (slice_get p.methods target ≡ Some n) × (n.signature ≡ r.signature)
+    from : SelectsFrom p class selects.method.signature (IsFound p class (IsSelectable p false resolved selects.method)) target → Has p r.signature target
+    from (upward found) = first_has p (IsSelectable p false resolved selects.method) r.signature of_other found.chain target found.first
+    from (default_selected nowhere o) = subst (λ (x : Method). Has p x.signature target) same (default_has p class selects.method.signature target o)
+
+    by : (b : Bool) → MatchBool b (target ≡ resolved) (SelectsFrom p class selects.method.signature (IsFound p class (IsSelectable p false resolved selects.method)) target) → Has p r.signature target
     by true e = (r, subst (λ (k : ℕ). slice_get p.methods k ≡ Some r) (sym e) stands, refl)
-    by false found =
-        let first = first_has p _ found.chain target found.first in
-        (first.0, first.1, of_other first.0 first.1 first.2.1)
+    by false found = from found
 
 -- the receiver's state after a call that the entry makes
 moved_state : (c : ClassFile) (calls : List (List ℕ)) (a : Automaton) (entry : ℕ) (s : Signature) (o : Object) (state : ℕ) → Contains calls s.name → s.descriptor ≡ plain_descriptor
@@ -170,8 +207,8 @@ module _ (c : ClassFile) (class method : List ℕ) (calls : List (List ℕ)) (a 
       let named : member_at at.now.here.file.pool at.now.instruction.operand ≡ Some (plain_method names.0 (codes "<init>")) =
       subst (λ (d : ClassFile). member_at d.pool at.now.instruction.operand ≡ Some (plain_method names.0 (codes "<init>"))) (sym i.file) (named_member c.pool at.now.instruction.operand _ names.1) in
       let same : call.names.called ≡ plain_method names.0 (codes "<init>") = same_Some _ _ (sym call.names.named ∙ named) in
-      let target = first_has (program_of c) _ call.selects.found.chain call.target call.selects.found.first in
-      let its_name : target.0.signature.name ≡ codes "<init>" = ap (λ (g : Signature). g.name) target.2.1 ∙ ap (λ (m : MethodName). m.signature.name) same in
+      let target = special_has (program_of c) at.now.here.method.class call.names.called call.target call.selects in
+      let its_name : target.0.signature.name ≡ codes "<init>" = ap (λ (g : Signature). g.name) target.2 ∙ ap (λ (m : MethodName). m.signature.name) same in
       called (codes "<init>") (constructor_callable c class method calls form) call.target target.0 target.1 its_name call.units call.kept at.frame at.now.instruction.size at.below s.world t frames.0 i.next frames.1 h.heap call.invokes
 
   step_virtual : (s t : State) (at : At (program_of c) s) → CallsVirtual (subject_of c a entry) s t at → IsRight c calls a s → IsRight c calls a t
@@ -186,7 +223,7 @@ module _ (c : ClassFile) (class method : List ℕ) (calls : List (List ℕ)) (a 
       let same : call.names.called ≡ plain_method owner name = same_Some _ _ (sym call.names.named ∙ named) in
       let its_name : call.names.called.signature.name ≡ name = ap (λ (m : MethodName). m.signature.name) same in
       let among : Contains calls call.names.called.signature.name = subst (Contains calls) (sym its_name) names.2 in
-      let resolved = first_has (program_of c) _ call.names.resolves.chain call.names.resolved call.names.resolves.first in
+      let resolved = resolved_has (program_of c) call.names.called call.names.resolved call.names.resolves in
       let target = selected_has (program_of c) call.receiver.object.class call.names.resolved call.target resolved.0 resolved.1 call.selects in
       let target_name : target.0.signature.name ≡ name = ap (λ (g : Signature). g.name) (target.2 ∙ resolved.2) ∙ its_name in
       let led = each_at (λ (o : Object). IsLedTo a (events_of calls a) o.automaton) s.world.heap call.receiver.place call.receiver.object h.heap call.receiver.held in

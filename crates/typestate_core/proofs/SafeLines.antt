@@ -5,7 +5,7 @@ use Rattle.std.proofs.lemmas.List.{append_cancel_left, append_cancel_right, take
 use Rattle.ts_outside.specs.Files.{File}
 use Rattle.jvm_model.specs.declared.automaton.Automaton.{Automaton}
 use Rattle.jvm_model.specs.declared.reason.Reason.{Reason}
-use Rattle.jvm_model.specs.declared.reason.Reason.TheVariants.{Truncated, BadMagic, BadVersion, BadTag, BadIndex, BadUtf8, BadDescriptor, TrailingBytes, CodeMissing, CodeUnexpected, ClassTooLarge, BadOpcode, BadTarget, CodeCut, BadLocal, BadHandler, Subroutine, BadToml, BadProperty, BadStub, NotYet}
+use Rattle.jvm_model.specs.declared.reason.Reason.TheVariants.{Truncated, BadMagic, BadVersion, BadTag, BadIndex, BadUtf8, BadDescriptor, TrailingBytes, CodeMissing, CodeUnexpected, ClassTooLarge, BadOpcode, BadTarget, CodeCut, StackUnder, StackOver, StackMerge, FallsOff, BadLocal, BadHandler, Subroutine, DuplicateClass, MissingClass, Cycle, MissingField, MissingMethod, NoStub, NoImplementation, ClashingDefaults, PackageOverride, KindMismatch, BadToml, BadProperty, BadStub, NotYet}
 use Rattle.jvm_model.specs.Soundness.{plain_descriptor}
 use Rattle.jvm_model.specs.Words.{word_of}
 use Rattle.typestate_core.specs.declared.status.Status.{Status}
@@ -66,9 +66,23 @@ refused_is_line file offset reason =
     word_plain BadOpcode = refl
     word_plain BadTarget = refl
     word_plain CodeCut = refl
+    word_plain StackUnder = refl
+    word_plain StackOver = refl
+    word_plain StackMerge = refl
+    word_plain FallsOff = refl
     word_plain BadLocal = refl
     word_plain BadHandler = refl
     word_plain Subroutine = refl
+    word_plain DuplicateClass = refl
+    word_plain MissingClass = refl
+    word_plain Cycle = refl
+    word_plain MissingField = refl
+    word_plain MissingMethod = refl
+    word_plain NoStub = refl
+    word_plain NoImplementation = refl
+    word_plain ClashingDefaults = refl
+    word_plain PackageOverride = refl
+    word_plain KindMismatch = refl
     word_plain BadToml = refl
     word_plain BadProperty = refl
     word_plain BadStub = refl
