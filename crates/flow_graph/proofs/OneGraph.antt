@@ -1,0 +1,242 @@
+-- The code of a method has one flow graph, or one first fault.
+use Rattle.std.proofs.Common.{◌≡◌, ◌⊎◌, inl, inr, ℕ, zero, suc, ◌+◌, ◌≤◌, List, [], ◌∷◌, ◌++◌, length, drop, replicate, sum_by, codes, Option, Some, None, Result, Ok, Err, refl, sym, ap, ◌∙◌, subst, arith, length-append}
+use Rattle.std.specs.List.{slice_get, AllZip, AllByRecursion, position}
+use Rattle.std.proofs.lemmas.List.{length-map}
+use Rattle.std.proofs.lemmas.List.Elements.{recursion_from_All}
+use Rattle.std.proofs.lemmas.Option.{same_Some}
+use Rattle.jvm_model.specs.declared.class_file.ClassFile.{ClassFile}
+use Rattle.jvm_model.specs.declared.code.Code.{Code}
+use Rattle.jvm_model.specs.declared.code.Instruction.{Instruction as Given}
+use Rattle.jvm_model.specs.declared.code.PlacedInstruction.{PlacedInstruction}
+use Rattle.jvm_model.specs.declared.descriptor.Descriptor.TheVariants.{Method}
+use Rattle.jvm_model.specs.declared.descriptor.Kind.{Kind as TypeKind}
+use Rattle.jvm_model.specs.declared.descriptor.Kind.TheVariants.{Prim, Class, Array}
+use Rattle.jvm_model.specs.declared.pool.PoolEntry.{PoolEntry}
+use Rattle.jvm_model.specs.declared.reason.ReadRefusal.{ReadRefusal}
+use Rattle.jvm_model.specs.declared.reason.ReadRefusal.TheVariants as refusals
+use Rattle.jvm_model.specs.declared.reason.Reason.{Reason}
+use Rattle.jvm_model.specs.Descriptors.{IsFieldType, IsFieldDescriptor}
+use Rattle.jvm_model.specs.DescriptorValues.{is_wide, IsKind, IsOutcome, IsMethodOf}
+use Rattle.jvm_model.specs.Instructions.{Instruction, HasUnits, kinds_of, made_for, with_units, IsCallRow, IsFieldRow, RowBy}
+use Rattle.jvm_model.specs.Lookups.{MethodName, Signature}
+use Rattle.jvm_model.specs.Table.{Row, Kind, Origin, Action, plain, load_constant, load_element, store_element, probe, get_static, put_static, get_field, put_field, invoke_virtual, invoke_special, invoke_static, invoke_interface, make_object, make_array, throw_object, cast, leave_method, refused}
+use Rattle.jvm_model.proofs.Fields.{field-component}
+use Rattle.jvm_model.proofs.MethodKinds.{one_value}
+use Rattle.code_reader.specs.CodeReading.{kind_units}
+use Rattle.flow_graph.specs.declared.effect.Effect.{Effect}
+use Rattle.flow_graph.specs.declared.mark.Mark.{Mark}
+use Rattle.flow_graph.specs.declared.steps.Graph.{Graph}
+use Rattle.flow_graph.specs.declared.steps.GraphStep.{GraphStep}
+use Rattle.flow_graph.specs.Effects.{with_row, IsSiteEffect, IsRowEffect, IsEffectBy, HasEffect, HaveEffects}
+use Rattle.flow_graph.specs.Graphs.{first_fault, steps_of, IsWalked, TellsGraph, IsTold}
+use Rattle.flow_graph.specs.Reading.{outcome_units}
+use Rattle.flow_graph.specs.Walks.{is_waiting, Waits, after_walk, Walk, ends, goes_on, at_start}
+use Rattle.flow_graph.proofs.DescriptorUnits.{kinds_length, outcome_length}
+
+-- ---- the units of a method descriptor
+
+bracketed : (d : ℕ) (text : List ℕ) → IsFieldType d text → text ≡ replicate d 91 ++ drop d text
+bracketed zero text is = refl
+bracketed (suc d) text is = subst (λ s. s ≡ replicate (suc d) 91 ++ drop (suc d) s) (sym is.1) (ap (λ s. 91 ∷ s) (bracketed d is.0 is.2))
+
+record HasKind (text : List ℕ) : Type 0 where
+  pub kind : TypeKind
+  pub is : IsKind text kind
+
+kind_by : (d : ℕ) (text : List ℕ) → d ≤ 255 → IsFieldType d text → HasKind text
+kind_by zero text most (inl base) = record { kind = Prim (is_wide text); is = (base, refl) }
+kind_by zero text most (inr object) = record { kind = Class object.0; is = (object.1, object.2) }
+kind_by (suc d) text most is = record { kind = Array (suc d) (drop (suc d) text); is = (omega arith, most, field-component (suc d) text is, bracketed (suc d) text is) }
+
+record HaveKinds (texts : List (List ℕ)) : Type 0 where
+  pub kinds : List TypeKind
+  pub are : AllZip IsKind texts kinds
+
+all_kinds : (texts : List (List ℕ)) → AllByRecursion IsFieldDescriptor texts → HaveKinds texts
+all_kinds [] all = record { kinds = []; are = tt }
+all_kinds (t ∷ texts) all =
+    let k = kind_by all.0.dimensions t all.0.limit all.0.type_is in
+    let more = all_kinds texts all.1 in
+    record { kinds = k.kind ∷ more.kinds; are = (k.is, more.are) }
+
+record HasOutcome (text : List ℕ) : Type 0 where
+  pub outcome : Option TypeKind
+  pub is : IsOutcome text outcome
+
+outcome_by : (text : List ℕ) → (text ≡ codes "V") ⊎ IsFieldDescriptor text → HasOutcome text
+outcome_by text (inl void) = record { outcome = None; is = void }
+outcome_by text (inr field) =
+    let k = kind_by field.dimensions text field.limit field.type_is in
+    record { outcome = Some k.kind; is = k.is }
+
+-- its parameters and its result by their kinds
+record Counted (text : List ℕ) (parameters results : ℕ) : Type 0 where
+  pub kinds : List TypeKind
+  pub outcome : Option TypeKind
+  pub is : IsMethodOf text kinds outcome
+  pub parameters_are : parameters ≡ sum_by kind_units kinds
+  pub results_are : results ≡ outcome_units outcome
+
+counted : (text : List ℕ) (ps rs : List Kind) → HasUnits text ps rs → Counted text (length ps) (length rs)
+counted text ps rs u =
+    let m = u.is in
+    let k = all_kinds m.parameters (recursion_from_All IsFieldDescriptor m.parameters m.each) in
+    let o = outcome_by m.outcome m.outcome_is in
+    record {
+      kinds = k.kinds;
+      outcome = o.outcome;
+      is = record { parameters = m.parameters; outcome = m.outcome; spelled = m.spelled; each = k.are; units = m.units; outcome_is = o.is };
+      parameters_are = ap (λ (ks : List Kind). length ks) u.parameters_are ∙ kinds_length m.parameters k.kinds k.are;
+      results_are = ap (λ (ks : List Kind). length ks) u.results_are ∙ outcome_length m.outcome o.outcome o.is;
+    }
+
+same_counts : (text : List ℕ) (a b m n : ℕ) → Counted text a b → Counted text m n → (a ≡ m) × (b ≡ n)
+same_counts text a b m n x y =
+    let same = one_value text (Method x.kinds x.outcome) (Method y.kinds y.outcome) x.is y.is in
+    let kinds : x.kinds ≡ y.kinds = cc same in
+    let outcome : x.outcome ≡ y.outcome = cc same in
+    (x.parameters_are ∙ ap (λ (ks : List TypeKind). sum_by kind_units ks) kinds ∙ sym y.parameters_are, x.results_are ∙ ap outcome_units outcome ∙ sym y.results_are)
+
+same_units : (text : List ℕ) (ps rs qs ss : List Kind) → HasUnits text ps rs → HasUnits text qs ss → (length ps ≡ length qs) × (length rs ≡ length ss)
+same_units text ps rs qs ss x y = same_counts text (length ps) (length rs) (length qs) (length ss) (counted text ps rs x) (counted text qs ss y)
+
+-- ---- the units of a row
+
+abbrev SameUnits : Row → Row → Type 0
+SameUnits r s = (length r.pops ≡ length s.pops) × (length r.pushes ≡ length s.pushes)
+
+same_row : (r s : Row) → r ≡ s → SameUnits r s
+same_row r s e = (ap (λ (y : Row). length y.pops) e, ap (λ (y : Row). length y.pushes) e)
+
+same_call : (pool : List PoolEntry) (i : Instruction) (receiver : List Kind) (r s : Row) → IsCallRow pool i receiver r → IsCallRow pool i receiver s → SameUnits r s
+same_call pool i receiver r s x y =
+    let methods : x.method ≡ y.method = same_Some x.method y.method (sym x.named ∙ y.named) in
+    let units = subst (λ (m : MethodName). HasUnits m.signature.descriptor x.parameters x.results) methods x.units in
+    let same = same_units y.method.signature.descriptor x.parameters x.results y.parameters y.results units y.units in (
+      ap (λ (z : Row). length z.pops) x.row_is ∙ length-append receiver x.parameters ∙ ap (λ (n : ℕ). length receiver + n) same.0 ∙ sym (length-append receiver y.parameters) ∙ sym (ap (λ (z : Row). length z.pops) y.row_is),
+      ap (λ (z : Row). length z.pushes) x.row_is ∙ length-map x.results made_for ∙ same.1 ∙ sym (length-map y.results made_for) ∙ sym (ap (λ (z : Row). length z.pushes) y.row_is),
+    )
+
+same_field : (pool : List PoolEntry) (i : Instruction) (pops : List Kind → List Kind) (pushes : List Kind → List Origin) (r s : Row) → IsFieldRow pool i pops pushes r → IsFieldRow pool i pops pushes s → SameUnits r s
+same_field pool i pops pushes r s x y =
+    let fields : x.field ≡ y.field = same_Some x.field y.field (sym x.named ∙ y.named) in
+    let rows : r ≡ s =
+    x.row_is ∙ ap (λ (m : MethodName). with_units i.row (pops (kinds_of m.signature.descriptor)) (pushes (kinds_of m.signature.descriptor))) fields ∙ sym y.row_is in
+    same_row r s rows
+
+same_by : (a : Action) (pool : List PoolEntry) (i : Instruction) (r s : Row) → RowBy a pool i r → RowBy a pool i s → SameUnits r s
+same_by load_constant pool i r s x y = same_row r s (same_Some r s (sym x ∙ y))
+same_by get_static pool i r s x y = same_field pool i _ _ r s x y
+same_by put_static pool i r s x y = same_field pool i _ _ r s x y
+same_by get_field pool i r s x y = same_field pool i _ _ r s x y
+same_by put_field pool i r s x y = same_field pool i _ _ r s x y
+same_by invoke_virtual pool i r s x y = same_call pool i _ r s x y
+same_by invoke_special pool i r s x y = same_call pool i _ r s x y
+same_by invoke_static pool i r s x y = same_call pool i _ r s x y
+same_by invoke_interface pool i r s x y = same_call pool i _ r s x y
+same_by plain pool i r s x y = same_row r s (x ∙ sym y)
+same_by load_element pool i r s x y = same_row r s (x ∙ sym y)
+same_by store_element pool i r s x y = same_row r s (x ∙ sym y)
+same_by probe pool i r s x y = same_row r s (x ∙ sym y)
+same_by make_object pool i r s x y = same_row r s (x ∙ sym y)
+same_by make_array pool i r s x y = same_row r s (x ∙ sym y)
+same_by throw_object pool i r s x y = same_row r s (x ∙ sym y)
+same_by cast pool i r s x y = same_row r s (x ∙ sym y)
+same_by leave_method pool i r s x y = same_row r s (x ∙ sym y)
+same_by refused pool i r s x y = same_row r s (x ∙ sym y)
+
+abbrev effect : ℕ → ℕ → Effect
+effect pops pushes = record { pops = pops; pushes = pushes }
+
+same_effect : (a b m n : ℕ) → a ≡ m → b ≡ n → effect a b ≡ effect m n
+same_effect a b m n p q = ap (λ (x : ℕ). effect x b) p ∙ ap (λ (y : ℕ). effect m y) q
+
+row_effects : (pool : List PoolEntry) (i : Given) (r : Row) (e f : Effect) → IsRowEffect pool i r e → IsRowEffect pool i r f → e ≡ f
+row_effects pool i r e f x y =
+    let same = same_by r.action pool (with_row i r) x.resolved y.resolved x.is_row y.is_row in
+    x.effect_is ∙ same_effect (length x.resolved.pops) (length x.resolved.pushes) (length y.resolved.pops) (length y.resolved.pushes) same.0 same.1 ∙ sym y.effect_is
+
+site_effects : (pool : List PoolEntry) (i : Given) (e f : Effect) → IsSiteEffect pool i e → IsSiteEffect pool i f → e ≡ f
+site_effects pool i e f x y =
+    let signatures : x.signature ≡ y.signature = same_Some x.signature y.signature (sym x.named ∙ y.named) in
+    let units = subst (λ (s : Signature). HasUnits s.descriptor x.parameters x.results) signatures x.units in
+    let same = same_units y.signature.descriptor x.parameters x.results y.parameters y.results units y.units in
+    x.effect_is ∙ same_effect (length x.parameters) (length x.results) (length y.parameters) (length y.results) same.0 same.1 ∙ sym y.effect_is
+
+effects_by : (a : Action) (pool : List PoolEntry) (i : Given) (r : Row) (e f : Effect) → IsEffectBy a pool i r e → IsEffectBy a pool i r f → e ≡ f
+effects_by refused pool i r e f x y = site_effects pool i e f x y
+effects_by _ pool i r e f x y = row_effects pool i r e f x y
+
+one_effect : (pool : List PoolEntry) (i : Given) (e f : Effect) → HasEffect pool i e → HasEffect pool i f → e ≡ f
+one_effect pool i e f x y =
+    let rows : x.row ≡ y.row = same_Some x.row y.row (sym x.of_opcode ∙ y.of_opcode) in
+    effects_by y.row.action pool i y.row e f (subst (λ (r : Row). IsEffectBy r.action pool i r e) rows x.is_effect) y.is_effect
+
+one_list : (pool : List PoolEntry) (instructions : List PlacedInstruction) (es fs : List Effect) → HaveEffects pool instructions es → HaveEffects pool instructions fs → es ≡ fs
+one_list pool [] [] [] x y = refl
+one_list pool [] [] (f ∷ fs) x y = absurd y
+one_list pool [] (e ∷ es) fs x y = absurd x
+one_list pool (p ∷ instructions) [] fs x y = absurd x
+one_list pool (p ∷ instructions) (e ∷ es) [] x y = absurd y
+one_list pool (p ∷ instructions) (e ∷ es) (f ∷ fs) x y = cc (one_effect pool p.instruction e f x.0 y.0, one_list pool instructions es fs x.1 y.1)
+
+-- ---- the walk
+
+not_both : (o : Option ℕ) (k : ℕ) → o ≡ None → o ≡ Some k → ⊥
+not_both None k e f = absurd cc
+not_both (Some j) k e f = absurd cc
+
+same_next : (code : Code) (effects : List Effect) (marks : List Mark) (w v : Waits code effects marks)
+    → after_walk code w.number w.placed w.effect w.mark w.height marks ≡ after_walk code v.number v.placed v.effect v.mark v.height marks
+same_next code effects marks w v =
+    let number : w.number ≡ v.number = same_Some w.number v.number (sym w.first ∙ v.first) in
+    let placed : w.placed ≡ v.placed = same_Some w.placed v.placed (sym w.stands ∙ ap (slice_get code.instructions) number ∙ v.stands) in
+    let effect_is : w.effect ≡ v.effect = same_Some w.effect v.effect (sym w.has ∙ ap (slice_get effects) number ∙ v.has) in
+    let mark : w.mark ≡ v.mark = same_Some w.mark v.mark (sym w.known ∙ ap (slice_get marks) number ∙ v.known) in
+    let height : w.height ≡ v.height = same_Some w.height v.height (sym w.reached_at ∙ ap (λ (m : Mark). m.height) mark ∙ v.reached_at) in
+    ap (λ (n : ℕ). after_walk code n w.placed w.effect w.mark w.height marks) number
+    ∙ ap (λ (p : PlacedInstruction). after_walk code v.number p w.effect w.mark w.height marks) placed
+    ∙ ap (λ (e : Effect). after_walk code v.number v.placed e w.mark w.height marks) effect_is
+    ∙ ap (λ (m : Mark). after_walk code v.number v.placed v.effect m w.height marks) mark
+    ∙ ap (λ (h : ℕ). after_walk code v.number v.placed v.effect v.mark h marks) height
+
+one_end : (code : Code) (effects : List Effect) (marks a b : List Mark) → Walk code effects marks a → Walk code effects marks b → a ≡ b
+one_end code effects marks a b (ends ms es none is) (ends ms2 es2 none2 is2) = is ∙ sym is2
+one_end code effects marks a b (ends ms es none is) (goes_on ms2 es2 v rest2) = absurd (not_both (position is_waiting marks) v.number none v.first)
+one_end code effects marks a b (goes_on ms es w rest) (ends ms2 es2 none2 is2) = absurd (not_both (position is_waiting marks) w.number none2 w.first)
+one_end code effects marks a b (goes_on ms es w rest) (goes_on ms2 es2 v rest2) =
+    one_end code effects (after_walk code w.number w.placed w.effect w.mark w.height marks) a b rest (subst (λ (m : List Mark). Walk code effects m b) (sym (same_next code effects marks w v)) rest2)
+
+one_walk : (c : ClassFile) (code : Code) (a b : List Mark) → IsWalked c code a → IsWalked c code b → a ≡ b
+one_walk c code a b x y =
+    let effects = one_list c.pool code.instructions x.effects y.effects x.known y.known in
+    one_end code y.effects (at_start code) a b (subst (λ (es : List Effect). Walk code es (at_start code) a) effects x.walk) y.walk
+
+-- ---- the answer
+
+fault_here : (found other : Option (ℕ × Reason)) (f : ℕ × Reason) → found ≡ None → other ≡ Some f → found ≡ other → ⊥
+fault_here found other f none some same = absurd (cc (none, some, same))
+
+abbrev refused_at : ℕ → Reason → Result Graph ReadRefusal
+refused_at offset reason = Err (refusals.Refused offset reason)
+
+abbrev graph_of : List GraphStep → Result Graph ReadRefusal
+graph_of steps = Ok (record { steps = steps })
+
+pub one_told : (c : ClassFile) (code : Code) (a b : Result Graph ReadRefusal) → TellsGraph c code a → TellsGraph c code b → IsTold a → IsTold b → a ≡ b
+one_told c code (Ok g) (Ok h) x y t u =
+    let marks = one_walk c code x.marks y.marks x.is_walked y.is_walked in
+    ap graph_of (x.steps_are ∙ ap (steps_of code) marks ∙ sym y.steps_are)
+one_told c code (Ok g) (Err refusals.Memory) x y t u = absurd u
+one_told c code (Ok g) (Err (refusals.Refused o r)) x y t u =
+    absurd (fault_here _ _ (y.within, r) x.faultless y.told (ap (first_fault code.instructions) (one_walk c code x.marks y.marks x.is_walked y.is_walked)))
+one_told c code (Err refusals.Memory) b x y t u = absurd t
+one_told c code (Err (refusals.Refused o r)) (Ok h) x y t u =
+    absurd (fault_here _ _ (x.within, r) y.faultless x.told (ap (first_fault code.instructions) (one_walk c code y.marks x.marks y.is_walked x.is_walked)))
+one_told c code (Err (refusals.Refused o r)) (Err refusals.Memory) x y t u = absurd u
+one_told c code (Err (refusals.Refused o r)) (Err (refusals.Refused p s)) x y t u =
+    let marks = one_walk c code x.marks y.marks x.is_walked y.is_walked in
+    let same = same_Some (x.within, r) (y.within, s) (sym x.told ∙ ap (first_fault code.instructions) marks ∙ y.told) in
+    let within : x.within ≡ y.within = ap (λ (f : ℕ × Reason). f.0) same in
+    let reason : r ≡ s = ap (λ (f : ℕ × Reason). f.1) same in
+    ap (λ (n : ℕ). refused_at n r) (x.offset_is ∙ ap (λ (n : ℕ). code.at + n) within ∙ sym y.offset_is) ∙ ap (λ (q : Reason). refused_at p q) reason

@@ -1,0 +1,7 @@
+pub mod Effects
+pub mod Flows
+pub mod Walks
+pub mod Walking
+pub mod Graphs
+pub mod Graphing
+pub mod Reading

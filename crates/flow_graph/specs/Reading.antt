@@ -1,0 +1,73 @@
+-- What the reader of code saw to at each instruction, and the units of descriptors as the code counts them.
+use Rattle.std.specs.Prelude.{◌≡◌, ℕ, ◌+◌, ◌<◌, Bool, true, false, List, length, Option, Some, None, sum_by, slice_index_or}
+use Rattle.std.specs.List.{AllZip}
+use Rattle.jvm_model.specs.declared.class_file.ClassFile.{ClassFile}
+use Rattle.jvm_model.specs.declared.code.Code.{Code}
+use Rattle.jvm_model.specs.declared.code.Instruction.{Instruction as Given}
+use Rattle.jvm_model.specs.declared.code.PlacedInstruction.{PlacedInstruction}
+use Rattle.jvm_model.specs.declared.descriptor.Descriptor.{Descriptor}
+use Rattle.jvm_model.specs.declared.descriptor.Descriptor.TheVariants.{Method}
+use Rattle.jvm_model.specs.declared.descriptor.Kind.{Kind as TypeKind}
+use Rattle.jvm_model.specs.Instructions.{HasUnits}
+use Rattle.jvm_model.specs.InstructionUses.{is_subroutine, leads_right}
+use Rattle.jvm_model.specs.Soundness.{IsSoundClass}
+use Rattle.jvm_model.specs.Table.{Row, row_of, Kind, Operands, widened}
+use Rattle.code_reader.specs.CodeReading.{kind_units}
+use Rattle.flow_graph.specs.declared.effect.Effect.{Effect}
+use Rattle.flow_graph.specs.declared.mark.Mark.{Mark}
+use Rattle.flow_graph.specs.declared.units.MethodUnits.{MethodUnits}
+use Rattle.flow_graph.specs.Effects.{with_row, HasEffect}
+use Rattle.flow_graph.specs.Walks.{Walk, at_start}
+
+abbrev pub is_widened : Operands → Bool
+is_widened widened = true
+is_widened _ = false
+
+-- An instruction of a sound class file: it has a row, which is none of a subroutine, and its index of the constant pool
+-- leads to what it should (JVMS 4.9.1).
+pub record IsSoundInstruction (c : ClassFile) (i : Given) : Type 0 where
+  pub sound : IsSoundClass c
+  pub row : Row
+  pub of_opcode : row_of i.opcode ≡ Some row
+  pub no_subroutine : is_subroutine row.flow ≡ false
+  pub not_wide : is_widened row.operands ≡ false
+  pub leads : leads_right c.pool (with_row i row) ≡ true
+
+-- If the instruction is sound, it pops and pushes so many units.
+pub record HasEffectIfSound (c : ClassFile) (p : PlacedInstruction) (e : Effect) : Type 0 where
+  pub if_sound : IsSoundInstruction c p.instruction → HasEffect c.pool p.instruction e
+
+-- The instructions stand in the order of their offsets.
+pub record AreInOrder (instructions : List PlacedInstruction) : Type 0 where
+  pub below : (i j : ℕ) (p : PlacedInstruction) → i < j → j < length instructions → (slice_index_or instructions i p).offset < (slice_index_or instructions j p).offset
+
+-- A method descriptor has so many units of parameters and of the result (JVMS 4.3.3).
+pub record HasCounts (descriptor : List ℕ) (u : MethodUnits) : Type 0 where
+  pub parameters : List Kind
+  pub results : List Kind
+  pub units : HasUnits descriptor parameters results
+  pub parameters_are : u.parameters ≡ length parameters
+  pub results_are : u.results ≡ length results
+
+-- A call of a method of this descriptor, whose receiver takes so many units, pops and pushes so many.
+pub record IsCallEffect (descriptor : List ℕ) (receiver : ℕ) (e : Effect) : Type 0 where
+  pub units : MethodUnits
+  pub counted : HasCounts descriptor units
+  pub pops_are : e.pops ≡ receiver + units.parameters
+  pub pushes_are : e.pushes ≡ units.results
+
+-- The units of a result: none of void.
+abbrev pub outcome_units : Option TypeKind → ℕ
+outcome_units None = 0
+outcome_units (Some kind) = kind_units kind
+
+-- The units of a descriptor that was read: none but of a method.
+abbrev pub spelled_units : Option Descriptor → MethodUnits
+spelled_units (Some (Method kinds outcome)) = record { parameters = sum_by kind_units kinds; results = outcome_units outcome }
+spelled_units _ = record { parameters = 0; results = 0 }
+
+-- If each instruction is sound, the walk over the code ends with these marks.
+pub record IsWalkedIfSound (c : ClassFile) (code : Code) (marks : List Mark) : Type 0 where
+  pub effects : List Effect
+  pub known : AllZip (HasEffectIfSound c) code.instructions effects
+  pub walk : Walk code effects (at_start code) marks

@@ -1,0 +1,20 @@
+//! The flow graph of a method (JVMS 2.6.2, 4.9.2, 4.10): for each instruction that is reached, the height of its operand
+//! stack, where it goes on, and the handlers that cover it. The layers above call `graph`, and cite `IsFlow` of specs/.
+#![tactic(auto)]
+
+mod build;
+mod effect;
+mod flow;
+pub mod laws;
+mod mark;
+mod steps;
+mod units;
+mod walk;
+
+pub use build::graph;
+pub use effect::Effect;
+pub use mark::Mark;
+pub use steps::{Graph, GraphStep};
+
+#[cfg(test)]
+mod tests;

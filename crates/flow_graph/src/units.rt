@@ -1,0 +1,150 @@
+//! The units of the values that a descriptor is of (JVMS 2.6.2, 4.3): one for each, but two for a long or a double.
+
+ghost use Rattle.std.specs.Prelude.{◌≡◌, ◌≤◌, length, sum_by, IfOk, Some, option_map};
+ghost use Rattle.jvm_model.specs.Descriptors.{IsMethodDescriptor};
+ghost use Rattle.jvm_model.specs.Instructions.{kinds_of, member_in, member_at};
+ghost use Rattle.jvm_model.specs.Lookups.{MethodName, Signature, entry_at};
+ghost use Rattle.code_reader.specs.CodeReading.{kind_units};
+ghost use Rattle.flow_graph.specs.Effects.{site_at};
+ghost use Rattle.code_reader.specs.Parameters.{HasFewUnits};
+ghost use Rattle.flow_graph.specs.Reading.{HasCounts, outcome_units, spelled_units};
+
+use jvm_model::lookup::{class_name_at, signature_at};
+use jvm_model::{Descriptor, Kind, PoolEntry, descriptor_of};
+use std::alloc::{AllocError, Global};
+
+/// The units of a method: those of its parameters, without the receiver, and those of its result.
+#[derive(Clone, Copy, Debug, PartialEq, Eq)]
+pub(crate) struct MethodUnits {
+    pub(crate) parameters: u16,
+    pub(crate) results: u16,
+}
+
+/// The units of a method descriptor.
+pub(crate) fn method_units(alloc: Global, descriptor: &[u8]) -> Result<MethodUnits, AllocError>
+    ensures few { IfOk result (λ u. u.parameters ≤ 255) }
+    ensures exact { IfOk result (λ u. IsMethodDescriptor descriptor.now → HasCounts descriptor.now u) }
+{
+    let spelled = descriptor_of(alloc, descriptor)?;
+    Ok(spelled_units(&spelled))
+}
+
+/// The units of a method descriptor that was read; none of another one.
+fn spelled_units(spelled: &Option<Descriptor>) -> MethodUnits
+    requires { HasFewUnits spelled.now }
+    ensures { result ≡ spelled_units spelled.now }
+{
+    match spelled {
+        Some(Descriptor::Method(kinds, outcome)) => MethodUnits {
+            parameters: units_of(kinds.as_slice()),
+            results: outcome_units(outcome),
+        },
+        _ => MethodUnits {
+            parameters: 0,
+            results: 0,
+        },
+    }
+}
+
+/// How many units values of these kinds take.
+fn units_of(kinds: &[Kind]) -> u16
+    requires { sum_by kind_units kinds.now ≤ 255 }
+    ensures { result ≡ sum_by kind_units kinds.now }
+{
+    let mut units = 0;
+    for kind in kinds {
+        units += kind_units(kind);
+    }
+    units
+}
+
+/// How many units a value of a kind takes.
+fn kind_units(kind: &Kind) -> u16
+    ensures { result ≡ kind_units kind.now }
+{
+    match kind {
+        Kind::Prim { wide: true } => 2,
+        _ => 1,
+    }
+}
+
+/// How many units a result takes: none where it is void.
+fn outcome_units(outcome: &Option<Kind>) -> u16
+    ensures { result ≡ outcome_units outcome.now }
+{
+    match outcome {
+        Some(kind) => kind_units(kind),
+        None => 0,
+    }
+}
+
+/// How many units a field of a descriptor takes, by its first letter.
+pub(crate) fn field_units(descriptor: &[u8]) -> u16
+    ensures exact { result ≡ length (kinds_of descriptor.now) }
+    ensures few { result ≤ 2 }
+{
+    match descriptor {
+        [b'J' | b'D', ..] => 2,
+        [] | [b'V', ..] => 0,
+        _ => 1,
+    }
+}
+
+/// The entry at an index of the constant pool, which counts from 1.
+fn entry_at(pool: &[PoolEntry], index: u32) -> Option<&PoolEntry>
+    ensures { option_map (λ e. e.now) result ≡ entry_at pool.now index }
+{
+    let place = index.checked_sub(1)?;
+    pool.get(place as usize)
+}
+
+/// The descriptor of the field or the method that the entry at an index names (JVMS 4.4.2).
+fn member_descriptor(pool: &[PoolEntry], index: u32) -> Option<&[u8]>
+    ensures { option_map (λ d. d.now) result ≡ option_map (λ (m : MethodName). m.signature.descriptor) (member_at pool.now index) }
+{
+    match entry_at(pool, index)? {
+        PoolEntry::Fieldref(class, signature) => descriptor_in(pool, *class, *signature),
+        PoolEntry::Methodref(class, signature) => descriptor_in(pool, *class, *signature),
+        PoolEntry::InterfaceMethodref(class, signature) => descriptor_in(pool, *class, *signature),
+        _ => None,
+    }
+}
+
+/// The descriptor of a member that is named by its class, and by its name and descriptor.
+fn descriptor_in(pool: &[PoolEntry], class: u16, signature: u16) -> Option<&[u8]>
+    ensures { option_map (λ d. d.now) result ≡ option_map (λ (m : MethodName). m.signature.descriptor) (member_in pool.now class signature) }
+{
+    let _class = class_name_at(pool, class)?;
+    let signature = signature_at(pool, signature)?;
+    Some(signature.descriptor)
+}
+
+/// The descriptor that the InvokeDynamic entry at an index has (JVMS 4.4.10).
+fn site_descriptor(pool: &[PoolEntry], index: u32) -> Option<&[u8]>
+    ensures { option_map (λ d. d.now) result ≡ option_map (λ (s : Signature). s.descriptor) (site_at pool.now index) }
+{
+    match entry_at(pool, index)? {
+        PoolEntry::InvokeDynamic(_, signature) => Some(signature_at(pool, *signature)?.descriptor),
+        _ => None,
+    }
+}
+
+/// The same as a text, which is empty where none is named.
+pub(crate) fn member_text(pool: &[PoolEntry], index: u32) -> &[u8]
+    ensures { (m : MethodName) → member_at pool.now index ≡ Some m → result.now ≡ m.signature.descriptor }
+{
+    match member_descriptor(pool, index) {
+        Some(descriptor) => descriptor,
+        None => &[],
+    }
+}
+
+/// The descriptor of a call site as a text, which is empty where there is none.
+pub(crate) fn site_text(pool: &[PoolEntry], index: u32) -> &[u8]
+    ensures { (s : Signature) → site_at pool.now index ≡ Some s → result.now ≡ s.descriptor }
+{
+    match site_descriptor(pool, index) {
+        Some(descriptor) => descriptor,
+        None => &[],
+    }
+}
