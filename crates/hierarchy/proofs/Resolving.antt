@@ -1,0 +1,96 @@
+-- Resolution: what a reference to a method gives by what the searches found; and where a special call goes.
+use Rattle.std.proofs.Common.{◌≡◌, ◌≢◌, ℕ, Bool, true, false, List, Some, refl, sym, ◌∙◌, subst}
+use Rattle.std.specs.Bool.{MatchBool}
+use Rattle.std.proofs.Math.Bool.{beq}
+use Rattle.std.proofs.lemmas.Bool.{false≢true}
+use Rattle.std.proofs.lemmas.Option.{same_Some, slice_get_within}
+use Rattle.jvm_model.specs.Lookups.{Signature}
+use Rattle.jvm_model.specs.Programs.{Class, Method, Program}
+use Rattle.jvm_model.specs.Resolution.{HasSignature, IsInstanceWith, IsFound, IsFoundIn, IsFoundInInterface, declared_there, of_object, IsInherited, IsOnlyDefault, ResolvesFrom, itself, by_default, by_name, Resolves}
+use Rattle.jvm_model.specs.Selection.{SelectsFrom, upward, by_default as by_only_default, StartsSearch, SelectsSpecial}
+use Rattle.jvm_model.specs.Subtypes.{class_named}
+use Rattle.hierarchy.specs.Numbers.{IsMethodNumber}
+use Rattle.hierarchy.specs.Searches.{HasTwoDefaults, SelectsInstance}
+use Rattle.hierarchy.proofs.Hiding.{starts_same}
+use Rattle.hierarchy.proofs.Selecting.{found_within, default_within}
+
+-- ---- the kind of a class
+
+pub same_kind : (a b : Bool) → beq a b ≡ true → a ≡ b
+same_kind true true e = refl
+same_kind true false e = absurd (false≢true e)
+same_kind false true e = absurd (false≢true e)
+same_kind false false e = refl
+
+pub other_kind_of : (a b : Bool) → beq a b ≡ false → a ≢ b
+other_kind_of true true e = λ s. false≢true (sym e)
+other_kind_of true false e = λ s. false≢true (sym s)
+other_kind_of false true e = λ s. false≢true s
+other_kind_of false false e = λ s. false≢true (sym e)
+
+-- of two defaults none is the only one
+pub two_not_only : (p : Program) (class : List ℕ) (s : Signature) (n : ℕ) → HasTwoDefaults p class s → IsOnlyDefault p class s n → ⊥
+two_not_only p class s n two only = two.differ (only.only two.first two.first_default ∙ sym (only.only two.second two.second_default))
+
+-- ---- resolution
+
+resolves_how : (p : Program) (name : List ℕ) (s : Signature) (n : ℕ) (c : Class) → class_named p name ≡ Some c → Resolves p (record { class = name; signature = s }) n
+    → ResolvesFrom p name s (IsFoundIn p (HasSignature s) s c) n
+resolves_how p name s n c named r = subst (λ (x : Class). ResolvesFrom p name s (IsFoundIn p (HasSignature s) s x) n) (same_Some r.class c (sym r.named ∙ named)) r.search
+
+pub resolves_none : (p : Program) (name : List ℕ) (s : Signature) (n : ℕ) (c : Class) → class_named p name ≡ Some c
+    → ((other : ℕ) → IsFoundIn p (HasSignature s) s c other → ⊥) → ((other : ℕ) → IsOnlyDefault p name s other → ⊥) → ((other : ℕ) → IsInherited p name s other → ⊥)
+    → Resolves p (record { class = name; signature = s }) n → ⊥
+resolves_none p name s n c named none no_default no_inherited r =
+    elim (resolves_how p name s n c named r) [
+      | itself own ↦ none n own
+      | by_default _ only ↦ no_default n only
+      | by_name _ _ least ↦ no_inherited n least.inherited
+    ]
+
+-- ---- special calls
+
+instance_how : (p : Program) (start : List ℕ) (s : Signature) (n : ℕ) (c : Class) → class_named p start ≡ Some c → SelectsInstance p start s n
+    → SelectsFrom p start s (IsFoundIn p (IsInstanceWith s) s c) n
+instance_how p start s n c named r = subst (λ (x : Class). SelectsFrom p start s (IsFoundIn p (IsInstanceWith s) s x) n) (same_Some r.class c (sym r.named ∙ named)) r.chosen
+
+pub instance_none : (p : Program) (start : List ℕ) (s : Signature) (n : ℕ) (c : Class) → class_named p start ≡ Some c
+    → ((other : ℕ) → IsFoundIn p (IsInstanceWith s) s c other → ⊥) → ((other : ℕ) → IsOnlyDefault p start s other → ⊥) → SelectsInstance p start s n → ⊥
+instance_none p start s n c named none no_default r =
+    elim (instance_how p start s n c named r) [ upward own ↦ none n own | by_only_default _ only ↦ no_default n only ]
+
+interface_within : (p : Program) (Is : ℕ → Method → Type 0) (s : Signature) (name : List ℕ) (n : ℕ) → IsFoundInInterface p Is s name n → IsMethodNumber p n
+interface_within p Is s name n (declared_there d) = slice_get_within p.methods n d.method d.stands
+interface_within p Is s name n (of_object _ d) = slice_get_within p.methods n d.method d.stands
+
+found_in_within : (p : Program) (Is : ℕ → Method → Type 0) (s : Signature) (c : Class) (n : ℕ) → IsFoundIn p Is s c n → IsMethodNumber p n
+found_in_within p Is s c n found =
+    let split : (b : Bool) → MatchBool b (IsFoundInInterface p Is s c.name n) (IsFound p c.name Is n) → IsMethodNumber p n =
+    λ b. elim b as (λ v. MatchBool v (IsFoundInInterface p Is s c.name n) (IsFound p c.name Is n) → IsMethodNumber p n) [
+      | true ↦ λ h. interface_within p Is s c.name n h
+      | false ↦ λ h. found_within p Is c.name n h
+    ] in
+    split c.is_interface found
+
+from_within : (p : Program) (start : List ℕ) (s : Signature) (c : Class) (n : ℕ) → SelectsFrom p start s (IsFoundIn p (IsInstanceWith s) s c) n → IsMethodNumber p n
+from_within p start s c n (upward own) = found_in_within p (IsInstanceWith s) s c n own
+from_within p start s c n (by_only_default _ only) = default_within p start s n only
+
+pub instance_within : (p : Program) (start : List ℕ) (s : Signature) (n : ℕ) → SelectsInstance p start s n → IsMethodNumber p n
+instance_within p start s n r = from_within p start s r.class n r.chosen
+
+-- from the class at which the search begins
+pub special_from : (p : Program) (current named : List ℕ) (s t : Signature) (start : List ℕ) (n : ℕ) → t ≡ s → StartsSearch p current (record { class = named; signature = s }) start
+    → SelectsInstance p start s n → SelectsSpecial p current (record { class = named; signature = t }) n
+special_from p current named s t start n same begins r =
+    subst (λ (x : Signature). SelectsSpecial p current (record { class = named; signature = x }) n) (sym same)
+    (record { start = start; begins = begins; class = r.class; named = r.named; chosen = r.chosen })
+
+pub special_instance : (p : Program) (current named : List ℕ) (s t : Signature) (start : List ℕ) (n : ℕ) → t ≡ s → StartsSearch p current (record { class = named; signature = s }) start
+    → SelectsSpecial p current (record { class = named; signature = t }) n → SelectsInstance p start s n
+special_instance p current named s t start n same begins selects =
+    let r : SelectsSpecial p current (record { class = named; signature = s }) n =
+    subst (λ (x : Signature). SelectsSpecial p current (record { class = named; signature = x }) n) same selects in
+    let start_is : r.start ≡ start = starts_same p current (record { class = named; signature = s }) r.start start r.begins begins in
+    let here : SelectsInstance p r.start s n = record { class = r.class; named = r.named; chosen = r.chosen } in
+    subst (λ (x : List ℕ). SelectsInstance p x s n) start_is here

@@ -1,0 +1,40 @@
+use Rattle.std.proofs.Common.{◌∙◌, refl, sym}
+use Rattle.std.proofs.lemmas.Bool.{false≢true}
+use Rattle.jvm_model.specs.Selection.{at_super, at_named}
+use Rattle.hierarchy.specs.Numbers.{name_at}
+use Rattle.hierarchy.specs.Searches.{signature_from}
+use Rattle.hierarchy.proofs.ClassPlaces.{same_number}
+use Rattle.hierarchy.proofs.Chains.{step_at, top_at}
+use Rattle.hierarchy.proofs.Hiding.{super_upward, upward_super, upward_last}
+use Rattle.hierarchy.proofs.special.search_start.Goals as goal
+
+pub returns-then-not-is_upward-clause-start : goal.returns-then-not-is_upward-clause-start
+returns-then-not-is_upward-clause-start c =
+    let p = c.args.program.now in
+    at_named (λ call. false≢true (sym c.if-not-is_upward.true ∙ c.is_upward.ensures.1 (super_upward p (name_at p c.args.current) _ call))) refl
+
+pub returns-in-Some-clause-class : goal.returns-in-Some-clause-class
+returns-in-Some-clause-class c =
+    let p = c.args.program.now in
+    (step_at p c.well_formed-2.ensures.program c.args.current c.in-Some.above c.super_class.result c.requires.current c.in-Some.is c.super_class.ensures).below
+
+pub returns-in-Some-clause-start : goal.returns-in-Some-clause-start
+returns-in-Some-clause-start c =
+    let p = c.args.program.now in
+    let is = c.well_formed-2.ensures in
+    let step = step_at p is.program c.args.current c.in-Some.above c.super_class.result c.requires.current c.in-Some.is c.super_class.ensures in
+    at_super step.class
+    (upward_super p (name_at p c.args.current) (record { class = name_at p c.args.named; signature = signature_from c.args.name.now c.args.descriptor.now })
+    (λ e. false≢true (sym c.if-is_constructor.false ∙ c.is_constructor.ensures.1 e))
+    (λ e. c.if-current-named.false (same_number p is.program c.args.current c.args.named c.requires.current c.requires.named e))
+    (c.is_upward.ensures.0 c.if-not-is_upward.false))
+    step.at.named step.super
+
+pub returns-in-None-clause-start : goal.returns-in-None-clause-start
+returns-in-None-clause-start c =
+    let p = c.args.program.now in
+    let is = c.well_formed-2.ensures in
+    let top = top_at p is.program c.args.current c.super_class.result c.requires.current c.in-None.is c.super_class.ensures in
+    absurd (upward_last p c.args.current (name_at p c.args.named) top
+    (λ e. c.if-current-named.false (same_number p is.program c.args.current c.args.named c.requires.current c.requires.named e))
+    (c.is_upward.ensures.0 c.if-not-is_upward.false))

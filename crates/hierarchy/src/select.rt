@@ -1,0 +1,157 @@
+//! The method that a call on an object goes to (JVMS 5.4.5, 6.5.invokevirtual, 6.5.invokeinterface).
+
+ghost use Rattle.std.specs.Prelude.{◌≡◌, ◌↔◌, Some, slice_get, IsTrue};
+ghost use Rattle.jvm_model.specs.Programs.{Method, is_abstract};
+ghost use Rattle.jvm_model.specs.Selection.{Selection, IsPackageOverridden, IsPackagePrivate, is_direct};
+ghost use Rattle.hierarchy.specs.Numbers.{name_at, IsClassNumber, IsMethodNumber, method_number};
+ghost use Rattle.hierarchy.specs.Searches.{signature_from, IsChosen, IsHidden, Hides, wanted_of};
+
+use crate::choice::Choice;
+use crate::defaults::find_defaults;
+use crate::package::is_same_package;
+use crate::program::Program;
+use crate::search::found_upward;
+use crate::wanted::Wanted;
+use jvm_model::{AccessFlag, ClassNo, MethodNo, Reason};
+
+/// Where a call of a resolved method on an object of a class goes, at a call of an interface's method or of any other one
+/// (JVMS 6.5.invokevirtual, 6.5.invokeinterface).
+///
+/// The error is `NoImplementation` if there is no method, or an abstract one; `ClashingDefaults` if several methods of
+/// superinterfaces could be called; and `PackageOverride` if the resolved method is visible in its package alone and a method of
+/// another package has its name and descriptor. It takes no memory.
+pub fn select(
+    program: &Program,
+    resolved: MethodNo,
+    receiver: ClassNo,
+    interface: bool,
+) -> Result<MethodNo, Reason>
+    requires resolved { IsMethodNumber program.now resolved.0 }
+    requires receiver { IsClassNumber program.now receiver.0 }
+    ensures { Selection program.now interface (name_at program.now receiver.0) resolved.0 (method_number result) }
+{
+    program.well_formed();
+    match chosen(program, resolved.0, receiver.0, interface) {
+        Choice::Nothing => Err(Reason::NoImplementation),
+        Choice::Several => Err(Reason::ClashingDefaults),
+        Choice::One(target) => {
+            if is_abstract(program, target) {
+                return Err(Reason::NoImplementation);
+            }
+            if is_package_overridden(program, receiver.0, resolved.0) {
+                return Err(Reason::PackageOverride);
+            }
+            Ok(MethodNo(target))
+        }
+    }
+}
+
+/// Whether a method is abstract.
+pub(crate) fn is_abstract(program: &Program, number: u32) -> bool
+    requires { IsMethodNumber program.now number }
+    ensures { (m : Method) → slice_get program.now.methods number ≡ Some m → result ≡ is_abstract m }
+{
+    AccessFlag::Abstract.is_set_in(program.method(number).flags)
+}
+
+// The method that is selected, whether it is abstract or not.
+fn chosen(program: &Program, resolved: u32, receiver: u32, interface: bool) -> Choice
+    requires resolved { IsMethodNumber program.now resolved }
+    requires receiver { IsClassNumber program.now receiver }
+    ensures { IsChosen program.now interface (name_at program.now receiver) resolved result }
+{
+    if is_direct(program, resolved, interface) {
+        return Choice::One(resolved);
+    }
+    let method = program.method(resolved);
+    let wanted = wanted_for(interface, resolved);
+    if let Some(target) = found_upward(program, receiver, method.name, method.descriptor, wanted) {
+        return Choice::One(target);
+    }
+    find_defaults(program, receiver, method.name, method.descriptor)
+}
+
+// Whether the resolved method is private, and the call is none of an interface's method.
+fn is_direct(program: &Program, resolved: u32, interface: bool) -> bool
+    requires { IsMethodNumber program.now resolved }
+    ensures { (m : Method) → slice_get program.now.methods resolved ≡ Some m → result ≡ is_direct interface m }
+{
+    if interface {
+        return false;
+    }
+    AccessFlag::Private.is_set_in(program.method(resolved).flags)
+}
+
+// What is looked for upward.
+fn wanted_for(interface: bool, resolved: u32) -> Wanted
+    ensures { result ≡ wanted_of interface resolved }
+{
+    if interface {
+        Wanted::Instance
+    } else {
+        Wanted::Selected(resolved)
+    }
+}
+
+// Whether a method that is visible in its package alone has, from the class upward to below its own, a method of its name and
+// descriptor in another package.
+fn is_package_overridden(program: &Program, class: u32, resolved: u32) -> bool
+    requires class { IsClassNumber program.now class }
+    requires resolved { IsMethodNumber program.now resolved }
+    ensures { IsTrue result ↔ IsPackageOverridden program.now (name_at program.now class) resolved }
+{
+    if !is_package_private(program, resolved) {
+        return false;
+    }
+    let method = program.method(resolved);
+    is_hidden(program, class, method.class, method.name, method.descriptor)
+}
+
+// Whether a method has no flag of access.
+fn is_package_private(program: &Program, number: u32) -> bool
+    requires { IsMethodNumber program.now number }
+    ensures { (m : Method) → slice_get program.now.methods number ≡ Some m → IsTrue result ↔ IsPackagePrivate m }
+{
+    let flags = program.method(number).flags;
+    if AccessFlag::Public.is_set_in(flags) {
+        return false;
+    }
+    if AccessFlag::Protected.is_set_in(flags) {
+        return false;
+    }
+    !AccessFlag::Private.is_set_in(flags)
+}
+
+// Whether, from the class upward to below another one, a class in another package than that one has a method of the name and
+// descriptor.
+fn is_hidden(program: &Program, class: u32, owner: u32, name: &[u8], descriptor: &[u8]) -> bool
+    requires class { IsClassNumber program.now class }
+    requires owner { IsClassNumber program.now owner }
+    ensures { IsTrue result ↔ IsHidden program.now (name_at program.now class) (name_at program.now owner) (signature_from name.now descriptor.now) }
+{
+    program.well_formed();
+    let mut current = class;
+    'upward: for _passed in 0..program.class_count() {
+        if current == owner {
+            return false;
+        }
+        if hides(program, current, owner, name, descriptor) {
+            return true;
+        }
+        let Some(above) = program.super_class(current) else {
+            return false;
+        };
+        current = above;
+    }
+    unreachable!()
+}
+
+// Whether a class in another package than the owner has a method of the name and descriptor.
+fn hides(program: &Program, class: u32, owner: u32, name: &[u8], descriptor: &[u8]) -> bool
+    requires class { IsClassNumber program.now class }
+    requires owner { IsClassNumber program.now owner }
+    ensures { IsTrue result ↔ Hides program.now (name_at program.now owner) (signature_from name.now descriptor.now) (name_at program.now class) }
+{
+    program.declared_method(class, name, descriptor).is_some()
+        && !is_same_package(program.class_name(class), program.class_name(owner))
+}
