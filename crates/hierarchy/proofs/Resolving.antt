@@ -9,7 +9,7 @@ use Rattle.jvm_model.specs.Programs.{Class, Method, Program}
 use Rattle.jvm_model.specs.Resolution.{HasSignature, IsInstanceWith, IsFound, IsFoundIn, IsFoundInInterface, declared_there, of_object, IsInherited, IsOnlyDefault, ResolvesFrom, itself, by_default, by_name, Resolves}
 use Rattle.jvm_model.specs.Selection.{SelectsFrom, upward, by_default as by_only_default, StartsSearch, SelectsSpecial}
 use Rattle.jvm_model.specs.Subtypes.{class_named}
-use Rattle.hierarchy.specs.Numbers.{IsMethodNumber}
+use Rattle.linked_program.specs.Numbers.{IsMethodNumber}
 use Rattle.hierarchy.specs.Searches.{HasTwoDefaults, SelectsInstance}
 use Rattle.hierarchy.proofs.Hiding.{starts_same}
 use Rattle.hierarchy.proofs.Selecting.{found_within, default_within}

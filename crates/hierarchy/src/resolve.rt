@@ -4,12 +4,12 @@ ghost use Rattle.std.specs.Prelude.{◌≡◌, ℕ, Some, slice_get, IfSome, IfN
 ghost use Rattle.jvm_model.specs.Programs.{Class};
 ghost use Rattle.jvm_model.specs.Resolution.{MethodResolution, Resolves, missing};
 ghost use Rattle.jvm_model.specs.declared.reason.Reason.TheVariants.{MissingMethod};
-ghost use Rattle.hierarchy.specs.Numbers.{name_at, IsClassNumber, method_number};
+ghost use Rattle.linked_program.specs.Numbers.{name_at, IsClassNumber, method_number};
 ghost use Rattle.hierarchy.specs.Searches.{signature_from};
 
 use crate::choice::Choice;
 use crate::defaults::{find_defaults, least_inherited};
-use crate::program::Program;
+use linked_program::program::Program;
 use crate::search::found_in;
 use crate::wanted::Wanted;
 use jvm_model::{ClassNo, MethodNo, Reason};

@@ -6,11 +6,11 @@ ghost use Rattle.jvm_model.specs.Programs.{Class, Field};
 ghost use Rattle.jvm_model.specs.Resolution.{FieldResolution, FindsField, missing};
 ghost use Rattle.jvm_model.specs.declared.access.AccessFlag.TheVariants.{Static};
 ghost use Rattle.jvm_model.specs.declared.reason.Reason.TheVariants.{MissingField};
-ghost use Rattle.hierarchy.specs.FieldSearches.{IsFirstField};
-ghost use Rattle.hierarchy.specs.Numbers.{name_at, IsClassNumber, field_number};
+ghost use Rattle.linked_program.specs.FieldSearches.{IsFirstField};
+ghost use Rattle.linked_program.specs.Numbers.{name_at, IsClassNumber, field_number};
 ghost use Rattle.hierarchy.specs.Searches.{signature_from};
 
-use crate::program::Program;
+use linked_program::program::Program;
 use jvm_model::{AccessFlag, ClassNo, FieldNo, Reason};
 
 /// What a reference to a static field, or to an instance field, gives that names a class (JVMS 5.4.3.2).

@@ -7,12 +7,12 @@ ghost use Rattle.jvm_model.specs.Resolution.{Declares, IsFound, IsFoundIn, IsPub
 ghost use Rattle.jvm_model.specs.Selection.{Overrides, IsOverridable};
 ghost use Rattle.jvm_model.specs.Subtypes.{IsProperSubtype};
 ghost use Rattle.jvm_model.specs.declared.access.AccessFlag.TheVariants.{Private, Static};
-ghost use Rattle.hierarchy.specs.Numbers.{name_at, IsClassNumber, IsMethodNumber};
+ghost use Rattle.linked_program.specs.Numbers.{name_at, IsClassNumber, IsMethodNumber};
 ghost use Rattle.hierarchy.specs.Searches.{signature_from, IsFor};
 ghost use Rattle.hierarchy.specs.Wanted.{IsWanted};
 
 use crate::package::is_same_package;
-use crate::program::Program;
+use linked_program::program::Program;
 use crate::wanted::Wanted;
 use jvm_model::AccessFlag;
 

@@ -3,13 +3,13 @@
 ghost use Rattle.std.specs.Prelude.{◌≡◌, ◌↔◌, Some, slice_get, IsTrue};
 ghost use Rattle.jvm_model.specs.Programs.{Method, is_abstract};
 ghost use Rattle.jvm_model.specs.Selection.{Selection, IsPackageOverridden, IsPackagePrivate, is_direct};
-ghost use Rattle.hierarchy.specs.Numbers.{name_at, IsClassNumber, IsMethodNumber, method_number};
+ghost use Rattle.linked_program.specs.Numbers.{name_at, IsClassNumber, IsMethodNumber, method_number};
 ghost use Rattle.hierarchy.specs.Searches.{signature_from, IsChosen, IsHidden, Hides, wanted_of};
 
 use crate::choice::Choice;
 use crate::defaults::find_defaults;
 use crate::package::is_same_package;
-use crate::program::Program;
+use linked_program::program::Program;
 use crate::search::found_upward;
 use crate::wanted::Wanted;
 use jvm_model::{AccessFlag, ClassNo, MethodNo, Reason};

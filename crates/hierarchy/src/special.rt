@@ -3,12 +3,12 @@
 ghost use Rattle.std.specs.Prelude.{◌≡◌, ◌↔◌, ℕ, codes, Some, slice_get, IsTrue, IfSome, IfNone};
 ghost use Rattle.jvm_model.specs.Programs.{Method};
 ghost use Rattle.jvm_model.specs.Selection.{SpecialSelection, StartsSearch};
-ghost use Rattle.hierarchy.specs.Numbers.{name_at, IsClassNumber, IsMethodNumber, method_number};
+ghost use Rattle.linked_program.specs.Numbers.{name_at, IsClassNumber, IsMethodNumber, method_number};
 ghost use Rattle.hierarchy.specs.Searches.{signature_from, IsUpward, SelectsInstance};
 
 use crate::choice::Choice;
 use crate::defaults::find_defaults;
-use crate::program::Program;
+use linked_program::program::Program;
 use crate::search::found_in;
 use crate::select::is_abstract;
 use crate::wanted::Wanted;

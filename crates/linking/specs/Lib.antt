@@ -1,0 +1,4 @@
+pub mod Claims
+pub mod Patching
+pub mod Supers
+pub mod LinkTelling
