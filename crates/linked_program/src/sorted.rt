@@ -1,15 +1,13 @@
 //! The place of a name among names in the order of their bytes.
 
-ghost use Rattle.std.specs.Prelude.{◌≡◌, ◌↔◌, ℕ, ◌<◌, IsTrue, ◌^◌, length, map, Some, slice_get, IfOk, IfSome, IfNone};
+ghost use Rattle.std.specs.Prelude.{◌≡◌, ℕ, ◌<◌, ◌^◌, length, Some, slice_get, IfSome, IfNone};
 ghost use Rattle.std.specs.List.Sorted.{IsSearchInRange, IsBinarySearchResult};
 ghost use Rattle.std.specs.Ordering.{nat_cmp};
-ghost use Rattle.std.specs.declared.cmp.Ordering.TheVariants.{Less};
 ghost use Rattle.std.specs.Cmp.Lexicographic.{slice_cmp};
-ghost use Rattle.linked_program.specs.ByteOrder.{lent_texts, IsAscending, IsByteOrder, ArePlaced};
+ghost use Rattle.linked_program.specs.ByteOrder.{IsAscending};
 ghost use Rattle.class_index.specs.FirstPlaces.{StandsNowhere};
 
 use jvm_model::Bytes;
-use std::alloc::{AllocError, Global};
 
 /// The place of a name among names that ascend. It compares log n times, and takes no memory.
 pub fn find_in_order(names: &[Bytes], text: &[u8]) -> Option<u32>
