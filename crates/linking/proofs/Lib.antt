@@ -11,3 +11,4 @@ pub mod PatchesAlone
 pub mod Orders
 pub mod SoundOrigins
 pub mod LinkSteps
+pub mod PatchLists

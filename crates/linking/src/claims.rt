@@ -11,7 +11,7 @@ use crate::class_names::{check_file_names, check_stub_names, stub_names};
 use crate::known::Known;
 use linked_program::link_end::LinkEnd;
 use crate::mentions::{check_natives, check_stubs};
-use crate::patches::Patches;
+use crate::patch_index::Patches;
 use crate::supers::{SuperRule, check_supers_of_files, check_supers_of_stubs};
 use jvm_model::{NamedClass, StubClass};
 use std::alloc::Global;

@@ -10,5 +10,6 @@ pub mod link;
 mod mentions;
 mod natives;
 mod origins;
+mod patch_index;
 mod patches;
 mod supers;

@@ -14,7 +14,7 @@ use crate::known::known_classes;
 use linked_program::link_end::LinkEnd;
 use linked_program::origin::name;
 use crate::origins::origins;
-use crate::patches::Patches;
+use crate::patch_index::Patches;
 use linked_program::program::Program;
 use jvm_model::{NamedClass, Origin, StubClass};
 use std::alloc::Global;

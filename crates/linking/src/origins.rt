@@ -5,7 +5,8 @@ ghost use Rattle.linking.specs.Patching.{is_patch_stub, own_one, patch_one};
 ghost use Rattle.jvm_model.specs.Linking.{told, origins, folder_origin, stub_origin, native_descriptions, stub_descriptions, own_classes};
 
 use crate::copies::copied_methods;
-use crate::patches::{Patches, native_descriptions, stub_descriptions};
+use crate::patch_index::Patches;
+use crate::patches::{native_descriptions, stub_descriptions};
 use jvm_model::{NamedClass, Origin, Sequence, StubClass, StubMethod};
 use std::alloc::{AllocError, Global};
 

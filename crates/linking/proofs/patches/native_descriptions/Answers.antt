@@ -12,7 +12,7 @@ returns c =
     let class = c.args.class.now in
     let stubs = c.args.patches.now in
     let name : c.class_text-name.result.now ≡ name_of class = c.class_text-name.ensures ∙ ap (λ (pool : List PoolEntry). class_or_none pool class.this_class) c.as_slice.ensures in
-    let found : map (λ (s : Bor StubClass). s.now) c.as_slice-2.result.now ≡ patches_for (name_of class) stubs =
-    ap (map (λ (s : Bor StubClass). s.now)) c.as_slice-2.ensures.value ∙ c.in_ok-found.ensures ∙ ap (λ text. patches_for text stubs) name in
+    let found : map (λ (s : Bor StubClass). s.now) c.of-found.result.now ≡ patches_for (name_of class) stubs =
+    c.of-found.ensures ∙ ap (λ text. patches_for text stubs) name in
     c.in_ok-add_patches.ensures
     ∙ (λ i. with_descriptions (c.new-all.ensures i) (filter (is_native_in (c.in_ok-natives.ensures i)) (flat_map descriptions (found i))))
