@@ -6,10 +6,10 @@ ghost use Rattle.linked_program.specs.Numbers.{name_at, IsClassNumber, IsMethodN
 ghost use Rattle.hierarchy.specs.Searches.{signature_from, AreDefaults, IsLowestConcrete, IsLeast, IsKeptOrOffered};
 
 use crate::choice::Choice;
-use linked_program::program::Program;
 use crate::search::is_proper_subtype;
 use crate::sought::{Sought, first_inherited, offered};
 use jvm_model::AccessFlag;
+use linked_program::program::Program;
 
 // A method of a proper subtype of a class.
 #[derive(Clone, Copy)]

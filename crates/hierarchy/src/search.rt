@@ -12,9 +12,9 @@ ghost use Rattle.hierarchy.specs.Searches.{signature_from, IsFor};
 ghost use Rattle.hierarchy.specs.Wanted.{IsWanted};
 
 use crate::package::is_same_package;
-use linked_program::program::Program;
 use crate::wanted::Wanted;
 use jvm_model::AccessFlag;
+use linked_program::program::Program;
 
 /// Whether the class is a subtype of another one (JVMS 4.10.1.2).
 pub(crate) fn is_proper_subtype(program: &Program, lower: u32, upper: u32) -> bool

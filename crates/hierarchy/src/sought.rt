@@ -8,8 +8,8 @@ ghost use Rattle.jvm_model.specs.declared.access.AccessFlag.TheVariants.{Private
 ghost use Rattle.linked_program.specs.Numbers.{name_at, IsClassNumber, IsMethodNumber};
 ghost use Rattle.hierarchy.specs.Searches.{signature_from, IsOffered, IsOfferedAmong};
 
-use linked_program::program::Program;
 use jvm_model::AccessFlag;
+use linked_program::program::Program;
 
 /// What is looked for among the methods of superinterfaces.
 pub(crate) trait Sought {

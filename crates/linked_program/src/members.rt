@@ -12,11 +12,11 @@ ghost use Rattle.linked_program.specs.Numbers.{name_at, IsClassNumber, IsMethodN
 ghost use Rattle.linked_program.specs.Origins.{IsSoundOrigin};
 ghost use Rattle.linked_program.specs.Whole.{IsMethodView, IsFieldView};
 
-use class_index::member_index::MemberIndex;
-use class_index::member_key::MemberKey;
 use crate::member_view::MemberView;
 use crate::origin_members::{field_count, field_in, method_count, method_in};
 use crate::program::MemberPlace;
+use class_index::member_index::MemberIndex;
+use class_index::member_key::MemberKey;
 use class_index::text_index::next_number;
 use jvm_model::Origin;
 use std::alloc::{AllocError, Global};
@@ -172,11 +172,7 @@ pub fn first_field(
 }
 
 /// The method of a number.
-pub fn method_view<'a>(
-    order: &'a [Origin],
-    places: &[MemberPlace],
-    number: u32,
-) -> MemberView<'a>
+pub fn method_view<'a>(order: &'a [Origin], places: &[MemberPlace], number: u32) -> MemberView<'a>
     requires sound { All IsSoundOrigin order.now }
     requires places { HasMethodPlaces order.now places.now }
     requires there { IsMethodNumber (program_from order.now) number }
@@ -187,11 +183,7 @@ pub fn method_view<'a>(
 }
 
 /// The field of a number.
-pub fn field_view<'a>(
-    order: &'a [Origin],
-    places: &[MemberPlace],
-    number: u32,
-) -> MemberView<'a>
+pub fn field_view<'a>(order: &'a [Origin], places: &[MemberPlace], number: u32) -> MemberView<'a>
     requires sound { All IsSoundOrigin order.now }
     requires places { HasFieldPlaces order.now places.now }
     requires there { number < length (program_from order.now).fields }

@@ -6,8 +6,8 @@ ghost use Rattle.linked_program.specs.ByteOrder.{IsAscending};
 ghost use Rattle.linked_program.specs.Numbering.{AreParents, HasNames, IsParents, name_in};
 
 use crate::origin::{interface_count, interface_name, name, super_name};
-use class_index::parents::Parents;
 use crate::sorted::find_in_order;
+use class_index::parents::Parents;
 use jvm_model::{Bytes, Origin, Sequence};
 use std::alloc::{AllocError, Global};
 

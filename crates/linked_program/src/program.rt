@@ -12,18 +12,18 @@ ghost use Rattle.linked_program.specs.Assembling.{Assembles, IsCycleEnd};
 ghost use Rattle.linked_program.specs.Origins.{IsSoundOrigin};
 ghost use Rattle.linked_program.specs.Whole.{IsLinkable, IsThroughInterface, IsMethodView, IsFieldView};
 
-use class_index::above::{above_lists, is_at_or_above, sorted_lists};
 use crate::link_end::{LinkEnd, refused};
-use class_index::member_index::MemberIndex;
 use crate::member_view::MemberView;
 use crate::members::{
     field_view, first_field, first_method, index_fields, index_methods, method_view,
 };
 use crate::numbering::{names_of, parents_of_all};
-use class_index::order::upward_order;
 use crate::origin::{is_folder, is_interface};
-use class_index::parents::Parents;
 use crate::sorted::find_in_order;
+use class_index::above::{above_lists, is_at_or_above, sorted_lists};
+use class_index::member_index::MemberIndex;
+use class_index::order::upward_order;
+use class_index::parents::Parents;
 use jvm_model::layout::flags_offset;
 use jvm_model::{Bytes, Origin, Reason};
 use std::alloc::Global;

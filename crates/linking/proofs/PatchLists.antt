@@ -76,14 +76,14 @@ listed_patch stubs s names lists place list patch stands at_place are = record {
   count = simp length-set are.count;
   listed = λ k name at_name. elim (cases_eq k place) [
     | inl here ↦
-      let same : s.name ≡ name = same_Some _ _ (sym stands ∙ ap (slice_get names) (sym here) ∙ at_name) in
-      let was : list ≡ patches_for name stubs = same_Some _ _ (sym at_place ∙ are.listed place name (ap (slice_get names) (sym here) ∙ at_name)) in
-      ap (slice_get (set lists place (list ++ s ∷ []))) here
-      ∙ at_set lists place (list ++ s ∷ []) (slice_get_within lists place list at_place)
-      ∙ ap Some (ap (λ (ps : List StubClass). ps ++ s ∷ []) was ∙ sym (patches_one name stubs s patch same))
+        let same : s.name ≡ name = same_Some _ _ (sym stands ∙ ap (slice_get names) (sym here) ∙ at_name) in
+        let was : list ≡ patches_for name stubs = same_Some _ _ (sym at_place ∙ are.listed place name (ap (slice_get names) (sym here) ∙ at_name)) in
+        ap (slice_get (set lists place (list ++ s ∷ []))) here
+        ∙ at_set lists place (list ++ s ∷ []) (slice_get_within lists place list at_place)
+        ∙ ap Some (ap (λ (ps : List StubClass). ps ++ s ∷ []) was ∙ sym (patches_one name stubs s patch same))
     | inr elsewhere ↦
-      let differ : s.name ≡ name → ⊥ = λ same. elsewhere (are.distinct.one_place k place s.name (at_name ∙ ap Some (sym same)) stands) in
-      past_set lists place k (list ++ s ∷ []) elsewhere ∙ are.listed k name at_name ∙ ap Some (sym (patches_same name stubs s (other_name name s differ)))
+        let differ : s.name ≡ name → ⊥ = λ same. elsewhere (are.distinct.one_place k place s.name (at_name ∙ ap Some (sym same)) stands) in
+        past_set lists place k (list ++ s ∷ []) elsewhere ∙ are.listed k name at_name ∙ ap Some (sym (patches_same name stubs s (other_name name s differ)))
   ];
   others = λ name none.
       let differ : s.name ≡ name → ⊥ = λ same. none.nowhere place (stands ∙ ap Some same) in
@@ -103,8 +103,8 @@ listed_new stubs names lists name none are = record {
   listed = λ place x at_x. elim (push_cases names name place x at_x) [
     | inl old ↦ in_longer lists ([] ∷ []) place (patches_for x stubs) (are.listed place x old)
     | inr last ↦
-      let at_last : place ≡ length lists = last.0 ∙ sym are.count in
-      ap (slice_get (lists ++ [] ∷ [])) at_last ∙ pushed_at lists [] ∙ ap Some (sym (ap (λ (t : List ℕ). patches_for t stubs) last.1 ∙ are.others name none))
+        let at_last : place ≡ length lists = last.0 ∙ sym are.count in
+        ap (slice_get (lists ++ [] ∷ [])) at_last ∙ pushed_at lists [] ∙ ap Some (sym (ap (λ (t : List ℕ). patches_for t stubs) last.1 ∙ are.others name none))
   ];
   others = λ x nowhere. are.others x (record { nowhere = λ k at_k. nowhere.nowhere k (in_longer names (name ∷ []) k x at_k) });
 }

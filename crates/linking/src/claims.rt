@@ -9,11 +9,11 @@ ghost use Rattle.jvm_model.specs.Spelling.{spell};
 
 use crate::class_names::{check_file_names, check_stub_names, stub_names};
 use crate::known::Known;
-use linked_program::link_end::LinkEnd;
 use crate::mentions::{check_natives, check_stubs};
 use crate::patch_index::Patches;
 use crate::supers::{SuperRule, check_supers_of_files, check_supers_of_stubs};
 use jvm_model::{NamedClass, StubClass};
+use linked_program::link_end::LinkEnd;
 use std::alloc::Global;
 
 /// The names of all classes differ: of class files among each other and from all stubs, and then of stubs among each other.

@@ -9,11 +9,11 @@ ghost use Rattle.jvm_model.specs.Linking.{claim, differs, this_class_offset, fil
 ghost use Rattle.jvm_model.specs.Programs.{Program};
 ghost use Rattle.jvm_model.specs.Spelling.{spell};
 
-use linked_program::link_end::{LinkEnd, refused};
 use class_index::text_index::TextIndex;
 use class_index::texts::class_text;
 use jvm_model::layout::flags_offset;
 use jvm_model::{Name, NamedClass, Reason, StubClass};
+use linked_program::link_end::{LinkEnd, refused};
 use std::alloc::{AllocError, Global};
 
 /// The names of the stubs that are classes of their own.

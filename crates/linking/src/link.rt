@@ -11,12 +11,12 @@ ghost use Rattle.linked_program.specs.Origins.{HasDifferent};
 
 use crate::claims::{check_kinds, check_names, check_presence};
 use crate::known::known_classes;
-use linked_program::link_end::LinkEnd;
-use linked_program::origin::name;
 use crate::origins::origins;
 use crate::patch_index::Patches;
-use linked_program::program::Program;
 use jvm_model::{NamedClass, Origin, StubClass};
+use linked_program::link_end::LinkEnd;
+use linked_program::origin::name;
+use linked_program::program::Program;
 use std::alloc::Global;
 use std::cmp::Ordering;
 

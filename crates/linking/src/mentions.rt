@@ -8,11 +8,11 @@ ghost use Rattle.jvm_model.specs.Stubs.{after_parameters, class_in, result_class
 
 use crate::descriptions::{Described, Descriptions};
 use crate::known::Known;
-use linked_program::link_end::LinkEnd;
 use crate::patch_index::Patches;
 use crate::patches::{native_descriptions, stub_descriptions};
 use crate::supers::{SuperRule, check_stub_supers, check_there};
 use jvm_model::{Name, NamedClass, StubClass, StubField, StubMethod, StubResult};
+use linked_program::link_end::LinkEnd;
 use std::alloc::Global;
 
 /// The class of the result of a method descriptor, if it is a class (JVMS 4.3.3).

@@ -12,11 +12,11 @@ ghost use Rattle.jvm_model.specs.Soundness.{interfaces_offset};
 ghost use Rattle.jvm_model.specs.Spelling.{spell};
 
 use crate::known::Known;
-use linked_program::link_end::{LinkEnd, refused};
 use class_index::texts::class_text;
 use jvm_model::layout::{flags_offset, interfaces_offset};
 use jvm_model::lookup::class_name_at;
 use jvm_model::{Name, NamedClass, Reason, StubClass};
+use linked_program::link_end::{LinkEnd, refused};
 use std::alloc::Global;
 
 /// What is demanded of a supertype.
