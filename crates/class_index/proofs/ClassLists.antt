@@ -12,7 +12,8 @@ use Rattle.std.proofs.lemmas.List.{take-append-le, take_all, get_or_append_left,
 use Rattle.std.proofs.lemmas.List.Folds.{list_any-append}
 use Rattle.std.proofs.lemmas.List.Elements.{All-push, All-take, All-head, All-tail, All-contains}
 use Rattle.class_index.specs.ClassSets.{has, with_class, with_classes}
-use Rattle.class_index.proofs.OrderPlaces.{in_longer, contains_first, place_of}
+use Rattle.class_index.proofs.ListPlaces.{in_longer}
+use Rattle.class_index.proofs.OrderPlaces.{contains_first, place_of}
 
 pub has_from_contains : (xs : List ℕ) (x : ℕ) → Contains xs x → has xs x ≡ true
 has_from_contains xs x c = list_any-from_Contains nat_eq_equiv x xs c

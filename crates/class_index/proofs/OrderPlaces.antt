@@ -1,5 +1,5 @@
 -- Lists by their places: `slice_get` against `++`, `take`, `set` and `Contains`.
-use Rattle.std.proofs.Common.{◌≡◌, ℕ, zero, suc, ◌<◌, List, [], ◌∷◌, ◌++◌, length, take, set, Some, refl, sym, ◌∙◌, ap, arith, inl, inr, ◌⊎◌}
+use Rattle.std.proofs.Common.{◌≡◌, ℕ, zero, suc, ◌<◌, List, [], ◌∷◌, ◌++◌, length, take, set, Some, refl, ◌∙◌, ap, arith, inl, inr, ◌⊎◌}
 use Rattle.std.specs.List.{slice_get, Contains, All}
 use Rattle.std.proofs.lemmas.List.Elements.{All-contains}
 use Rattle.std.proofs.lemmas.Option.{slice_get_within, slice_get-get_or, get_or_from_slice_get, same_Some, none-some}
@@ -24,23 +24,6 @@ to_front [] n k x l e = absurd (none-some x e)
 to_front (y ∷ ys) zero k x l e = absurd (omega arith)
 to_front (y ∷ ys) (suc n) zero x l e = e
 to_front (y ∷ ys) (suc n) (suc k) x l e = to_front ys n k x (omega arith) e
-
--- what stands in a list stands there when more is added
-pub in_longer : {X : Type 0} (xs ys : List X) (k : ℕ) (x : X) → slice_get xs k ≡ Some x → slice_get (xs ++ ys) k ≡ Some x
-in_longer [] ys k x e = absurd (none-some x e)
-in_longer (y ∷ xs) ys zero x e = e
-in_longer (y ∷ xs) ys (suc k) x e = in_longer xs ys k x e
-
--- one more at the end
-pub pushed_at : {X : Type 0} (xs : List X) (y : X) → slice_get (xs ++ y ∷ []) (length xs) ≡ Some y
-pushed_at [] y = refl
-pushed_at (x ∷ xs) y = pushed_at xs y
-
-pub push_cases : {X : Type 0} (xs : List X) (y : X) (k : ℕ) (x : X) → slice_get (xs ++ y ∷ []) k ≡ Some x → (slice_get xs k ≡ Some x) ⊎ ((k ≡ length xs) × (x ≡ y))
-push_cases [] y zero x e = inr (refl, sym (same_Some _ _ e))
-push_cases [] y (suc k) x e = absurd (none-some x e)
-push_cases (z ∷ xs) y zero x e = inl e
-push_cases (z ∷ xs) y (suc k) x e = elim (push_cases xs y k x e) [ inl h ↦ inl h | inr h ↦ inr (ap suc h.0, h.1) ]
 
 -- the front up to a place, and what stands there
 pub front_push : {X : Type 0} (xs : List X) (k : ℕ) (x : X) → slice_get xs k ≡ Some x → take (suc k) xs ≡ take k xs ++ x ∷ []

@@ -14,7 +14,8 @@ use Rattle.class_index.specs.declared.order.Waiter.{Waiter}
 use Rattle.class_index.specs.Supertypes.{direct_of, IsDirect}
 use Rattle.class_index.specs.ClassSets.{Classes, has, with_class}
 use Rattle.class_index.specs.Sorting.{AreIn, IsReady, IsWaiting, IsFront, IsSorting, IsHeld, in_order, in_a_list, GoesOn, AreHeld, IsFilled}
-use Rattle.class_index.proofs.OrderPlaces.{push_cases, front_push as front_push_place, at_set, past_set, place_of, contains_at, in_front, to_front}
+use Rattle.class_index.proofs.OrderPlaces.{front_push as front_push_place, at_set, past_set, place_of, contains_at, in_front, to_front}
+use Rattle.class_index.proofs.ListPlaces.{push_cases}
 use Rattle.class_index.proofs.ClassLists.{with_class_old, with_class_front, with_class_longer, has_push_other, contains_from_has, has_from_contains}
 
 -- the superclass is placed, or there is none

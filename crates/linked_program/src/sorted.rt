@@ -30,22 +30,3 @@ fn search(names: &[Bytes], text: &[u8]) -> Result<usize, usize>
 {
     names.binary_search_by(|name| name.as_slice().cmp(text))
 }
-
-#[cfg(test)]
-mod tests {
-    use super::*;
-    use std::test::Fail;
-
-    #[test]
-    fn a_name_is_found_where_it_stands(rt: HostRuntime) -> Result<(), Fail> {
-        let mut names = Vec::new(rt.alloc());
-        for name in [b"a".as_slice(), b"ab".as_slice(), b"b".as_slice()] {
-            names.push(Bytes::from_vec(Vec::from_slice(rt.alloc(), name)?))?;
-        }
-        let names = names.as_slice();
-        assert_eq!(rt; names.len(), 3);
-        assert_eq!(rt; find_in_order(names, b"ab"), Some(1));
-        assert_eq!(rt; find_in_order(names, b"aa"), None);
-        Ok(())
-    }
-}

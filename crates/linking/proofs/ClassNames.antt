@@ -14,8 +14,8 @@ use Rattle.std.proofs.lemmas.List.{append-nil}
 use Rattle.std.proofs.lemmas.Slice.Eq.{bytes_eq-Decides}
 use Rattle.linking.proofs.NewNames.{own_names_split}
 use Rattle.class_index.proofs.ListPlaces.{in_longer, pushed_at}
+use Rattle.class_index.proofs.OrderPlaces.{contains_at, place_of}
 use Rattle.linking.proofs.ClaimSteps.{Left, left_as, left_step, left_stop, one_met, from_item}
-use Rattle.linking.proofs.KnownClasses.{contains_at, place_of}
 
 -- ---- members of two lists
 

@@ -3,7 +3,7 @@ use Rattle.std.proofs.Common.{◌≡◌, ℕ, zero, suc, Bool, true, false, List
 use mathlib.Core.Bool.{beq}
 use Rattle.std.specs.List.{slice_get, flat_map}
 use Rattle.std.proofs.lemmas.List.Elements.{All-nil, All-cons, All-head, All-tail, All-append}
-use Rattle.std.proofs.lemmas.Option.{slice_get_within, slice_get-get_or, get_or_from_slice_get, same_Some, none-some}
+use Rattle.std.proofs.lemmas.Option.{same_Some, none-some}
 use Rattle.jvm_model.specs.declared.reason.Refusal.{Refusal}
 use Rattle.jvm_model.specs.Linking.{Claim, Demand, differs, is_there, of_kind, no_cycle, AreMet, IsFirstUnmet, Meets}
 use Rattle.jvm_model.specs.Programs.{Class, Program}
@@ -11,15 +11,10 @@ use Rattle.linked_program.specs.declared.link_end.LinkEnd.{LinkEnd}
 use Rattle.linked_program.specs.declared.link_end.LinkEnd.TheVariants.{Refused, Memory}
 use Rattle.linking.specs.Claims.{TellsEnd, TellsClaims, known_class, known_classes, known_program, known_part, Knows, HasKind, IsFlat}
 use Rattle.class_index.specs.FirstPlaces.{StandsNowhere}
+use Rattle.class_index.proofs.OrderPlaces.{contains_at, place_of}
 use Rattle.class_index.proofs.ListPlaces.{map_at, at_map}
 
 -- ---- what stands in a list
-
-pub contains_at : {X : Type 0} (xs : List X) (k : ℕ) (x : X) → slice_get xs k ≡ Some x → Contains xs x
-contains_at xs k x e = (k, slice_get_within xs k x e, get_or_from_slice_get xs k x x e)
-
-pub place_of : {X : Type 0} (xs : List X) (x : X) → Contains xs x → (k : ℕ) × (slice_get xs k ≡ Some x)
-place_of xs x has = (has.0, slice_get-get_or xs has.0 x has.1 ∙ ap Some has.2)
 
 pub nowhere_not : {X : Type 0} (xs : List X) (x : X) → StandsNowhere xs x → Contains xs x → ⊥
 nowhere_not xs x none has = let at = place_of xs x has in none.nowhere at.0 at.1

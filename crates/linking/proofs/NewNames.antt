@@ -12,7 +12,8 @@ use Rattle.linking.specs.Claims.{known_class, known_classes, known_program, Know
 use Rattle.class_index.specs.FirstPlaces.{StandsNowhere}
 use Rattle.class_index.proofs.ListPlaces.{in_longer}
 use Rattle.linking.proofs.ClaimSteps.{from_item}
-use Rattle.linking.proofs.KnownClasses.{known_of, contains_at, place_of, not_nowhere}
+use Rattle.class_index.proofs.OrderPlaces.{contains_at, place_of}
+use Rattle.linking.proofs.KnownClasses.{known_of, not_nowhere}
 
 -- ---- names that are new
 

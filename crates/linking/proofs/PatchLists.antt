@@ -1,5 +1,5 @@
 -- Patches in lists, one for each name of a class that has patches.
-use Rattle.std.proofs.Common.{◌≡◌, ℕ, zero, suc, ◌<◌, ◌≤◌, Bool, true, false, cond, ◌&&◌, List, [], ◌∷◌, ◌++◌, length, length-set, map, filter, set, Some, refl, sym, ◌∙◌, ap, subst, arith, ◌⊎◌, inl, inr}
+use Rattle.std.proofs.Common.{◌≡◌, ℕ, ◌<◌, Bool, true, false, cond, ◌&&◌, List, [], ◌∷◌, ◌++◌, length, length-set, set, Some, refl, sym, ◌∙◌, ap, arith, ◌⊎◌, inl, inr}
 use Rattle.std.specs.List.{slice_get, list_any}
 use Rattle.std.specs.Str.{bytes_eq}
 use Rattle.std.proofs.lemmas.Bool.{cases_eq, false≢true}
@@ -8,7 +8,7 @@ use Rattle.std.proofs.lemmas.Option.{slice_get_within, same_Some, none-some}
 use Rattle.std.proofs.lemmas.Slice.Eq.{bytes_eq-Decides}
 use Rattle.jvm_model.specs.declared.stub.StubClass.{StubClass}
 use Rattle.class_index.specs.FirstPlaces.{StandsNowhere}
-use Rattle.class_index.specs.TextNumbers.{AreDistinct, with_text}
+use Rattle.class_index.specs.TextNumbers.{with_text}
 use Rattle.class_index.proofs.ListPlaces.{in_longer, pushed_at, push_cases}
 use Rattle.class_index.proofs.OrderPlaces.{at_set, past_set}
 use Rattle.class_index.proofs.TextPlaces.{among, distinct_push}

@@ -3,7 +3,6 @@ use Rattle.std.specs.Prelude.{ℕ, Bool, false, List, [], ◌∷◌, ◌++◌, m
 use Rattle.jvm_model.specs.declared.access.AccessFlag.TheVariants.{Interface}
 use Rattle.jvm_model.specs.Access.{has_flag}
 use Rattle.jvm_model.specs.declared.program.NamedClass.{NamedClass}
-use Rattle.jvm_model.specs.declared.reason.Reason.{Reason}
 use Rattle.jvm_model.specs.declared.stub.StubClass.{StubClass}
 use Rattle.jvm_model.specs.Linking.{Claim, claim, Demand, differs, is_there, of_kind, no_cycle, NamedSuper, there_claim, kind_claim, AreMet, IsFirstUnmet, Meets, program_from, origins, own_classes}
 use Rattle.jvm_model.specs.Programs.{Class, Program, name_of}

@@ -1,6 +1,7 @@
 use Rattle.jvm_model.specs.Linking.{claim, differs}
 use Rattle.linking.proofs.ClaimSteps.{met_or_memory, one_unmet}
-use Rattle.linking.proofs.KnownClasses.{contains_at, nowhere_not}
+use Rattle.linking.proofs.KnownClasses.{nowhere_not}
+use Rattle.class_index.proofs.OrderPlaces.{contains_at}
 use Rattle.linking.proofs.class_names.add_name.Goals as goal
 
 pub returns-in-Some-clause-told : goal.returns-in-Some-clause-told

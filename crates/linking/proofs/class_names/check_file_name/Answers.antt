@@ -9,7 +9,8 @@ use Rattle.linking.specs.Claims.{TellsClaims, file_name}
 use Rattle.linked_program.specs.LinkEnds.{IsRefusal}
 use Rattle.linking.proofs.ClaimSteps.{one_unmet}
 use Rattle.linking.proofs.ClassNames.{in_back, names_told}
-use Rattle.linking.proofs.KnownClasses.{contains_at, nowhere_not}
+use Rattle.linking.proofs.KnownClasses.{nowhere_not}
+use Rattle.class_index.proofs.OrderPlaces.{contains_at}
 use Rattle.linking.proofs.class_names.check_file_name.Goals as goal
 
 pub overflow_add-offset : goal.overflow_add-offset

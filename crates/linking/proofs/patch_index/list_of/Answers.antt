@@ -1,8 +1,8 @@
-use Rattle.std.proofs.Common.{◌≡◌, ◌<◌, ℕ, List, [], ◌∷◌, ◌++◌, length, Bor, refl, sym, ◌∙◌, ap, subst, arith}
+use Rattle.std.proofs.Common.{◌≡◌, ℕ, List, [], ◌∷◌, ◌++◌, length, Bor, sym, ◌∙◌, ap, subst, arith}
 use Rattle.std.specs.Global.{Vec}
 use Rattle.std.proofs.lemmas.List.{map-append}
 use Rattle.jvm_model.specs.declared.stub.StubClass.{StubClass}
-use Rattle.linking.specs.PatchLists.{lent_stubs, lent_lists, AreListed, PlaceGoes}
+use Rattle.linking.specs.PatchLists.{lent_stubs, lent_lists, AreListed}
 use Rattle.linking.proofs.PatchLists.{known_name, new_name, within_old, listed_new}
 use Rattle.linking.proofs.patch_index.list_of.Goals as goal
 

@@ -1,11 +1,10 @@
-use Rattle.std.proofs.Common.{◌≡◌, List, map, length, Bor, Some, refl, sym, ◌∙◌, ap, subst}
+use Rattle.std.proofs.Common.{◌≡◌, length, Bor, refl, sym, ◌∙◌, ap}
 use Rattle.std.specs.Global.{Vec}
-use Rattle.std.specs.List.{slice_get}
 use Rattle.std.proofs.lemmas.Option.{slice_get_within, slice_get_read, same_Some}
 use Rattle.jvm_model.specs.declared.stub.StubClass.{StubClass}
 use Rattle.class_index.proofs.ListPlaces.{map_at}
 use Rattle.linking.specs.Patching.{patches_for}
-use Rattle.linking.specs.PatchLists.{lent_stubs, lent_lists}
+use Rattle.linking.specs.PatchLists.{lent_stubs}
 use Rattle.linking.proofs.patch_index.Patches.of.Goals as goal
 
 -- src/patch_index.rt:50:5
