@@ -5,6 +5,7 @@
 mod build;
 mod effect;
 mod flow;
+mod handlers;
 pub mod laws;
 mod mark;
 mod steps;
