@@ -8,6 +8,7 @@ mod flow;
 mod handlers;
 pub mod laws;
 mod mark;
+mod pool_units;
 mod steps;
 mod units;
 mod walk;
