@@ -11,7 +11,7 @@ use Rattle.std.proofs.lemmas.Option.{slice_get-get_or}
 use Rattle.jvm_model.specs.declared.code.Handler.{Handler}
 use Rattle.flow_graph.specs.declared.handlers.Span.{Span}
 use Rattle.flow_graph.specs.Flows.{covers, covering_from, covering, caught_at}
-use Rattle.flow_graph.specs.HandlerSpans.{span_of, spans_from, reaches_over, places_over, target_at}
+use Rattle.flow_graph.specs.HandlerSpans.{span_of, spans_from, span_covers, places_over, target_at}
 use Rattle.flow_graph.proofs.InOrder.{one_if, count_of, Ascends, from_less, sorted_is}
 
 -- the spans in the order of the table have the places of the table
@@ -20,7 +20,7 @@ places_from place offset [] = refl
 places_from place offset (h ∷ handlers) = by (covers offset h) (places_from (place + 1) offset handlers)
   where
     by : (b : Bool) → places_over offset (spans_from (place + 1) handlers) ≡ covering_from (place + 1) offset handlers
-        → map (λ (s : Span). s.place) (cond b (span_of place h ∷ filter (reaches_over offset) (spans_from (place + 1) handlers)) (filter (reaches_over offset) (spans_from (place + 1) handlers)))
+        → map (λ (s : Span). s.place) (cond b (span_of place h ∷ filter (span_covers offset) (spans_from (place + 1) handlers)) (filter (span_covers offset) (spans_from (place + 1) handlers)))
         ≡ cond b (place ∷ covering_from (place + 1) offset handlers) (covering_from (place + 1) offset handlers)
     by true next = ap (λ (ps : List ℕ). place ∷ ps) next
     by false next = next
@@ -36,14 +36,14 @@ rises_from place offset (h ∷ handlers) = by (covers offset h) (from_less place
 
 -- how often a place is found, as a sum over the spans
 abbrev found_at : ℕ → ℕ → Span → ℕ
-found_at offset q s = one_if (reaches_over offset s && eqb s.place q)
+found_at offset q s = one_if (span_covers offset s && eqb s.place q)
 
 counted : (offset q : ℕ) (spans : List Span) → count_of q (places_over offset spans) ≡ sum_by (found_at offset q) spans
 counted offset q [] = refl
-counted offset q (s ∷ spans) = by (reaches_over offset s) (counted offset q spans) ∙ sym (sum_by-cons (found_at offset q) s spans)
+counted offset q (s ∷ spans) = by (span_covers offset s) (counted offset q spans) ∙ sym (sum_by-cons (found_at offset q) s spans)
   where
     by : (b : Bool) → count_of q (places_over offset spans) ≡ sum_by (found_at offset q) spans
-        → count_of q (map (λ (t : Span). t.place) (cond b (s ∷ filter (reaches_over offset) spans) (filter (reaches_over offset) spans))) ≡ one_if (b && eqb s.place q) + sum_by (found_at offset q) spans
+        → count_of q (map (λ (t : Span). t.place) (cond b (s ∷ filter (span_covers offset) spans) (filter (span_covers offset) spans))) ≡ one_if (b && eqb s.place q) + sum_by (found_at offset q) spans
     by true next = sum_by-cons (λ (m : ℕ). one_if (eqb m q)) s.place (places_over offset spans) ∙ ap (λ (n : ℕ). one_if (eqb s.place q) + n) next
     by false next = omega (arith, next)
 

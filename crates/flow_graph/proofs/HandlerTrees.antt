@@ -8,7 +8,7 @@ use Rattle.std.proofs.lemmas.List.{length-append, length-take, length-drop, take
 use Rattle.std.proofs.lemmas.List.Elements.{filter-append, All-more}
 use Rattle.std.proofs.lemmas.Option.{slice_get_read}
 use Rattle.flow_graph.specs.declared.handlers.Span.{Span}
-use Rattle.flow_graph.specs.HandlerSpans.{reaches_over, places_over, middle_of, IsTree, AddsTree}
+use Rattle.flow_graph.specs.HandlerSpans.{span_covers, places_over, middle_of, IsTree, AddsTree}
 use Rattle.flow_graph.specs.HandlerSpans.IsTree.{empty, halves}
 
 pub none_there : (n : ℕ) (t : Bool) → t ≡ eqb n 0 → t ≡ true → n ≡ 0
@@ -68,10 +68,10 @@ ends_all spans i most le all = subst (λ (xs : List Span). All (λ (s : Span). s
 
 -- ---- what is found
 
-pub none_found : (offset : ℕ) (spans : List Span) → ((s : Span) → (k : ℕ) → k < length spans → reaches_over offset (get_or spans k s) ≡ false) → places_over offset spans ≡ []
+pub none_found : (offset : ℕ) (spans : List Span) → ((s : Span) → (k : ℕ) → k < length spans → span_covers offset (get_or spans k s) ≡ false) → places_over offset spans ≡ []
 none_found offset [] none = refl
 none_found offset (s ∷ spans) none =
-    ap (λ (b : Bool). map (λ (t : Span). t.place) (cond b (s ∷ filter (reaches_over offset) spans) (filter (reaches_over offset) spans))) (none s 0 (omega arith))
+    ap (λ (b : Bool). map (λ (t : Span). t.place) (cond b (s ∷ filter (span_covers offset) spans) (filter (span_covers offset) spans))) (none s 0 (omega arith))
     ∙ none_found offset spans (λ d k lt. none d (suc k) (omega (arith, lt)))
 
 and_false : (a : Bool) → (a && false) ≡ false
@@ -87,7 +87,7 @@ all_before offset most spans all le =
     ap (λ (b : Bool). leb x.start offset && b) (le-ltb offset x.finish (omega (arith, past, le))) ∙ and_false (leb x.start offset))
 
 parts : (offset : ℕ) (xs ys : List Span) → places_over offset (xs ++ ys) ≡ places_over offset xs ++ places_over offset ys
-parts offset xs ys = ap (map (λ (t : Span). t.place)) (filter-append (reaches_over offset) xs ys) ∙ map-append (λ (t : Span). t.place) (filter (reaches_over offset) xs) (filter (reaches_over offset) ys)
+parts offset xs ys = ap (map (λ (t : Span). t.place)) (filter-append (span_covers offset) xs ys) ∙ map-append (λ (t : Span). t.place) (filter (span_covers offset) xs) (filter (span_covers offset) ys)
 
 from_middle : (offset : ℕ) (spans : List Span) (h : ℕ) (d : Span) → h < length spans
     → places_over offset (drop h spans) ≡ places_over offset (get_or spans h d ∷ []) ++ places_over offset (drop (h + 1) spans)

@@ -16,12 +16,12 @@ spans_from place [] = []
 spans_from place (h ∷ handlers) = span_of place h ∷ spans_from (place + 1) handlers
 
 -- A span covers an offset from its start to before its end.
-abbrev pub reaches_over : ℕ → Span → Bool
-reaches_over offset s = nat_le s.start offset && nat_lt offset s.finish
+abbrev pub span_covers : ℕ → Span → Bool
+span_covers offset s = nat_le s.start offset && nat_lt offset s.finish
 
 -- The places of the handlers whose spans cover an offset.
 abbrev pub places_over : ℕ → List Span → List ℕ
-places_over offset spans = map (λ (s : Span). s.place) (filter (reaches_over offset) spans)
+places_over offset spans = map (λ (s : Span). s.place) (filter (span_covers offset) spans)
 
 -- The place in the middle of a stretch of spans.
 abbrev pub middle_of : List Span → ℕ
