@@ -12,12 +12,12 @@ use Rattle.jvm_model.specs.declared.grammar.Grammar.TheVariants as grammars
 use Rattle.jvm_model.specs.Descriptors.{IsMethodDescriptor}
 use Rattle.jvm_model.specs.Instructions.{member_at, kinds_of, made_for, with_units, constant_row, IsFieldRow, IsCallRow, RowBy}
 use Rattle.jvm_model.specs.InstructionUses.{target_kinds}
-use Rattle.jvm_model.specs.Lookups.{MethodName, Signature, entry_at}
+use Rattle.jvm_model.specs.Lookups.{MethodName, Signature, entry_at, text_at}
 use Rattle.jvm_model.specs.Soundness.{is_of_kind}
 use Rattle.jvm_model.specs.Table.{Row, row_of, Kind, reference, Origin, loadable, a_field, class_method, any_method, interface_method, call_site, Action, load_constant, get_static, put_static, get_field, put_field, invoke_virtual, invoke_special, invoke_static, invoke_interface, refused}
 use Rattle.flow_graph.specs.declared.effect.Effect.{Effect}
 use Rattle.flow_graph.specs.Effects.{with_row, site_at, IsEffectBy}
-use Rattle.flow_graph.specs.Reading.{IsSoundInstruction, IsCallEffect}
+use Rattle.flow_graph.specs.Reading.{IsSoundInstruction, IsCallEffect, IsCallAt}
 use Rattle.flow_graph.proofs.MemberUses.{NamesMember, field_there, any_method_there, class_method_there, interface_method_there, site_there}
 use Rattle.flow_graph.proofs.Rows.{expected, leads_by}
 
@@ -134,12 +134,16 @@ puts_field c i r units is a counts sound =
 
 -- ---- calls
 
--- the text is the descriptor of the method that is named
-abbrev Describes : ClassFile → Given → List ℕ → Type 0
-Describes c i text = (m : MethodName) → member_at c.pool i.operand ≡ Some m → text ≡ m.signature.descriptor
+-- of the method that is named, the units of its descriptor are popped and pushed
+abbrev pub Calls : ClassFile → Given → ℕ → Effect → Type 0
+Calls c i receiver e = (m : MethodName) → member_at c.pool i.operand ≡ Some m → IsMethodDescriptor m.signature.descriptor → IsCallEffect m.signature.descriptor receiver e
 
-abbrev pub Calls : List ℕ → ℕ → Effect → Type 0
-Calls text receiver e = IsMethodDescriptor text → IsCallEffect text receiver e
+-- so they are where the descriptor's text stands at the index that was found
+pub calls_at : (c : ClassFile) (i : Given) (pool read : List PoolEntry) (index : Option ℕ) (receiver : ℕ) (e : Effect) → pool ≡ c.pool → read ≡ c.pool
+    → ((m : MethodName) → member_at pool i.operand ≡ Some m → option_and_then (text_at pool) index ≡ Some m.signature.descriptor) → IsCallAt read index receiver e → Calls c i receiver e
+calls_at c i pool read index receiver e same same2 described call m named =
+    let there = described m (subst (λ (p : List PoolEntry). member_at p i.operand ≡ Some m) (sym same) named) in
+    call.by_descriptor m.signature.descriptor (subst (λ (p : List PoolEntry). option_and_then (text_at p) index ≡ Some m.signature.descriptor) (same ∙ sym same2) there)
 
 record HasCall (c : ClassFile) (i : Given) (r : Row) (receiver : List Kind) (e : Effect) : Type 0 where
   pub parameters : List Kind
@@ -150,11 +154,9 @@ record HasCall (c : ClassFile) (i : Given) (r : Row) (receiver : List Kind) (e :
 effect_of : (e : Effect) (pops pushes : ℕ) → e.pops ≡ pops → e.pushes ≡ pushes → e ≡ effect pops pushes
 effect_of e pops pushes p q = same_effect e.pops e.pushes pops pushes p q
 
-call_of : (c : ClassFile) (i : Given) (r : Row) (receiver : List Kind) (e : Effect) (text : List ℕ) → NamesMember c.pool i.operand grammars.MethodDescriptor → Describes c i text → Calls text (length receiver) e → HasCall c i r receiver e
-call_of c i r receiver e text f describes calls =
-    let same : text ≡ f.method.signature.descriptor = describes f.method f.named in
-    let call : IsCallEffect f.method.signature.descriptor (length receiver) e =
-    subst (λ (t : List ℕ). IsCallEffect t (length receiver) e) same (calls (subst IsMethodDescriptor (sym same) f.in_grammar)) in
+call_of : (c : ClassFile) (i : Given) (r : Row) (receiver : List Kind) (e : Effect) → NamesMember c.pool i.operand grammars.MethodDescriptor → Calls c i (length receiver) e → HasCall c i r receiver e
+call_of c i r receiver e f calls =
+    let call = calls f.method f.named f.in_grammar in
     let h = call.counted in
     record {
       parameters = h.parameters;
@@ -165,38 +167,46 @@ call_of c i r receiver e text f describes calls =
           (call.pushes_are ∙ h.results_are ∙ sym (length-map h.results made_for));
     }
 
-pub invokes_virtual : (c : ClassFile) (i : Given) (r : Row) (e : Effect) (text : List ℕ) → row_of i.opcode ≡ Some r → r.action ≡ invoke_virtual → Describes c i text → Calls text 1 e → IsSoundInstruction c i → IsEffectBy r.action c.pool i r e
-invokes_virtual c i r e text is a describes calls sound =
-    let f = call_of c i r (reference ∷ []) e text (class_method_there c i.operand sound.sound (leads_by c i r class_method sound is (expects r invoke_virtual a))) describes calls in
+pub invokes_virtual : (c : ClassFile) (i : Given) (r : Row) (e : Effect) → row_of i.opcode ≡ Some r → r.action ≡ invoke_virtual → Calls c i 1 e → IsSoundInstruction c i → IsEffectBy r.action c.pool i r e
+invokes_virtual c i r e is a calls sound =
+    let f = call_of c i r (reference ∷ []) e (class_method_there c i.operand sound.sound (leads_by c i r class_method sound is (expects r invoke_virtual a))) calls in
     let resolved = with_units r ((reference ∷ []) ++ f.parameters) (map made_for f.results) in
     by_action c i r e invoke_virtual a (record { resolved = resolved; is_row = of_action c i r resolved invoke_virtual a f.is_row; effect_is = f.effect_is })
 
-pub invokes_special : (c : ClassFile) (i : Given) (r : Row) (e : Effect) (text : List ℕ) → row_of i.opcode ≡ Some r → r.action ≡ invoke_special → Describes c i text → Calls text 1 e → IsSoundInstruction c i → IsEffectBy r.action c.pool i r e
-invokes_special c i r e text is a describes calls sound =
-    let f = call_of c i r (reference ∷ []) e text (any_method_there c i.operand sound.sound (leads_by c i r any_method sound is (expects r invoke_special a))) describes calls in
+pub invokes_special : (c : ClassFile) (i : Given) (r : Row) (e : Effect) → row_of i.opcode ≡ Some r → r.action ≡ invoke_special → Calls c i 1 e → IsSoundInstruction c i → IsEffectBy r.action c.pool i r e
+invokes_special c i r e is a calls sound =
+    let f = call_of c i r (reference ∷ []) e (any_method_there c i.operand sound.sound (leads_by c i r any_method sound is (expects r invoke_special a))) calls in
     let resolved = with_units r ((reference ∷ []) ++ f.parameters) (map made_for f.results) in
     by_action c i r e invoke_special a (record { resolved = resolved; is_row = of_action c i r resolved invoke_special a f.is_row; effect_is = f.effect_is })
 
-pub invokes_interface : (c : ClassFile) (i : Given) (r : Row) (e : Effect) (text : List ℕ) → row_of i.opcode ≡ Some r → r.action ≡ invoke_interface → Describes c i text → Calls text 1 e → IsSoundInstruction c i → IsEffectBy r.action c.pool i r e
-invokes_interface c i r e text is a describes calls sound =
-    let f = call_of c i r (reference ∷ []) e text (interface_method_there c i.operand sound.sound (leads_by c i r interface_method sound is (expects r invoke_interface a))) describes calls in
+pub invokes_interface : (c : ClassFile) (i : Given) (r : Row) (e : Effect) → row_of i.opcode ≡ Some r → r.action ≡ invoke_interface → Calls c i 1 e → IsSoundInstruction c i → IsEffectBy r.action c.pool i r e
+invokes_interface c i r e is a calls sound =
+    let f = call_of c i r (reference ∷ []) e (interface_method_there c i.operand sound.sound (leads_by c i r interface_method sound is (expects r invoke_interface a))) calls in
     let resolved = with_units r ((reference ∷ []) ++ f.parameters) (map made_for f.results) in
     by_action c i r e invoke_interface a (record { resolved = resolved; is_row = of_action c i r resolved invoke_interface a f.is_row; effect_is = f.effect_is })
 
-pub invokes_static : (c : ClassFile) (i : Given) (r : Row) (e : Effect) (text : List ℕ) → row_of i.opcode ≡ Some r → r.action ≡ invoke_static → Describes c i text → Calls text 0 e → IsSoundInstruction c i → IsEffectBy r.action c.pool i r e
-invokes_static c i r e text is a describes calls sound =
-    let f = call_of c i r [] e text (any_method_there c i.operand sound.sound (leads_by c i r any_method sound is (expects r invoke_static a))) describes calls in
+pub invokes_static : (c : ClassFile) (i : Given) (r : Row) (e : Effect) → row_of i.opcode ≡ Some r → r.action ≡ invoke_static → Calls c i 0 e → IsSoundInstruction c i → IsEffectBy r.action c.pool i r e
+invokes_static c i r e is a calls sound =
+    let f = call_of c i r [] e (any_method_there c i.operand sound.sound (leads_by c i r any_method sound is (expects r invoke_static a))) calls in
     let resolved = with_units r ([] ++ f.parameters) (map made_for f.results) in
     by_action c i r e invoke_static a (record { resolved = resolved; is_row = of_action c i r resolved invoke_static a f.is_row; effect_is = f.effect_is })
 
 -- ---- invokedynamic
 
-pub invokes_site : (c : ClassFile) (i : Given) (r : Row) (e : Effect) (text : List ℕ) → row_of i.opcode ≡ Some r → r.action ≡ refused
-    → ((s : Signature) → site_at c.pool i.operand ≡ Some s → text ≡ s.descriptor) → Calls text 0 e → IsSoundInstruction c i → IsEffectBy r.action c.pool i r e
-invokes_site c i r e text is a describes calls sound =
+-- of the call site, the units of its descriptor are
+abbrev pub CallsSite : ClassFile → Given → Effect → Type 0
+CallsSite c i e = (s : Signature) → site_at c.pool i.operand ≡ Some s → IsMethodDescriptor s.descriptor → IsCallEffect s.descriptor 0 e
+
+pub calls_site_at : (c : ClassFile) (i : Given) (pool read : List PoolEntry) (index : Option ℕ) (e : Effect) → pool ≡ c.pool → read ≡ c.pool
+    → ((s : Signature) → site_at pool i.operand ≡ Some s → option_and_then (text_at pool) index ≡ Some s.descriptor) → IsCallAt read index 0 e → CallsSite c i e
+calls_site_at c i pool read index e same same2 described call s named =
+    let there = described s (subst (λ (p : List PoolEntry). site_at p i.operand ≡ Some s) (sym same) named) in
+    call.by_descriptor s.descriptor (subst (λ (p : List PoolEntry). option_and_then (text_at p) index ≡ Some s.descriptor) (same ∙ sym same2) there)
+
+pub invokes_site : (c : ClassFile) (i : Given) (r : Row) (e : Effect) → row_of i.opcode ≡ Some r → r.action ≡ refused → CallsSite c i e → IsSoundInstruction c i → IsEffectBy r.action c.pool i r e
+invokes_site c i r e is a calls sound =
     let f = site_there c i.operand sound.sound (leads_by c i r call_site sound is (expects r refused a)) in
-    let same : text ≡ f.signature.descriptor = describes f.signature f.named in
-    let call : IsCallEffect f.signature.descriptor 0 e = subst (λ (t : List ℕ). IsCallEffect t 0 e) same (calls (subst IsMethodDescriptor (sym same) f.in_grammar)) in
+    let call = calls f.signature f.named f.in_grammar in
     let h = call.counted in
     by_action c i r e refused a (record {
       signature = f.signature;

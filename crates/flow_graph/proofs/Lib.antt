@@ -6,6 +6,9 @@ pub mod FlowOf
 pub mod FlowReached
 pub mod Flowing
 pub mod Growth
+pub mod HandlerPlaces
+pub mod HandlerTrees
+pub mod InOrder
 pub mod Loops
 pub mod MemberUses
 pub mod Numbers

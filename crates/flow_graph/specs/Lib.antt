@@ -1,5 +1,6 @@
 pub mod Effects
 pub mod Flows
+pub mod HandlerSpans
 pub mod Walks
 pub mod Walking
 pub mod Graphs

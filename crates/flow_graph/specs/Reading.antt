@@ -1,6 +1,8 @@
 -- What the reader of code saw to at each instruction, and the units of descriptors as the code counts them.
-use Rattle.std.specs.Prelude.{◌≡◌, ℕ, ◌+◌, ◌<◌, Bool, true, false, List, length, Option, Some, None, sum_by, slice_index_or}
+use Rattle.std.specs.Prelude.{◌≡◌, ℕ, ◌+◌, ◌<◌, ◌≤◌, Bool, true, false, List, length, Option, Some, None, option_and_then, sum_by, slice_index_or}
+use Rattle.std.specs.BTreeMap.{BTreeMap, get}
 use Rattle.std.specs.List.{AllZip}
+use Rattle.std.specs.Ordering.{nat_cmp}
 use Rattle.jvm_model.specs.declared.class_file.ClassFile.{ClassFile}
 use Rattle.jvm_model.specs.declared.code.Code.{Code}
 use Rattle.jvm_model.specs.declared.code.Instruction.{Instruction as Given}
@@ -8,8 +10,11 @@ use Rattle.jvm_model.specs.declared.code.PlacedInstruction.{PlacedInstruction}
 use Rattle.jvm_model.specs.declared.descriptor.Descriptor.{Descriptor}
 use Rattle.jvm_model.specs.declared.descriptor.Descriptor.TheVariants.{Method}
 use Rattle.jvm_model.specs.declared.descriptor.Kind.{Kind as TypeKind}
+use Rattle.jvm_model.specs.declared.pool.PoolEntry.{PoolEntry}
+use Rattle.jvm_model.specs.Descriptors.{IsMethodDescriptor}
 use Rattle.jvm_model.specs.Instructions.{HasUnits}
 use Rattle.jvm_model.specs.InstructionUses.{is_subroutine, leads_right}
+use Rattle.jvm_model.specs.Lookups.{text_at}
 use Rattle.jvm_model.specs.Soundness.{IsSoundClass}
 use Rattle.jvm_model.specs.Table.{Row, row_of, Kind, Operands, widened}
 use Rattle.code_reader.specs.CodeReading.{kind_units}
@@ -55,6 +60,19 @@ pub record IsCallEffect (descriptor : List ℕ) (receiver : ℕ) (e : Effect) : 
   pub counted : HasCounts descriptor units
   pub pops_are : e.pops ≡ receiver + units.parameters
   pub pushes_are : e.pushes ≡ units.results
+
+-- The text at an index of the constant pool, if it is the descriptor of a method, has so many units.
+pub record IsUnitsAt (pool : List PoolEntry) (index : ℕ) (u : MethodUnits) : Type 0 where
+  pub few : u.parameters ≤ 255
+  pub counted : (descriptor : List ℕ) → text_at pool index ≡ Some descriptor → IsMethodDescriptor descriptor → HasCounts descriptor u
+
+-- The units that were read are those of the texts at their indices.
+pub record AreRead (pool : List PoolEntry) (read : BTreeMap ℕ MethodUnits) : Type 0 where
+  pub each : (index : ℕ) (u : MethodUnits) → get nat_cmp read index ≡ Some u → IsUnitsAt pool index u
+
+-- A call of a method whose descriptor is the text at an index of the constant pool, if there is one, pops and pushes so many.
+pub record IsCallAt (pool : List PoolEntry) (index : Option ℕ) (receiver : ℕ) (e : Effect) : Type 0 where
+  pub by_descriptor : (descriptor : List ℕ) → option_and_then (text_at pool) index ≡ Some descriptor → IsMethodDescriptor descriptor → IsCallEffect descriptor receiver e
 
 -- The units of a result: none of void.
 abbrev pub outcome_units : Option TypeKind → ℕ

@@ -8,6 +8,7 @@ ghost use Rattle.flow_graph.specs.Graphing.{IsCodeOf, IsFlow};
 ghost use Rattle.flow_graph.specs.Reading.{AreInOrder, IsWalkedIfSound};
 
 use crate::effect::effects_of;
+use crate::handlers::HandlerIndex;
 use crate::mark::Mark;
 use crate::steps::{Graph, first_fault, steps_of};
 use crate::walk::walk_code;
@@ -47,12 +48,13 @@ fn graph_or_fault(alloc: Global, class: &ClassFile, code: &Code) -> Result<Graph
     requires code { IsCodeOf class.now code.now }
     ensures { TellsGraph class.now code.now result }
 {
-    let marks = marks_of(alloc, class, code)?;
+    let index = HandlerIndex::new(alloc, code.handlers.as_slice())?;
+    let marks = marks_of(alloc, class, code, &index)?;
     if let Some((offset, reason)) = first_fault(code.instructions.as_slice(), &marks) {
         return Err(ReadRefusal::Refused(code.at + offset, reason));
     }
     Ok(Graph {
-        steps: Sequence::from_vec(steps_of(alloc, code, &marks)?),
+        steps: Sequence::from_vec(steps_of(alloc, code, &index, &marks)?),
     })
 }
 
@@ -61,11 +63,13 @@ pub(crate) fn marks_of(
     alloc: Global,
     class: &ClassFile,
     code: &Code,
+    index: &HandlerIndex<'_>,
 ) -> Result<Vec<Mark>, AllocError>
-    requires { AreInOrder code.now.instructions }
+    requires index { index.now ≡ code.now.handlers }
+    requires order { AreInOrder code.now.instructions }
     ensures walked { IfOk result (λ v. IsWalkedIfSound class.now code.now v.items) }
     ensures all { IfOk result (λ v. length v.items ≡ length code.now.instructions) }
 {
     let effects = effects_of(alloc, class, code.instructions.as_slice())?;
-    walk_code(alloc, code, &effects)
+    walk_code(alloc, code, index, &effects)
 }

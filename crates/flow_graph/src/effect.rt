@@ -2,14 +2,14 @@
 
 ghost use Rattle.std.specs.Prelude.{◌≡◌, ◌+◌, ◌≤◌, length, IfOk, Some, map};
 ghost use Rattle.std.specs.List.{AllZip};
-ghost use Rattle.jvm_model.specs.Descriptors.{IsMethodDescriptor};
 ghost use Rattle.jvm_model.specs.Instructions.{array_row};
 ghost use Rattle.jvm_model.specs.RowViews.{row_view};
 ghost use Rattle.jvm_model.specs.Table.{row_of};
 ghost use Rattle.flow_graph.specs.Effects.{with_row, IsEffectBy, HasEffect};
-ghost use Rattle.flow_graph.specs.Reading.{IsSoundInstruction, HasEffectIfSound, IsCallEffect};
+ghost use Rattle.flow_graph.specs.Reading.{IsSoundInstruction, HasEffectIfSound, IsCallAt};
 
-use crate::units::{field_units, member_text, method_units, site_text};
+use crate::pool_units::PoolUnits;
+use crate::units::{field_units, member_descriptor_at, member_text, site_descriptor_at};
 use jvm_model::opcode::{Action, Operands, Row, row_of_opcode};
 use jvm_model::{ClassFile, Instruction, PlacedInstruction};
 use std::alloc::{AllocError, Global};
@@ -30,9 +30,10 @@ pub(crate) fn effects_of(
 ) -> Result<Vec<Effect>, AllocError>
     ensures { IfOk result (λ v. AllZip (HasEffectIfSound class.now) instructions.now v.items) }
 {
+    let mut units = PoolUnits::new(alloc, class.pool.as_slice());
     let mut effects = Vec::new(alloc);
     for placed in instructions {
-        effects.push(effect_of(alloc, class, &placed.instruction)?)?;
+        effects.push(effect_of(alloc, class, &mut units, &placed.instruction)?)?;
     }
     Ok(effects)
 }
@@ -41,12 +42,15 @@ pub(crate) fn effects_of(
 fn effect_of(
     alloc: Global,
     class: &ClassFile,
+    units: &mut PoolUnits<'_>,
     instruction: &Instruction,
 ) -> Result<Effect, AllocError>
-    ensures { IfOk result (λ e. IsSoundInstruction class.now instruction.now → HasEffect class.now.pool instruction.now e) }
+    requires { units.old ≡ class.now.pool }
+    ensures same { units.new ≡ units.old }
+    ensures effect { IfOk result (λ e. IsSoundInstruction class.now instruction.now → HasEffect class.now.pool instruction.now e) }
 {
     match row_of_opcode(instruction.opcode) {
-        Some(row) => effect_by(alloc, class, instruction, row),
+        Some(row) => effect_by(alloc, class, units, instruction, row),
         None => Ok(Effect { pops: 0, pushes: 0 }),
     }
 }
@@ -55,11 +59,14 @@ fn effect_of(
 fn effect_by(
     alloc: Global,
     class: &ClassFile,
+    units: &mut PoolUnits<'_>,
     instruction: &Instruction,
     row: &Row,
 ) -> Result<Effect, AllocError>
-    requires { row_of instruction.now.opcode ≡ Some (row_view row.now) }
-    ensures { IfOk result (λ e. IsSoundInstruction class.now instruction.now
+    requires units { units.old ≡ class.now.pool }
+    requires row { row_of instruction.now.opcode ≡ Some (row_view row.now) }
+    ensures same { units.new ≡ units.old }
+    ensures effect { IfOk result (λ e. IsSoundInstruction class.now instruction.now
         → IsEffectBy (row_view row.now).action class.now.pool instruction.now (row_view row.now) e) }
 {
     let pool = class.pool.as_slice();
@@ -82,22 +89,34 @@ fn effect_by(
             pops: 1 + field_units(member_text(pool, index)),
             pushes: 0,
         }),
-        Action::InvokeVirtual => call_effect(alloc, member_text(pool, index), 1),
-        Action::InvokeSpecial => call_effect(alloc, member_text(pool, index), 1),
-        Action::InvokeInterface => call_effect(alloc, member_text(pool, index), 1),
-        Action::InvokeStatic => call_effect(alloc, member_text(pool, index), 0),
-        Action::Refused => call_effect(alloc, site_text(pool, index), 0),
+        Action::InvokeVirtual => call_effect(alloc, units, member_descriptor_at(pool, index), 1),
+        Action::InvokeSpecial => call_effect(alloc, units, member_descriptor_at(pool, index), 1),
+        Action::InvokeInterface => call_effect(alloc, units, member_descriptor_at(pool, index), 1),
+        Action::InvokeStatic => call_effect(alloc, units, member_descriptor_at(pool, index), 0),
+        Action::Refused => call_effect(alloc, units, site_descriptor_at(pool, index), 0),
         Action::MakeArray => Ok(array_effect(instruction, row)),
         _ => Ok(row_effect(row)),
     }
 }
 
-/// What a call of a method of a descriptor does, whose receiver takes so many units.
-fn call_effect(alloc: Global, descriptor: &[u8], receiver: u16) -> Result<Effect, AllocError>
+/// What a call of a method does whose descriptor is the text at an index, and whose receiver takes so many units.
+fn call_effect(
+    alloc: Global,
+    units: &mut PoolUnits<'_>,
+    descriptor: Option<u16>,
+    receiver: u16,
+) -> Result<Effect, AllocError>
     requires { receiver ≤ 1 }
-    ensures { IfOk result (λ e. IsMethodDescriptor descriptor.now → IsCallEffect descriptor.now receiver e) }
+    ensures same { units.new ≡ units.old }
+    ensures effect { IfOk result (IsCallAt units.old descriptor receiver) }
 {
-    let units = method_units(alloc, descriptor)?;
+    let Some(descriptor) = descriptor else {
+        return Ok(Effect {
+            pops: receiver,
+            pushes: 0,
+        });
+    };
+    let units = units.at(alloc, descriptor)?;
     Ok(Effect {
         pops: receiver + units.parameters,
         pushes: units.results,

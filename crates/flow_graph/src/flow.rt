@@ -1,13 +1,13 @@
-//! Where an instruction goes on, and which handlers cover it (JVMS 2.10, 4.7.3, 6.5).
+//! Where an instruction goes on (JVMS 6.5).
 
 ghost use Rattle.std.specs.Prelude.{◌≡◌, IfOk, OnOk};
 ghost use Rattle.jvm_model.specs.RowViews.{flow_view};
-ghost use Rattle.flow_graph.specs.Flows.{number_of, may_go_next, goes_next, offset_after, falls_off, each_once, successors, covers, covering, caught_at};
+ghost use Rattle.flow_graph.specs.Flows.{number_of, may_go_next, goes_next, offset_after, falls_off, each_once, successors};
 ghost use Rattle.flow_graph.specs.Reading.{AreInOrder};
 ghost use Rattle.flow_graph.specs.Walking.{AreAmong};
 
+use jvm_model::PlacedInstruction;
 use jvm_model::opcode::{Flow, row_of_opcode};
-use jvm_model::{Handler, PlacedInstruction};
 use std::alloc::{AllocError, Global};
 use std::collections::BTreeSet;
 
@@ -101,46 +101,4 @@ fn set_of(alloc: Global, offsets: &[u32]) -> Result<BTreeSet<u32>, AllocError>
         set.insert(*offset)?;
     }
     Ok(set)
-}
-
-/// Whether a handler covers an offset (JVMS 4.7.3).
-fn covers(handler: &Handler, offset: u32) -> bool
-    ensures { result ≡ covers offset handler.now }
-{
-    handler.start <= offset && offset < handler.finish
-}
-
-/// The places of the handlers that cover an offset, in the order of their table.
-pub(crate) fn covering(
-    alloc: Global,
-    handlers: &[Handler],
-    offset: u32,
-) -> Result<Vec<u32>, AllocError>
-    ensures { IfOk result (λ v. v.items ≡ covering handlers.now offset) }
-{
-    let mut places = Vec::new(alloc);
-    for place in 0..handlers.len() {
-        if covers(&handlers[place], offset) {
-            let place = u32::try_from(place).map_err(|_| AllocError)?;
-            places.push(place)?;
-        }
-    }
-    Ok(places)
-}
-
-/// The offsets at which the handlers that cover an offset begin, in the order of their table.
-pub(crate) fn caught_at(
-    alloc: Global,
-    handlers: &[Handler],
-    offset: u32,
-) -> Result<Vec<u32>, AllocError>
-    ensures { IfOk result (λ v. v.items ≡ caught_at handlers.now offset) }
-{
-    let mut targets = Vec::new(alloc);
-    for handler in handlers {
-        if covers(handler, offset) {
-            targets.push(handler.target)?;
-        }
-    }
-    Ok(targets)
 }

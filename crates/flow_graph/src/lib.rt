@@ -5,8 +5,10 @@
 mod build;
 mod effect;
 mod flow;
+mod handlers;
 pub mod laws;
 mod mark;
+mod pool_units;
 mod steps;
 mod units;
 mod walk;

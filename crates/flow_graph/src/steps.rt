@@ -3,7 +3,8 @@
 ghost use Rattle.std.specs.Prelude.{◌≡◌, length, IfOk, Some, ◌∷◌, []};
 ghost use Rattle.flow_graph.specs.Graphs.{first_fault, steps_of, step_at};
 
-use crate::flow::{covering, successors};
+use crate::flow::successors;
+use crate::handlers::HandlerIndex;
 use crate::mark::{Mark, reason_at};
 use jvm_model::{Code, PlacedInstruction, Reason, Sequence};
 use std::alloc::{AllocError, Global};
@@ -45,16 +46,18 @@ pub(crate) fn first_fault(
 pub(crate) fn steps_of(
     alloc: Global,
     code: &Code,
+    index: &HandlerIndex<'_>,
     marks: &[Mark],
 ) -> Result<Vec<GraphStep>, AllocError>
-    requires { length marks.now ≡ length code.now.instructions }
+    requires index { index.now ≡ code.now.handlers }
+    requires marks { length marks.now ≡ length code.now.instructions }
     ensures { IfOk result (λ v. v.items ≡ steps_of code.now marks.now) }
 {
     let instructions = code.instructions.as_slice();
     let mut steps = Vec::new(alloc);
     for number in 0..instructions.len() {
         if let Some(height) = marks[number].height {
-            steps.push(step(alloc, code, number, &instructions[number], height)?)?;
+            steps.push(step(alloc, code, index, number, &instructions[number], height)?)?;
         }
     }
     Ok(steps)
@@ -64,15 +67,17 @@ pub(crate) fn steps_of(
 fn step(
     alloc: Global,
     code: &Code,
+    index: &HandlerIndex<'_>,
     number: usize,
     placed: &PlacedInstruction,
     height: u16,
 ) -> Result<GraphStep, AllocError>
+    requires { index.now ≡ code.now.handlers }
     ensures { IfOk result (λ s. step_at code.now number placed.now (Some height) ≡ s ∷ []) }
 {
     let instructions = code.instructions.as_slice();
     let next = successors(alloc, instructions, number, placed)?;
-    let handlers = covering(alloc, code.handlers.as_slice(), placed.offset)?;
+    let handlers = index.covering(alloc, placed.offset)?;
     Ok(GraphStep {
         offset: placed.offset,
         height: u32::from(height),

@@ -10,6 +10,7 @@ ghost use Rattle.std.specs.Bool.{OnTrue};
 ghost use Rattle.flow_graph.specs.Reading.{AreInOrder};
 
 use crate::build::marks_of;
+use crate::handlers::HandlerIndex;
 use crate::steps::{first_fault, steps_of};
 use jvm_model::{
     ClassFile, Code, Handler, Instruction, PlacedInstruction, PoolEntry, Reason, Sequence,
@@ -145,7 +146,8 @@ fn fault_in(
 ) -> Result<Option<(u32, Reason)>, AllocError>
     requires { AreInOrder code.now.instructions }
 {
-    let marks = marks_of(alloc, class, code)?;
+    let index = HandlerIndex::new(alloc, code.handlers.as_slice())?;
+    let marks = marks_of(alloc, class, code, &index)?;
     Ok(first_fault(code.instructions.as_slice(), &marks))
 }
 
@@ -153,8 +155,9 @@ fn fault_in(
 fn heights_of(alloc: Global, class: &ClassFile, code: &Code) -> Result<Vec<(u32, u32)>, AllocError>
     requires { AreInOrder code.now.instructions }
 {
-    let marks = marks_of(alloc, class, code)?;
-    let steps = steps_of(alloc, code, &marks)?;
+    let index = HandlerIndex::new(alloc, code.handlers.as_slice())?;
+    let marks = marks_of(alloc, class, code, &index)?;
+    let steps = steps_of(alloc, code, &index, &marks)?;
     let mut heights = Vec::new(alloc);
     for step in &steps {
         heights.push((step.offset, step.height))?;

@@ -1,9 +1,9 @@
 //! The units of the values that a descriptor is of (JVMS 2.6.2, 4.3): one for each, but two for a long or a double.
 
-ghost use Rattle.std.specs.Prelude.{◌≡◌, ◌≤◌, length, sum_by, IfOk, Some, option_map};
+ghost use Rattle.std.specs.Prelude.{◌≡◌, ◌≤◌, length, sum_by, IfOk, Some, option_map, option_and_then};
 ghost use Rattle.jvm_model.specs.Descriptors.{IsMethodDescriptor};
 ghost use Rattle.jvm_model.specs.Instructions.{kinds_of, member_in, member_at};
-ghost use Rattle.jvm_model.specs.Lookups.{MethodName, Signature, entry_at};
+ghost use Rattle.jvm_model.specs.Lookups.{MethodName, Signature, entry_at, text_at, signature_at};
 ghost use Rattle.code_reader.specs.CodeReading.{kind_units};
 ghost use Rattle.flow_graph.specs.Effects.{site_at};
 ghost use Rattle.code_reader.specs.Parameters.{HasFewUnits};
@@ -119,16 +119,6 @@ fn descriptor_in(pool: &[PoolEntry], class: u16, signature: u16) -> Option<&[u8]
     Some(signature.descriptor)
 }
 
-/// The descriptor that the InvokeDynamic entry at an index has (JVMS 4.4.10).
-fn site_descriptor(pool: &[PoolEntry], index: u32) -> Option<&[u8]>
-    ensures { option_map (λ d. d.now) result ≡ option_map (λ (s : Signature). s.descriptor) (site_at pool.now index) }
-{
-    match entry_at(pool, index)? {
-        PoolEntry::InvokeDynamic(_, signature) => Some(signature_at(pool, *signature)?.descriptor),
-        _ => None,
-    }
-}
-
 /// The same as a text, which is empty where none is named.
 pub(crate) fn member_text(pool: &[PoolEntry], index: u32) -> &[u8]
     ensures { (m : MethodName) → member_at pool.now index ≡ Some m → result.now ≡ m.signature.descriptor }
@@ -139,12 +129,34 @@ pub(crate) fn member_text(pool: &[PoolEntry], index: u32) -> &[u8]
     }
 }
 
-/// The descriptor of a call site as a text, which is empty where there is none.
-pub(crate) fn site_text(pool: &[PoolEntry], index: u32) -> &[u8]
-    ensures { (s : Signature) → site_at pool.now index ≡ Some s → result.now ≡ s.descriptor }
+/// The index of the text that is the descriptor of the method that the entry at an index names (JVMS 4.4.2).
+pub(crate) fn member_descriptor_at(pool: &[PoolEntry], index: u32) -> Option<u16>
+    ensures { (m : MethodName) → member_at pool.now index ≡ Some m → option_and_then (text_at pool.now) result ≡ Some m.signature.descriptor }
 {
-    match site_descriptor(pool, index) {
-        Some(descriptor) => descriptor,
-        None => &[],
+    match entry_at(pool, index)? {
+        PoolEntry::Fieldref(_, signature) => signature_descriptor_at(pool, *signature),
+        PoolEntry::Methodref(_, signature) => signature_descriptor_at(pool, *signature),
+        PoolEntry::InterfaceMethodref(_, signature) => signature_descriptor_at(pool, *signature),
+        _ => None,
+    }
+}
+
+/// The index of the text that is the descriptor of the call site at an index (JVMS 4.4.10).
+pub(crate) fn site_descriptor_at(pool: &[PoolEntry], index: u32) -> Option<u16>
+    ensures { (s : Signature) → site_at pool.now index ≡ Some s → option_and_then (text_at pool.now) result ≡ Some s.descriptor }
+{
+    match entry_at(pool, index)? {
+        PoolEntry::InvokeDynamic(_, signature) => signature_descriptor_at(pool, *signature),
+        _ => None,
+    }
+}
+
+/// The index of the text that is the descriptor of the name and descriptor at an index (JVMS 4.4.6).
+fn signature_descriptor_at(pool: &[PoolEntry], index: u16) -> Option<u16>
+    ensures { (s : Signature) → signature_at pool.now index ≡ Some s → option_and_then (text_at pool.now) result ≡ Some s.descriptor }
+{
+    match entry_at(pool, u32::from(index))? {
+        PoolEntry::NameAndType(_, descriptor) => Some(*descriptor),
+        _ => None,
     }
 }

@@ -10,7 +10,8 @@ ghost use Rattle.flow_graph.specs.Walks.{reached, caught, at_number, at_offset, 
 ghost use Rattle.flow_graph.specs.Walking.{onward_each, IsWalkedOne, waits_at, AreAwaited, IsLeastAwaited, is_number_at, Awaits, AwaitsBoth, AwaitsReached};
 
 use crate::effect::Effect;
-use crate::flow::{caught_at, falls_off, number_of, successors};
+use crate::flow::{falls_off, number_of, successors};
+use crate::handlers::HandlerIndex;
 use crate::mark::{Mark, caught, height_onward, is_waiting, reached, unreached, walked};
 use jvm_model::{Code, PlacedInstruction};
 use std::alloc::{AllocError, Global};
@@ -20,9 +21,11 @@ use std::collections::BTreeSet;
 pub(crate) fn walk_code(
     alloc: Global,
     code: &Code,
+    index: &HandlerIndex<'_>,
     effects: &[Effect],
 ) -> Result<Vec<Mark>, AllocError>
     requires order { AreInOrder code.now.instructions }
+    requires index { index.now ≡ code.now.handlers }
     requires effects { length effects.now ≡ length code.now.instructions }
     ensures walked { IfOk result (λ v. Walk code.now effects.now (at_start code.now) v.items) }
     ensures all { IfOk result (λ v. length v.items ≡ length code.now.instructions) }
@@ -31,7 +34,7 @@ pub(crate) fn walk_code(
     reach(&mut marks, 0, 0);
     let mut awaited = BTreeSet::new(alloc);
     awaited.insert(0)?;
-    walk(alloc, code, effects, &mut marks, &mut awaited)?;
+    walk(alloc, code, index, effects, &mut marks, &mut awaited)?;
     Ok(marks)
 }
 
@@ -39,18 +42,20 @@ pub(crate) fn walk_code(
 fn walk(
     alloc: Global,
     code: &Code,
+    index: &HandlerIndex<'_>,
     effects: &[Effect],
     marks: &mut [Mark],
     awaited: &mut BTreeSet<usize>,
 ) -> Result<(), AllocError>
     requires order { AreInOrder code.now.instructions }
+    requires index { index.now ≡ code.now.handlers }
     requires effects { length effects.now ≡ length code.now.instructions }
     requires marks { length marks.old ≡ length code.now.instructions }
     requires awaited { AreAwaited awaited.old marks.old }
     ensures { OnOk result (Walk code.now effects.now marks.old marks.new) }
 {
     while let Some(number) = first_waiting(marks, awaited) {
-        walk_one(alloc, code, effects, number, marks, awaited)?;
+        walk_one(alloc, code, index, effects, number, marks, awaited)?;
     }
     Ok(())
 }
@@ -137,12 +142,14 @@ fn await_at(
 fn walk_one(
     alloc: Global,
     code: &Code,
+    index: &HandlerIndex<'_>,
     effects: &[Effect],
     number: usize,
     marks: &mut [Mark],
     awaited: &mut BTreeSet<usize>,
 ) -> Result<(), AllocError>
     requires order { AreInOrder code.now.instructions }
+    requires index { index.now ≡ code.now.handlers }
     requires effects { length effects.now ≡ length code.now.instructions }
     requires marks { length marks.old ≡ length code.now.instructions }
     requires first { position is_waiting marks.old ≡ Some number }
@@ -155,7 +162,7 @@ fn walk_one(
     let mark = marks[number];
     let height = mark.height.unwrap();
     let next = successors(alloc, instructions, number, placed)?;
-    let caught = caught_at(alloc, code.handlers.as_slice(), placed.offset)?;
+    let caught = index.caught_at(alloc, placed.offset)?;
     let falls = falls_off(instructions, number, placed);
     marks[number] = walked(mark, code.max_stack, effect, height, falls);
     let onward = height_onward(code.max_stack, effect, height, mark);

@@ -14,7 +14,7 @@ loop-number-preserved c =
     let i : ℕ = c.loop-number.number in
     let instructions = code.instructions in
     let lt : i < length instructions = omega (arith, c.loop-number-test.true, ap length c.as_slice-instructions.ensures) in
-    let lt2 : i < length marks = omega (arith, c.requires, lt) in
+    let lt2 : i < length marks = omega (arith, c.requires.marks, lt) in
     elim c.match-marks-number.branch [
       | in-Some+in_ok-step+in_ok-push w ↦
           let a = w.steps-is in

@@ -37,7 +37,7 @@ returns-clause-walked c =
     let walked_is : c.walked.result ≡ walked limit e height (falls_off code.instructions number p) m = c.walked.ensures ∙ ap (λ (f : Bool). walked limit e height f m) falls in
     let mid_is : c.go_on.new.marks ≡ onward_each c.height_onward-onward.result code.instructions (set marks number c.walked.result) c.deref.result.now =
     c.go_on.ensures ∙ ap (λ (ps : List PlacedInstruction). onward_each c.height_onward-onward.result ps (set marks number c.walked.result) c.deref.result.now) same in
-    let caught_is : c.deref-2.result.now ≡ caught_at code.handlers p.offset = c.deref-2.ensures.value ∙ c.in_ok-caught.ensures ∙ ap (λ (hs : List Handler). caught_at hs p.offset) c.as_slice.ensures in
+    let caught_is : c.deref-2.result.now ≡ caught_at code.handlers p.offset = c.deref-2.ensures.value ∙ c.in_ok-caught.ensures ∙ ap (λ (hs : List Handler). caught_at hs p.offset) c.requires.index in
     let end_is = c.catch_each.ensures ∙ ap (λ (offsets : List ℕ). at_each (caught code.max_stack) code.instructions c.go_on.new.marks offsets) caught_is in
     walked_one code effects marks c.go_on.new.marks c.catch_each.new.marks number p e m c.walked.result height c.height_onward-onward.result c.deref.result.now c.requires.first stands has w.known
     c.unwrap-height.ensures walked_is c.height_onward-onward.ensures next_is mid_is end_is
