@@ -7,8 +7,8 @@ use Rattle.jvm_model.specs.LinkedPrograms.{IsProgram}
 use Rattle.jvm_model.specs.Programs.{Class, Method, Program}
 use Rattle.jvm_model.specs.Resolution.{Declares, IsFirst, IsFound}
 use Rattle.jvm_model.specs.Subtypes.{class_named, IsDirectSuper, IsChain}
-use Rattle.hierarchy.specs.Numbers.{name_at, IsClassNumber, IsNumber}
-use Rattle.hierarchy.specs.Ranks.{IsRanked}
+use Rattle.linked_program.specs.Numbers.{name_at, IsClassNumber, IsNumber}
+use Rattle.linked_program.specs.Ranks.{IsRanked}
 use Rattle.hierarchy.proofs.ClassPlaces.{IsClassAt, number_named, named_contained, supers_of, class_of_number}
 
 -- ranks fall by names

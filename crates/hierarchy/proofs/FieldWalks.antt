@@ -6,8 +6,8 @@ use Rattle.std.proofs.lemmas.Option.{slice_get_within, same_Some, none-some}
 use Rattle.jvm_model.specs.Lookups.{Signature}
 use Rattle.jvm_model.specs.Programs.{Class, Program}
 use Rattle.jvm_model.specs.Resolution.{DeclaresField, FindsField, FindsAmong, above, nowhere, first, later}
-use Rattle.hierarchy.specs.FieldSearches.{IsFirstField}
-use Rattle.hierarchy.specs.Numbers.{name_at}
+use Rattle.linked_program.specs.FieldSearches.{IsFirstField}
+use Rattle.linked_program.specs.Numbers.{name_at}
 use Rattle.hierarchy.proofs.ClassPlaces.{IsClassAt}
 use Rattle.hierarchy.proofs.Chains.{IsStep, IsTop}
 

@@ -5,7 +5,7 @@ use Rattle.std.specs.List.{slice_get}
 use Rattle.jvm_model.specs.Lookups.{Signature}
 use Rattle.jvm_model.specs.Programs.{Class, Method, Program, object_name}
 use Rattle.jvm_model.specs.Resolution.{Declares, IsFound, IsFoundIn, IsFoundInInterface, declared_there, of_object, IsPublicWith}
-use Rattle.hierarchy.specs.Numbers.{name_at}
+use Rattle.linked_program.specs.Numbers.{name_at}
 use Rattle.hierarchy.proofs.ClassPlaces.{name_at-at}
 
 abbrev ByKind : Program → (ℕ → Method → Type 0) → Signature → List ℕ → ℕ → Bool → Type 0

@@ -8,8 +8,8 @@ use Rattle.jvm_model.specs.LinkedPrograms.{IsProgram}
 use Rattle.jvm_model.specs.Lookups.{Signature, MethodName}
 use Rattle.jvm_model.specs.Programs.{Class, Method, Program}
 use Rattle.jvm_model.specs.Selection.{StandsBelow, IsPackageOverridden, IsPackagePrivate, IsSuperCall, StartsSearch, at_super, at_named}
-use Rattle.hierarchy.specs.Numbers.{name_at, IsClassNumber}
-use Rattle.hierarchy.specs.Ranks.{IsRanked}
+use Rattle.linked_program.specs.Numbers.{name_at, IsClassNumber}
+use Rattle.linked_program.specs.Ranks.{IsRanked}
 use Rattle.hierarchy.specs.Searches.{HasNamed, IsUpward, Hides, HidesAlong, IsHidden}
 use Rattle.hierarchy.proofs.ClassPlaces.{class_of_number}
 use Rattle.hierarchy.proofs.Chains.{Along, along_up, along_down, along_first, along_last, chain_split, IsStep, IsTop}

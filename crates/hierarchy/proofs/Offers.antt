@@ -7,11 +7,11 @@ use Rattle.jvm_model.specs.Access.{has_flag}
 use Rattle.jvm_model.specs.Lookups.{Signature}
 use Rattle.jvm_model.specs.Programs.{Class, Program}
 use Rattle.jvm_model.specs.Resolution.{Declares, HasSignature}
-use Rattle.hierarchy.specs.declared.member_view.MemberView.{MemberView}
-use Rattle.hierarchy.specs.Numbers.{name_at, IsClassNumber}
-use Rattle.hierarchy.specs.Ranks.{MembersDiffer}
+use Rattle.linked_program.specs.declared.member_view.MemberView.{MemberView}
+use Rattle.linked_program.specs.Numbers.{name_at, IsClassNumber}
+use Rattle.linked_program.specs.Ranks.{MembersDiffer}
 use Rattle.hierarchy.specs.Searches.{IsOffered}
-use Rattle.hierarchy.specs.Whole.{IsMethodView}
+use Rattle.linked_program.specs.Whole.{IsMethodView}
 use Rattle.hierarchy.proofs.ClassPlaces.{name_at-at, class_there}
 
 pub offer : (p : Program) (s : Signature) (i n : ℕ) → IsClassNumber p i → (d : Declares p (HasSignature s) (name_at p i) n)

@@ -9,7 +9,7 @@ use Rattle.jvm_model.specs.Programs.{Class, Method, Program}
 use Rattle.jvm_model.specs.Resolution.{HasSignature, IsInstanceWith, IsFound, IsFoundIn, IsFoundInInterface, declared_there, of_object, IsInherited, IsOnlyDefault, ResolvesFrom, itself, by_default, by_name, Resolves}
 use Rattle.jvm_model.specs.Selection.{SelectsFrom, upward, by_default as by_only_default, StartsSearch, SelectsSpecial}
 use Rattle.jvm_model.specs.Subtypes.{class_named}
-use Rattle.hierarchy.specs.Numbers.{IsMethodNumber}
+use Rattle.linked_program.specs.Numbers.{IsMethodNumber}
 use Rattle.hierarchy.specs.Searches.{HasTwoDefaults, SelectsInstance}
 use Rattle.hierarchy.proofs.Hiding.{starts_same}
 use Rattle.hierarchy.proofs.Selecting.{found_within, default_within}
@@ -78,6 +78,14 @@ from_within p start s c n (by_only_default _ only) = default_within p start s n 
 
 pub instance_within : (p : Program) (start : List ℕ) (s : Signature) (n : ℕ) → SelectsInstance p start s n → IsMethodNumber p n
 instance_within p start s n r = from_within p start s r.class n r.chosen
+
+how_resolved_within : (p : Program) (name : List ℕ) (s : Signature) (c : Class) (n : ℕ) → ResolvesFrom p name s (IsFoundIn p (HasSignature s) s c) n → IsMethodNumber p n
+how_resolved_within p name s c n (itself own) = found_in_within p (HasSignature s) s c n own
+how_resolved_within p name s c n (by_default _ only) = default_within p name s n only
+how_resolved_within p name s c n (by_name _ _ least) = slice_get_within p.methods n least.inherited.method least.inherited.stands
+
+pub resolves_within : (p : Program) (name : List ℕ) (s : Signature) (n : ℕ) → Resolves p (record { class = name; signature = s }) n → IsMethodNumber p n
+resolves_within p name s n r = how_resolved_within p name s r.class n r.search
 
 -- from the class at which the search begins
 pub special_from : (p : Program) (current named : List ℕ) (s t : Signature) (start : List ℕ) (n : ℕ) → t ≡ s → StartsSearch p current (record { class = named; signature = s }) start

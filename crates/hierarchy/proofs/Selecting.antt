@@ -10,7 +10,7 @@ use Rattle.jvm_model.specs.Selection.{IsSelectable, SelectsFrom, upward, by_defa
 use Rattle.hierarchy.specs.declared.choice.Choice.{Choice}
 use Rattle.hierarchy.specs.declared.choice.Choice.TheVariants.{Nothing, One, Several}
 use Rattle.hierarchy.specs.declared.wanted.Wanted.{Wanted}
-use Rattle.hierarchy.specs.Numbers.{IsMethodNumber}
+use Rattle.linked_program.specs.Numbers.{IsMethodNumber}
 use Rattle.hierarchy.specs.Searches.{HasOwnSignature, IsFor, AreDefaults, IsChosen, wanted_of}
 use Rattle.hierarchy.specs.Wanted.{IsWanted}
 

@@ -12,11 +12,11 @@ use Rattle.jvm_model.specs.Lookups.{Signature}
 use Rattle.jvm_model.specs.Programs.{Method, Program, is_abstract}
 use Rattle.jvm_model.specs.Resolution.{IsInherited, IsMostSpecific, IsDefault, IsLeastInherited}
 use Rattle.jvm_model.specs.Subtypes.{IsProperSubtype}
-use Rattle.hierarchy.specs.declared.member_view.MemberView.{MemberView}
-use Rattle.hierarchy.specs.Numbers.{name_at, IsClassNumber, IsMethodNumber}
-use Rattle.hierarchy.specs.Ranks.{IsRanked, MembersDiffer}
+use Rattle.linked_program.specs.declared.member_view.MemberView.{MemberView}
+use Rattle.linked_program.specs.Numbers.{name_at, IsClassNumber, IsMethodNumber}
+use Rattle.linked_program.specs.Ranks.{IsRanked, MembersDiffer}
 use Rattle.hierarchy.specs.Searches.{IsBelow, IsLowestConcrete, IsOffered, IsLeast, IsKeptOrOffered}
-use Rattle.hierarchy.specs.Whole.{IsMethodView}
+use Rattle.linked_program.specs.Whole.{IsMethodView}
 use Rattle.hierarchy.proofs.ClassPlaces.{method_there}
 use Rattle.hierarchy.proofs.Chains.{IsStep, IsTop}
 use Rattle.hierarchy.proofs.Offers.{offered_once, offered_declares}

@@ -9,10 +9,10 @@ use Rattle.jvm_model.specs.LinkedPrograms.{IsProgram}
 use Rattle.jvm_model.specs.Programs.{Class, Program}
 use Rattle.jvm_model.specs.Resolution.{IsInherited}
 use Rattle.jvm_model.specs.Subtypes.{class_named, IsChain, IsSubtype, same, below}
-use Rattle.hierarchy.specs.Numbers.{name_at, IsClassNumber}
-use Rattle.hierarchy.specs.Ranks.{IsRanked}
+use Rattle.linked_program.specs.Numbers.{name_at, IsClassNumber}
+use Rattle.linked_program.specs.Ranks.{IsRanked}
 use Rattle.hierarchy.specs.Searches.{IsOffered, IsOfferedAmong}
-use Rattle.hierarchy.specs.Whole.{IsThroughInterface}
+use Rattle.linked_program.specs.Whole.{IsThroughInterface}
 use Rattle.hierarchy.proofs.ClassPlaces.{number_named, named_at, supers_of, name_at-at, class_of_number, class_within}
 use Rattle.hierarchy.proofs.Chains.{Along, along_first, along_down, chain_split, IsStep, IsTop, along_last, rank_falls}
 

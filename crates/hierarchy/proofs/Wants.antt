@@ -10,14 +10,14 @@ use Rattle.jvm_model.specs.Lookups.{Signature}
 use Rattle.jvm_model.specs.Programs.{Method, Program, is_static}
 use Rattle.jvm_model.specs.Resolution.{Declares, HasSignature, IsPublicWith}
 use Rattle.jvm_model.specs.Selection.{Overrides}
-use Rattle.hierarchy.specs.declared.member_view.MemberView.{MemberView}
+use Rattle.linked_program.specs.declared.member_view.MemberView.{MemberView}
 use Rattle.hierarchy.specs.declared.wanted.Wanted.{Wanted}
 use Rattle.hierarchy.specs.declared.wanted.Wanted.TheVariants.{Any, Instance, PublicInstance, Selected}
-use Rattle.hierarchy.specs.Numbers.{IsClassNumber, IsMethodNumber}
-use Rattle.hierarchy.specs.Ranks.{MembersDiffer}
+use Rattle.linked_program.specs.Numbers.{IsClassNumber, IsMethodNumber}
+use Rattle.linked_program.specs.Ranks.{MembersDiffer}
 use Rattle.hierarchy.specs.Searches.{IsFor, HasOwnSignature}
 use Rattle.hierarchy.specs.Wanted.{IsWanted}
-use Rattle.hierarchy.specs.Whole.{IsMethodView}
+use Rattle.linked_program.specs.Whole.{IsMethodView}
 use Rattle.hierarchy.proofs.ClassPlaces.{method_there}
 
 pub own_signature : (p : Program) (wanted : Wanted) (resolved : ℕ) (s : Signature) → wanted ≡ Selected resolved → IsFor p wanted s → HasOwnSignature p s resolved

@@ -2,10 +2,10 @@
 
 ghost use Rattle.std.specs.Prelude.{◌≡◌, ◌↔◌, ℕ, IsTrue, IfSome, IfNone};
 ghost use Rattle.jvm_model.specs.Subtypes.{IsSubtype};
-ghost use Rattle.hierarchy.specs.Numbers.{name_at, IsClassNumber};
+ghost use Rattle.linked_program.specs.Numbers.{name_at, IsClassNumber};
 
-use crate::program::Program;
 use jvm_model::ClassNo;
+use linked_program::program::Program;
 
 /// The number of the class of a name; `None` exactly where it is not in the program. It takes no memory.
 pub fn find_class(program: &Program, name: &[u8]) -> Option<ClassNo>

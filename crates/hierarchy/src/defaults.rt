@@ -2,14 +2,14 @@
 
 ghost use Rattle.std.specs.Prelude.{◌≡◌, ◌⊎◌, ◌↔◌, ℕ, All, Some, IsTrue, IfSome, IfNone};
 ghost use Rattle.jvm_model.specs.Resolution.{IsInherited, IsLeastInherited};
-ghost use Rattle.hierarchy.specs.Numbers.{name_at, IsClassNumber, IsMethodNumber};
+ghost use Rattle.linked_program.specs.Numbers.{name_at, IsClassNumber, IsMethodNumber};
 ghost use Rattle.hierarchy.specs.Searches.{signature_from, AreDefaults, IsLowestConcrete, IsLeast, IsKeptOrOffered};
 
 use crate::choice::Choice;
-use crate::program::Program;
 use crate::search::is_proper_subtype;
 use crate::sought::{Sought, first_inherited, offered};
 use jvm_model::AccessFlag;
+use linked_program::program::Program;
 
 // A method of a proper subtype of a class.
 #[derive(Clone, Copy)]
@@ -18,7 +18,7 @@ struct InSubtype {
 }
 
 impl Sought for InSubtype {
-    ghost use Rattle.hierarchy.specs.Numbers.{name_at, IsClassNumber};
+    ghost use Rattle.linked_program.specs.Numbers.{name_at, IsClassNumber};
     ghost use Rattle.hierarchy.specs.Searches.{IsBelow};
 
     ghost fits = { λ x p. IsClassNumber p x.upper };
@@ -41,7 +41,7 @@ struct LowestConcrete<'a> {
 
 impl Sought for LowestConcrete<'_> {
     ghost use Rattle.std.specs.Prelude.{◌≢◌, Some};
-    ghost use Rattle.hierarchy.specs.Numbers.{name_at, IsClassNumber};
+    ghost use Rattle.linked_program.specs.Numbers.{name_at, IsClassNumber};
     ghost use Rattle.hierarchy.specs.Searches.{IsLowestConcrete, signature_from};
 
     ghost fits = { λ x p. IsClassNumber p x.class };

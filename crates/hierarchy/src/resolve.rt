@@ -1,18 +1,18 @@
 //! Resolution of references to methods (JVMS 5.4.3.3, 5.4.3.4).
 
-ghost use Rattle.std.specs.Prelude.{◌≡◌, ℕ, Some, slice_get, IfSome, IfNone};
+ghost use Rattle.std.specs.Prelude.{◌≡◌, ℕ, Some, slice_get, IfOk, IfSome, IfNone};
 ghost use Rattle.jvm_model.specs.Programs.{Class};
 ghost use Rattle.jvm_model.specs.Resolution.{MethodResolution, Resolves, missing};
 ghost use Rattle.jvm_model.specs.declared.reason.Reason.TheVariants.{MissingMethod};
-ghost use Rattle.hierarchy.specs.Numbers.{name_at, IsClassNumber, method_number};
+ghost use Rattle.linked_program.specs.Numbers.{name_at, IsClassNumber, IsMethodNumber, method_number};
 ghost use Rattle.hierarchy.specs.Searches.{signature_from};
 
 use crate::choice::Choice;
 use crate::defaults::{find_defaults, least_inherited};
-use crate::program::Program;
 use crate::search::found_in;
 use crate::wanted::Wanted;
 use jvm_model::{ClassNo, MethodNo, Reason};
+use linked_program::program::Program;
 
 /// What a reference to a method gives that names a class, and takes it for an interface or not: the method of the name and
 /// descriptor (JVMS 5.4.3.3, 5.4.3.4).
@@ -27,7 +27,8 @@ pub fn resolve_method(
     descriptor: &[u8],
 ) -> Result<MethodNo, Reason>
     requires { IsClassNumber program.now class.0 }
-    ensures { (c : Class) → slice_get program.now.classes class.0 ≡ Some c
+    ensures below { IfOk result (λ m. IsMethodNumber program.now m.0) }
+    ensures resolution { (c : Class) → slice_get program.now.classes class.0 ≡ Some c
         → MethodResolution program.now c interface (signature_from name.now descriptor.now) (method_number result) }
 {
     let Some(number) = resolved(program, class.0, name, descriptor) else {

@@ -1,17 +1,17 @@
 //! Resolution of references to fields (JVMS 5.4.3.2).
 
-ghost use Rattle.std.specs.Prelude.{◌≡◌, ◌<◌, length, Some, slice_get, All, IfSome};
+ghost use Rattle.std.specs.Prelude.{◌≡◌, ◌<◌, length, Some, slice_get, All, IfOk, IfSome};
 ghost use Rattle.jvm_model.specs.Access.{has_flag};
 ghost use Rattle.jvm_model.specs.Programs.{Class, Field};
 ghost use Rattle.jvm_model.specs.Resolution.{FieldResolution, FindsField, missing};
 ghost use Rattle.jvm_model.specs.declared.access.AccessFlag.TheVariants.{Static};
 ghost use Rattle.jvm_model.specs.declared.reason.Reason.TheVariants.{MissingField};
-ghost use Rattle.hierarchy.specs.FieldSearches.{IsFirstField};
-ghost use Rattle.hierarchy.specs.Numbers.{name_at, IsClassNumber, field_number};
+ghost use Rattle.linked_program.specs.FieldSearches.{IsFirstField};
+ghost use Rattle.linked_program.specs.Numbers.{name_at, IsClassNumber, field_number};
 ghost use Rattle.hierarchy.specs.Searches.{signature_from};
 
-use crate::program::Program;
 use jvm_model::{AccessFlag, ClassNo, FieldNo, Reason};
+use linked_program::program::Program;
 
 /// What a reference to a static field, or to an instance field, gives that names a class (JVMS 5.4.3.2).
 ///
@@ -25,7 +25,8 @@ pub fn resolve_field(
     is_static: bool,
 ) -> Result<FieldNo, Reason>
     requires { IsClassNumber program.now class.0 }
-    ensures { (c : Class) → slice_get program.now.classes class.0 ≡ Some c
+    ensures below { IfOk result (λ f. f.0 < length program.now.fields) }
+    ensures resolution { (c : Class) → slice_get program.now.classes class.0 ≡ Some c
         → FieldResolution program.now c (signature_from name.now descriptor.now) is_static (field_number result) }
 {
     let Some(number) = found_field(program, class.0, name, descriptor) else {

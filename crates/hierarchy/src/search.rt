@@ -7,14 +7,14 @@ ghost use Rattle.jvm_model.specs.Resolution.{Declares, IsFound, IsFoundIn, IsPub
 ghost use Rattle.jvm_model.specs.Selection.{Overrides, IsOverridable};
 ghost use Rattle.jvm_model.specs.Subtypes.{IsProperSubtype};
 ghost use Rattle.jvm_model.specs.declared.access.AccessFlag.TheVariants.{Private, Static};
-ghost use Rattle.hierarchy.specs.Numbers.{name_at, IsClassNumber, IsMethodNumber};
+ghost use Rattle.linked_program.specs.Numbers.{name_at, IsClassNumber, IsMethodNumber};
 ghost use Rattle.hierarchy.specs.Searches.{signature_from, IsFor};
 ghost use Rattle.hierarchy.specs.Wanted.{IsWanted};
 
 use crate::package::is_same_package;
-use crate::program::Program;
 use crate::wanted::Wanted;
 use jvm_model::AccessFlag;
+use linked_program::program::Program;
 
 /// Whether the class is a subtype of another one (JVMS 4.10.1.2).
 pub(crate) fn is_proper_subtype(program: &Program, lower: u32, upper: u32) -> bool

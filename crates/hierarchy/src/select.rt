@@ -1,18 +1,18 @@
 //! The method that a call on an object goes to (JVMS 5.4.5, 6.5.invokevirtual, 6.5.invokeinterface).
 
-ghost use Rattle.std.specs.Prelude.{◌≡◌, ◌↔◌, Some, slice_get, IsTrue};
+ghost use Rattle.std.specs.Prelude.{◌≡◌, ◌↔◌, Some, slice_get, IsTrue, IfOk};
 ghost use Rattle.jvm_model.specs.Programs.{Method, is_abstract};
 ghost use Rattle.jvm_model.specs.Selection.{Selection, IsPackageOverridden, IsPackagePrivate, is_direct};
-ghost use Rattle.hierarchy.specs.Numbers.{name_at, IsClassNumber, IsMethodNumber, method_number};
+ghost use Rattle.linked_program.specs.Numbers.{name_at, IsClassNumber, IsMethodNumber, method_number};
 ghost use Rattle.hierarchy.specs.Searches.{signature_from, IsChosen, IsHidden, Hides, wanted_of};
 
 use crate::choice::Choice;
 use crate::defaults::find_defaults;
 use crate::package::is_same_package;
-use crate::program::Program;
 use crate::search::found_upward;
 use crate::wanted::Wanted;
 use jvm_model::{AccessFlag, ClassNo, MethodNo, Reason};
+use linked_program::program::Program;
 
 /// Where a call of a resolved method on an object of a class goes, at a call of an interface's method or of any other one
 /// (JVMS 6.5.invokevirtual, 6.5.invokeinterface).
@@ -28,7 +28,8 @@ pub fn select(
 ) -> Result<MethodNo, Reason>
     requires resolved { IsMethodNumber program.now resolved.0 }
     requires receiver { IsClassNumber program.now receiver.0 }
-    ensures { Selection program.now interface (name_at program.now receiver.0) resolved.0 (method_number result) }
+    ensures below { IfOk result (λ m. IsMethodNumber program.now m.0) }
+    ensures selection { Selection program.now interface (name_at program.now receiver.0) resolved.0 (method_number result) }
 {
     program.well_formed();
     match chosen(program, resolved.0, receiver.0, interface) {

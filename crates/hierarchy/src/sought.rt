@@ -5,11 +5,11 @@ ghost use Rattle.jvm_model.specs.Access.{has_flag};
 ghost use Rattle.jvm_model.specs.Programs.{Program as LinkedProgram};
 ghost use Rattle.jvm_model.specs.Resolution.{IsInherited};
 ghost use Rattle.jvm_model.specs.declared.access.AccessFlag.TheVariants.{Private, Static};
-ghost use Rattle.hierarchy.specs.Numbers.{name_at, IsClassNumber, IsMethodNumber};
+ghost use Rattle.linked_program.specs.Numbers.{name_at, IsClassNumber, IsMethodNumber};
 ghost use Rattle.hierarchy.specs.Searches.{signature_from, IsOffered, IsOfferedAmong};
 
-use crate::program::Program;
 use jvm_model::AccessFlag;
+use linked_program::program::Program;
 
 /// What is looked for among the methods of superinterfaces.
 pub(crate) trait Sought {

@@ -1,18 +1,18 @@
 //! The target of a special call (JVMS 6.5.invokespecial).
 
-ghost use Rattle.std.specs.Prelude.{◌≡◌, ◌↔◌, ℕ, codes, Some, slice_get, IsTrue, IfSome, IfNone};
+ghost use Rattle.std.specs.Prelude.{◌≡◌, ◌↔◌, ℕ, codes, Some, slice_get, IsTrue, IfOk, IfSome, IfNone};
 ghost use Rattle.jvm_model.specs.Programs.{Method};
 ghost use Rattle.jvm_model.specs.Selection.{SpecialSelection, StartsSearch};
-ghost use Rattle.hierarchy.specs.Numbers.{name_at, IsClassNumber, IsMethodNumber, method_number};
+ghost use Rattle.linked_program.specs.Numbers.{name_at, IsClassNumber, IsMethodNumber, method_number};
 ghost use Rattle.hierarchy.specs.Searches.{signature_from, IsUpward, SelectsInstance};
 
 use crate::choice::Choice;
 use crate::defaults::find_defaults;
-use crate::program::Program;
 use crate::search::found_in;
 use crate::select::is_abstract;
 use crate::wanted::Wanted;
 use jvm_model::{ClassNo, MethodNo, Reason};
+use linked_program::program::Program;
 
 /// Where a special call goes, from the code of a class to a resolved method that is named with a class (JVMS
 /// 6.5.invokespecial).
@@ -27,7 +27,8 @@ pub fn special_target(
     requires current { IsClassNumber program.now current.0 }
     requires named { IsClassNumber program.now named.0 }
     requires resolved { IsMethodNumber program.now resolved.0 }
-    ensures { (m : Method) → slice_get program.now.methods resolved.0 ≡ Some m
+    ensures below { IfOk result (λ m. IsMethodNumber program.now m.0) }
+    ensures selection { (m : Method) → slice_get program.now.methods resolved.0 ≡ Some m
         → SpecialSelection program.now (name_at program.now current.0) (record { class = name_at program.now named.0; signature = m.signature }) (method_number result) }
 {
     let method = program.method(resolved.0);

@@ -1,7 +1,7 @@
 use Rattle.std.proofs.Common.{◌∙◌, ℕ, Some, sym, ap, inl, inr}
 use Rattle.std.proofs.lemmas.Bool.{cases_eq}
 use Rattle.std.proofs.lemmas.Option.{none-some, same_Some}
-use Rattle.hierarchy.specs.Numbers.{name_at}
+use Rattle.linked_program.specs.Numbers.{name_at}
 use Rattle.hierarchy.specs.Searches.{signature_from, HasTwoDefaults}
 use Rattle.hierarchy.proofs.Specific.{default_from, default_lowest, some_then, none_then}
 use Rattle.hierarchy.proofs.defaults.find_defaults.Goals as goal

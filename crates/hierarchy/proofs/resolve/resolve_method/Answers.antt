@@ -1,13 +1,14 @@
 use Rattle.std.proofs.Common.{◌∙◌, ℕ, List, Result, Err, refl, sym, ap, subst}
 use Rattle.jvm_model.specs.declared.reason.Reason.{Reason}
 use Rattle.jvm_model.specs.Resolution.{Resolves, found, other_kind, not_found}
+use Rattle.linked_program.specs.Numbers.{name_at}
 use Rattle.hierarchy.specs.Searches.{signature_from}
 use Rattle.hierarchy.proofs.ClassPlaces.{name_at-at}
-use Rattle.hierarchy.proofs.Resolving.{same_kind, other_kind_of}
+use Rattle.hierarchy.proofs.Resolving.{same_kind, other_kind_of, resolves_within}
 use Rattle.hierarchy.proofs.resolve.resolve_method.Goals as goal
 
-pub returns-in_default : goal.returns-in_default
-returns-in_default c = λ class stands.
+pub returns-in_default-clause-resolution : goal.returns-in_default-clause-resolution
+returns-in_default-clause-resolution c = λ class stands.
     let p = c.args.program.now in
     let s = signature_from c.args.name.now c.args.descriptor.now in
     let name = name_at-at p c.args.class.0 class stands in
@@ -15,18 +16,23 @@ returns-in_default c = λ class stands.
     not_found (λ n resolves. c.in_default.ensures.none n (subst (λ (x : List ℕ). Resolves p (record { class = x; signature = s }) n) (sym name) resolves))
     (ap err (c.missing_method.ensures class stands))
 
-pub returns-then-is_interface-interface : goal.returns-then-is_interface-interface
-returns-then-is_interface-interface c = λ class stands.
+pub returns-then-is_interface-interface-clause-resolution : goal.returns-then-is_interface-interface-clause-resolution
+returns-then-is_interface-interface-clause-resolution c = λ class stands.
     let p = c.args.program.now in
     let s = signature_from c.args.name.now c.args.descriptor.now in
     let name = name_at-at p c.args.class.0 class stands in
     found c.in-Some.number (subst (λ (x : List ℕ). Resolves p (record { class = x; signature = s }) c.in-Some.number) name c.in-Some.ensures.found)
     (sym (c.is_interface.ensures class stands) ∙ same_kind c.is_interface.result c.args.interface c.if-is_interface-interface.true) refl
 
-pub returns-else-is_interface-interface : goal.returns-else-is_interface-interface
-returns-else-is_interface-interface c = λ class stands.
+pub returns-else-is_interface-interface-clause-resolution : goal.returns-else-is_interface-interface-clause-resolution
+returns-else-is_interface-interface-clause-resolution c = λ class stands.
     let p = c.args.program.now in
     let s = signature_from c.args.name.now c.args.descriptor.now in
     let name = name_at-at p c.args.class.0 class stands in
     other_kind c.in-Some.number (subst (λ (x : List ℕ). Resolves p (record { class = x; signature = s }) c.in-Some.number) name c.in-Some.ensures.found)
     (λ e. other_kind_of c.is_interface.result c.args.interface c.if-is_interface-interface.false (c.is_interface.ensures class stands ∙ e)) refl
+
+pub returns-then-is_interface-interface-clause-below : goal.returns-then-is_interface-interface-clause-below
+returns-then-is_interface-interface-clause-below c =
+    let p = c.args.program.now in
+    resolves_within p (name_at p c.args.class.0) (signature_from c.args.name.now c.args.descriptor.now) c.in-Some.number c.in-Some.ensures.found

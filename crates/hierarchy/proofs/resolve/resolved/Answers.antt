@@ -1,8 +1,8 @@
 use Rattle.std.proofs.lemmas.Option.{IfSome_then}
 use Rattle.jvm_model.specs.Resolution.{itself, by_default, by_name}
-use Rattle.hierarchy.specs.Numbers.{name_at}
+use Rattle.linked_program.specs.Numbers.{name_at}
 use Rattle.hierarchy.specs.Searches.{signature_from}
-use Rattle.hierarchy.proofs.SpelledKeys.{if_none_more}
+use Rattle.class_index.proofs.SpelledKeys.{if_none_more}
 use Rattle.hierarchy.proofs.ClassPlaces.{class_of_number}
 use Rattle.hierarchy.proofs.Resolving.{two_not_only, resolves_none}
 use Rattle.hierarchy.proofs.resolve.resolved.Goals as goal

@@ -1,7 +1,7 @@
 use Rattle.std.proofs.Common.{◌≤◌, length, Some, arith, refl}
 use Rattle.std.proofs.lemmas.Option.{slice_get_within}
 use Rattle.jvm_model.specs.Resolution.{itself}
-use Rattle.hierarchy.specs.Numbers.{name_at}
+use Rattle.linked_program.specs.Numbers.{name_at}
 use Rattle.hierarchy.specs.Searches.{signature_from}
 use Rattle.hierarchy.proofs.ClassPlaces.{class_of_number}
 use Rattle.hierarchy.proofs.Chains.{step_at, top_at, room_more, room_none}

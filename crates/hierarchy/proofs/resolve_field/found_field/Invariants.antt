@@ -1,6 +1,6 @@
 use Rattle.std.proofs.Common.{ℕ, Option}
 use Rattle.jvm_model.specs.Resolution.{FindsField}
-use Rattle.hierarchy.specs.Numbers.{name_at}
+use Rattle.linked_program.specs.Numbers.{name_at}
 use Rattle.hierarchy.specs.Searches.{signature_from}
 use Rattle.hierarchy.proofs.Chains.{HasRoom}
 use Rattle.hierarchy.proofs.resolve_field.found_field.Given as goal

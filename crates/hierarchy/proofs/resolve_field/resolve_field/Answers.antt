@@ -8,8 +8,8 @@ use Rattle.hierarchy.proofs.resolve_field.resolve_field.Goals as goal
 pub is_static_field-requires : goal.is_static_field-requires
 is_static_field-requires c = c.in-Some.ensures.within
 
-pub returns-then-is_static_field-is_static : goal.returns-then-is_static_field-is_static
-returns-then-is_static_field-is_static c = λ class stands.
+pub returns-then-is_static_field-is_static-clause-resolution : goal.returns-then-is_static_field-is_static-clause-resolution
+returns-then-is_static_field-is_static-clause-resolution c = λ class stands.
     let p = c.args.program.now in
     let s = signature_from c.args.name.now c.args.descriptor.now in
     let name = name_at-at p c.args.class.0 class stands in
@@ -17,11 +17,14 @@ returns-then-is_static_field-is_static c = λ class stands.
     found c.in-Some.number field.0 (subst (λ (x : List ℕ). FindsField p s x (Some c.in-Some.number)) name c.in-Some.ensures.finds) field.1
     (sym (c.is_static_field.ensures field.0 field.1) ∙ same_kind c.is_static_field.result c.args.is_static c.if-is_static_field-is_static.true) refl
 
-pub returns-else-is_static_field-is_static : goal.returns-else-is_static_field-is_static
-returns-else-is_static_field-is_static c = λ class stands.
+pub returns-else-is_static_field-is_static-clause-resolution : goal.returns-else-is_static_field-is_static-clause-resolution
+returns-else-is_static_field-is_static-clause-resolution c = λ class stands.
     let p = c.args.program.now in
     let s = signature_from c.args.name.now c.args.descriptor.now in
     let name = name_at-at p c.args.class.0 class stands in
     let field = place_there p.fields c.in-Some.number c.in-Some.ensures.within in
     other_kind c.in-Some.number field.0 (subst (λ (x : List ℕ). FindsField p s x (Some c.in-Some.number)) name c.in-Some.ensures.finds) field.1
     (λ e. other_kind_of c.is_static_field.result c.args.is_static c.if-is_static_field-is_static.false (c.is_static_field.ensures field.0 field.1 ∙ e)) refl
+
+pub returns-then-is_static_field-is_static-clause-below : goal.returns-then-is_static_field-is_static-clause-below
+returns-then-is_static_field-is_static-clause-below c = c.in-Some.ensures.within

@@ -2,7 +2,7 @@ use Rattle.std.proofs.Common.{◌∙◌, sym}
 use Rattle.std.proofs.lemmas.Option.{IfSome_then}
 use Rattle.hierarchy.specs.Searches.{signature_from}
 use Rattle.hierarchy.specs.Wanted.{IsWanted}
-use Rattle.hierarchy.proofs.SpelledKeys.{if_none_more}
+use Rattle.class_index.proofs.SpelledKeys.{if_none_more}
 use Rattle.hierarchy.proofs.FoundIn.{found_class, object_found, found_interface}
 use Rattle.hierarchy.proofs.search.found_in.Goals as goal
 

@@ -1,6 +1,6 @@
 use Rattle.std.proofs.Common.{ℕ}
 use Rattle.jvm_model.specs.Resolution.{IsFound}
-use Rattle.hierarchy.specs.Numbers.{name_at}
+use Rattle.linked_program.specs.Numbers.{name_at}
 use Rattle.hierarchy.specs.Searches.{signature_from}
 use Rattle.hierarchy.specs.Wanted.{IsWanted}
 use Rattle.hierarchy.proofs.Chains.{HasRoom}

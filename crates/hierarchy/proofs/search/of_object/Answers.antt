@@ -1,9 +1,9 @@
 use Rattle.std.proofs.Common.{◌∙◌}
 use Rattle.std.proofs.lemmas.Option.{IfSome_then}
 use Rattle.jvm_model.specs.Programs.{object_name}
-use Rattle.hierarchy.specs.Numbers.{name_at}
+use Rattle.linked_program.specs.Numbers.{name_at}
 use Rattle.hierarchy.specs.Searches.{signature_from}
-use Rattle.hierarchy.proofs.SpelledKeys.{if_none_more}
+use Rattle.class_index.proofs.SpelledKeys.{if_none_more}
 use Rattle.hierarchy.proofs.ClassPlaces.{class_of_method}
 use Rattle.hierarchy.proofs.Wants.{public_declares, declares_public}
 use Rattle.hierarchy.proofs.search.of_object.Goals as goal

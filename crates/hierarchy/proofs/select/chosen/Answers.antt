@@ -2,7 +2,7 @@ use Rattle.std.proofs.Common.{◌∙◌, ℕ, sym, subst}
 use Rattle.jvm_model.specs.Lookups.{Signature}
 use Rattle.jvm_model.specs.Resolution.{IsFound}
 use Rattle.hierarchy.specs.declared.wanted.Wanted.{Wanted}
-use Rattle.hierarchy.specs.Numbers.{name_at}
+use Rattle.linked_program.specs.Numbers.{name_at}
 use Rattle.hierarchy.specs.Searches.{signature_from, AreDefaults}
 use Rattle.hierarchy.specs.Wanted.{IsWanted}
 use Rattle.hierarchy.proofs.ClassPlaces.{method_there}

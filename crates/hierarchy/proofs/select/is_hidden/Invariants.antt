@@ -1,4 +1,4 @@
-use Rattle.hierarchy.specs.Numbers.{name_at}
+use Rattle.linked_program.specs.Numbers.{name_at}
 use Rattle.hierarchy.specs.Searches.{signature_from, IsHidden}
 use Rattle.hierarchy.proofs.Chains.{HasRoom}
 use Rattle.hierarchy.proofs.select.is_hidden.Given as goal

@@ -1,4 +1,4 @@
-use Rattle.hierarchy.specs.Numbers.{name_at}
+use Rattle.linked_program.specs.Numbers.{name_at}
 use Rattle.hierarchy.specs.Searches.{signature_from}
 use Rattle.hierarchy.proofs.ClassPlaces.{method_there}
 use Rattle.hierarchy.proofs.Hiding.{hidden_told}

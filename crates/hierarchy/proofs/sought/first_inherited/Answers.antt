@@ -1,5 +1,5 @@
 use Rattle.std.proofs.Common.{◌≤◌, length, arith}
-use Rattle.hierarchy.specs.Numbers.{name_at}
+use Rattle.linked_program.specs.Numbers.{name_at}
 use Rattle.hierarchy.specs.Searches.{signature_from}
 use Rattle.hierarchy.proofs.Chains.{step_at, top_at, room_more, room_none}
 use Rattle.hierarchy.proofs.Superinterfaces.{reached_among, reached_above, reached_next, reached_nothing, reached_inherited, inherited_reached}

@@ -1,6 +1,6 @@
 use Rattle.std.proofs.Common.{◌≤◌, length, arith, refl, ap}
 use Rattle.std.proofs.lemmas.Bool.{false≢true}
-use Rattle.hierarchy.specs.Numbers.{name_at}
+use Rattle.linked_program.specs.Numbers.{name_at}
 use Rattle.hierarchy.proofs.ClassPlaces.{same_number}
 use Rattle.hierarchy.proofs.Chains.{step_at, top_at, room_more, room_none}
 use Rattle.hierarchy.proofs.Hiding.{upward_here, upward_above, upward_below, upward_last}

@@ -1,5 +1,5 @@
 use Rattle.jvm_model.specs.Selection.{upward, by_default}
-use Rattle.hierarchy.specs.Numbers.{name_at}
+use Rattle.linked_program.specs.Numbers.{name_at}
 use Rattle.hierarchy.specs.Searches.{signature_from}
 use Rattle.hierarchy.proofs.ClassPlaces.{class_of_number}
 use Rattle.hierarchy.proofs.Resolving.{two_not_only, instance_none}

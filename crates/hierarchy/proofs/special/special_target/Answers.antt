@@ -1,13 +1,13 @@
 use Rattle.std.proofs.Common.{◌∙◌, refl, sym}
 use Rattle.jvm_model.specs.Selection.{selected, no_code, nothing}
-use Rattle.hierarchy.specs.Numbers.{name_at}
+use Rattle.linked_program.specs.Numbers.{name_at}
 use Rattle.hierarchy.specs.Searches.{signature_from}
 use Rattle.hierarchy.proofs.ClassPlaces.{method_there}
 use Rattle.hierarchy.proofs.Resolving.{instance_within, special_from, special_instance}
 use Rattle.hierarchy.proofs.special.special_target.Goals as goal
 
-pub returns-in_default : goal.returns-in_default
-returns-in_default c = λ m stands.
+pub returns-in_default-clause-selection : goal.returns-in_default-clause-selection
+returns-in_default-clause-selection c = λ m stands.
     let p = c.args.program.now in
     let v = c.method-method.result in
     let s = signature_from v.name.now v.descriptor.now in
@@ -21,8 +21,8 @@ is_abstract-requires c =
     let v = c.method-method.result in
     instance_within p (name_at p c.search_start-start.result) (signature_from v.name.now v.descriptor.now) c.in-Some.target c.in-Some.ensures.found
 
-pub returns-then-is_abstract : goal.returns-then-is_abstract
-returns-then-is_abstract c = λ m stands.
+pub returns-then-is_abstract-clause-selection : goal.returns-then-is_abstract-clause-selection
+returns-then-is_abstract-clause-selection c = λ m stands.
     let p = c.args.program.now in
     let v = c.method-method.result in
     let s = signature_from v.name.now v.descriptor.now in
@@ -33,8 +33,8 @@ returns-then-is_abstract c = λ m stands.
     c.search_start-start.ensures.start c.in-Some.ensures.found)
     target.1 (sym (c.is_abstract.ensures target.0 target.1) ∙ c.if-is_abstract.true) refl
 
-pub returns : goal.returns
-returns c = λ m stands.
+pub returns-clause-selection : goal.returns-clause-selection
+returns-clause-selection c = λ m stands.
     let p = c.args.program.now in
     let v = c.method-method.result in
     let s = signature_from v.name.now v.descriptor.now in
@@ -44,3 +44,9 @@ returns c = λ m stands.
     (special_from p (name_at p c.args.current.0) (name_at p c.args.named.0) s m.signature start c.in-Some.target (c.method-method.ensures m stands).signature
     c.search_start-start.ensures.start c.in-Some.ensures.found)
     target.1 (sym (c.is_abstract.ensures target.0 target.1) ∙ c.if-is_abstract.false) refl
+
+pub returns-clause-below : goal.returns-clause-below
+returns-clause-below c =
+    let p = c.args.program.now in
+    let v = c.method-method.result in
+    instance_within p (name_at p c.search_start-start.result) (signature_from v.name.now v.descriptor.now) c.in-Some.target c.in-Some.ensures.found

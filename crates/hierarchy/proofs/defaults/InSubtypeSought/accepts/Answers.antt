@@ -1,4 +1,4 @@
-use Rattle.hierarchy.specs.Numbers.{name_at}
+use Rattle.linked_program.specs.Numbers.{name_at}
 use Rattle.hierarchy.proofs.Specific.{below_told}
 use Rattle.hierarchy.proofs.Wants.{view_below}
 use Rattle.hierarchy.proofs.defaults.InSubtypeSought.accepts.Goals as goal

@@ -1,0 +1,15 @@
+pub mod ListPlaces
+pub mod TextPlaces
+pub mod NumberedKeys
+pub mod SpelledKeys
+pub mod OrderPlaces
+pub mod ClassLists
+pub mod Marks
+pub mod SearchedPlaces
+pub mod UpwardSteps
+pub mod Placing
+pub mod Walking
+pub mod Cycles
+pub mod Searching
+pub mod Gathering
+pub mod Reaching

@@ -1,0 +1,12 @@
+pub mod OwnedTexts
+pub mod TextNumbers
+pub mod FirstPlaces
+pub mod MemberKeys
+pub mod KeyPlaces
+pub mod Supertypes
+pub mod UpwardOrder
+pub mod SearchOrder
+pub mod AboveLists
+pub mod ClassSets
+pub mod Sorting
+pub mod Walks

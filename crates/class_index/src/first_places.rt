@@ -1,0 +1,74 @@
+//! A list of keys that may have one more than once, in which the first place of a key is found by hashing.
+
+ghost use Rattle.std.specs.Prelude.{◌≡◌, ℕ, ◌<◌, ◌^◌, [], ◌∷◌, ◌++◌, length, Some, slice_get, IfSome, IfNone, OnOk, OnErr};
+ghost use Rattle.class_index.specs.FirstPlaces.{IsFirstPlace, StandsNowhere};
+
+use crate::numbered_key::NumberedKey;
+use crate::text_index::next_number;
+use indexmap::IndexMap;
+use std::alloc::{AllocError, Global};
+use std::marker::Model;
+
+/// Keys in the order of their insertion. Contracts see the list.
+#[derive(Drop)]
+pub struct FirstPlaces {
+    keys: Vec<NumberedKey>,
+    places: IndexMap<NumberedKey, u32>,
+}
+
+impl Model for FirstPlaces {
+    ghost use Rattle.std.specs.Prelude.{List};
+    ghost use Rattle.class_index.specs.declared.numbered_key.NumberedKey.{NumberedKey};
+    ghost use Rattle.class_index.specs.KeyPlaces.{ArePlaces};
+
+    ghost Value = { List NumberedKey };
+
+    ghost view = { λ s. s.keys.items };
+
+    ghost invariant = { λ s. ArePlaces s.keys.items s.places };
+}
+
+impl FirstPlaces {
+    /// No key. It takes no memory.
+    pub fn new(alloc: Global) -> Self
+        ensures { result ≡ [] }
+    {
+        FirstPlaces {
+            keys: Vec::new(alloc),
+            places: IndexMap::new(alloc),
+        }
+    }
+
+    /// How many keys there are.
+    pub fn len(&self) -> usize
+        ensures count { result ≡ length self.now }
+        ensures small { result < 2 ^ 32 }
+    {
+        self.keys.len()
+    }
+
+    /// Adds a key last. The error is want of memory, or of a number for the place.
+    pub fn push(&mut self, key: NumberedKey) -> Result<(), AllocError>
+        ensures ok { OnOk result (self.new ≡ self.old ++ key ∷ []) }
+        ensures err { OnErr result (self.new ≡ self.old) }
+    {
+        let place = next_number(self.keys.len())?;
+        self.keys.push(key)?;
+        if self.places.contains_key(&key) {
+            return Ok(());
+        }
+        if let Err(full) = self.places.insert(key, place) {
+            self.keys.pop();
+            return Err(AllocError::from(full));
+        }
+        Ok(())
+    }
+
+    /// The first place at which a key stands.
+    pub fn first(&self, key: &NumberedKey) -> Option<u32>
+        ensures found { IfSome result (IsFirstPlace self.now key.now) }
+        ensures none { IfNone result (StandsNowhere self.now key.now) }
+    {
+        self.places.get(key).copied()
+    }
+}

@@ -1,0 +1,131 @@
+//! Texts by number. A text is found by its bytes, and its number is its place in the order of insertion.
+
+ghost use Rattle.std.specs.Prelude.{◌≡◌, ℕ, ◌+◌, ◌<◌, ◌^◌, ◌↔◌, [], length, Some, slice_get, option_copied, IsTrue, IfOk, IfSome, IfNone, OnOk, OnErr};
+ghost use Rattle.class_index.specs.TextNumbers.{AreDistinct, with_text, Extends};
+ghost use Rattle.class_index.specs.FirstPlaces.{StandsNowhere};
+
+use indexmap::IndexSet;
+use std::alloc::{AllocError, Global};
+use std::marker::Model;
+
+/// Texts, each of which has a number. Contracts see the list of the texts, in the order of their first insertion.
+#[derive(Drop)]
+pub struct TextIndex {
+    alloc: Global,
+    texts: IndexSet<Vec<u8>>,
+}
+
+impl Model for TextIndex {
+    ghost use Rattle.std.specs.Prelude.{ℕ, List};
+    ghost use Rattle.class_index.specs.OwnedTexts.{owned_texts, AreNumbered};
+
+    ghost Value = { List (List ℕ) };
+
+    ghost view = { λ s. owned_texts s.texts.keys };
+
+    ghost invariant = { λ s. AreNumbered (owned_texts s.texts.keys) };
+}
+
+impl TextIndex {
+    /// An index of no text. It takes no memory.
+    pub fn new(alloc: Global) -> Self
+        ensures { result ≡ [] }
+    {
+        TextIndex {
+            alloc,
+            texts: IndexSet::new(alloc),
+        }
+    }
+
+    /// How many texts there are.
+    pub fn len(&self) -> usize
+        ensures count { result ≡ length self.now }
+        ensures small { result < 2 ^ 32 }
+        ensures distinct { AreDistinct self.now }
+    {
+        self.texts.len()
+    }
+
+    /// Whether there is no text.
+    pub fn is_empty(&self) -> bool
+        ensures { IsTrue result ↔ (length self.now ≡ 0) }
+    {
+        self.len() == 0
+    }
+
+    /// The number of a text, which goes last if it is not there yet. Its bytes are copied then.
+    ///
+    /// The error is want of memory, or of numbers: there are at most 2^32 - 1 texts.
+    pub fn intern(&mut self, text: &[u8]) -> Result<u32, AllocError>
+        ensures stands { IfOk result (λ number. slice_get self.new number ≡ Some text.now) }
+        ensures ok { OnOk result (self.new ≡ with_text self.old text.now) }
+        ensures extends { Extends self.old self.new }
+        ensures err { OnErr result (self.new ≡ self.old) }
+    {
+        if let Some(number) = self.find(text) {
+            return Ok(number);
+        }
+        let number = next_number(self.texts.len())?;
+        let copy = Vec::from_slice(self.alloc, text)?;
+        self.texts.insert(copy)?;
+        Ok(number)
+    }
+
+    /// The number of a text. It takes no memory, and time linear in the text.
+    pub fn find(&self, text: &[u8]) -> Option<u32>
+        ensures found { IfSome result (λ number. slice_get self.now number ≡ Some text.now) }
+        ensures none { IfNone result (StandsNowhere self.now text.now) }
+        ensures only { (number : ℕ) → slice_get self.now number ≡ Some text.now → result ≡ Some number }
+    {
+        let place = self.texts.get_index_of(text)?;
+        Some(place as u32)
+    }
+
+    /// The text of a number.
+    pub fn text(&self, number: u32) -> Option<&[u8]>
+        ensures { option_copied result ≡ slice_get self.now number }
+    {
+        let text = self.texts.get_index(number as usize)?;
+        Some(text.as_slice())
+    }
+}
+
+/// The number of the next item after so many, if there is one below 2^32 - 1: an item without a number is as much as one
+/// without memory.
+pub fn next_number(count: usize) -> Result<u32, AllocError>
+    ensures number { IfOk result (λ number. number ≡ count) }
+    ensures room { IfOk result (λ number. number + 1 < 2 ^ 32) }
+{
+    if count < u32::MAX as usize {
+        Ok(count as u32)
+    } else {
+        Err(AllocError)
+    }
+}
+
+#[cfg(test)]
+mod tests {
+    use super::*;
+    use std::test::Fail;
+
+    #[test]
+    fn texts_keep_their_numbers(rt: HostRuntime) -> Result<(), Fail> {
+        let mut index = TextIndex::new(rt.alloc());
+        assert_eq!(rt; index.intern(b"run")?, 0);
+        assert_eq!(rt; index.intern(b"()V")?, 1);
+        assert_eq!(rt; index.intern(b"run")?, 0);
+        assert_eq!(rt; index.find(b"()V"), Some(1));
+        assert_eq!(rt; index.len(), 2);
+        Ok(())
+    }
+
+    #[test]
+    fn a_text_is_told_by_its_number(rt: HostRuntime) -> Result<(), Fail> {
+        let mut index = TextIndex::new(rt.alloc());
+        assert!(rt; index.is_empty());
+        index.intern(b"run")?;
+        assert!(rt; index.text(0) == Some(b"run".as_slice()));
+        assert_eq!(rt; index.find(b"close"), None);
+        Ok(())
+    }
+}

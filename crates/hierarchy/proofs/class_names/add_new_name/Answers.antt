@@ -1,6 +1,0 @@
-use Rattle.std.proofs.Common.{sym, ◌∙◌}
-use Rattle.hierarchy.proofs.TextPlaces.{with_text-new}
-use Rattle.hierarchy.proofs.class_names.add_new_name.Goals as goal
-
-pub returns-clause-added : goal.returns-clause-added
-returns-clause-added c = c.in_ok-intern.ensures.ok ∙ sym (with_text-new c.args.earlier.now c.args.name.now c.requires)

@@ -1,9 +1,0 @@
-use Rattle.std.proofs.Common.{ℕ, List, [], drop}
-use Rattle.jvm_model.specs.Linking.{file_claims}
-use Rattle.jvm_model.specs.Programs.{Program}
-use Rattle.hierarchy.specs.Claims.{HasTextsOf}
-use Rattle.hierarchy.proofs.ClaimSteps.{Left}
-use Rattle.hierarchy.proofs.class_names.check_file_names.Given as goal
-
-abbrev pub invariant-loop-f : goal.invariant-loop-f
-invariant-loop-f l = (p : Program) (names : List (List ℕ)) → HasTextsOf l.others names → Left p (file_claims names [] l.files) (file_claims names l.earlier (drop l.f-index l.files))

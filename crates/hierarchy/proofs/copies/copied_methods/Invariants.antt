@@ -1,7 +1,0 @@
-use Rattle.std.proofs.Common.{◌≡◌, ◌++◌, map, drop}
-use Rattle.hierarchy.specs.Patching.{description_of}
-use Rattle.jvm_model.specs.Linking.{told}
-use Rattle.hierarchy.proofs.copies.copied_methods.Given as goal
-
-abbrev pub invariant-loop-described : goal.invariant-loop-described
-invariant-loop-described l = l.copies.items ++ told (map description_of (drop l.described-index l.all)) ≡ told (map description_of l.all)

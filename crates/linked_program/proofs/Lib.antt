@@ -1,0 +1,9 @@
+pub mod Ordered
+pub mod Bridges
+pub mod Accessing
+pub mod Ranking
+pub mod Pieces
+pub mod MembersTold
+pub mod SoundMembers
+pub mod Assembled
+pub mod SearchOrders

@@ -1,0 +1,19 @@
+-- What putting a program together tells.
+use Rattle.std.specs.Prelude.{◌≡◌, List, map, Result, Ok, Err}
+use Rattle.jvm_model.specs.declared.program.Origin.{Origin}
+use Rattle.jvm_model.specs.declared.reason.Reason.TheVariants.{Cycle}
+use Rattle.jvm_model.specs.Linking.{AreMet, IsFirstUnmet, cycle_claim, program_from}
+use Rattle.jvm_model.specs.Programs.{Program}
+use Rattle.linked_program.specs.LinkEnds.{IsRefusal}
+use Rattle.linked_program.specs.declared.link_end.LinkEnd.{LinkEnd}
+use Rattle.linked_program.specs.declared.link_end.LinkEnd.TheVariants.{Refused, Memory}
+
+-- The program of the classes, of which none is above itself; or the first one that is.
+abbrev pub Assembles : List Origin → Result Program LinkEnd → Type 0
+Assembles order (Ok p) = (p ≡ program_from order) × AreMet (program_from order) (map cycle_claim order)
+Assembles order (Err (Refused refusal)) = IsFirstUnmet (program_from order) refusal (map cycle_claim order)
+Assembles order (Err Memory) = Unit {0}
+
+-- The class is told to be above itself.
+abbrev pub IsCycleEnd : Origin → LinkEnd → Type 0
+IsCycleEnd o end = let c = cycle_claim o in IsRefusal c.file c.offset Cycle end

@@ -1,0 +1,10 @@
+pub mod ByteOrder
+pub mod Numbers
+pub mod Numbering
+pub mod Origins
+pub mod MemberLists
+pub mod Ranks
+pub mod Whole
+pub mod Assembling
+pub mod FieldSearches
+pub mod LinkEnds

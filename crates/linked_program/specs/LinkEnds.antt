@@ -1,0 +1,10 @@
+-- How linking ends without a program.
+use Rattle.std.specs.Prelude.{ℕ, List, ◌≡◌}
+use Rattle.jvm_model.specs.declared.reason.Reason.{Reason}
+use Rattle.linked_program.specs.declared.link_end.LinkEnd.{LinkEnd}
+use Rattle.linked_program.specs.declared.link_end.LinkEnd.TheVariants.{Refused, Memory}
+
+-- The refusal of a file at an offset, or want of memory.
+abbrev pub IsRefusal : List ℕ → ℕ → Reason → LinkEnd → Type 0
+IsRefusal file offset reason (Refused refusal) = refusal ≡ record { file = file; offset = offset; reason = reason }
+IsRefusal file offset reason Memory = Unit {0}

@@ -1,0 +1,14 @@
+//! The linked program: a program in which each name has its class, and what the searches read of it. Classes, methods and fields have
+//! numbers; the definitions that contracts cite stand in jvm_model and in specs/.
+#![tactic(auto)]
+
+pub mod link_end;
+pub mod member_view;
+pub mod members;
+pub mod numbering;
+pub mod origin;
+pub mod origin_members;
+pub mod program;
+pub mod sorted;
+
+pub use link_end::LinkEnd;

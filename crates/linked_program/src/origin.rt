@@ -1,0 +1,76 @@
+//! What linking reads of a class, whether a class file or a stub says it.
+
+ghost use Rattle.std.specs.Prelude.{◌≡◌, ◌<◌, length, option_map, slice_index_or, []};
+ghost use Rattle.jvm_model.specs.Linking.{class_from};
+
+use jvm_model::lookup::class_name_at;
+use jvm_model::{AccessFlag, Origin};
+
+/// The name of the class (JVMS 4.1).
+pub fn name(origin: &Origin) -> &[u8]
+    ensures { result.now ≡ (class_from origin.now).name }
+{
+    match origin {
+        Origin::Folder(file, _) => {
+            class_name_at(file.class.pool.as_slice(), file.class.this_class).unwrap_or(b"")
+        }
+        Origin::Stub(stub) => stub.name.as_slice(),
+    }
+}
+
+/// Whether it is an interface (JVMS 4.1).
+pub fn is_interface(origin: &Origin) -> bool
+    ensures { result ≡ (class_from origin.now).is_interface }
+{
+    match origin {
+        Origin::Folder(file, _) => AccessFlag::Interface.is_set_in(file.class.flags),
+        Origin::Stub(stub) => stub.is_interface,
+    }
+}
+
+/// Whether it is a class of the folder.
+pub fn is_folder(origin: &Origin) -> bool
+    ensures { result ≡ (class_from origin.now).is_folder }
+{
+    match origin {
+        Origin::Folder(_, _) => true,
+        Origin::Stub(_) => false,
+    }
+}
+
+/// The name of the superclass, if there is one.
+pub fn super_name(origin: &Origin) -> Option<&[u8]>
+    ensures { option_map (λ name. name.now) result ≡ (class_from origin.now).super_class }
+{
+    match origin {
+        Origin::Folder(file, _) => {
+            class_name_at(file.class.pool.as_slice(), file.class.super_class)
+        }
+        Origin::Stub(stub) if stub.super_class.is_empty() => None,
+        Origin::Stub(stub) => Some(stub.super_class.as_slice()),
+    }
+}
+
+/// How many superinterfaces it names.
+pub fn interface_count(origin: &Origin) -> usize
+    ensures { result ≡ length (class_from origin.now).interfaces }
+{
+    match origin {
+        Origin::Folder(file, _) => file.class.interfaces.len(),
+        Origin::Stub(stub) => stub.interfaces.len(),
+    }
+}
+
+/// The name of the superinterface at a place.
+pub fn interface_name(origin: &Origin, place: usize) -> &[u8]
+    requires { place < length (class_from origin.now).interfaces }
+    ensures { result.now ≡ slice_index_or (class_from origin.now).interfaces place [] }
+{
+    match origin {
+        Origin::Folder(file, _) => {
+            let index = file.class.interfaces.as_slice()[place];
+            class_name_at(file.class.pool.as_slice(), index).unwrap_or(b"")
+        }
+        Origin::Stub(stub) => stub.interfaces.as_slice()[place].as_slice(),
+    }
+}

@@ -1,0 +1,14 @@
+pub mod DescribedMembers
+pub mod Linkables
+pub mod ClaimSteps
+pub mod KnownClasses
+pub mod Building
+pub mod NewNames
+pub mod ClassNames
+pub mod FlatClaims
+pub mod OrderedPrograms
+pub mod PatchesAlone
+pub mod Orders
+pub mod SoundOrigins
+pub mod LinkSteps
+pub mod PatchLists

@@ -1,0 +1,42 @@
+use Rattle.std.proofs.Common.{List, ◌++◌, map, refl}
+use Rattle.jvm_model.specs.declared.stub.StubClass.{StubClass}
+use Rattle.jvm_model.specs.Linking.{own_classes}
+use Rattle.linking.specs.Claims.{stub_name, stub_kind, own_name, own_kind}
+use Rattle.linking.proofs.Building.{build_on, build_done}
+use Rattle.linking.proofs.NewNames.{new_head, new_next, own_names_split, own_kinds_split}
+use Rattle.linking.proofs.known.add_stubs.Goals as goal
+
+pub add_stub-requires : goal.add_stub-requires
+add_stub-requires c =
+    let xs = c.args.stubs.now in
+    let names = λ (ys : List StubClass). map stub_name (own_classes ys) in
+    let kinds = λ (ys : List StubClass). map stub_kind (own_classes ys) in
+    new_head names own_name own_names_split xs c.loop-c.c-index c.c-item.result c.loop-c-test.true c.c-item.is c.loop-c.names c.loop-c.invariant.new
+
+pub loop-c-init : goal.loop-c-init
+loop-c-init c = record { new = c.requires; names = refl; kinds = refl }
+
+pub loop-c-preserved : goal.loop-c-preserved
+loop-c-preserved c =
+    let xs = c.args.stubs.now in
+    let names = λ (ys : List StubClass). map stub_name (own_classes ys) in
+    let kinds = λ (ys : List StubClass). map stub_kind (own_classes ys) in
+    record {
+      new = new_next names own_name own_names_split xs c.loop-c.c-index c.c-item.result c.loop-c-test.true c.c-item.is c.loop-c.names c.loop-c.invariant.new c.add_stub.new.names c.in_ok-add_stub.ensures.names;
+      names = build_on names (c.args.names.now ++ names xs) own_name own_names_split xs c.loop-c.c-index c.c-item.result c.loop-c-test.true c.c-item.is c.loop-c.names c.add_stub.new.names c.in_ok-add_stub.ensures.names c.loop-c.invariant.names;
+      kinds = build_on kinds (c.args.interfaces.now.items ++ kinds xs) own_kind own_kinds_split xs c.loop-c.c-index c.c-item.result c.loop-c-test.true c.c-item.is c.loop-c.interfaces.items c.add_stub.new.interfaces.items c.in_ok-add_stub.ensures.kinds c.loop-c.invariant.kinds;
+    }
+
+pub returns-clause-names : goal.returns-clause-names
+returns-clause-names c =
+    let xs = c.args.stubs.now in
+    let names = λ (ys : List StubClass). map stub_name (own_classes ys) in
+    let kinds = λ (ys : List StubClass). map stub_kind (own_classes ys) in
+    build_done names (c.args.names.now ++ names xs) refl xs c.loop-c.c-index c.loop-c-test.false c.loop-c.names c.loop-c.invariant.names
+
+pub returns-clause-kinds : goal.returns-clause-kinds
+returns-clause-kinds c =
+    let xs = c.args.stubs.now in
+    let names = λ (ys : List StubClass). map stub_name (own_classes ys) in
+    let kinds = λ (ys : List StubClass). map stub_kind (own_classes ys) in
+    build_done kinds (c.args.interfaces.now.items ++ kinds xs) refl xs c.loop-c.c-index c.loop-c-test.false c.loop-c.interfaces.items c.loop-c.invariant.kinds

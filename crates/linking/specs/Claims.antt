@@ -1,0 +1,116 @@
+-- What is told of claims: that all are met, or the first that is not. And what of a program the claims on names and kinds need.
+use Rattle.std.specs.Prelude.{ℕ, Bool, false, List, [], ◌∷◌, ◌++◌, map, None, Result, Ok, Err, Contains, ◌≡◌, if◌then◌else◌}
+use Rattle.jvm_model.specs.declared.access.AccessFlag.TheVariants.{Interface}
+use Rattle.jvm_model.specs.Access.{has_flag}
+use Rattle.jvm_model.specs.declared.program.NamedClass.{NamedClass}
+use Rattle.jvm_model.specs.declared.reason.Reason.{Reason}
+use Rattle.jvm_model.specs.declared.stub.StubClass.{StubClass}
+use Rattle.jvm_model.specs.Linking.{Claim, claim, Demand, differs, is_there, of_kind, no_cycle, NamedSuper, there_claim, kind_claim, AreMet, IsFirstUnmet, Meets, program_from, origins, own_classes}
+use Rattle.jvm_model.specs.Programs.{Class, Program, name_of}
+use Rattle.class_index.specs.FirstPlaces.{StandsNowhere}
+use Rattle.class_index.specs.TextNumbers.{with_text}
+use Rattle.linked_program.specs.declared.link_end.LinkEnd.{LinkEnd}
+use Rattle.linked_program.specs.declared.link_end.LinkEnd.TheVariants.{Refused, Memory}
+use Rattle.linking.specs.declared.supers.SuperRule.{SuperRule}
+use Rattle.linking.specs.declared.supers.SuperRule.TheVariants.{There, Kind}
+
+-- ---- what is told
+
+-- The end tells the first demand that is not met. Want of memory tells nothing.
+abbrev pub TellsEnd : Program → List Claim → LinkEnd → Type 0
+TellsEnd p claims (Refused refusal) = IsFirstUnmet p refusal claims
+TellsEnd p claims Memory = Unit {0}
+
+-- All demands are met, or the first that is not is told.
+abbrev pub TellsClaims : {X : Type 0} → Program → List Claim → Result X LinkEnd → Type 0
+TellsClaims p claims (Ok x) = AreMet p claims
+TellsClaims p claims (Err end) = TellsEnd p claims end
+
+-- ---- the program, and what is known of it
+
+-- The program of the classes in the order in which they are given.
+abbrev pub unsorted : List NamedClass → List StubClass → Program
+unsorted files stubs = program_from (origins files stubs)
+
+-- A class of which the name and the kind are known.
+abbrev pub known_class : List ℕ → Bool → Class
+known_class name is_interface = record { name = name; super_class = None; interfaces = []; is_interface = is_interface; is_folder = false; file = [] }
+
+-- The program with the names and the kinds of its classes alone.
+abbrev pub known_part : Program → Program
+known_part p = record { classes = map (λ (c : Class). known_class c.name c.is_interface) p.classes; methods = []; fields = [] }
+
+pub record Knows (known p : Program) : Type 0 where
+  pub same : known ≡ known_part p
+
+abbrev pub known_classes : List (List ℕ) → List Bool → List Class
+known_classes (name ∷ names) (kind ∷ kinds) = known_class name kind ∷ known_classes names kinds
+known_classes _ _ = []
+
+abbrev pub known_program : List (List ℕ) → List Bool → Program
+known_program names kinds = record { classes = known_classes names kinds; methods = []; fields = [] }
+
+-- A class of the name is there, and each of the name is of this kind.
+pub record HasKind (p : Program) (name : List ℕ) (kind : Bool) : Type 0 where
+  pub there : Meets p (is_there name)
+  pub only : Meets p (of_kind kind name)
+
+-- ---- supertypes
+
+-- What is demanded of a supertype.
+abbrev pub super_claim : SuperRule → NamedSuper → Claim
+super_claim There s = there_claim s
+super_claim Kind s = kind_claim s
+
+-- What is demanded of a stub that is a class of its own; nothing of a patch.
+abbrev pub of_own : (StubClass → List Claim) → StubClass → List Claim
+of_own claims c = if c.is_patch then [] else claims c
+
+-- The demand does not speak of what is above a class.
+abbrev pub IsFlat : Demand → Type 0
+IsFlat (no_cycle name) = ⊥
+IsFlat _ = Unit {0}
+
+-- ---- names
+
+-- The same texts are in both lists.
+pub record HasTextsOf (texts names : List (List ℕ)) : Type 0 where
+  pub none : (name : List ℕ) → (Contains texts name → ⊥) → Contains names name → ⊥
+  pub some : (name : List ℕ) → Contains texts name → Contains names name
+
+-- Each name is none of the earlier ones.
+abbrev pub AreNewNames : List (List ℕ) → List (List ℕ) → Type 0
+AreNewNames earlier [] = Unit {0}
+AreNewNames earlier (name ∷ names) = StandsNowhere earlier name × AreNewNames (earlier ++ name ∷ []) names
+
+abbrev pub file_name : NamedClass → List ℕ
+file_name f = name_of f.class
+
+abbrev pub file_kind : NamedClass → Bool
+file_kind f = has_flag f.class.flags Interface
+
+abbrev pub stub_name : StubClass → List ℕ
+stub_name c = c.name
+
+abbrev pub stub_kind : StubClass → Bool
+stub_kind c = c.is_interface
+
+-- the names of all classes, in the order in which they are given
+abbrev pub all_names : List NamedClass → List StubClass → List (List ℕ)
+all_names files stubs = map file_name files ++ map stub_name (own_classes stubs)
+
+-- the name of a stub that is a class of its own; and whether it is an interface
+abbrev pub own_name : StubClass → List (List ℕ)
+own_name c = if c.is_patch then [] else c.name ∷ []
+
+abbrev pub own_kind : StubClass → List Bool
+own_kind c = if c.is_patch then [] else c.is_interface ∷ []
+
+-- the texts with the names of stubs that are classes of their own
+abbrev pub with_own_names : List (List ℕ) → List StubClass → List (List ℕ)
+with_own_names texts [] = texts
+with_own_names texts (c ∷ stubs) = with_own_names (if c.is_patch then texts else with_text texts c.name) stubs
+
+-- what is demanded of the name of a stub that is a class of its own
+abbrev pub own_claim : List (List ℕ) → StubClass → List Claim
+own_claim earlier c = if c.is_patch then [] else claim c.file 0 (differs earlier c.name) ∷ []

@@ -1,0 +1,5 @@
+pub mod Claims
+pub mod Patching
+pub mod PatchLists
+pub mod Supers
+pub mod LinkTelling

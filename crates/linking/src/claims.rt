@@ -1,0 +1,105 @@
+//! What linking demands before the classes are put in order: that their names differ, that what they name is there, and that
+//! it is of the right kind (JVMS 5.3, 5.3.5). Each check tells the first demand that is not met.
+
+ghost use Rattle.std.specs.Prelude.{◌≡◌, ◌<◌, ◌^◌, length, All};
+ghost use Rattle.linking.specs.Claims.{TellsClaims, Knows, unsorted};
+ghost use Rattle.jvm_model.specs.declared.program.NamedClass.{NamedClass};
+ghost use Rattle.jvm_model.specs.Linking.{own_classes, name_claims, there_claims, kind_claims};
+ghost use Rattle.jvm_model.specs.Spelling.{spell};
+
+use crate::class_names::{check_file_names, check_stub_names, stub_names};
+use crate::known::Known;
+use crate::mentions::{check_natives, check_stubs};
+use crate::patch_index::Patches;
+use crate::supers::{SuperRule, check_supers_of_files, check_supers_of_stubs};
+use jvm_model::{NamedClass, StubClass};
+use linked_program::link_end::LinkEnd;
+use std::alloc::Global;
+
+/// The names of all classes differ: of class files among each other and from all stubs, and then of stubs among each other.
+pub fn check_names(alloc: Global, files: &[NamedClass], stubs: &[StubClass]) -> Result<(), LinkEnd>
+    requires { All (λ (f : NamedClass). length (spell f.class) < 2 ^ 32) files.now }
+    ensures { TellsClaims (unsorted files.now stubs.now) (name_claims files.now (own_classes stubs.now)) result }
+{
+    let others = stub_names(alloc, stubs)?;
+    check_file_names(alloc, &others, files)?;
+    check_stub_names(alloc, stubs)
+}
+
+/// All classes that are named are there: supertypes of class files; supertypes of stubs, and what stubs mention; and what
+/// descriptions of native methods mention.
+pub fn check_presence(
+    alloc: Global,
+    known: &Known,
+    patches: &Patches<'_>,
+    files: &[NamedClass],
+    stubs: &[StubClass],
+) -> Result<(), LinkEnd>
+    requires known { Knows known.now (unsorted files.now stubs.now) }
+    requires patches { patches.now ≡ stubs.now }
+    requires sizes { All (λ (f : NamedClass). length (spell f.class) < 2 ^ 32) files.now }
+    ensures { TellsClaims (unsorted files.now stubs.now) (there_claims files.now stubs.now) result }
+{
+    check_supers_of_files(alloc, known, SuperRule::There, files)?;
+    check_stubs(alloc, known, patches, stubs)?;
+    check_natives(alloc, known, patches, files)
+}
+
+/// Superclasses are no interfaces, and superinterfaces are: for each class file, and then for each stub.
+pub fn check_kinds(
+    alloc: Global,
+    known: &Known,
+    files: &[NamedClass],
+    stubs: &[StubClass],
+) -> Result<(), LinkEnd>
+    requires known { Knows known.now (unsorted files.now stubs.now) }
+    requires sizes { All (λ (f : NamedClass). length (spell f.class) < 2 ^ 32) files.now }
+    ensures { TellsClaims (unsorted files.now stubs.now) (kind_claims files.now (own_classes stubs.now)) result }
+{
+    check_supers_of_files(alloc, known, SuperRule::Kind, files)?;
+    check_supers_of_stubs(alloc, known, SuperRule::Kind, stubs)
+}
+
+#[cfg(test)]
+mod tests {
+    use super::*;
+    use jvm_model::{Bytes, Name, Reason, Sequence};
+    use std::alloc::AllocError;
+    use std::test::Fail;
+
+    fn bytes(alloc: Global, text: &[u8]) -> Result<Bytes, AllocError> {
+        Ok(Bytes::from_vec(Vec::from_slice(alloc, text)?))
+    }
+
+    fn stub(alloc: Global, name: &[u8], super_class: &[u8]) -> Result<StubClass, AllocError> {
+        Ok(StubClass {
+            file: Name::from_string(String::from_str(alloc, "a.toml")?),
+            name: bytes(alloc, name)?,
+            super_class: bytes(alloc, super_class)?,
+            interfaces: Sequence::from_vec(Vec::new(alloc)),
+            is_interface: false,
+            is_patch: false,
+            methods: Sequence::from_vec(Vec::new(alloc)),
+            fields: Sequence::from_vec(Vec::new(alloc)),
+        })
+    }
+
+    fn reason_of(outcome: Result<(), LinkEnd>) -> Option<Reason> {
+        match outcome {
+            Ok(()) => None,
+            Err(LinkEnd::Refused(refusal)) => Some(refusal.reason),
+            Err(LinkEnd::Memory) => None,
+        }
+    }
+
+    #[test]
+    fn two_stubs_of_one_name_are_told(rt: HostRuntime) -> Result<(), Fail> {
+        let mut stubs = Vec::new(rt.alloc());
+        stubs.push(stub(rt.alloc(), b"a/A", b"")?)?;
+        assert!(rt; check_names(rt.alloc(), &[], stubs.as_slice()).is_ok());
+        stubs.push(stub(rt.alloc(), b"a/A", b"a/None")?)?;
+        let told = reason_of(check_names(rt.alloc(), &[], stubs.as_slice()));
+        assert!(rt; told == Some(Reason::DuplicateClass));
+        Ok(())
+    }
+}

@@ -1,0 +1,108 @@
+//! The native methods of a class file, which patches describe.
+
+ghost use Rattle.std.specs.Prelude.{◌≡◌, ◌++◌, IfOk, OnOk};
+ghost use Rattle.std.specs.List.{list_any};
+ghost use Rattle.linking.specs.Patching.{member_key, described_key, native_key, native_keys};
+ghost use Rattle.class_index.specs.MemberKeys.{key_of};
+ghost use Rattle.jvm_model.specs.Linking.{describes};
+
+use class_index::member_index::MemberIndex;
+use class_index::member_key::MemberKey;
+use class_index::texts::plain_text;
+use jvm_model::{AccessFlag, ClassFile, Member, PoolEntry, StubMethod};
+use std::alloc::{AllocError, Global};
+use std::marker::Model;
+
+/// The native methods of a class file by name, descriptor, and whether they are static. Contracts see the class file.
+#[derive(Drop)]
+pub(crate) struct Natives<'a> {
+    class: &'a ClassFile,
+    index: MemberIndex,
+}
+
+impl<'a> Model for Natives<'a> {
+    ghost use Rattle.std.specs.Prelude.{◌≡◌};
+    ghost use Rattle.jvm_model.specs.declared.class_file.ClassFile.{ClassFile};
+    ghost use Rattle.linking.specs.Patching.{native_keys};
+
+    ghost Value = { ClassFile };
+
+    ghost view = { λ n. n.class.now };
+
+    ghost invariant = { λ n. n.index ≡ native_keys n.class.now.pool n.class.now.methods };
+}
+
+// The key of a method of a class file: in place of the number of a class it tells whether the method is static.
+fn key_of_member<'a>(pool: &'a [PoolEntry], member: &Member) -> MemberKey<'a>
+    ensures { key_of result ≡ member_key pool.entry.now member.now }
+{
+    MemberKey {
+        class: u32::from(AccessFlag::Static.is_set_in(member.flags)),
+        name: plain_text(pool, member.name),
+        descriptor: plain_text(pool, member.descriptor),
+    }
+}
+
+// The key of the method that a stub would describe.
+fn key_of_described(method: &StubMethod) -> MemberKey<'_>
+    ensures { key_of result ≡ described_key method.entry.now }
+{
+    MemberKey {
+        class: u32::from(method.is_static),
+        name: method.name.as_slice(),
+        descriptor: method.descriptor.as_slice(),
+    }
+}
+
+// The index of the native ones of methods.
+fn native_index(
+    alloc: Global,
+    pool: &[PoolEntry],
+    methods: &[Member],
+) -> Result<MemberIndex, AllocError>
+    ensures { IfOk result (λ index. index ≡ native_keys pool.now methods.now) }
+{
+    let mut index = MemberIndex::new(alloc);
+    for method in methods {
+        add_native(&mut index, pool, method)?;
+    }
+    Ok(index)
+}
+
+// Adds a method, if it is native.
+fn add_native(
+    index: &mut MemberIndex,
+    pool: &[PoolEntry],
+    method: &Member,
+) -> Result<(), AllocError>
+    ensures { OnOk result (index.new ≡ index.old ++ native_key pool.now method.now) }
+{
+    if AccessFlag::Native.is_set_in(method.flags) {
+        index.push(key_of_member(pool, method))
+    } else {
+        Ok(())
+    }
+}
+
+impl<'a> Natives<'a> {
+    /// The native methods of a class file (JVMS 4.6).
+    pub(crate) fn of(alloc: Global, class: &'a ClassFile) -> Result<Self, AllocError>
+        ensures { IfOk result (λ natives. natives ≡ class.entry.now) }
+    {
+        let index = native_index(alloc, class.pool.as_slice(), class.methods.as_slice())?;
+        Ok(Natives { class, index })
+    }
+
+    /// Whether a stub describes one of them. The time is linear in the stub's texts.
+    pub(crate) fn has(&self, method: &StubMethod) -> bool
+        ensures { result ≡ list_any (describes self.now.pool method.now) self.now.methods }
+    {
+        if method.is_abstract {
+            return false;
+        }
+        match self.index.first(key_of_described(method)) {
+            Some(_) => true,
+            None => false,
+        }
+    }
+}

@@ -1,0 +1,95 @@
+//! The patches among stubs, found by the name of their class.
+
+ghost use Rattle.std.specs.Prelude.{◌≡◌, ◌<◌, map, length, Some, slice_get, IfOk, OnOk};
+ghost use Rattle.linking.specs.Patching.{patches_for};
+ghost use Rattle.linking.specs.PatchLists.{lent_lists, PatchGoes, PlaceGoes};
+
+use class_index::text_index::TextIndex;
+use jvm_model::StubClass;
+use std::alloc::{AllocError, Global};
+use std::marker::Model;
+
+/// The patches among stubs. Contracts see the stubs.
+#[derive(Drop)]
+pub struct Patches<'a> {
+    stubs: &'a [StubClass],
+    names: TextIndex,
+    lists: Vec<Vec<&'a StubClass>>,
+}
+
+impl<'a> Model for Patches<'a> {
+    ghost use Rattle.std.specs.Prelude.{List};
+    ghost use Rattle.jvm_model.specs.declared.stub.StubClass.{StubClass};
+    ghost use Rattle.linking.specs.PatchLists.{AreListed, lent_lists};
+
+    ghost Value = { List StubClass };
+
+    ghost view = { λ p. p.stubs.now };
+
+    ghost invariant = { λ p. AreListed p.stubs.now p.names (lent_lists p.lists.items) };
+}
+
+impl<'a> Patches<'a> {
+    /// The patches among stubs. The time is linear in the texts of their names.
+    pub fn new(alloc: Global, stubs: &'a [StubClass]) -> Result<Self, AllocError>
+        ensures { IfOk result (λ patches. patches ≡ stubs.entry.now) }
+    {
+        let mut names = TextIndex::new(alloc);
+        let mut lists = Vec::new(alloc);
+        for stub in stubs {
+            add_patch(alloc, &mut names, &mut lists, stub)?;
+        }
+        Ok(Patches {
+            stubs,
+            names,
+            lists,
+        })
+    }
+
+    /// The patches of the class of a name, in the order of the stubs. It takes no memory, and time linear in the name.
+    pub fn of(&self, name: &[u8]) -> &[&'a StubClass]
+        ensures { map (λ s. s.now) result.now ≡ patches_for name.now self.now }
+    {
+        match self.names.find(name) {
+            Some(place) => self.lists[place as usize].as_slice(),
+            None => &[],
+        }
+    }
+}
+
+// Adds a stub, if it is a patch, to the list of its name.
+fn add_patch<'a>(
+    alloc: Global,
+    names: &mut TextIndex,
+    lists: &mut Vec<Vec<&'a StubClass>>,
+    stub: &'a StubClass,
+) -> Result<(), AllocError>
+    requires { length lists.old.items ≡ length names.old }
+    ensures { OnOk result (PatchGoes stub.entry.now names.old (lent_lists lists.old.items) names.new (lent_lists lists.new.items)) }
+{
+    if !stub.is_patch {
+        return Ok(());
+    }
+    let place = list_of(alloc, names, lists, stub.name.as_slice())?;
+    lists[place].push(stub)?;
+    Ok(())
+}
+
+// The place of the list of a name, which is a new one if there is none.
+fn list_of<'a>(
+    alloc: Global,
+    names: &mut TextIndex,
+    lists: &mut Vec<Vec<&'a StubClass>>,
+    name: &[u8],
+) -> Result<usize, AllocError>
+    requires { length lists.old.items ≡ length names.old }
+    ensures stands { IfOk result (λ place. slice_get names.new place ≡ Some name.now) }
+    ensures within { IfOk result (λ place. place < length lists.new.items) }
+    ensures kept { OnOk result (PlaceGoes names.old (lent_lists lists.old.items) names.new (lent_lists lists.new.items)) }
+{
+    let place = names.intern(name)? as usize;
+    if place == lists.len() {
+        lists.push(Vec::new(alloc))?;
+    }
+    Ok(place)
+}

@@ -1,0 +1,91 @@
+//! What is known of the methods of a class with what patches add to it.
+
+ghost use Rattle.std.specs.Prelude.{◌≡◌, ◌++◌, map, flat_map, filter, IfOk, OnOk};
+ghost use Rattle.linking.specs.Patching.{description_of, is_native_in, with_native};
+ghost use Rattle.jvm_model.specs.Linking.{descriptions, with_descriptions, stub_descriptions, native_descriptions};
+
+use crate::descriptions::{Described, Descriptions};
+use crate::natives::Natives;
+use crate::patch_index::Patches;
+use class_index::texts::class_text;
+use jvm_model::{ClassFile, StubClass};
+use std::alloc::{AllocError, Global};
+
+/// What is known of the methods of a stub that is a class of its own: what it says, and what its patches say.
+pub fn stub_descriptions<'a>(
+    alloc: Global,
+    patches: &Patches<'a>,
+    class: &'a StubClass,
+) -> Result<Descriptions<'a>, AllocError>
+    ensures { IfOk result (λ all. all ≡ stub_descriptions patches.now class.entry.now) }
+{
+    let found = patches.of(class.name.as_slice());
+    let mut all = Descriptions::of(alloc, class)?;
+    for patch in found {
+        all.add_all(patch)?;
+    }
+    Ok(all)
+}
+
+// Adds what a patch says of native methods.
+fn add_natives<'a>(
+    all: &mut Descriptions<'a>,
+    natives: &Natives<'_>,
+    patch: &'a StubClass,
+) -> Result<(), AllocError>
+    ensures { OnOk result (all.new ≡ with_descriptions all.old (filter (is_native_in natives.now) (descriptions patch.entry.now))) }
+{
+    for method in patch.methods.as_slice() {
+        let described = Described {
+            method,
+            file: &patch.file,
+        };
+        add_native(all, natives, described)?;
+    }
+    Ok(())
+}
+
+// Adds what patches say of native methods.
+fn add_patches<'a>(
+    all: &mut Descriptions<'a>,
+    natives: &Natives<'_>,
+    found: &[&'a StubClass],
+) -> Result<(), AllocError>
+    ensures { OnOk result (all.new ≡ with_descriptions all.old (filter (is_native_in natives.now) (flat_map descriptions (map (λ s. s.now) found.now)))) }
+{
+    for patch in found {
+        add_natives(all, natives, patch)?;
+    }
+    Ok(())
+}
+
+// Adds a description, if it is one of a native method.
+fn add_native<'a>(
+    all: &mut Descriptions<'a>,
+    natives: &Natives<'_>,
+    described: Described<'a>,
+) -> Result<(), AllocError>
+    ensures { OnOk result (all.new ≡ with_native natives.now all.old (description_of described.entry)) }
+{
+    if natives.has(described.method) {
+        all.add(described)
+    } else {
+        Ok(())
+    }
+}
+
+/// What patches say of native methods of a class file.
+pub fn native_descriptions<'a>(
+    alloc: Global,
+    patches: &Patches<'a>,
+    class: &ClassFile,
+) -> Result<Descriptions<'a>, AllocError>
+    ensures { IfOk result (λ all. all ≡ native_descriptions patches.now class.now) }
+{
+    let name = class_text(class.pool.as_slice(), class.this_class);
+    let found = patches.of(name);
+    let mut all = Descriptions::new(alloc);
+    let natives = Natives::of(alloc, class)?;
+    add_patches(&mut all, &natives, found)?;
+    Ok(all)
+}
