@@ -6,7 +6,7 @@ use crate::class_files::read_files;
 use crate::flow::tell_graph;
 use crate::query::{Query, query_of};
 use crate::stubs::read_all_stubs;
-use anyhow::Result as Told;
+use anyhow::Result;
 use linked_program::LinkEnd;
 use linked_program::program::Program;
 use linking::link::link;
@@ -17,15 +17,14 @@ use ts_outside::{Tree, TreeEnd};
 const QUERIES: &str = "queries";
 
 /// Prints what linking says of the files of a case, and the answer to each of its queries.
-pub fn tell_case<R: Print, T: Tree>(rt: &R, alloc: Global, tree: &mut T) -> Told<()> {
+pub fn tell_case<R: Print, T: Tree>(rt: &R, alloc: Global, tree: &mut T) -> Result<()> {
     match linked(alloc, tree) {
         Ok(program) => {
             let count = program.class_count();
             println!(rt; "linked {count} classes")?;
             tell_answers(rt, alloc, tree, Some(&program))
         }
-        Err(CaseEnd::Refused(refusal)) => {
-            let end = CaseEnd::Refused(refusal);
+        Err(end) if end.is_refusal() => {
             println!(rt; "{end}")?;
             tell_answers(rt, alloc, tree, None)
         }
@@ -50,7 +49,7 @@ fn tell_answers<R: Print, T: Tree>(
     alloc: Global,
     tree: &mut T,
     program: Option<&Program>,
-) -> Told<()> {
+) -> Result<()> {
     let queries = queries_of(alloc, tree)?;
     for line in queries.lines() {
         let text = answer_to(alloc, tree, program, line)?;

@@ -17,6 +17,13 @@ pub enum CaseEnd {
     Memory,
 }
 
+impl CaseEnd {
+    /// Whether a file is refused.
+    pub fn is_refusal(&self) -> bool {
+        matches!(self, CaseEnd::Refused(_))
+    }
+}
+
 impl fmt::Display for CaseEnd {
     fn fmt<W: fmt::Write>(&self, f: &mut fmt::Formatter<W>) -> fmt::Result {
         match self {
