@@ -1,0 +1,2 @@
+pub mod ReadStubs
+pub mod Views

@@ -1,0 +1,102 @@
+//! The answers of a linked program, as text.
+
+ghost use Rattle.std.specs.Prelude.{◌<◌, length};
+ghost use Rattle.linked_program.specs.Numbers.{IsMethodNumber};
+
+use crate::query::Search;
+use crate::searches::{SearchEnd, class_of, is_below, resolved, resolved_field, selected, special};
+use jvm_model::{FieldNo, MethodNo, reason_word};
+use linked_program::program::Program;
+use std::alloc::{AllocError, Global};
+use std::str;
+
+/// The answer of a program: `yes` or `no`; of a resolution of a method the method; of another search the class that declares
+/// what is found; or why nothing is found.
+pub fn answer(alloc: Global, program: &Program, search: &Search<'_>) -> Result<String, AllocError> {
+    match found(alloc, program, search) {
+        Ok(text) => Ok(text),
+        Err(SearchEnd::NoClass(name)) => format!(in alloc; "no class {name}"),
+        Err(SearchEnd::Reason(reason)) => String::from_str(alloc, reason_word(reason)),
+        Err(SearchEnd::Memory) => Err(AllocError),
+    }
+}
+
+// What a search finds, as text.
+fn found<'a>(
+    alloc: Global,
+    program: &Program,
+    search: &Search<'a>,
+) -> Result<String, SearchEnd<'a>> {
+    match search {
+        Search::Find(name) => yes_or_no(alloc, class_of(program, name).is_ok()),
+        Search::Subtype(lower, upper) => yes_or_no(alloc, is_below(program, lower, upper)?),
+        Search::Method(reference) => {
+            let method = resolved(program, reference)?;
+            full_name(alloc, program, method)
+        }
+        Search::Field(reference) => {
+            let field = resolved_field(program, reference)?;
+            owner_of_field(alloc, program, field)
+        }
+        Search::Select(reference, receiver) => {
+            let method = selected(program, reference, receiver)?;
+            owner_of_method(alloc, program, method)
+        }
+        Search::Special(current, reference) => {
+            let method = special(program, current, reference)?;
+            owner_of_method(alloc, program, method)
+        }
+    }
+}
+
+fn yes_or_no<'a>(alloc: Global, is: bool) -> Result<String, SearchEnd<'a>> {
+    let word = if is { "yes" } else { "no" };
+    Ok(String::from_str(alloc, word)?)
+}
+
+// The class, the name and the descriptor of a method.
+fn full_name<'a>(
+    alloc: Global,
+    program: &Program,
+    method: MethodNo,
+) -> Result<String, SearchEnd<'a>>
+    requires { IsMethodNumber program.now method.0 }
+{
+    let view = program.method(method.0);
+    let class = shown(program.class_name(view.class));
+    let name = shown(view.name);
+    let descriptor = shown(view.descriptor);
+    Ok(format!(in alloc; "{class}.{name} {descriptor}")?)
+}
+
+// The name of the class that declares a method.
+fn owner_of_method<'a>(
+    alloc: Global,
+    program: &Program,
+    method: MethodNo,
+) -> Result<String, SearchEnd<'a>>
+    requires { IsMethodNumber program.now method.0 }
+{
+    let class = program.class_name(program.method(method.0).class);
+    Ok(String::from_str(alloc, shown(class))?)
+}
+
+// The name of the class that declares a field.
+fn owner_of_field<'a>(
+    alloc: Global,
+    program: &Program,
+    field: FieldNo,
+) -> Result<String, SearchEnd<'a>>
+    requires { field.0 < length program.now.fields }
+{
+    let class = program.class_name(program.field(field.0).class);
+    Ok(String::from_str(alloc, shown(class))?)
+}
+
+// A name as text.
+fn shown(name: &[u8]) -> &str {
+    match str::from_utf8(name) {
+        Ok(text) => text,
+        Err(_) => "?",
+    }
+}

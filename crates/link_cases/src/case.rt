@@ -1,0 +1,89 @@
+//! A case: a folder of class files, with or without a stub file, and with queries.
+
+use crate::answer::answer;
+use crate::case_end::CaseEnd;
+use crate::class_files::read_files;
+use crate::flow::tell_graph;
+use crate::query::{Query, query_of};
+use crate::stubs::read_all_stubs;
+use anyhow::Result;
+use linked_program::LinkEnd;
+use linked_program::program::Program;
+use linking::link::link;
+use std::alloc::Global;
+use ts_outside::{Tree, TreeEnd};
+
+/// The file of the queries of a case, one a line.
+const QUERIES: &str = "queries";
+
+/// Prints what linking says of the files of a case, and the answer to each of its queries.
+pub fn tell_case<R: Print, T: Tree>(rt: &R, alloc: Global, tree: &mut T) -> Result<()> {
+    match linked(alloc, tree) {
+        Ok(program) => {
+            let count = program.class_count();
+            println!(rt; "linked {count} classes")?;
+            tell_answers(rt, alloc, tree, Some(&program))
+        }
+        Err(end) if end.is_refusal() => {
+            println!(rt; "{end}")?;
+            tell_answers(rt, alloc, tree, None)
+        }
+        Err(end) => Err(end.into()),
+    }
+}
+
+// The program of the files of a case.
+fn linked<T: Tree>(alloc: Global, tree: &mut T) -> Result<Program, CaseEnd> {
+    let files = read_files(alloc, tree)?;
+    let stubs = read_all_stubs(alloc, tree)?;
+    match link(alloc, files, stubs) {
+        Ok(program) => Ok(program),
+        Err(LinkEnd::Refused(refusal)) => Err(CaseEnd::Refused(refusal)),
+        Err(LinkEnd::Memory) => Err(CaseEnd::Memory),
+    }
+}
+
+// Prints each query and its answer.
+fn tell_answers<R: Print, T: Tree>(
+    rt: &R,
+    alloc: Global,
+    tree: &mut T,
+    program: Option<&Program>,
+) -> Result<()> {
+    let queries = queries_of(alloc, tree)?;
+    for line in queries.lines() {
+        let text = answer_to(alloc, tree, program, line)?;
+        println!(rt; "{line}: {text}")?;
+    }
+    Ok(())
+}
+
+// The queries of a case; none if there is no such file.
+fn queries_of<T: Tree>(alloc: Global, tree: &mut T) -> Result<String, CaseEnd> {
+    match tree.read(alloc, QUERIES, u32::MAX) {
+        Ok(bytes) => match String::from_utf8(bytes) {
+            Ok(text) => Ok(text),
+            Err(_) => Err(CaseEnd::Unread),
+        },
+        Err(TreeEnd::Missing) => Ok(String::new(alloc)),
+        Err(TreeEnd::Failed) => Err(CaseEnd::Unread),
+        Err(TreeEnd::Memory) => Err(CaseEnd::Memory),
+    }
+}
+
+// The answer to the query of a line.
+fn answer_to<T: Tree>(
+    alloc: Global,
+    tree: &mut T,
+    program: Option<&Program>,
+    line: &str,
+) -> Result<String, CaseEnd> {
+    match query_of(alloc, line)? {
+        Some(Query::Graph(method)) => tell_graph(alloc, tree, &method),
+        Some(Query::OfProgram(search)) => match program {
+            Some(program) => Ok(answer(alloc, program, &search)?),
+            None => Ok(String::from_str(alloc, "no program")?),
+        },
+        None => Ok(String::from_str(alloc, "no such query")?),
+    }
+}

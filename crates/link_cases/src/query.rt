@@ -1,0 +1,134 @@
+//! Queries: what is asked of the program of a case, or of one of its class files.
+
+use std::alloc::{AllocError, Global};
+
+/// A reference to a method: the class that it names, whether it takes the class for an interface, and the method's name and
+/// descriptor (JVMS 4.4.2).
+#[derive(Clone, Copy, Debug)]
+pub struct MethodReference<'a> {
+    pub class: &'a str,
+    pub interface: bool,
+    pub name: &'a str,
+    pub descriptor: &'a str,
+}
+
+/// A reference to a field, as an instruction for static fields uses it, or one for instance fields (JVMS 4.4.2).
+#[derive(Clone, Copy, Debug)]
+pub struct FieldReference<'a> {
+    pub class: &'a str,
+    pub is_static: bool,
+    pub name: &'a str,
+    pub descriptor: &'a str,
+}
+
+/// A method of a class file.
+#[derive(Clone, Copy, Debug)]
+pub struct FileMethod<'a> {
+    pub file: &'a str,
+    pub name: &'a str,
+    pub descriptor: &'a str,
+}
+
+/// What is asked of a program.
+#[derive(Clone, Copy, Debug)]
+pub enum Search<'a> {
+    /// Whether there is a class of the name.
+    Find(&'a str),
+    /// Whether the first class is a subtype of the second one (JVMS 4.10.1.2).
+    Subtype(&'a str, &'a str),
+    /// The method that a reference resolves to (5.4.3.3, 5.4.3.4).
+    Method(MethodReference<'a>),
+    /// The field that a reference resolves to (5.4.3.2).
+    Field(FieldReference<'a>),
+    /// The method that a call goes to on an object of the class or the array (6.5.invokevirtual, 6.5.invokeinterface).
+    Select(MethodReference<'a>, &'a str),
+    /// The method that a special call in the code of the class goes to (6.5.invokespecial).
+    Special(&'a str, MethodReference<'a>),
+}
+
+/// What is asked.
+#[derive(Clone, Copy, Debug)]
+pub enum Query<'a> {
+    /// A search in the program.
+    OfProgram(Search<'a>),
+    /// The flow graph of a method of a class file.
+    Graph(FileMethod<'a>),
+}
+
+/// The query of a line; `None` if it asks nothing that is known.
+pub fn query_of<'a>(alloc: Global, line: &'a str) -> Result<Option<Query<'a>>, AllocError> {
+    let words: Vec<&'a str> = line.split(' ').collect(alloc)?;
+    match words.as_slice() {
+        ["graph", file, name, descriptor] => Ok(Some(Query::Graph(FileMethod {
+            file,
+            name,
+            descriptor,
+        }))),
+        others => Ok(search_in(others).map(Query::OfProgram)),
+    }
+}
+
+// The search that some words ask for.
+fn search_in<'a>(words: &[&'a str]) -> Option<Search<'a>> {
+    match words {
+        ["find", name] => Some(Search::Find(name)),
+        ["subtype", lower, upper] => Some(Search::Subtype(lower, upper)),
+        ["method", class, kind, name, descriptor] => {
+            let reference = method_reference(class, kind, name, descriptor)?;
+            Some(Search::Method(reference))
+        }
+        ["field", class, kind, name, descriptor] => {
+            let reference = field_reference(class, kind, name, descriptor)?;
+            Some(Search::Field(reference))
+        }
+        ["select", class, kind, name, descriptor, receiver] => {
+            let reference = method_reference(class, kind, name, descriptor)?;
+            Some(Search::Select(reference, receiver))
+        }
+        ["special", current, class, kind, name, descriptor] => {
+            let reference = method_reference(class, kind, name, descriptor)?;
+            Some(Search::Special(current, reference))
+        }
+        _ => None,
+    }
+}
+
+// The reference to a method that takes its class for one of a kind.
+fn method_reference<'a>(
+    class: &'a str,
+    kind: &str,
+    name: &'a str,
+    descriptor: &'a str,
+) -> Option<MethodReference<'a>> {
+    let interface = match kind {
+        "class" => false,
+        "interface" => true,
+        _ => return None,
+    };
+    Some(MethodReference {
+        class,
+        interface,
+        name,
+        descriptor,
+    })
+}
+
+// The reference to a field of a kind.
+fn field_reference<'a>(
+    class: &'a str,
+    kind: &str,
+    name: &'a str,
+    descriptor: &'a str,
+) -> Option<FieldReference<'a>> {
+    let is_static = match kind {
+        "instance" => false,
+        "static" => true,
+        _ => return None,
+    };
+    Some(FieldReference {
+        class,
+        is_static,
+        name,
+        descriptor,
+    })
+}
