@@ -1,8 +1,6 @@
 //! The class files of a case.
 
-ghost use Rattle.std.specs.Prelude.{◌<◌, ◌^◌, length, All, IfOk};
-ghost use Rattle.jvm_model.specs.Soundness.{IsSoundClass};
-ghost use Rattle.jvm_model.specs.Spelling.{spell};
+ghost use Rattle.std.specs.Prelude.{All, IfOk};
 ghost use Rattle.linking.specs.LinkTelling.{IsSoundFile};
 
 use crate::case_end::CaseEnd;
