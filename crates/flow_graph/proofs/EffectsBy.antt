@@ -17,7 +17,8 @@ use Rattle.jvm_model.specs.Soundness.{is_of_kind}
 use Rattle.jvm_model.specs.Table.{Row, row_of, Kind, reference, Origin, loadable, a_field, class_method, any_method, interface_method, call_site, Action, load_constant, get_static, put_static, get_field, put_field, invoke_virtual, invoke_special, invoke_static, invoke_interface, refused}
 use Rattle.flow_graph.specs.declared.effect.Effect.{Effect}
 use Rattle.flow_graph.specs.Effects.{with_row, site_at, IsEffectBy}
-use Rattle.flow_graph.specs.Reading.{IsSoundInstruction, IsCallEffect, IsCallAt}
+use Rattle.flow_graph.specs.Reading.{IsSoundInstruction, IsCallEffect, IsCallAt, member_descriptor_at, site_descriptor_at}
+use Rattle.flow_graph.proofs.Described.{member_text, site_text}
 use Rattle.flow_graph.proofs.MemberUses.{NamesMember, field_there, any_method_there, class_method_there, interface_method_there, site_there}
 use Rattle.flow_graph.proofs.Rows.{expected, leads_by}
 
@@ -138,12 +139,13 @@ puts_field c i r units is a counts sound =
 abbrev pub Calls : ClassFile → Given → ℕ → Effect → Type 0
 Calls c i receiver e = (m : MethodName) → member_at c.pool i.operand ≡ Some m → IsMethodDescriptor m.signature.descriptor → IsCallEffect m.signature.descriptor receiver e
 
--- so they are where the descriptor's text stands at the index that was found
+-- so they are where the index is that of the descriptor's text
 pub calls_at : (c : ClassFile) (i : Given) (pool read : List PoolEntry) (index : Option ℕ) (receiver : ℕ) (e : Effect) → pool ≡ c.pool → read ≡ c.pool
-    → ((m : MethodName) → member_at pool i.operand ≡ Some m → option_and_then (text_at pool) index ≡ Some m.signature.descriptor) → IsCallAt read index receiver e → Calls c i receiver e
-calls_at c i pool read index receiver e same same2 described call m named =
-    let there = described m (subst (λ (p : List PoolEntry). member_at p i.operand ≡ Some m) (sym same) named) in
-    call.by_descriptor m.signature.descriptor (subst (λ (p : List PoolEntry). option_and_then (text_at p) index ≡ Some m.signature.descriptor) (same ∙ sym same2) there)
+    → index ≡ member_descriptor_at pool i.operand → IsCallAt read index receiver e → Calls c i receiver e
+calls_at c i pool read index receiver e same same2 found call m named =
+    let is : index ≡ member_descriptor_at c.pool i.operand = found ∙ ap (λ (p : List PoolEntry). member_descriptor_at p i.operand) same in
+    call.by_descriptor m.signature.descriptor
+    (ap (λ (p : List PoolEntry). option_and_then (text_at p) index) same2 ∙ ap (λ (o : Option ℕ). option_and_then (text_at c.pool) o) is ∙ member_text c.pool i.operand m named)
 
 record HasCall (c : ClassFile) (i : Given) (r : Row) (receiver : List Kind) (e : Effect) : Type 0 where
   pub parameters : List Kind
@@ -197,11 +199,12 @@ invokes_static c i r e is a calls sound =
 abbrev pub CallsSite : ClassFile → Given → Effect → Type 0
 CallsSite c i e = (s : Signature) → site_at c.pool i.operand ≡ Some s → IsMethodDescriptor s.descriptor → IsCallEffect s.descriptor 0 e
 
-pub calls_site_at : (c : ClassFile) (i : Given) (pool read : List PoolEntry) (index : Option ℕ) (e : Effect) → pool ≡ c.pool → read ≡ c.pool
-    → ((s : Signature) → site_at pool i.operand ≡ Some s → option_and_then (text_at pool) index ≡ Some s.descriptor) → IsCallAt read index 0 e → CallsSite c i e
-calls_site_at c i pool read index e same same2 described call s named =
-    let there = described s (subst (λ (p : List PoolEntry). site_at p i.operand ≡ Some s) (sym same) named) in
-    call.by_descriptor s.descriptor (subst (λ (p : List PoolEntry). option_and_then (text_at p) index ≡ Some s.descriptor) (same ∙ sym same2) there)
+pub calls_site_at : (c : ClassFile) (i : Given) (pool read : List PoolEntry) (index : Option ℕ) (e : Effect) → pool ≡ c.pool → read ≡ c.pool → index ≡ site_descriptor_at pool i.operand → IsCallAt read index 0 e
+    → CallsSite c i e
+calls_site_at c i pool read index e same same2 found call s named =
+    let is : index ≡ site_descriptor_at c.pool i.operand = found ∙ ap (λ (p : List PoolEntry). site_descriptor_at p i.operand) same in
+    call.by_descriptor s.descriptor
+    (ap (λ (p : List PoolEntry). option_and_then (text_at p) index) same2 ∙ ap (λ (o : Option ℕ). option_and_then (text_at c.pool) o) is ∙ site_text c.pool i.operand s named)
 
 pub invokes_site : (c : ClassFile) (i : Given) (r : Row) (e : Effect) → row_of i.opcode ≡ Some r → r.action ≡ refused → CallsSite c i e → IsSoundInstruction c i → IsEffectBy r.action c.pool i r e
 invokes_site c i r e is a calls sound =

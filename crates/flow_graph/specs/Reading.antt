@@ -11,10 +11,11 @@ use Rattle.jvm_model.specs.declared.descriptor.Descriptor.{Descriptor}
 use Rattle.jvm_model.specs.declared.descriptor.Descriptor.TheVariants.{Method}
 use Rattle.jvm_model.specs.declared.descriptor.Kind.{Kind as TypeKind}
 use Rattle.jvm_model.specs.declared.pool.PoolEntry.{PoolEntry}
+use Rattle.jvm_model.specs.declared.pool.PoolEntry.TheVariants.{Fieldref, Methodref, InterfaceMethodref, NameAndType, InvokeDynamic}
 use Rattle.jvm_model.specs.Descriptors.{IsMethodDescriptor}
 use Rattle.jvm_model.specs.Instructions.{HasUnits}
 use Rattle.jvm_model.specs.InstructionUses.{is_subroutine, leads_right}
-use Rattle.jvm_model.specs.Lookups.{text_at}
+use Rattle.jvm_model.specs.Lookups.{entry_at, text_at}
 use Rattle.jvm_model.specs.Soundness.{IsSoundClass}
 use Rattle.jvm_model.specs.Table.{Row, row_of, Kind, Operands, widened}
 use Rattle.code_reader.specs.CodeReading.{kind_units}
@@ -69,6 +70,32 @@ pub record IsUnitsAt (pool : List PoolEntry) (index : ℕ) (u : MethodUnits) : T
 -- The units that were read are those of the texts at their indices.
 pub record AreRead (pool : List PoolEntry) (read : BTreeMap ℕ MethodUnits) : Type 0 where
   pub each : (index : ℕ) (u : MethodUnits) → get nat_cmp read index ≡ Some u → IsUnitsAt pool index u
+
+-- The index of the text that is the descriptor of a name and descriptor (JVMS 4.4.6).
+abbrev pub descriptor_index_in : PoolEntry → Option ℕ
+descriptor_index_in (NameAndType name descriptor) = Some descriptor
+descriptor_index_in _ = None
+
+abbrev pub signature_descriptor_at : List PoolEntry → ℕ → Option ℕ
+signature_descriptor_at pool index = option_and_then descriptor_index_in (entry_at pool index)
+
+-- That of the field or the method that an entry names (JVMS 4.4.2).
+abbrev pub member_descriptor_in : List PoolEntry → PoolEntry → Option ℕ
+member_descriptor_in pool (Fieldref class signature) = signature_descriptor_at pool signature
+member_descriptor_in pool (Methodref class signature) = signature_descriptor_at pool signature
+member_descriptor_in pool (InterfaceMethodref class signature) = signature_descriptor_at pool signature
+member_descriptor_in pool _ = None
+
+abbrev pub member_descriptor_at : List PoolEntry → ℕ → Option ℕ
+member_descriptor_at pool index = option_and_then (member_descriptor_in pool) (entry_at pool index)
+
+-- That of a call site (JVMS 4.4.10).
+abbrev pub site_descriptor_in : List PoolEntry → PoolEntry → Option ℕ
+site_descriptor_in pool (InvokeDynamic bootstrap signature) = signature_descriptor_at pool signature
+site_descriptor_in pool _ = None
+
+abbrev pub site_descriptor_at : List PoolEntry → ℕ → Option ℕ
+site_descriptor_at pool index = option_and_then (site_descriptor_in pool) (entry_at pool index)
 
 -- A call of a method whose descriptor is the text at an index of the constant pool, if there is one, pops and pushes so many.
 pub record IsCallAt (pool : List PoolEntry) (index : Option ℕ) (receiver : ℕ) (e : Effect) : Type 0 where

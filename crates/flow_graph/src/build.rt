@@ -31,6 +31,9 @@ use std::alloc::{AllocError, Global};
 ///
 /// After `StackUnder` or `StackOver` an instruction goes on nowhere, but the handlers that cover it are reached. Of
 /// several faults the one with the least offset is told, and at one offset the one that stands first in `Reason`.
+///
+/// The time taken is about s log s, where s is the size of the code, of its table of handlers, of the descriptors that its
+/// calls name, each text counted once, and of the graph; where there is a fault, of the graph that there would be without it.
 pub fn graph(alloc: Global, class: &ClassFile, code: &Code) -> Result<Graph, ReadRefusal>
     requires sound { IsSoundClass class.now }
     requires size { length (spell class.now) < 2 ^ 32 }

@@ -1,13 +1,12 @@
 //! The units of the values that a descriptor is of (JVMS 2.6.2, 4.3): one for each, but two for a long or a double.
 
-ghost use Rattle.std.specs.Prelude.{◌≡◌, ◌≤◌, length, sum_by, IfOk, Some, option_map, option_and_then};
+ghost use Rattle.std.specs.Prelude.{◌≡◌, ◌≤◌, length, sum_by, IfOk, Some, option_map};
 ghost use Rattle.jvm_model.specs.Descriptors.{IsMethodDescriptor};
 ghost use Rattle.jvm_model.specs.Instructions.{kinds_of, member_in, member_at};
-ghost use Rattle.jvm_model.specs.Lookups.{MethodName, Signature, entry_at, text_at, signature_at};
+ghost use Rattle.jvm_model.specs.Lookups.{MethodName, entry_at};
 ghost use Rattle.code_reader.specs.CodeReading.{kind_units};
-ghost use Rattle.flow_graph.specs.Effects.{site_at};
 ghost use Rattle.code_reader.specs.Parameters.{HasFewUnits};
-ghost use Rattle.flow_graph.specs.Reading.{HasCounts, outcome_units, spelled_units};
+ghost use Rattle.flow_graph.specs.Reading.{HasCounts, outcome_units, spelled_units, member_descriptor_at, site_descriptor_at, signature_descriptor_at};
 
 use jvm_model::lookup::{class_name_at, signature_at};
 use jvm_model::{Descriptor, Kind, PoolEntry, descriptor_of};
@@ -129,9 +128,9 @@ pub(crate) fn member_text(pool: &[PoolEntry], index: u32) -> &[u8]
     }
 }
 
-/// The index of the text that is the descriptor of the method that the entry at an index names (JVMS 4.4.2).
+/// The index of the text that is the descriptor of the field or the method that the entry at an index names (JVMS 4.4.2).
 pub(crate) fn member_descriptor_at(pool: &[PoolEntry], index: u32) -> Option<u16>
-    ensures { (m : MethodName) → member_at pool.now index ≡ Some m → option_and_then (text_at pool.now) result ≡ Some m.signature.descriptor }
+    ensures { result ≡ member_descriptor_at pool.now index }
 {
     match entry_at(pool, index)? {
         PoolEntry::Fieldref(_, signature) => signature_descriptor_at(pool, *signature),
@@ -143,7 +142,7 @@ pub(crate) fn member_descriptor_at(pool: &[PoolEntry], index: u32) -> Option<u16
 
 /// The index of the text that is the descriptor of the call site at an index (JVMS 4.4.10).
 pub(crate) fn site_descriptor_at(pool: &[PoolEntry], index: u32) -> Option<u16>
-    ensures { (s : Signature) → site_at pool.now index ≡ Some s → option_and_then (text_at pool.now) result ≡ Some s.descriptor }
+    ensures { result ≡ site_descriptor_at pool.now index }
 {
     match entry_at(pool, index)? {
         PoolEntry::InvokeDynamic(_, signature) => signature_descriptor_at(pool, *signature),
@@ -153,7 +152,7 @@ pub(crate) fn site_descriptor_at(pool: &[PoolEntry], index: u32) -> Option<u16>
 
 /// The index of the text that is the descriptor of the name and descriptor at an index (JVMS 4.4.6).
 fn signature_descriptor_at(pool: &[PoolEntry], index: u16) -> Option<u16>
-    ensures { (s : Signature) → signature_at pool.now index ≡ Some s → option_and_then (text_at pool.now) result ≡ Some s.descriptor }
+    ensures { result ≡ signature_descriptor_at pool.now index }
 {
     match entry_at(pool, u32::from(index))? {
         PoolEntry::NameAndType(_, descriptor) => Some(*descriptor),
