@@ -1,6 +1,7 @@
 pub mod Effects
 pub mod Flows
 pub mod HandlerSpans
+pub mod Uncaught
 pub mod Walks
 pub mod Walking
 pub mod Graphs

@@ -10,6 +10,7 @@ pub mod laws;
 mod mark;
 mod pool_units;
 mod steps;
+mod uncaught;
 mod units;
 mod walk;
 
