@@ -8,14 +8,11 @@ use Rattle.std.specs.Ordering.{nat_cmp}
 use Rattle.std.proofs.lemmas.Bool.{lt-ltb, le-ltb, eq-eqb}
 use Rattle.std.proofs.lemmas.List.Sums.{position_or_len_is}
 use Rattle.std.proofs.lemmas.Option.{slice_get-get_or, slice_get_within}
-use Rattle.jvm_model.specs.declared.code.Code.{Code}
 use Rattle.jvm_model.specs.declared.code.PlacedInstruction.{PlacedInstruction}
-use Rattle.flow_graph.specs.declared.effect.Effect.{Effect}
 use Rattle.flow_graph.specs.declared.mark.Mark.{Mark}
-use Rattle.flow_graph.specs.Flows.{number_of, falls_off, successors, caught_at}
-use Rattle.flow_graph.specs.Walks.{unreached, reached, caught, at_number, at_offset, at_each, takes_too_much, goes_over, height_after, walked, reaches, is_waiting, after_walk}
-use Rattle.flow_graph.specs.Walking.{IsWalkedOne, waits_at, AreAwaited, is_number_at, stands_at, AwaitsReached}
-use Rattle.flow_graph.proofs.Walked.{walked-walked}
+use Rattle.flow_graph.specs.Flows.{number_of}
+use Rattle.flow_graph.specs.Walks.{unreached, reached, caught, at_number, at_offset, at_each, is_waiting}
+use Rattle.flow_graph.specs.Walking.{onward_each, waits_at, AreAwaited, is_number_at, stands_at, AwaitsBoth}
 
 -- ---- the first one that waits
 
@@ -113,65 +110,37 @@ not_waiting m is = by m.height m.walked is
     by (Some h) true e = refl
     by (Some h) false e = absurd cc
 
-onward_stands : (b : Bool) (instructions : List PlacedInstruction) (offsets : List ℕ) (number : ℕ) → stands_at instructions (cond b [] offsets) number ≡ true → stands_at instructions offsets number ≡ true
-onward_stands true instructions offsets number e = absurd cc
-onward_stands false instructions offsets number e = e
+-- what waits after an instruction was walked, and goes on at these offsets, and after the handlers begin that were met
+module _ (limit : ℕ) (instructions : List PlacedInstruction) (marks mid end : List Mark) (number : ℕ) (x : Mark) (onward : Option ℕ) (next taken : List ℕ) (done : x.walked ≡ true)
+    (mid_is : mid ≡ onward_each onward instructions (set marks number x) next) (end_is : end ≡ at_each (caught limit) instructions mid taken) where
+  onward_waits : (o : Option ℕ) (k : ℕ) → waits_at (onward_each o instructions (set marks number x) next) k ≡ true → (waits_at marks k || stands_at instructions next k) ≡ true
+  onward_waits None k is = or_left (waits_at marks k) (stands_at instructions next k) (set_waits_not marks number k x (not_waiting x done) is)
+  onward_waits (Some height) k is =
+      either (waits_at (set marks number x) k) (stands_at instructions next k) ((waits_at marks k || stands_at instructions next k) ≡ true)
+      (each_waits (reached height) instructions (set marks number x) next k is)
+      (λ z. or_left (waits_at marks k) (stands_at instructions next k) (set_waits_not marks number k x (not_waiting x done) z))
+      (λ z. or_right (waits_at marks k) (stands_at instructions next k) z)
 
--- after the walk of an instruction there waits what waited before, where it goes on, and where its handlers begin
-walk_waits : (code : Code) (number : ℕ) (p : PlacedInstruction) (e : Effect) (m : Mark) (height : ℕ) (marks : List Mark) (k : ℕ)
-    → waits_at (after_walk code number p e m height marks) k ≡ true
-    → ((waits_at marks k || stands_at code.instructions (successors code.instructions number p) k) || stands_at code.instructions (caught_at code.handlers p.offset) k) ≡ true
-walk_waits code number p e m height marks k is =
-    let x = walked code.max_stack e height (falls_off code.instructions number p) m in
-    let here = set marks number x in
-    let next = successors code.instructions number p in
-    let over = takes_too_much e height || goes_over code.max_stack e height m in
-    let offsets = reaches code.max_stack e height m next in
-    let onward = at_each (reached (height_after e height)) code.instructions here offsets in
-    let handlers = caught_at code.handlers p.offset in
-    let a = waits_at marks k in
-    let b = stands_at code.instructions next k in
-    let c = stands_at code.instructions handlers k in
-    either (waits_at onward k) c (((a || b) || c) ≡ true) (each_waits (caught code.max_stack) code.instructions onward handlers k is)
-    (λ y. or_left (a || b) c
-    (either (waits_at here k) (stands_at code.instructions offsets k) ((a || b) ≡ true) (each_waits (reached (height_after e height)) code.instructions here offsets k y)
-    (λ z. or_left a b (set_waits_not marks number k x (not_waiting x (walked-walked code.max_stack e height (falls_off code.instructions number p) m)) z))
-    (λ z. or_right a b (onward_stands over code.instructions next k z))))
-    (λ y. or_right (a || b) c y)
+  walk_waits : (k : ℕ) → waits_at end k ≡ true → ((waits_at marks k || stands_at instructions next k) || stands_at instructions taken k) ≡ true
+  walk_waits k is =
+      let a = waits_at marks k || stands_at instructions next k in
+      let c = stands_at instructions taken k in
+      either (waits_at mid k) c ((a || c) ≡ true) (each_waits (caught limit) instructions mid taken k (ap (λ (ms : List Mark). waits_at ms k) (sym end_is) ∙ is))
+      (λ y. or_left a c (onward_waits onward k (ap (λ (ms : List Mark). waits_at ms k) (sym mid_is) ∙ y)))
+      (λ y. or_right a c y)
 
-same_some : {X : Type 0} (a : Option X) (x y : X) → a ≡ Some x → a ≡ Some y → x ≡ y
-same_some a x y e f =
-    let g : Some x ≡ Some y = sym e ∙ f in
-    cc
-
--- so those that wait are awaited
-pub awaited_after : (code : Code) (effects : List Effect) (marks end : List Mark) (number : ℕ) (old new : BTreeSet ℕ) → AreAwaited old marks → position is_waiting marks ≡ Some number
-    → IsWalkedOne code effects marks end → AwaitsReached code number old new → AreAwaited new end
-awaited_after code effects marks end number old new before first one reached =
-    let w = one.waits in
-    let same : w.number ≡ number = same_some (position is_waiting marks) w.number number w.first first in
-    let placed : w.placed ≡ reached.placed =
-    same_some (slice_get code.instructions number) w.placed reached.placed (ap (λ (n : ℕ). slice_get code.instructions n) (sym same) ∙ w.stands) reached.stands in
-    record {
-      among = λ k is. at k
-          (ap (λ (p : PlacedInstruction). (waits_at marks k || stands_at code.instructions (successors code.instructions number p) k) || stands_at code.instructions (caught_at code.handlers p.offset) k) (sym placed)
-          ∙ ap (λ (n : ℕ). (waits_at marks k || stands_at code.instructions (successors code.instructions n w.placed) k) || stands_at code.instructions (caught_at code.handlers w.placed.offset) k) (sym same)
-          ∙ walk_waits code w.number w.placed w.effect w.mark w.height marks k (ap (λ (ms : List Mark). waits_at ms k) (sym one.after) ∙ is));
-    }
-  where
-    at : (k : ℕ)
-        → ((waits_at marks k || stands_at code.instructions (successors code.instructions number reached.placed) k) || stands_at code.instructions (caught_at code.handlers reached.placed.offset) k) ≡ true
-        → contains nat_cmp new k ≡ true
-    at k e =
+  -- so those that wait are awaited
+  pub awaited_after : (old new : BTreeSet ℕ) → AreAwaited old marks → AwaitsBoth old new instructions next taken → AreAwaited new end
+  awaited_after old new before both = record {
+    among = λ k is.
         let a = waits_at marks k in
-        let b = stands_at code.instructions (successors code.instructions number reached.placed) k in
-        let c = stands_at code.instructions (caught_at code.handlers reached.placed.offset) k in
-        let all = reached.handlers.each k in
-        let some = reached.onward.each k in
-        either (a || b) c (contains nat_cmp new k ≡ true) e
-        (λ x. all ∙ or_left (contains nat_cmp reached.between k) c
-        (either a b (contains nat_cmp reached.between k ≡ true) x (λ y. some ∙ or_left (contains nat_cmp old k) b (before.among k y)) (λ y. some ∙ or_right (contains nat_cmp old k) b y)))
-        (λ x. all ∙ or_right (contains nat_cmp reached.between k) c x)
+        let b = stands_at instructions next k in
+        let c = stands_at instructions taken k in
+        either (a || b) c (contains nat_cmp new k ≡ true) (walk_waits k is)
+        (λ x. both.handlers.each k ∙ or_left (contains nat_cmp both.between k) c
+        (either a b (contains nat_cmp both.between k ≡ true) x (λ y. both.onward.each k ∙ or_left (contains nat_cmp old k) b (before.among k y)) (λ y. both.onward.each k ∙ or_right (contains nat_cmp old k) b y)))
+        (λ x. both.handlers.each k ∙ or_right (contains nat_cmp both.between k) c x);
+  }
 
 -- below the first one that is awaited none waits
 pub not_below : (awaited : BTreeSet ℕ) (marks : List Mark) (number : ℕ) → AreAwaited awaited marks → ((k : ℕ) → contains nat_cmp awaited k ≡ true → number ≤ k)

@@ -9,6 +9,7 @@ use Rattle.flow_graph.specs.declared.effect.Effect.{Effect}
 use Rattle.flow_graph.specs.declared.mark.Mark.{Mark}
 use Rattle.flow_graph.specs.Flows.{number_of}
 use Rattle.flow_graph.specs.Walks.{reached_after, reached, caught, at_number, at_offset, at_each, takes_too_much, goes_over, walked}
+use Rattle.flow_graph.specs.Walking.{onward_each}
 use Rattle.flow_graph.proofs.Walked.{Keeps, at_each-kept}
 
 -- ---- of one instruction
@@ -120,6 +121,10 @@ at_each-grows change instructions marks [] grows = grows_same marks
 at_each-grows change instructions marks (offset ∷ offsets) grows =
     grows_more marks (at_offset change instructions marks offset) _ (at_offset-grows change instructions marks offset grows)
     (at_each-grows change instructions (at_offset change instructions marks offset) offsets grows)
+
+pub onward_each-grows : (height : Option ℕ) (instructions : List PlacedInstruction) (marks : List Mark) (offsets : List ℕ) → Grows marks (onward_each height instructions marks offsets)
+onward_each-grows None instructions marks offsets = grows_same marks
+onward_each-grows (Some height) instructions marks offsets = at_each-grows (reached height) instructions marks offsets (reached-grown height)
 
 -- ---- what a change leaves
 

@@ -1,4 +1,5 @@
 pub mod Awaiting
+pub mod Catching
 pub mod Described
 pub mod DescriptorUnits
 pub mod Effects

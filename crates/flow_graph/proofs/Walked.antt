@@ -74,6 +74,10 @@ at_each-kept change instructions marks (offset ∷ offsets) keeps =
     kept_more marks (at_offset change instructions marks offset) _ (at_offset-kept change instructions marks offset keeps)
     (at_each-kept change instructions (at_offset change instructions marks offset) offsets keeps)
 
+pub onward_each-kept : (height : Option ℕ) (instructions : List PlacedInstruction) (marks : List Mark) (offsets : List ℕ) → IsKept marks (onward_each height instructions marks offsets)
+onward_each-kept None instructions marks offsets = record { count = refl; left = refl }
+onward_each-kept (Some height) instructions marks offsets = at_each-kept (reached height) instructions marks offsets (reached-keeps height)
+
 -- an instruction that waits is there, was reached, and is not yet walked
 pub record IsWaiting (marks : List Mark) (number : ℕ) (m : Mark) : Type 0 where
   pub known : slice_get marks number ≡ Some m

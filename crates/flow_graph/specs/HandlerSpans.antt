@@ -2,7 +2,6 @@
 -- (JVMS 2.10, 4.7.3).
 use Rattle.std.specs.Prelude.{◌≡◌, ℕ, ◌+◌, ◌/◌, ◌<◌, ◌≤◌, Bool, ◌&&◌, nat_le, nat_lt, List, [], ◌∷◌, ◌++◌, length, map, filter, take, drop, All, Some, slice_get}
 use Rattle.std.specs.List.Sorted.{IsPermutation, IsNonDecreasingBy}
-use Rattle.std.specs.Option.{option_map_or}
 use Rattle.jvm_model.specs.declared.code.Handler.{Handler}
 use Rattle.flow_graph.specs.declared.handlers.Span.{Span}
 
@@ -47,7 +46,3 @@ pub record IsIndexed (handlers : List Handler) (spans : List Span) (latest : Lis
   pub all : IsPermutation (spans_from 0 handlers) spans
   pub ordered : IsNonDecreasingBy (λ (s : Span). s.start) spans
   pub tree : IsTree spans latest
-
--- Where the handler of a place begins.
-abbrev pub target_at : List Handler → ℕ → ℕ
-target_at handlers place = option_map_or (λ (h : Handler). h.target) (slice_get handlers place) 0

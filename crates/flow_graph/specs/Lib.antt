@@ -3,6 +3,7 @@ pub mod Flows
 pub mod HandlerSpans
 pub mod Uncaught
 pub mod Walks
+pub mod Draining
 pub mod Walking
 pub mod Graphs
 pub mod Graphing

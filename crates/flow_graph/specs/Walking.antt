@@ -8,7 +8,7 @@ use Rattle.jvm_model.specs.declared.code.Code.{Code}
 use Rattle.jvm_model.specs.declared.code.PlacedInstruction.{PlacedInstruction}
 use Rattle.flow_graph.specs.declared.effect.Effect.{Effect}
 use Rattle.flow_graph.specs.declared.mark.Mark.{Mark}
-use Rattle.flow_graph.specs.Flows.{number_of, successors, caught_at}
+use Rattle.flow_graph.specs.Flows.{number_of}
 use Rattle.flow_graph.specs.Walks.{reached, at_each, is_waiting, Waits, after_walk}
 
 -- The instructions at these offsets are reached, if one goes on to them at a height.
@@ -50,15 +50,6 @@ pub record AwaitsBoth (old new : BTreeSet ℕ) (instructions : List PlacedInstru
   pub between : BTreeSet ℕ
   pub onward : Awaits old between instructions next
   pub handlers : Awaits between new instructions caught
-
--- The instructions that the one of a number reaches are awaited too: those at which it goes on, and those at which the
--- handlers that cover it begin.
-pub record AwaitsReached (code : Code) (number : ℕ) (old new : BTreeSet ℕ) : Type 0 where
-  pub placed : PlacedInstruction
-  pub stands : slice_get code.instructions number ≡ Some placed
-  pub between : BTreeSet ℕ
-  pub onward : Awaits old between code.instructions (successors code.instructions number placed)
-  pub handlers : Awaits between new code.instructions (caught_at code.handlers placed.offset)
 
 -- The set has these offsets.
 pub record AreAmong (set : BTreeSet ℕ) (offsets : List ℕ) : Type 0 where

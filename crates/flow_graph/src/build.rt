@@ -51,11 +51,11 @@ fn graph_or_fault(alloc: Global, class: &ClassFile, code: &Code) -> Result<Graph
     requires code { IsCodeOf class.now code.now }
     ensures { TellsGraph class.now code.now result }
 {
-    let index = HandlerIndex::new(alloc, code.handlers.as_slice())?;
-    let marks = marks_of(alloc, class, code, &index)?;
+    let marks = marks_of(alloc, class, code)?;
     if let Some((offset, reason)) = first_fault(code.instructions.as_slice(), &marks) {
         return Err(ReadRefusal::Refused(code.at + offset, reason));
     }
+    let index = HandlerIndex::new(alloc, code.handlers.as_slice())?;
     Ok(Graph {
         steps: Sequence::from_vec(steps_of(alloc, code, &index, &marks)?),
     })
@@ -66,13 +66,11 @@ pub(crate) fn marks_of(
     alloc: Global,
     class: &ClassFile,
     code: &Code,
-    index: &HandlerIndex<'_>,
 ) -> Result<Vec<Mark>, AllocError>
-    requires index { index.now ≡ code.now.handlers }
-    requires order { AreInOrder code.now.instructions }
+    requires { AreInOrder code.now.instructions }
     ensures walked { IfOk result (λ v. IsWalkedIfSound class.now code.now v.items) }
     ensures all { IfOk result (λ v. length v.items ≡ length code.now.instructions) }
 {
     let effects = effects_of(alloc, class, code.instructions.as_slice())?;
-    walk_code(alloc, code, index, &effects)
+    walk_code(alloc, code, &effects)
 }

@@ -1,10 +1,10 @@
 //! An index of the table of handlers, which tells those that cover an offset without a look at the others
 //! (JVMS 2.10, 4.7.3).
 
-ghost use Rattle.std.specs.Prelude.{◌≡◌, ◌≤◌, ◌<◌, ◌++◌, [], ◌∷◌, All, length, map, IfOk, OnOk};
+ghost use Rattle.std.specs.Prelude.{◌≡◌, ◌≤◌, ◌<◌, ◌++◌, [], ◌∷◌, All, IfOk, OnOk};
 ghost use Rattle.std.specs.List.Sorted.{IsPermutation, IsNonDecreasingBy};
-ghost use Rattle.flow_graph.specs.Flows.{covering, caught_at};
-ghost use Rattle.flow_graph.specs.HandlerSpans.{span_of, spans_from, places_over, IsTree, AddsTree, target_at};
+ghost use Rattle.flow_graph.specs.Flows.{covering};
+ghost use Rattle.flow_graph.specs.HandlerSpans.{span_of, spans_from, places_over, IsTree, AddsTree};
 
 use jvm_model::Handler;
 use std::alloc::{AllocError, Global};
@@ -69,14 +69,6 @@ impl<'a> HandlerIndex<'a> {
         add_covering(&self.spans, &self.latest, offset, &mut places)?;
         places.sort_unstable();
         Ok(places)
-    }
-
-    /// The offsets at which the handlers that cover an offset begin, in the order of their table.
-    pub(crate) fn caught_at(&self, alloc: Global, offset: u32) -> Result<Vec<u32>, AllocError>
-        ensures { IfOk result (λ v. v.items ≡ caught_at self.now offset) }
-    {
-        let places = self.covering(alloc, offset)?;
-        targets_at(alloc, self.handlers, &places)
     }
 }
 
@@ -170,16 +162,4 @@ fn add_place(span: Span, offset: u32, places: &mut Vec<u32>) -> Result<(), Alloc
         places.push(span.place)?;
     }
     Ok(())
-}
-
-/// Where the handlers of these places begin.
-fn targets_at(alloc: Global, handlers: &[Handler], places: &[u32]) -> Result<Vec<u32>, AllocError>
-    requires { All (λ place. place < length handlers.now) places.now }
-    ensures { IfOk result (λ v. v.items ≡ map (target_at handlers.now) places.now) }
-{
-    let mut targets = Vec::new(alloc);
-    for place in places {
-        targets.push(handlers[*place as usize].target)?;
-    }
-    Ok(targets)
 }

@@ -146,8 +146,7 @@ fn fault_in(
 ) -> Result<Option<(u32, Reason)>, AllocError>
     requires { AreInOrder code.now.instructions }
 {
-    let index = HandlerIndex::new(alloc, code.handlers.as_slice())?;
-    let marks = marks_of(alloc, class, code, &index)?;
+    let marks = marks_of(alloc, class, code)?;
     Ok(first_fault(code.instructions.as_slice(), &marks))
 }
 
@@ -155,8 +154,8 @@ fn fault_in(
 fn heights_of(alloc: Global, class: &ClassFile, code: &Code) -> Result<Vec<(u32, u32)>, AllocError>
     requires { AreInOrder code.now.instructions }
 {
+    let marks = marks_of(alloc, class, code)?;
     let index = HandlerIndex::new(alloc, code.handlers.as_slice())?;
-    let marks = marks_of(alloc, class, code, &index)?;
     let steps = steps_of(alloc, code, &index, &marks)?;
     let mut heights = Vec::new(alloc);
     for step in &steps {

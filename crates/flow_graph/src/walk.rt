@@ -7,12 +7,13 @@ ghost use Rattle.std.specs.List.{position};
 ghost use Rattle.std.specs.Ordering.{nat_cmp};
 ghost use Rattle.flow_graph.specs.Reading.{AreInOrder};
 ghost use Rattle.flow_graph.specs.Walks.{reached, caught, at_number, at_offset, at_each, is_waiting, Walk, at_start};
-ghost use Rattle.flow_graph.specs.Walking.{onward_each, IsWalkedOne, waits_at, AreAwaited, IsLeastAwaited, is_number_at, Awaits, AwaitsBoth, AwaitsReached};
+ghost use Rattle.flow_graph.specs.Walking.{onward_each, IsWalkedOne, waits_at, AreAwaited, IsLeastAwaited, is_number_at, Awaits, AwaitsBoth};
+ghost use Rattle.flow_graph.specs.Draining.{AreUncaught};
 
 use crate::effect::Effect;
 use crate::flow::{falls_off, number_of, successors};
-use crate::handlers::HandlerIndex;
 use crate::mark::{Mark, caught, height_onward, is_waiting, reached, unreached, walked};
+use crate::uncaught::UncaughtHandlers;
 use jvm_model::{Code, PlacedInstruction};
 use std::alloc::{AllocError, Global};
 use std::collections::BTreeSet;
@@ -21,11 +22,9 @@ use std::collections::BTreeSet;
 pub(crate) fn walk_code(
     alloc: Global,
     code: &Code,
-    index: &HandlerIndex<'_>,
     effects: &[Effect],
 ) -> Result<Vec<Mark>, AllocError>
     requires order { AreInOrder code.now.instructions }
-    requires index { index.now ≡ code.now.handlers }
     requires effects { length effects.now ≡ length code.now.instructions }
     ensures walked { IfOk result (λ v. Walk code.now effects.now (at_start code.now) v.items) }
     ensures all { IfOk result (λ v. length v.items ≡ length code.now.instructions) }
@@ -34,28 +33,37 @@ pub(crate) fn walk_code(
     reach(&mut marks, 0, 0);
     let mut awaited = BTreeSet::new(alloc);
     awaited.insert(0)?;
-    walk(alloc, code, index, effects, &mut marks, &mut awaited)?;
+    let mut uncaught = UncaughtHandlers::new(alloc, code.handlers.as_slice())?;
+    walk(
+        alloc,
+        code,
+        effects,
+        &mut marks,
+        &mut awaited,
+        &mut uncaught,
+    )?;
     Ok(marks)
 }
 
-/// Walks the first instruction that waits, as long as one does. Those that wait are among the awaited ones.
+/// Walks the first instruction that waits, as long as one does. Those that wait are among the awaited ones, and each handler is
+/// caught, or among the uncaught ones.
 fn walk(
     alloc: Global,
     code: &Code,
-    index: &HandlerIndex<'_>,
     effects: &[Effect],
     marks: &mut [Mark],
     awaited: &mut BTreeSet<usize>,
+    uncaught: &mut UncaughtHandlers,
 ) -> Result<(), AllocError>
     requires order { AreInOrder code.now.instructions }
-    requires index { index.now ≡ code.now.handlers }
     requires effects { length effects.now ≡ length code.now.instructions }
     requires marks { length marks.old ≡ length code.now.instructions }
     requires awaited { AreAwaited awaited.old marks.old }
+    requires uncaught { AreUncaught code.now uncaught.old.levels.items marks.old }
     ensures { OnOk result (Walk code.now effects.now marks.old marks.new) }
 {
     while let Some(number) = first_waiting(marks, awaited) {
-        walk_one(alloc, code, index, effects, number, marks, awaited)?;
+        walk_one(alloc, code, effects, number, marks, awaited, uncaught)?;
     }
     Ok(())
 }
@@ -138,23 +146,26 @@ fn await_at(
     Ok(())
 }
 
-/// Walks the first instruction that waits. What it reaches is awaited.
+/// Walks the first instruction that waits. What it reaches is awaited. Of the handlers that cover it those are met that no walked
+/// instruction met: that the others begin with what was thrown is noted already.
 fn walk_one(
     alloc: Global,
     code: &Code,
-    index: &HandlerIndex<'_>,
     effects: &[Effect],
     number: usize,
     marks: &mut [Mark],
     awaited: &mut BTreeSet<usize>,
+    uncaught: &mut UncaughtHandlers,
 ) -> Result<(), AllocError>
     requires order { AreInOrder code.now.instructions }
-    requires index { index.now ≡ code.now.handlers }
     requires effects { length effects.now ≡ length code.now.instructions }
     requires marks { length marks.old ≡ length code.now.instructions }
     requires first { position is_waiting marks.old ≡ Some number }
+    requires awaited { AreAwaited awaited.old marks.old }
+    requires uncaught { AreUncaught code.now uncaught.old.levels.items marks.old }
     ensures walked { OnOk result (IsWalkedOne code.now effects.now marks.old marks.new) }
-    ensures reached { OnOk result (AwaitsReached code.now number awaited.old awaited.new) }
+    ensures awaited { OnOk result (AreAwaited awaited.new marks.new) }
+    ensures uncaught { OnOk result (AreUncaught code.now uncaught.new.levels.items marks.new) }
 {
     let instructions = code.instructions.as_slice();
     let placed = &instructions[number];
@@ -162,7 +173,7 @@ fn walk_one(
     let mark = marks[number];
     let height = mark.height.unwrap();
     let next = successors(alloc, instructions, number, placed)?;
-    let caught = index.caught_at(alloc, placed.offset)?;
+    let caught = uncaught.take(alloc, placed.offset)?;
     let falls = falls_off(instructions, number, placed);
     marks[number] = walked(mark, code.max_stack, effect, height, falls);
     let onward = height_onward(code.max_stack, effect, height, mark);

@@ -1,6 +1,5 @@
 use Rattle.std.proofs.Common.{sym, ◌∙◌, refl, arith}
 use Rattle.flow_graph.specs.Walks.{ends}
-use Rattle.flow_graph.proofs.Awaiting.{awaited_after}
 use Rattle.flow_graph.proofs.Walked.{one_less, walk_more}
 use Rattle.flow_graph.proofs.walk.walk.Goals as goal
 
@@ -14,10 +13,10 @@ loop-number-preserved c =
     let walked = c.in_ok-walk_one.ensures.walked in
     let one = one_less c.args.code.now c.args.effects.now c.loop-number.marks c.walk_one.new.marks walked in (
       one.count ∙ c.loop-number.invariant.0,
-      awaited_after c.args.code.now c.args.effects.now c.loop-number.marks c.walk_one.new.marks c.in-Some.number c.first_waiting.new.awaited c.walk_one.new.awaited c.first_waiting.ensures.awaited
-          (sym c.first_waiting.ensures.first ∙ c.in-Some.is) walked c.in_ok-walk_one.ensures.reached,
-      λ end rest. c.loop-number.invariant.2 end (walk_more c.args.code.now c.args.effects.now c.loop-number.marks c.walk_one.new.marks end walked rest),
+      c.in_ok-walk_one.ensures.awaited,
+      c.in_ok-walk_one.ensures.uncaught,
+      λ end rest. c.loop-number.invariant.3 end (walk_more c.args.code.now c.args.effects.now c.loop-number.marks c.walk_one.new.marks end walked rest),
     )
 
 pub returns : goal.returns
-returns c = c.loop-number.invariant.2 c.loop-number.marks (ends c.loop-number.marks c.loop-number.marks (sym c.first_waiting.ensures.first ∙ c.in_default.is) refl)
+returns c = c.loop-number.invariant.3 c.loop-number.marks (ends c.loop-number.marks c.loop-number.marks (sym c.first_waiting.ensures.first ∙ c.in_default.is) refl)
