@@ -33,7 +33,7 @@ use std::alloc::{AllocError, Global};
 /// several faults the one with the least offset is told, and at one offset the one that stands first in `Reason`.
 ///
 /// The time taken is about s log s, where s is the size of the code, of its table of handlers, of the descriptors that its
-/// calls name, each text counted once, and of the graph; where there is a fault, of the graph that there would be without it.
+/// calls name, each text counted once, and of the answer.
 pub fn graph(alloc: Global, class: &ClassFile, code: &Code) -> Result<Graph, ReadRefusal>
     requires sound { IsSoundClass class.now }
     requires size { length (spell class.now) < 2 ^ 32 }
