@@ -1,14 +1,14 @@
 -- The handlers that are not caught yet, level by level: how they are listed, found and taken out.
-use Rattle.std.proofs.Common.{◌≡◌, ◌⊎◌, inl, inr, ℕ, zero, suc, ◌+◌, ◌/◌, ◌%◌, ◌<◌, ◌≤◌, Bool, true, cond, leb, ltb, List, [], ◌∷◌, ◌++◌, length, length-set, set, get_or, map, take, Contains, All, Some, refl, sym, ap, ◌∙◌, subst, append_assoc, arith}
+use Rattle.std.proofs.Common.{◌≡◌, ◌⊎◌, inl, inr, ℕ, zero, suc, ◌+◌, ◌/◌, ◌%◌, ◌<◌, ◌≤◌, Bool, true, cond, leb, ltb, List, [], ◌∷◌, ◌++◌, length, length-set, set, get_or, map, take, drop, Contains, All, Some, refl, sym, ap, ◌∙◌, subst, append_assoc, arith}
 use Rattle.std.specs.Global.{Vec}
 use Rattle.std.specs.List.{filter, slice_get}
 use Rattle.std.specs.Option.{option_map, unwrap_or}
 use Rattle.std.proofs.lemmas.Bool.{cases_eq, cases_lt, and_parts, and_from}
 use Rattle.std.proofs.lemmas.Bool.Decides.{nat_tests}
-use Rattle.std.proofs.lemmas.List.{append-nil, take_all, map_more}
+use Rattle.std.proofs.lemmas.List.{append-nil, length-map, length-take-le, drop_more, get_or_at, set_at, map_more}
 use Rattle.std.proofs.lemmas.List.Elements.{All-contains, All-map, All-weaker, Contains-append_left, Contains-append_right, Contains-append_cases, Contains-push, Contains-push_cases}
 use Rattle.std.proofs.lemmas.Option.{slice_get-get_or, slice_get_read, slice_get_past}
-use Rattle.std.proofs.Math.Seq.{take-suc}
+
 use Rattle.jvm_model.specs.declared.code.Handler.{Handler}
 use Rattle.flow_graph.specs.declared.uncaught.Level.{Level}
 use Rattle.flow_graph.specs.declared.uncaught.Range.{Range}
@@ -317,3 +317,23 @@ adds_more ranges old mid new bare level empty lists mid_is adds = record {
   new_is = adds.new_is ∙ ap (λ (ls : List Level). ls ++ adds.added) mid_is ∙ append_assoc old (level ∷ []) adds.added;
   holds = level_holds ranges bare level adds.added empty lists adds.holds;
 }
+
+-- ---- ranges of which the first are halved
+
+module _ (ranges now : List Range) (i : ℕ) (d : Range) (lt : i < length ranges) (is : now ≡ map halved (take i ranges) ++ drop i ranges) where
+  front_long : length (map halved (take i ranges)) ≡ i
+  front_long = length-map (take i ranges) halved ∙ length-take-le i ranges (omega arith)
+
+  in_parts : now ≡ map halved (take i ranges) ++ get_or ranges i d ∷ drop (i + 1) ranges
+  in_parts = is ∙ ap (λ (rest : List Range). map halved (take i ranges) ++ rest) (drop_more ranges i d lt)
+
+  pub next_whole : get_or now i d ≡ get_or ranges i d
+  next_whole = ap (λ (rs : List Range). get_or rs i d) in_parts ∙ get_or_at (map halved (take i ranges)) (get_or ranges i d) (drop (i + 1) ranges) d i front_long
+
+  pub next_halved : (half : Range) → half ≡ halved (get_or now i d) → set now i half ≡ map halved (take (i + 1) ranges) ++ drop (i + 1) ranges
+  next_halved half half_is =
+      let front : List Range = map halved (take i ranges) in
+      let rest : List Range = drop (i + 1) ranges in
+      let h : Range = halved (get_or ranges i d) in
+      ap (set now i) (half_is ∙ ap halved next_whole) ∙ ap (λ (rs : List Range). set rs i h) in_parts ∙ set_at front (get_or ranges i d) rest h i front_long
+      ∙ sym (append_assoc front (h ∷ []) rest) ∙ ap (λ (rs : List Range). rs ++ rest) (sym (map_more halved ranges i d lt))

@@ -34,10 +34,10 @@ impl UncaughtHandlers {
     pub(crate) fn new(alloc: Global, handlers: &[Handler]) -> Result<UncaughtHandlers, AllocError>
         ensures { IfOk result (λ u. Holds handlers.now u.levels.items) }
     {
-        let ranges = ranges_of(alloc, handlers)?;
+        let mut ranges = ranges_of(alloc, handlers)?;
         let width = width_of(&ranges);
         let mut levels = Vec::new(alloc);
-        add_levels(alloc, &ranges, width, &mut levels)?;
+        add_levels(alloc, &mut ranges, width, &mut levels)?;
         Ok(UncaughtHandlers { levels })
     }
 
@@ -78,24 +78,24 @@ fn width_of(ranges: &[Range]) -> u32
     width
 }
 
-/// Adds the levels of ranges, none of which goes past the width. At each level the width is half of that of the one before,
-/// until it is 0.
+/// Adds the levels of ranges, none of which goes past the width. At each level the ranges and the width are half of those at
+/// the one before, until the width is 0.
 fn add_levels(
     alloc: Global,
-    ranges: &[Range],
+    ranges: &mut [Range],
     width: u32,
     levels: &mut Vec<Level>,
 ) -> Result<(), AllocError>
-    requires { All (λ r. r.to ≤ width) ranges.now }
-    ensures { OnOk result (AddsLevels ranges.now levels.old.items levels.new.items) }
+    requires { All (λ r. r.to ≤ width) ranges.old }
+    ensures { OnOk result (AddsLevels ranges.old levels.old.items levels.new.items) }
 {
     if width == 0 {
         return Ok(());
     }
     let mut level = bare_level(alloc, width)?;
-    let halves = put_ranges(alloc, ranges, &mut level)?;
+    put_ranges(ranges, &mut level)?;
     levels.push(level)?;
-    add_levels(alloc, &halves, width / 2, levels)
+    add_levels(alloc, ranges, width / 2, levels)
 }
 
 /// A level of so many lists, with nothing in them.
@@ -109,23 +109,19 @@ fn bare_level(alloc: Global, width: u32) -> Result<Level, AllocError>
     Ok(Level { lists })
 }
 
-/// Lists the targets of ranges at the ends that have no neighbour in their range, and gives what is left for the next level.
-fn put_ranges(
-    alloc: Global,
-    ranges: &[Range],
-    level: &mut Level,
-) -> Result<Vec<Range>, AllocError>
-    requires { All (λ r. r.to ≤ length level.old.lists.items) ranges.now }
-    ensures put { OnOk result (Lists (IsAlone ranges.now) level.old level.new) }
-    ensures left { IfOk result (λ v. v.items ≡ map halved ranges.now) }
+/// Lists the targets of ranges at the ends that have no neighbour in their range, and makes of each range what is left of it
+/// for the next level.
+fn put_ranges(ranges: &mut [Range], level: &mut Level) -> Result<(), AllocError>
+    requires { All (λ r. r.to ≤ length level.old.lists.items) ranges.old }
+    ensures put { OnOk result (Lists (IsAlone ranges.old) level.old level.new) }
+    ensures left { OnOk result (ranges.new ≡ map halved ranges.old) }
 {
-    let mut halves = Vec::new(alloc);
-    for range in ranges {
+    for range in ranges.iter_mut() {
         put_first(level, *range)?;
         put_last(level, *range)?;
-        halves.push(half_of(*range))?;
+        *range = half_of(*range);
     }
-    Ok(halves)
+    Ok(())
 }
 
 /// Lists the target of a range at its first offset, if the neighbour of that is not in the range.
@@ -193,24 +189,18 @@ fn take_listed(
 }
 
 #[cfg(test)]
-fn handler(start: u32, finish: u32, target: u32) -> Handler {
-    Handler {
+#[test]
+fn a_handler_is_told_where_it_is_first_met(rt: HostRuntime) -> Result<(), AllocError> {
+    let alloc = rt.alloc();
+    let rows = [(0, 9, 20), (3, 8, 30), (5, 6, 40)];
+    let handlers = rows.map(|(start, finish, target)| Handler {
         start,
         finish,
         target,
         catch_type: 0,
-    }
-}
-
-#[cfg(test)]
-#[test]
-fn takes_each_handler_once(rt: HostRuntime) -> Result<(), AllocError> {
-    let alloc = rt.alloc();
-    let handlers = [handler(0, 9, 20), handler(3, 8, 30), handler(5, 6, 40)];
+    });
     let mut uncaught = UncaughtHandlers::new(alloc, &handlers)?;
-    for k in 0..11 {
-        println!(rt; "{:?}", UncaughtHandlers::new(alloc, &handlers)?.take(alloc, k)?).ok();
-    }
-    println!(rt; "{:?} {:?} {:?} {:?}", uncaught.take(alloc, 4)?, uncaught.take(alloc, 5)?, uncaught.take(alloc, 9)?, uncaught.take(alloc, 6)?).ok();
+    assert_eq!(rt; uncaught.take(alloc, 4)?.as_slice(), [30, 20].as_slice());
+    assert_eq!(rt; uncaught.take(alloc, 5)?.as_slice(), [40].as_slice());
     Ok(())
 }
