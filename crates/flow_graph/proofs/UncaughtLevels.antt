@@ -8,7 +8,6 @@ use Rattle.std.proofs.lemmas.Bool.Decides.{nat_tests}
 use Rattle.std.proofs.lemmas.List.{append-nil, length-map, length-take-le, drop_more, get_or_at, set_at, map_more}
 use Rattle.std.proofs.lemmas.List.Elements.{All-contains, All-map, All-weaker, Contains-append_left, Contains-append_right, Contains-append_cases, Contains-push, Contains-push_cases}
 use Rattle.std.proofs.lemmas.Option.{slice_get-get_or, slice_get_read, slice_get_past}
-
 use Rattle.jvm_model.specs.declared.code.Handler.{Handler}
 use Rattle.flow_graph.specs.declared.uncaught.Level.{Level}
 use Rattle.flow_graph.specs.declared.uncaught.Range.{Range}
@@ -80,54 +79,39 @@ at_is lists o list lt e = ap (λ x. unwrap_or (option_map (λ (l : Vec ℕ). l.i
 pub nothing_past : (level : Level) (o : ℕ) → length level.lists.items ≤ o → listed_at level o ≡ []
 nothing_past level o le = ap (λ x. unwrap_or (option_map (λ (l : Vec ℕ). l.items) x) []) (slice_get_past level.lists.items o le)
 
-at_push : (lists : List (Vec ℕ)) (list : Vec ℕ) → list.items ≡ [] → (o : ℕ) → at (lists ++ list ∷ []) o ≡ at lists o
-at_push [] list e zero = e
-at_push [] list e (suc o) = refl
-at_push (x ∷ lists) list e zero = refl
-at_push (x ∷ lists) list e (suc o) = at_push lists list e o
-
-pub bare_more : (n : ℕ) (old new : Level) (list : Vec ℕ) → IsBare n old → list.items ≡ [] → new.lists.items ≡ old.lists.items ++ list ∷ [] → length new.lists.items ≡ n + 1 → IsBare (n + 1) new
-bare_more n old new list bare e is count = record { all = count; none = λ o. ap (λ (xs : List (Vec ℕ)). at xs o) is ∙ at_push old.lists.items list e o ∙ bare.none o }
-
 -- ---- what is put into a level
 
 module _ (IsNew : ℕ → ℕ → Type 0) (old new : Level) (place target : ℕ) (list more : Vec ℕ) (lt : place < length old.lists.items) (list_is : list ≡ get_or old.lists.items place list)
     (more_is : more.items ≡ list.items ++ target ∷ []) (is : new.lists.items ≡ set old.lists.items place more) where
-  put_cases : (o : ℕ) → ((o ≡ place) × (listed_at new o ≡ listed_at old o ++ target ∷ [])) ⊎ (listed_at new o ≡ listed_at old o)
-  put_cases o = elim (cases_eq o place) [
-    | inl e ↦
-        let here : at new.lists.items place ≡ at old.lists.items place ++ target ∷ [] =
-        ap (λ (xs : List (Vec ℕ)). at xs place) is ∙ at_here old.lists.items place more lt ∙ more_is ∙ ap (λ (ts : List ℕ). ts ++ target ∷ []) (sym (at_is old.lists.items place list lt list_is)) in
-        inl (e, subst (λ (p : ℕ). at new.lists.items p ≡ at old.lists.items p ++ target ∷ []) (sym e) here)
-    | inr ne ↦ inr (ap (λ (xs : List (Vec ℕ)). at xs o) is ∙ at_other old.lists.items place o more ne)
-  ]
+  here : listed_at new place ≡ listed_at old place ++ target ∷ []
+  here =
+      ap (λ (xs : List (Vec ℕ)). at xs place) is ∙ at_here old.lists.items place more lt ∙ more_is ∙ ap (λ (ts : List ℕ). ts ++ target ∷ []) (sym (at_is old.lists.items place list lt list_is))
 
-  pub put : ((o t : ℕ) → IsNew o t → (o ≡ place) × (t ≡ target)) → IsNew place target → Lists IsNew old new
-  put there here = record {
+  elsewhere : (o : ℕ) → (o ≡ place → ⊥) → listed_at new o ≡ listed_at old o
+  elsewhere o ne = ap (λ (xs : List (Vec ℕ)). at xs o) is ∙ at_other old.lists.items place o more ne
+
+  cases_put : (o : ℕ) → ((o ≡ place) × (listed_at new o ≡ listed_at old o ++ target ∷ [])) ⊎ (listed_at new o ≡ listed_at old o)
+  cases_put o = elim (cases_eq o place) [ inl e ↦ inl (e, subst (λ (p : ℕ). listed_at new p ≡ listed_at old p ++ target ∷ []) (sym e) here) | inr ne ↦ inr (elsewhere o ne) ]
+
+  put : ((o t : ℕ) → IsNew o t → (o ≡ place) × (t ≡ target)) → IsNew place target → Lists IsNew old new
+  put there is_new = record {
     count = ap (λ (xs : List (Vec ℕ)). length xs) is ∙ length-set old.lists.items place more;
-    kept = λ o t has. elim (put_cases o) [
+    kept = λ o t has. elim (cases_put o) [
       | inl e ↦ subst (λ (ts : List ℕ). Contains ts t) (sym e.1) (Contains-append_left (listed_at old o) (target ∷ []) t has)
       | inr e ↦ subst (λ (ts : List ℕ). Contains ts t) (sym e) has
     ];
-    more = λ o t is_new.
-        let at_place = there o t is_new in
-        elim (put_cases o) [
-          | inl e ↦ subst (λ (ts : List ℕ). Contains ts t) (sym e.1) (subst (λ (x : ℕ). Contains (listed_at old o ++ target ∷ []) x) (sym at_place.1) (Contains-push (listed_at old o) target))
-          | inr e ↦ subst (λ (ts : List ℕ). Contains ts t) (sym (at_new o at_place.0)) (subst (λ (x : ℕ). Contains (listed_at old o ++ target ∷ []) x) (sym at_place.1) (Contains-push (listed_at old o) target))
-        ];
-    only = λ o t has. elim (put_cases o) [
+    more = λ o t new_there.
+        let e = there o t new_there in
+        let last : Contains (listed_at new place) target = subst (λ (ts : List ℕ). Contains ts target) (sym here) (Contains-push (listed_at old place) target) in
+        subst (λ (x : ℕ). Contains (listed_at new o) x) (sym e.1) (subst (λ (p : ℕ). Contains (listed_at new p) target) (sym e.0) last);
+    only = λ o t has. elim (cases_put o) [
       | inl e ↦ elim (Contains-push_cases (listed_at old o) target t (subst (λ (ts : List ℕ). Contains ts t) e.1 has)) [
         | inl was ↦ inl was
-        | inr same ↦ inr (subst (λ (x : ℕ). IsNew o x) same (subst (λ (p : ℕ). IsNew p target) (sym e.0) here))
+        | inr same ↦ inr (subst (λ (x : ℕ). IsNew o x) same (subst (λ (p : ℕ). IsNew p target) (sym e.0) is_new))
       ]
       | inr e ↦ inl (subst (λ (ts : List ℕ). Contains ts t) e has)
     ];
   }
-    where
-      at_new : (o : ℕ) → o ≡ place → listed_at new o ≡ listed_at old o ++ target ∷ []
-      at_new o e =
-          subst (λ (p : ℕ). at new.lists.items p ≡ at old.lists.items p ++ target ∷ []) (sym e)
-          (ap (λ (xs : List (Vec ℕ)). at xs place) is ∙ at_here old.lists.items place more lt ∙ more_is ∙ ap (λ (ts : List ℕ). ts ++ target ∷ []) (sym (at_is old.lists.items place list lt list_is)))
 
 pub put_first : (range : Range) (old new : Level) (list more : Vec ℕ) → range.to ≤ length old.lists.items → range.from < range.to → range.from % 2 ≡ 1 → list ≡ get_or old.lists.items range.from list
     → more.items ≡ list.items ++ range.target ∷ [] → new.lists.items ≡ set old.lists.items range.from more → Lists (IsFirstAlone range) old new
@@ -152,9 +136,6 @@ alone_before front range o t is = record { range = is.range; among = Contains-ap
 
 alone_here : (front : List Range) (range : Range) (o t : ℕ) → IsFirstAlone range o t ⊎ IsLastAlone range o t → IsAlone (front ++ range ∷ []) o t
 alone_here front range o t alone = record { range = range; among = Contains-push front range; alone = alone }
-
-pub listed_none : (level : Level) → Lists (IsAlone []) level level
-listed_none level = record { count = refl; kept = λ o t has. has; more = λ o t is. absurd (none is.range is.among); only = λ o t has. inl has }
 
 -- the ends of one range more
 pub listed_more : (front : List Range) (range : Range) (old mid next new : Level) → Lists (IsAlone front) old mid → Lists (IsFirstAlone range) mid next → Lists (IsLastAlone range) next new
@@ -224,12 +205,6 @@ level_holds ranges bare level levels empty lists holds = record { all = down; on
       | inr there ↦ half_in o t (holds.only (o / 2) t there)
     ]
 
-pub none_holds : (ranges : List Range) → All (λ (r : Range). r.to ≤ 0) ranges → HoldsRanges ranges []
-none_holds ranges all = record {
-  all = λ o t is. let le = All-contains (λ (r : Range). r.to ≤ 0) ranges is.range all is.among in let lt = is.to in absurd (omega arith);
-  only = λ o t has. absurd (none t has);
-}
-
 pub halves_within : (ranges : List Range) (width : ℕ) → All (λ (r : Range). r.to ≤ width) ranges → All (λ (r : Range). r.to ≤ width / 2) (map halved ranges)
 halves_within ranges width all =
     All-map (λ (r : Range). r.to ≤ width / 2) halved ranges (All-weaker (λ (r : Range). r.to ≤ width) (λ (r : Range). r.to / 2 ≤ width / 2) (λ r le. omega arith) ranges all)
@@ -278,15 +253,6 @@ takes_listed old new offset list empty lt list_is empty_is is = record {
     here : listed_at new offset ≡ []
     here = ap (λ (xs : List (Vec ℕ)). at xs offset) is ∙ at_here old.lists.items offset empty lt ∙ empty_is
 
-pub listed_is : (level : Level) (offset : ℕ) (list : Vec ℕ) → offset < length level.lists.items → list ≡ get_or level.lists.items offset list → listed_at level offset ≡ list.items
-listed_is level offset list lt e = at_is level.lists.items offset list lt e
-
-pub takes_none : (offset : ℕ) (level : Level) → TakesListed offset level level
-takes_none offset level = record { kept = λ o t has. inl has; fewer = λ o t has. has }
-
-pub takes_out_none : (offset : ℕ) (levels : List Level) → TakesOut offset levels levels
-takes_out_none offset levels = record { kept = λ o t has. inl has; fewer = λ o t has. has }
-
 pub takes_out : (offset : ℕ) (old new : Level) (olds news : List Level) → TakesListed offset old new → TakesOut (offset / 2) olds news → TakesOut offset (old ∷ olds) (new ∷ news)
 takes_out offset old new olds news here there = record {
   kept = λ o t has. elim (Contains-append_cases (listed_at old o) (held olds (o / 2)) t has) [
@@ -306,9 +272,6 @@ takes_out offset old new olds news here there = record {
 }
 
 -- ---- levels that are added
-
-pub adds_none : (ranges : List Range) (levels : List Level) → All (λ (r : Range). r.to ≤ 0) ranges → AddsLevels ranges levels levels
-adds_none ranges levels all = record { added = []; new_is = sym (append-nil levels); holds = none_holds ranges all }
 
 pub adds_more : (ranges : List Range) (old mid new : List Level) (bare level : Level) → ((o : ℕ) → listed_at bare o ≡ []) → Lists (IsAlone ranges) bare level → mid ≡ old ++ level ∷ []
     → AddsLevels (map halved ranges) mid new → AddsLevels ranges old new

@@ -158,11 +158,7 @@ fn half_of(range: Range) -> Range
 }
 
 /// Moves what levels list at an offset to the end of the targets.
-fn take_held(
-    levels: &mut [Level],
-    offset: u32,
-    targets: &mut Vec<u32>,
-) -> Result<(), AllocError>
+fn take_held(levels: &mut [Level], offset: u32, targets: &mut Vec<u32>) -> Result<(), AllocError>
     ensures taken { OnOk result (targets.new.items ≡ targets.old.items ++ held levels.old offset) }
     ensures left { OnOk result (TakesOut offset levels.old levels.new) }
 {
@@ -174,11 +170,7 @@ fn take_held(
 }
 
 /// Moves what a level lists at an offset to the end of the targets.
-fn take_listed(
-    level: &mut Level,
-    offset: u32,
-    targets: &mut Vec<u32>,
-) -> Result<(), AllocError>
+fn take_listed(level: &mut Level, offset: u32, targets: &mut Vec<u32>) -> Result<(), AllocError>
     ensures taken { OnOk result (targets.new.items ≡ targets.old.items ++ listed_at level.old offset) }
     ensures left { OnOk result (TakesListed offset level.old level.new) }
 {
@@ -188,7 +180,6 @@ fn take_listed(
     Ok(())
 }
 
-#[cfg(test)]
 #[test]
 fn a_handler_is_told_where_it_is_first_met(rt: HostRuntime) -> Result<(), AllocError> {
     let alloc = rt.alloc();

@@ -7,8 +7,7 @@ use Rattle.flow_graph.proofs.uncaught.+add_levels.Goals as goal
 
 pub add_levels-requires : goal.add_levels-requires
 add_levels-requires t c =
-    let width = c.args.width in
-    (
+    let width = c.args.width in (
       search rules,
       subst (λ (rs : List Range). All (λ (r : Range). r.to ≤ width / 2) rs) (sym c.in_ok-put_ranges.ensures.left) (halves_within c.args.ranges.now width c.requires),
     )

@@ -1,6 +1,6 @@
 use Rattle.std.proofs.Common.{◌≤◌, length, inl, inr, ◌++◌, List, ℕ, append-nil, refl, sym, ap, ◌∙◌, arith}
 use Rattle.std.proofs.lemmas.Bool.{cases_lt, false≢true}
-use Rattle.flow_graph.proofs.UncaughtLevels.{takes_listed, nothing_past, listed_is}
+use Rattle.flow_graph.proofs.UncaughtLevels.{takes_listed, nothing_past}
 use Rattle.flow_graph.proofs.uncaught.take_listed.Goals as goal
 
 pub returns-in_ok-append-clause-left : goal.returns-in_ok-append-clause-left
