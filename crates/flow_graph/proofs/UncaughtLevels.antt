@@ -1,18 +1,18 @@
 -- The handlers that are not caught yet, level by level: how they are listed, found and taken out.
-use Rattle.std.proofs.Common.{◌≡◌, ◌⊎◌, inl, inr, ℕ, zero, suc, ◌+◌, ◌/◌, ◌%◌, ◌<◌, ◌≤◌, Bool, true, cond, leb, ltb, List, [], ◌∷◌, ◌++◌, length, length-set, set, get_or, map, take, drop, Contains, All, Some, refl, sym, ap, ◌∙◌, subst, append_assoc, arith}
+use Rattle.std.proofs.Common.{◌≡◌, ◌⊎◌, inl, inr, ℕ, zero, suc, ◌+◌, ◌/◌, ◌%◌, ◌<◌, ◌≤◌, Bool, true, cond, leb, ltb, List, [], ◌∷◌, ◌++◌, length, length-set, set, get_or, map, take, drop, Contains, All, refl, sym, ap, ◌∙◌, subst, append_assoc, arith}
 use Rattle.std.specs.Global.{Vec}
 use Rattle.std.specs.List.{filter, slice_get}
 use Rattle.std.specs.Option.{option_map, unwrap_or}
 use Rattle.std.proofs.lemmas.Bool.{cases_eq, cases_lt, and_parts, and_from}
 use Rattle.std.proofs.lemmas.Bool.Decides.{nat_tests}
-use Rattle.std.proofs.lemmas.List.{append-nil, length-map, length-take-le, drop_more, get_or_at, set_at, map_more}
-use Rattle.std.proofs.lemmas.List.Elements.{All-contains, All-map, All-weaker, Contains-append_left, Contains-append_right, Contains-append_cases, Contains-push, Contains-push_cases}
-use Rattle.std.proofs.lemmas.Option.{slice_get-get_or, slice_get_read, slice_get_past}
+use Rattle.std.proofs.lemmas.List.{length-map, length-take-le, drop_more, get_or_at, set_at, map_more}
+use Rattle.std.proofs.lemmas.List.Elements.{All-map, All-weaker, Contains-append_left, Contains-append_right, Contains-append_cases, Contains-push, Contains-push_cases}
+use Rattle.std.proofs.lemmas.Option.{slice_get_read, slice_get_past}
 use Rattle.jvm_model.specs.declared.code.Handler.{Handler}
 use Rattle.flow_graph.specs.declared.uncaught.Level.{Level}
 use Rattle.flow_graph.specs.declared.uncaught.Range.{Range}
 use Rattle.flow_graph.specs.Flows.{covers, caught_at}
-use Rattle.flow_graph.specs.Uncaught.{IsInRange, listed_at, held, Holds, TakesOut, range_of, halved, IsFirstAlone, IsLastAlone, IsAlone, Lists, IsBare, HoldsRanges, AddsLevels, TakesListed}
+use Rattle.flow_graph.specs.Uncaught.{IsInRange, listed_at, held, Holds, TakesOut, range_of, halved, IsFirstAlone, IsLastAlone, IsAlone, Lists, HoldsRanges, AddsLevels, TakesListed}
 
 -- ---- lists
 

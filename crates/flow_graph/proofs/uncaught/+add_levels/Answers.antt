@@ -1,4 +1,4 @@
-use Rattle.std.proofs.Common.{◌/◌, ◌≤◌, List, map, All, sym, subst, rules}
+use Rattle.std.proofs.Common.{◌/◌, ◌≤◌, List, All, sym, subst, rules}
 use Rattle.std.proofs.lemmas.Result.{on_ok_weaker}
 use Rattle.flow_graph.specs.declared.uncaught.Range.{Range}
 use Rattle.flow_graph.specs.Uncaught.{AddsLevels}

@@ -1,4 +1,3 @@
-use Rattle.flow_graph.specs.declared.uncaught.Level.{Level}
 use Rattle.flow_graph.specs.Uncaught.{IsBare}
 use Rattle.flow_graph.proofs.uncaught.bare_level.Given as goal
 

@@ -1,7 +1,7 @@
 use Rattle.std.proofs.Common.{◌≡◌, ◌++◌, List, map, sym, ap, ◌∙◌, subst}
 use Rattle.flow_graph.specs.declared.uncaught.Level.{Level}
 use Rattle.flow_graph.specs.declared.uncaught.Range.{Range}
-use Rattle.flow_graph.specs.Uncaught.{range_of, HoldsRanges, AddsLevels}
+use Rattle.flow_graph.specs.Uncaught.{range_of, HoldsRanges}
 use Rattle.flow_graph.proofs.UncaughtLevels.{handlers_held}
 use Rattle.flow_graph.proofs.uncaught.UncaughtHandlers.new.Goals as goal
 
