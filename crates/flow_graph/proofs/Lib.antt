@@ -22,6 +22,7 @@ pub mod Rows
 pub mod Sets
 pub mod Stepping
 pub mod Told
+pub mod UncaughtLevels
 pub mod Walked
 pub mod WalkedFlows
 pub mod WholeFlow

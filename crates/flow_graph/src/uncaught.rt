@@ -1,8 +1,8 @@
 //! The handlers of which no covered instruction was walked yet: each is met once in the whole walk, and not again at each
 //! instruction that it covers (JVMS 2.10, 4.7.3).
 
-ghost use Rattle.std.specs.Prelude.{◌≡◌, IfOk, OnOk};
-ghost use Rattle.flow_graph.specs.Uncaught.{held, Holds, TakesOut};
+ghost use Rattle.std.specs.Prelude.{◌≡◌, ◌≤◌, ◌++◌, All, length, map, IfOk, OnOk};
+ghost use Rattle.flow_graph.specs.Uncaught.{listed_at, held, Holds, TakesOut, range_of, halved, IsFirstAlone, IsLastAlone, IsAlone, Lists, IsBare, AddsLevels, TakesListed};
 
 use jvm_model::Handler;
 use std::alloc::{AllocError, Global};
@@ -34,7 +34,11 @@ impl UncaughtHandlers {
     pub(crate) fn new(alloc: Global, handlers: &[Handler]) -> Result<UncaughtHandlers, AllocError>
         ensures { IfOk result (λ u. Holds handlers.now u.levels.items) }
     {
-        Err(AllocError)
+        let mut ranges = ranges_of(alloc, handlers)?;
+        let width = width_of(&ranges);
+        let mut levels = Vec::new(alloc);
+        add_levels(alloc, &mut ranges, width, &mut levels)?;
+        Ok(UncaughtHandlers { levels })
     }
 
     /// Where the handlers begin that cover an offset, and takes them out; one may be told several times.
@@ -42,6 +46,152 @@ impl UncaughtHandlers {
         ensures taken { IfOk result (λ v. v.items ≡ held self.old.levels.items offset) }
         ensures left { OnOk result (TakesOut offset self.old.levels.items self.new.levels.items) }
     {
-        Err(AllocError)
+        let mut targets = Vec::new(alloc);
+        take_held(&mut self.levels, offset, &mut targets)?;
+        Ok(targets)
     }
+}
+
+/// What the handlers cover, in the order of their table.
+fn ranges_of(alloc: Global, handlers: &[Handler]) -> Result<Vec<Range>, AllocError>
+    ensures { IfOk result (λ v. v.items ≡ map range_of handlers.now) }
+{
+    let mut ranges = Vec::new(alloc);
+    for handler in handlers {
+        ranges.push(Range {
+            from: handler.start,
+            to: handler.finish,
+            target: handler.target,
+        })?;
+    }
+    Ok(ranges)
+}
+
+/// An offset past which none of the ranges goes: the latest end.
+fn width_of(ranges: &[Range]) -> u32
+    ensures { All (λ r. r.to ≤ result) ranges.now }
+{
+    let mut width = 0;
+    for range in ranges {
+        width = range.to.max(width);
+    }
+    width
+}
+
+/// Adds the levels of ranges, none of which goes past the width. At each level the ranges and the width are half of those at
+/// the one before, until the width is 0.
+fn add_levels(
+    alloc: Global,
+    ranges: &mut [Range],
+    width: u32,
+    levels: &mut Vec<Level>,
+) -> Result<(), AllocError>
+    requires { All (λ r. r.to ≤ width) ranges.old }
+    ensures { OnOk result (AddsLevels ranges.old levels.old.items levels.new.items) }
+{
+    if width == 0 {
+        return Ok(());
+    }
+    let mut level = bare_level(alloc, width)?;
+    put_ranges(ranges, &mut level)?;
+    levels.push(level)?;
+    add_levels(alloc, ranges, width / 2, levels)
+}
+
+/// A level of so many lists, with nothing in them.
+fn bare_level(alloc: Global, width: u32) -> Result<Level, AllocError>
+    ensures { IfOk result (λ level. IsBare width level) }
+{
+    let mut lists = Vec::new(alloc);
+    for _place in 0..width {
+        lists.push(Vec::new(alloc))?;
+    }
+    Ok(Level { lists })
+}
+
+/// Lists the targets of ranges at the ends that have no neighbour in their range, and makes of each range what is left of it
+/// for the next level.
+fn put_ranges(ranges: &mut [Range], level: &mut Level) -> Result<(), AllocError>
+    requires { All (λ r. r.to ≤ length level.old.lists.items) ranges.old }
+    ensures put { OnOk result (Lists (IsAlone ranges.old) level.old level.new) }
+    ensures left { OnOk result (ranges.new ≡ map halved ranges.old) }
+{
+    for range in ranges.iter_mut() {
+        put_first(level, *range)?;
+        put_last(level, *range)?;
+        *range = half_of(*range);
+    }
+    Ok(())
+}
+
+/// Lists the target of a range at its first offset, if the neighbour of that is not in the range.
+fn put_first(level: &mut Level, range: Range) -> Result<(), AllocError>
+    requires { range.to ≤ length level.old.lists.items }
+    ensures { OnOk result (Lists (IsFirstAlone range) level.old level.new) }
+{
+    if range.from < range.to && range.from % 2 == 1 {
+        level.lists[range.from as usize].push(range.target)?;
+    }
+    Ok(())
+}
+
+/// Lists the target of a range at its last offset, if the neighbour of that is not in the range.
+fn put_last(level: &mut Level, range: Range) -> Result<(), AllocError>
+    requires { range.to ≤ length level.old.lists.items }
+    ensures { OnOk result (Lists (IsLastAlone range) level.old level.new) }
+{
+    if range.from < range.to && range.to % 2 == 1 {
+        level.lists[(range.to - 1) as usize].push(range.target)?;
+    }
+    Ok(())
+}
+
+/// The pairs of neighbours that are both in a range.
+fn half_of(range: Range) -> Range
+    ensures { result ≡ halved range }
+{
+    Range {
+        from: range.from / 2 + range.from % 2,
+        to: range.to / 2,
+        target: range.target,
+    }
+}
+
+/// Moves what levels list at an offset to the end of the targets.
+fn take_held(levels: &mut [Level], offset: u32, targets: &mut Vec<u32>) -> Result<(), AllocError>
+    ensures taken { OnOk result (targets.new.items ≡ targets.old.items ++ held levels.old offset) }
+    ensures left { OnOk result (TakesOut offset levels.old levels.new) }
+{
+    if let Some((level, rest)) = levels.split_first_mut() {
+        take_listed(level, offset, targets)?;
+        take_held(rest, offset / 2, targets)?;
+    }
+    Ok(())
+}
+
+/// Moves what a level lists at an offset to the end of the targets.
+fn take_listed(level: &mut Level, offset: u32, targets: &mut Vec<u32>) -> Result<(), AllocError>
+    ensures taken { OnOk result (targets.new.items ≡ targets.old.items ++ listed_at level.old offset) }
+    ensures left { OnOk result (TakesListed offset level.old level.new) }
+{
+    if let Some(list) = level.lists.get_mut(offset as usize) {
+        targets.append(list)?;
+    }
+    Ok(())
+}
+
+#[test]
+fn a_handler_is_told_where_it_is_first_met(rt: HostRuntime) -> Result<(), AllocError> {
+    let alloc = rt.alloc();
+    let rows = [(0, 9, 20), (3, 8, 30), (5, 6, 40)];
+    let handlers = rows.map(|(start, finish, target)| Handler {
+        start,
+        finish,
+        target,
+        catch_type: 0,
+    });
+    let mut uncaught = UncaughtHandlers::new(alloc, &handlers)?;
+    assert_eq!(rt; uncaught.take(alloc, 4)?.as_slice(), [30, 20].as_slice());
+    assert_eq!(rt; uncaught.take(alloc, 5)?.as_slice(), [40].as_slice());
+    Ok(())
 }
