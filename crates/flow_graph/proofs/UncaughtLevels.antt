@@ -12,7 +12,7 @@ use Rattle.jvm_model.specs.declared.code.Handler.{Handler}
 use Rattle.flow_graph.specs.declared.uncaught.Level.{Level}
 use Rattle.flow_graph.specs.declared.uncaught.Range.{Range}
 use Rattle.flow_graph.specs.Flows.{covers, caught_at}
-use Rattle.flow_graph.specs.Uncaught.{IsInRange, listed_at, held, Holds, TakesOut, range_of, halved, IsFirstAlone, IsLastAlone, IsAlone, Lists, HoldsRanges, AddsLevels, TakesListed}
+use Rattle.flow_graph.specs.Uncaught.{IsInRange, listed_at, held, Holds, TakesOut, range_of, halved, IsFirstAlone, IsLastAlone, IsAlone, ListsMore, HoldsRanges, AddsLevels, TakesListed}
 
 -- ---- lists
 
@@ -93,7 +93,7 @@ module _ (IsNew : ℕ → ℕ → Type 0) (old new : Level) (place target : ℕ)
   cases_put : (o : ℕ) → ((o ≡ place) × (listed_at new o ≡ listed_at old o ++ target ∷ [])) ⊎ (listed_at new o ≡ listed_at old o)
   cases_put o = elim (cases_eq o place) [ inl e ↦ inl (e, subst (λ (p : ℕ). listed_at new p ≡ listed_at old p ++ target ∷ []) (sym e) here) | inr ne ↦ inr (elsewhere o ne) ]
 
-  put : ((o t : ℕ) → IsNew o t → (o ≡ place) × (t ≡ target)) → IsNew place target → Lists IsNew old new
+  put : ((o t : ℕ) → IsNew o t → (o ≡ place) × (t ≡ target)) → IsNew place target → ListsMore IsNew old new
   put there is_new = record {
     count = ap (λ (xs : List (Vec ℕ)). length xs) is ∙ length-set old.lists.items place more;
     kept = λ o t has. elim (cases_put o) [
@@ -114,13 +114,13 @@ module _ (IsNew : ℕ → ℕ → Type 0) (old new : Level) (place target : ℕ)
   }
 
 pub put_first : (range : Range) (old new : Level) (list more : Vec ℕ) → range.to ≤ length old.lists.items → range.from < range.to → range.from % 2 ≡ 1 → list ≡ get_or old.lists.items range.from list
-    → more.items ≡ list.items ++ range.target ∷ [] → new.lists.items ≡ set old.lists.items range.from more → Lists (IsFirstAlone range) old new
+    → more.items ≡ list.items ++ range.target ∷ [] → new.lists.items ≡ set old.lists.items range.from more → ListsMore (IsFirstAlone range) old new
 put_first range old new list more le some odd list_is more_is is =
     put (IsFirstAlone range) old new range.from range.target list more (omega arith) list_is more_is is (λ o t alone. (alone.first, sym alone.begins))
     (record { some = some; odd = odd; first = refl; begins = refl })
 
 pub put_last : (range : Range) (old new : Level) (list more : Vec ℕ) → range.to ≤ length old.lists.items → range.from < range.to → range.to % 2 ≡ 1 → (place : ℕ) → place + 1 ≡ range.to
-    → list ≡ get_or old.lists.items place list → more.items ≡ list.items ++ range.target ∷ [] → new.lists.items ≡ set old.lists.items place more → Lists (IsLastAlone range) old new
+    → list ≡ get_or old.lists.items place list → more.items ≡ list.items ++ range.target ∷ [] → new.lists.items ≡ set old.lists.items place more → ListsMore (IsLastAlone range) old new
 put_last range old new list more le some odd place last list_is more_is is =
     put (IsLastAlone range) old new place range.target list more (omega arith) list_is more_is is (λ o t alone. let e = alone.last in (omega arith, sym alone.begins))
     (record { some = some; odd = odd; last = last; begins = refl })
@@ -138,8 +138,8 @@ alone_here : (front : List Range) (range : Range) (o t : ℕ) → IsFirstAlone r
 alone_here front range o t alone = record { range = range; among = Contains-push front range; alone = alone }
 
 -- the ends of one range more
-pub listed_more : (front : List Range) (range : Range) (old mid next new : Level) → Lists (IsAlone front) old mid → Lists (IsFirstAlone range) mid next → Lists (IsLastAlone range) next new
-    → Lists (IsAlone (front ++ range ∷ [])) old new
+pub listed_more : (front : List Range) (range : Range) (old mid next new : Level) → ListsMore (IsAlone front) old mid → ListsMore (IsFirstAlone range) mid next → ListsMore (IsLastAlone range) next new
+    → ListsMore (IsAlone (front ++ range ∷ [])) old new
 listed_more front range old mid next new before at_first at_last = record {
   count = at_last.count ∙ at_first.count ∙ before.count;
   kept = λ o t has. at_last.kept o t (at_first.kept o t (before.kept o t has));
@@ -164,7 +164,7 @@ split from to o ge lt = elim (cases_lt (o / 2) (from / 2 + from % 2)) [
   | inr past ↦ elim (cases_lt (o / 2) (to / 2)) [ inl within ↦ inr (inr (past, within)) | inr after ↦ inr (inl (omega arith, omega arith)) ]
 ]
 
-pub level_holds : (ranges : List Range) (bare level : Level) (levels : List Level) → ((o : ℕ) → listed_at bare o ≡ []) → Lists (IsAlone ranges) bare level → HoldsRanges (map halved ranges) levels
+pub level_holds : (ranges : List Range) (bare level : Level) (levels : List Level) → ((o : ℕ) → listed_at bare o ≡ []) → ListsMore (IsAlone ranges) bare level → HoldsRanges (map halved ranges) levels
     → HoldsRanges ranges (level ∷ levels)
 level_holds ranges bare level levels empty lists holds = record { all = down; only = up }
   where
@@ -237,6 +237,7 @@ handlers_held handlers levels holds = record {
 pub takes_listed : (old new : Level) (offset : ℕ) (list empty : Vec ℕ) → offset < length old.lists.items → list ≡ get_or old.lists.items offset list → empty.items ≡ []
     → new.lists.items ≡ set old.lists.items offset empty → TakesListed offset old new
 takes_listed old new offset list empty lt list_is empty_is is = record {
+  gone = here;
   kept = λ o t has. elim (cases_eq o offset) [
     | inl e ↦ inr (subst (λ (p : ℕ). Contains (listed_at old p) t) e has)
     | inr ne ↦ inl (subst (λ (ts : List ℕ). Contains ts t) (sym (other o ne)) has)
@@ -252,6 +253,13 @@ takes_listed old new offset list empty lt list_is empty_is is = record {
 
     here : listed_at new offset ≡ []
     here = ap (λ (xs : List (Vec ℕ)). at xs offset) is ∙ at_here old.lists.items offset empty lt ∙ empty_is
+
+pub takes_none : (offset : ℕ) (level : Level) → listed_at level offset ≡ [] → TakesListed offset level level
+takes_none offset level nothing = record { gone = nothing; kept = λ o t has. inl has; fewer = λ o t has. has }
+
+-- of what is taken from a level and from those after it, nothing is left
+pub gone_from : (offset : ℕ) (level : Level) (levels : List Level) → listed_at level offset ≡ [] → held levels (offset / 2) ≡ [] → held (level ∷ levels) offset ≡ []
+gone_from offset level levels here there = ap (λ (ts : List ℕ). ts ++ held levels (offset / 2)) here ∙ there
 
 pub takes_out : (offset : ℕ) (old new : Level) (olds news : List Level) → TakesListed offset old new → TakesOut (offset / 2) olds news → TakesOut offset (old ∷ olds) (new ∷ news)
 takes_out offset old new olds news here there = record {
@@ -273,7 +281,7 @@ takes_out offset old new olds news here there = record {
 
 -- ---- levels that are added
 
-pub adds_more : (ranges : List Range) (old mid new : List Level) (bare level : Level) → ((o : ℕ) → listed_at bare o ≡ []) → Lists (IsAlone ranges) bare level → mid ≡ old ++ level ∷ []
+pub adds_more : (ranges : List Range) (old mid new : List Level) (bare level : Level) → ((o : ℕ) → listed_at bare o ≡ []) → ListsMore (IsAlone ranges) bare level → mid ≡ old ++ level ∷ []
     → AddsLevels (map halved ranges) mid new → AddsLevels ranges old new
 adds_more ranges old mid new bare level empty lists mid_is adds = record {
   added = level ∷ adds.added;

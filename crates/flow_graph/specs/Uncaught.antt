@@ -64,7 +64,7 @@ pub record IsAlone (ranges : List Range) (offset target : ℕ) : Type 0 where
   pub alone : IsFirstAlone range offset target ⊎ IsLastAlone range offset target
 
 -- A level lists these targets too, and no others are new. It has as many lists as it had.
-pub record Lists (IsNew : ℕ → ℕ → Type 0) (old new : Level) : Type 0 where
+pub record ListsMore (IsNew : ℕ → ℕ → Type 0) (old new : Level) : Type 0 where
   pub count : length new.lists.items ≡ length old.lists.items
   pub kept : (offset target : ℕ) → Contains (listed_at old offset) target → Contains (listed_at new offset) target
   pub more : (offset target : ℕ) → IsNew offset target → Contains (listed_at new offset) target
@@ -90,5 +90,6 @@ pub record AddsLevels (ranges : List Range) (old new : List Level) : Type 0 wher
 
 -- What a level listed at an offset is listed there no more; all else is where it was.
 pub record TakesListed (offset : ℕ) (old new : Level) : Type 0 where
+  pub gone : listed_at new offset ≡ []
   pub kept : (o target : ℕ) → Contains (listed_at old o) target → Contains (listed_at new o) target ⊎ Contains (listed_at old offset) target
   pub fewer : (o target : ℕ) → Contains (listed_at new o) target → Contains (listed_at old o) target

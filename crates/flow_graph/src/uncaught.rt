@@ -1,8 +1,8 @@
 //! The handlers of which no covered instruction was walked yet: each is met once in the whole walk, and not again at each
 //! instruction that it covers (JVMS 2.10, 4.7.3).
 
-ghost use Rattle.std.specs.Prelude.{◌≡◌, ◌≤◌, ◌++◌, All, length, map, IfOk, OnOk};
-ghost use Rattle.flow_graph.specs.Uncaught.{listed_at, held, Holds, TakesOut, range_of, halved, IsFirstAlone, IsLastAlone, IsAlone, Lists, IsBare, AddsLevels, TakesListed};
+ghost use Rattle.std.specs.Prelude.{◌≡◌, ◌≤◌, ◌++◌, [], All, length, map, IfOk, OnOk};
+ghost use Rattle.flow_graph.specs.Uncaught.{listed_at, held, Holds, TakesOut, range_of, halved, IsFirstAlone, IsLastAlone, IsAlone, ListsMore, IsBare, AddsLevels, TakesListed};
 
 use jvm_model::Handler;
 use std::alloc::{AllocError, Global};
@@ -79,7 +79,8 @@ fn width_of(ranges: &[Range]) -> u32
 }
 
 /// Adds the levels of ranges, none of which goes past the width. At each level the ranges and the width are half of those at
-/// the one before, until the width is 0.
+/// the one before, until the width is 0: the lists of all are fewer than twice the width, and each range is listed twice at most
+/// at each.
 fn add_levels(
     alloc: Global,
     ranges: &mut [Range],
@@ -113,7 +114,7 @@ fn bare_level(alloc: Global, width: u32) -> Result<Level, AllocError>
 /// for the next level.
 fn put_ranges(ranges: &mut [Range], level: &mut Level) -> Result<(), AllocError>
     requires { All (λ r. r.to ≤ length level.old.lists.items) ranges.old }
-    ensures put { OnOk result (Lists (IsAlone ranges.old) level.old level.new) }
+    ensures put { OnOk result (ListsMore (IsAlone ranges.old) level.old level.new) }
     ensures left { OnOk result (ranges.new ≡ map halved ranges.old) }
 {
     for range in ranges.iter_mut() {
@@ -127,7 +128,7 @@ fn put_ranges(ranges: &mut [Range], level: &mut Level) -> Result<(), AllocError>
 /// Lists the target of a range at its first offset, if the neighbour of that is not in the range.
 fn put_first(level: &mut Level, range: Range) -> Result<(), AllocError>
     requires { range.to ≤ length level.old.lists.items }
-    ensures { OnOk result (Lists (IsFirstAlone range) level.old level.new) }
+    ensures { OnOk result (ListsMore (IsFirstAlone range) level.old level.new) }
 {
     if range.from < range.to && range.from % 2 == 1 {
         level.lists[range.from as usize].push(range.target)?;
@@ -138,7 +139,7 @@ fn put_first(level: &mut Level, range: Range) -> Result<(), AllocError>
 /// Lists the target of a range at its last offset, if the neighbour of that is not in the range.
 fn put_last(level: &mut Level, range: Range) -> Result<(), AllocError>
     requires { range.to ≤ length level.old.lists.items }
-    ensures { OnOk result (Lists (IsLastAlone range) level.old level.new) }
+    ensures { OnOk result (ListsMore (IsLastAlone range) level.old level.new) }
 {
     if range.from < range.to && range.to % 2 == 1 {
         level.lists[(range.to - 1) as usize].push(range.target)?;
@@ -161,6 +162,7 @@ fn half_of(range: Range) -> Range
 fn take_held(levels: &mut [Level], offset: u32, targets: &mut Vec<u32>) -> Result<(), AllocError>
     ensures taken { OnOk result (targets.new.items ≡ targets.old.items ++ held levels.old offset) }
     ensures left { OnOk result (TakesOut offset levels.old levels.new) }
+    ensures gone { OnOk result (held levels.new offset ≡ []) }
 {
     if let Some((level, rest)) = levels.split_first_mut() {
         take_listed(level, offset, targets)?;

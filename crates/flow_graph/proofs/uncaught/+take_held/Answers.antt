@@ -1,7 +1,7 @@
 use Rattle.std.proofs.Common.{◌≡◌, ◌∷◌, List, sym, subst}
 use Rattle.flow_graph.specs.declared.uncaught.Level.{Level}
 use Rattle.flow_graph.specs.Uncaught.{TakesOut}
-use Rattle.flow_graph.proofs.UncaughtLevels.{takes_out}
+use Rattle.flow_graph.proofs.UncaughtLevels.{takes_out, gone_from}
 use Rattle.flow_graph.proofs.uncaught.+take_held.Goals as goal
 
 pub returns-in_ok-take_held-clause-left : goal.returns-in_ok-take_held-clause-left
@@ -12,3 +12,6 @@ returns-in_ok-take_held-clause-left t c =
     let is : c.args.levels.now ≡ level ∷ rest = c.in-Some.ensures.cases.0 in
     subst (λ (ls : List Level). TakesOut c.args.offset ls news) (sym is)
     (takes_out c.args.offset level c.take_listed.new.level rest c.take_held.new.levels c.in_ok-take_listed.ensures.left c.in_ok-take_held.ensures.left)
+
+pub returns-in_ok-take_held-clause-gone : goal.returns-in_ok-take_held-clause-gone
+returns-in_ok-take_held-clause-gone t c = gone_from c.args.offset c.take_listed.new.level c.take_held.new.levels c.in_ok-take_listed.ensures.left.gone c.in_ok-take_held.ensures.gone

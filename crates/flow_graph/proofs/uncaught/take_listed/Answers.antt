@@ -1,7 +1,13 @@
-use Rattle.std.proofs.Common.{◌≤◌, length, inl, inr, ◌++◌, List, ℕ, append-nil, refl, sym, ap, ◌∙◌, arith}
+use Rattle.std.proofs.Common.{◌≡◌, ◌<◌, [], length, inl, inr, ◌++◌, List, ℕ, append-nil, refl, sym, ap, ◌∙◌, arith}
 use Rattle.std.proofs.lemmas.Bool.{cases_lt, false≢true}
-use Rattle.flow_graph.proofs.UncaughtLevels.{takes_listed, nothing_past}
+use Rattle.flow_graph.specs.declared.uncaught.Level.{Level}
+use Rattle.flow_graph.specs.Uncaught.{listed_at}
+use Rattle.flow_graph.proofs.UncaughtLevels.{takes_listed, takes_none, nothing_past}
 use Rattle.flow_graph.proofs.uncaught.take_listed.Goals as goal
+
+-- an offset past the lists has nothing
+past : (offset : ℕ) (level : Level) (n : ℕ) → n ≡ length level.lists.items → (offset < n → ⊥) → listed_at level offset ≡ []
+past offset level n long none = nothing_past level offset (elim (cases_lt offset n) [ inl lt ↦ absurd (none lt) | inr le ↦ omega (arith, long) ])
 
 pub returns-in_ok-append-clause-left : goal.returns-in_ok-append-clause-left
 returns-in_ok-append-clause-left c =
@@ -10,9 +16,11 @@ returns-in_ok-append-clause-left c =
 pub returns-in_default-clause-taken : goal.returns-in_default-clause-taken
 returns-in_default-clause-taken c =
     let items = c.args.targets.now.items in
-    let long = c.args.level.now.lists.ok.0 in
-    let past : length c.args.level.now.lists.items ≤ c.args.offset = elim (cases_lt c.args.offset (length c.args.level.now.lists.items)) [
-      | inl lt ↦ absurd (false≢true (c.in_default.ensures.variant.1 (omega (arith, lt, long))))
-      | inr le ↦ le
-    ] in
-    sym (ap (λ (ts : List ℕ). items ++ ts) (nothing_past c.args.level.now c.args.offset past) ∙ append-nil items)
+    let level = c.args.level.now in
+    let nothing = past c.args.offset level _ level.lists.ok.0 (λ lt. false≢true (c.in_default.ensures.variant.1 lt)) in
+    sym (ap (λ (ts : List ℕ). items ++ ts) nothing ∙ append-nil items)
+
+pub returns-in_default-clause-left : goal.returns-in_default-clause-left
+returns-in_default-clause-left c =
+    let level = c.args.level.now in
+    takes_none c.args.offset level (past c.args.offset level _ level.lists.ok.0 (λ lt. false≢true (c.in_default.ensures.variant.1 lt)))
