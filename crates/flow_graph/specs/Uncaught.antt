@@ -28,7 +28,7 @@ pub record Holds (handlers : List Handler) (levels : List Level) : Type 0 where
   pub all : (h : Handler) (offset : ℕ) → Contains handlers h → covers offset h ≡ true → Contains (held levels offset) h.target
   pub only : (offset target : ℕ) → Contains (held levels offset) target → Contains (caught_at handlers offset) target
 
--- What was listed at an offset is listed nowhere any more; all else is where it was.
+-- What was listed at an offset was taken; what was listed elsewhere is there still, or was taken.
 pub record TakesOut (offset : ℕ) (old new : List Level) : Type 0 where
   pub kept : (o target : ℕ) → Contains (held old o) target → Contains (held new o) target ⊎ Contains (held old offset) target
   pub fewer : (o target : ℕ) → Contains (held new o) target → Contains (held old o) target

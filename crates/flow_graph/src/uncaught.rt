@@ -41,9 +41,11 @@ impl UncaughtHandlers {
         Ok(UncaughtHandlers { levels })
     }
 
-    /// Where the handlers begin that cover an offset, and takes them out; one may be told several times.
+    /// Where the handlers begin that cover an offset and were not taken out there, and takes them out. A handler may be told several
+    /// times, as often as it is listed.
     pub(crate) fn take(&mut self, alloc: Global, offset: u32) -> Result<Vec<u32>, AllocError>
         ensures taken { IfOk result (λ v. v.items ≡ held self.old.levels.items offset) }
+        ensures gone { OnOk result (held self.new.levels.items offset ≡ []) }
         ensures left { OnOk result (TakesOut offset self.old.levels.items self.new.levels.items) }
     {
         let mut targets = Vec::new(alloc);
