@@ -1,4 +1,4 @@
--- A handler that is caught again changes nothing, so that each is met once; and in which order they are caught does not matter.
+-- A handler that is caught again changes nothing, so that it need not be met again; and in which order they are caught does not matter.
 use Rattle.std.proofs.Common.{◌≡◌, ◌⊎◌, inl, inr, ℕ, zero, suc, ◌<◌, Bool, true, false, cond, not, ◌||◌, eqb, List, [], ◌∷◌, length, set, get_or, map, Contains, Option, Some, None, refl, sym, ap, ◌∙◌, subst, arith}
 use Rattle.std.specs.List.{slice_get, filter, AllByRecursion}
 use Rattle.std.specs.Option.{option_map_or}

@@ -1,4 +1,4 @@
--- The walk meets each handler once (JVMS 2.10): what was met is noted already, and the others are still listed.
+-- The walk need not meet a handler at each instruction that it covers (JVMS 2.10): it is noted already, or still listed there.
 use Rattle.std.specs.Prelude.{◌≡◌, ◌⊎◌, ℕ, true, List, Some, slice_get, Contains}
 use Rattle.jvm_model.specs.declared.code.Code.{Code}
 use Rattle.jvm_model.specs.declared.code.Handler.{Handler}

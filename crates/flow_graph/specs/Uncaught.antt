@@ -1,4 +1,4 @@
--- Handlers of which no covered instruction was walked yet, by the offsets that they cover, level by level (JVMS 2.10, 4.7.3).
+-- Handlers that may not be caught yet, by the offsets that they cover, level by level (JVMS 2.10, 4.7.3).
 use Rattle.std.specs.Prelude.{◌≡◌, ◌⊎◌, ℕ, ◌+◌, ◌/◌, ◌%◌, ◌<◌, ◌≤◌, true, List, [], ◌∷◌, ◌++◌, length, option_map, unwrap_or, slice_get, Contains}
 use Rattle.std.specs.Global.{Vec}
 use Rattle.jvm_model.specs.declared.code.Handler.{Handler}

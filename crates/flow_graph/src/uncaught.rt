@@ -1,5 +1,5 @@
-//! The handlers of which no covered instruction was walked yet: each is met once in the whole walk, and not again at each
-//! instruction that it covers (JVMS 2.10, 4.7.3).
+//! Handlers by the offsets that they cover, in few lists each. A list is taken out where it is first met, so that a handler is met
+//! at most once at each of its places, and not at each instruction that it covers (JVMS 2.10, 4.7.3).
 
 ghost use Rattle.std.specs.Prelude.{◌≡◌, ◌≤◌, ◌++◌, [], All, length, map, IfOk, OnOk};
 ghost use Rattle.flow_graph.specs.Uncaught.{listed_at, held, Holds, TakesOut, range_of, halved, IsFirstAlone, IsLastAlone, IsAlone, ListsMore, IsBare, AddsLevels, TakesListed};
@@ -22,8 +22,9 @@ struct Level {
     lists: Vec<Vec<u32>>,
 }
 
-/// Where the handlers begin of which no covered instruction was walked yet. A handler is listed at few places: at the ends of
-/// its range at each level, as far as they have no neighbour in it with which they are one at the next.
+/// Where handlers begin that may not be caught yet. A handler is listed at few places, two at most of each level: at the ends of
+/// its range, as far as they have no neighbour in it with which they are one at the next level. It may be taken out at some of its
+/// places, and still be listed at others.
 #[derive(Debug, Drop)]
 pub(crate) struct UncaughtHandlers {
     levels: Vec<Level>,

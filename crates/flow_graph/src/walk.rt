@@ -146,8 +146,8 @@ fn await_at(
     Ok(())
 }
 
-/// Walks the first instruction that waits. What it reaches is awaited. Of the handlers that cover it those are met that no walked
-/// instruction met: that the others begin with what was thrown is noted already.
+/// Walks the first instruction that waits. What it reaches is awaited. Of the handlers that cover it those are met that are listed
+/// at it still: that the others begin with what was thrown is noted already.
 fn walk_one(
     alloc: Global,
     code: &Code,
