@@ -67,7 +67,7 @@ impl<'a> Input<'a> {
         ensures { Gives (λ bytes. bytes.now) result self.new (bytes_at count self.old) }
     {
         if self.rest.len() < count {
-            return Err(ReadRefusal::Refused(self.offset, Reason::Truncated));
+            return Err(ReadRefusal::Refused { offset: self.offset, reason: Reason::Truncated });
         }
         let (front, rest) = self.rest.split_at(count);
         self.rest = rest;

@@ -33,7 +33,7 @@ pub fn above_lists(
     Ok(lists)
 }
 
-// What is searched through the superinterfaces of the class, one after another.
+/// What is searched through the superinterfaces of the class, one after another.
 fn gather_all(
     parents: &[Parents],
     order: &[u32],
@@ -56,7 +56,7 @@ fn gather_all(
     Ok(())
 }
 
-// What is searched from the class on: it and its superclasses, each before what is searched through its superinterfaces.
+/// What is searched from the class on: it and its superclasses, each before what is searched through its superinterfaces.
 fn gather(
     parents: &[Parents],
     order: &[u32],

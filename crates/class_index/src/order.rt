@@ -43,8 +43,8 @@ pub fn upward_order(alloc: Global, parents: &[Parents]) -> Result<Result<Vec<u32
     }
 }
 
-// Places each class that can be placed: a class is placed once all its direct supertypes are. Until then it waits in the
-// list of one that is not; when the turn comes to that one, it looks for the next.
+/// Places each class that can be placed: a class is placed once all its direct supertypes are. Until then it waits in the
+/// list of one that is not; when the turn comes to that one, it looks for the next.
 fn place_all(alloc: Global, parents: &[Parents]) -> Result<ClassSet, AllocError>
     requires in_range { AreInRange parents.now }
     requires small { length parents.now < 2 ^ 32 }
@@ -63,7 +63,7 @@ fn place_all(alloc: Global, parents: &[Parents]) -> Result<ClassSet, AllocError>
     Ok(order)
 }
 
-// Each class in turn, of which nothing is known yet.
+/// Each class in turn, of which nothing is known yet.
 fn settle_each(
     parents: &[Parents],
     order: &mut ClassSet,
@@ -89,7 +89,7 @@ fn settle_each(
     Ok(())
 }
 
-// Those that waited for a class that is placed now.
+/// Those that waited for a class that is placed now.
 fn settle_released(
     parents: &[Parents],
     released: &[Waiter],
@@ -109,7 +109,7 @@ fn settle_released(
     Ok(())
 }
 
-// Places the class if all its direct supertypes are placed, and otherwise lets it wait for one that is not.
+/// Places the class if all its direct supertypes are placed, and otherwise lets it wait for one that is not.
 fn settle(
     parents: &[Parents],
     waiter: Waiter,
@@ -134,7 +134,7 @@ fn settle(
     Ok(())
 }
 
-// The superclass, or the first superinterface from the place on, that is not placed.
+/// The superclass, or the first superinterface from the place on, that is not placed.
 fn first_missing(parents: &Parents, order: &ClassSet, from: usize) -> Option<Missing>
     requires in_range { All (λ (y : ℕ). y < order.now.size) (direct_of parents.now) }
     requires before { AreIn order.now.items (take from parents.now.interfaces.items) }
@@ -167,7 +167,7 @@ pub fn empty_lists<X: Drop>(alloc: Global, count: usize) -> Result<Vec<Vec<X>>, 
     Ok(lists)
 }
 
-// The least class that is above itself.
+/// The least class that is above itself.
 fn least_on_cycle(
     alloc: Global,
     parents: &[Parents],
@@ -188,7 +188,7 @@ fn least_on_cycle(
     Ok(None)
 }
 
-// Whether the class is above itself. One that is placed is not.
+/// Whether the class is above itself. One that is placed is not.
 fn is_on_cycle(
     parents: &[Parents],
     class: u32,
@@ -208,7 +208,7 @@ fn is_on_cycle(
     is_above_itself(parents, class, walked)
 }
 
-// Whether a walk over all that is above the class comes back to it. The set is the walk's, and is emptied before.
+/// Whether a walk over all that is above the class comes back to it. The set is the walk's, and is emptied before.
 fn is_above_itself(
     parents: &[Parents],
     class: u32,
@@ -231,7 +231,7 @@ fn is_above_itself(
     Ok(walked.contains(class))
 }
 
-// Adds the direct supertypes of a class.
+/// Adds the direct supertypes of a class.
 fn add_direct(parents: &Parents, classes: &mut ClassSet) -> Result<(), AllocError>
     requires { All (λ (y : ℕ). y < classes.old.size) (direct_of parents.now) }
     ensures { OnOk result (classes.new ≡ record { size = classes.old.size; items = with_classes classes.old.items (direct_of parents.now) }) }

@@ -15,7 +15,7 @@ use Rattle.jvm_model.specs.declared.pool.PoolEntry.{PoolEntry}
 use Rattle.jvm_model.specs.declared.pool.PoolEntry.TheVariants.{Utf8, Integer, Float, Long, Double, Class, Str, Fieldref, Methodref, InterfaceMethodref, NameAndType, MethodHandle, MethodType, InvokeDynamic, Taken}
 use Rattle.jvm_model.specs.declared.reason.Reason.{Reason}
 use Rattle.jvm_model.specs.declared.reason.Reason.TheVariants.{BadIndex, BadUtf8, BadDescriptor, CodeMissing, CodeUnexpected}
-use Rattle.jvm_model.specs.Soundness.{Use, Place, Holds, reason_of, at_offset, each_place, text_uses, class_uses, reference_uses, entry_uses, entry_places, attribute_places, code_places, name_places, field_places, method_places, header_places, body_places, places_of, flags_offset, fields_offset, methods_offset, attributes_offset}
+use Rattle.jvm_model.specs.Soundness.{Use, PlacedUse, UseHolds, reason_of, at_offset, each_place, text_uses, class_uses, reference_uses, entry_uses, entry_places, attribute_places, code_places, name_places, field_places, method_places, header_places, body_places, places_of, flags_offset, fields_offset, methods_offset, attributes_offset}
 use Rattle.jvm_model.specs.Spelling.{u2, entry, attribute, member}
 use Rattle.jvm_model.proofs.Lengths.{two_each}
 use Rattle.classfile_reader.specs.FirstPlace.{FirstBreach, IsFirstBreach}
@@ -42,23 +42,23 @@ pairs_append R (x ∷ xs) ys first second across =
 module _ (order : Reason → Reason → Ordering) where
   -- ---- places from an offset on, and before another one
 
-  record Spans (low high : ℕ) (places : List Place) : Type 0 where
-    pub within : All (λ (p : Place). (low ≤ p.offset) × (p.offset < high)) places
+  record Spans (low high : ℕ) (places : List PlacedUse) : Type 0 where
+    pub within : All (λ (p : PlacedUse). (low ≤ p.offset) × (p.offset < high)) places
     pub ascends : AreAscending order places
 
   none : (low high : ℕ) → Spans low high []
   none low high = record { within = λ k d lt. absurd (omega arith); ascends = λ i j d lt within. absurd (omega arith) }
 
-  joined : (low middle high : ℕ) (xs ys : List Place) → low ≤ middle → middle ≤ high → Spans low middle xs → Spans middle high ys → Spans low high (xs ++ ys)
+  joined : (low middle high : ℕ) (xs ys : List PlacedUse) → low ≤ middle → middle ≤ high → Spans low middle xs → Spans middle high ys → Spans low high (xs ++ ys)
   joined low middle high xs ys below above first second = record {
-    within = All-append (λ (p : Place). (low ≤ p.offset) × (p.offset < high)) xs ys
+    within = All-append (λ (p : PlacedUse). (low ≤ p.offset) × (p.offset < high)) xs ys
         (λ k d lt. let h = first.within k d lt in (omega arith, omega arith))
         (λ k d lt. let h = second.within k d lt in (omega arith, omega arith));
-    ascends = pairs_append (λ (p q : Place). IsNotBefore order p.offset (reason_of p.use_) q) xs ys first.ascends second.ascends
+    ascends = pairs_append (λ (p q : PlacedUse). IsNotBefore order p.offset (reason_of p.use_) q) xs ys first.ascends second.ascends
         (λ k d lt. λ j e inside. let h = first.within k d lt in let g = second.within j e inside in IsNotBefore.by_offset (omega arith));
   }
 
-  wider : (low high start end : ℕ) (xs : List Place) → start ≤ low → high ≤ end → Spans low high xs → Spans start end xs
+  wider : (low high start end : ℕ) (xs : List PlacedUse) → start ≤ low → high ≤ end → Spans low high xs → Spans start end xs
   wider low high start end xs below above s = record { within = λ k d lt. let h = s.within k d lt in (omega arith, omega arith); ascends = s.ascends }
 
   -- ---- uses at one offset
@@ -69,30 +69,30 @@ module _ (order : Reason → Reason → Ordering) where
   Rising (u ∷ us) = AllByRecursion (λ (v : Use). is_le (order (reason_of u) (reason_of v)) ≡ true) us × Rising us
 
   later_uses : (offset : ℕ) (u : Use) (us : List Use) → AllByRecursion (λ (v : Use). is_le (order (reason_of u) (reason_of v)) ≡ true) us
-      → AllByRecursion (λ (q : Place). IsNotBefore order offset (reason_of u) q) (at_offset offset us)
+      → AllByRecursion (λ (q : PlacedUse). IsNotBefore order offset (reason_of u) q) (at_offset offset us)
   later_uses offset u [] h = tt
   later_uses offset u (v ∷ us) h = (IsNotBefore.by_reason refl h.0, later_uses offset u us h.1)
 
   rising_places : (offset : ℕ) (us : List Use) → Rising us → AreAscending order (at_offset offset us)
   rising_places offset [] h = λ i j d lt within. absurd (omega arith)
   rising_places offset (u ∷ us) h =
-      AllPairs-cons (λ (p q : Place). IsNotBefore order p.offset (reason_of p.use_) q) (record { offset = offset; use_ = u }) (at_offset offset us)
-      (All-from_recursion (λ (q : Place). IsNotBefore order offset (reason_of u) q) (at_offset offset us) (later_uses offset u us h.0))
+      AllPairs-cons (λ (p q : PlacedUse). IsNotBefore order p.offset (reason_of p.use_) q) (record { offset = offset; use_ = u }) (at_offset offset us)
+      (All-from_recursion (λ (q : PlacedUse). IsNotBefore order offset (reason_of u) q) (at_offset offset us) (later_uses offset u us h.0))
       (rising_places offset us h.1)
 
-  here : (offset : ℕ) (us : List Use) → AllByRecursion (λ (p : Place). (offset ≤ p.offset) × (p.offset < offset + 1)) (at_offset offset us)
+  here : (offset : ℕ) (us : List Use) → AllByRecursion (λ (p : PlacedUse). (offset ≤ p.offset) × (p.offset < offset + 1)) (at_offset offset us)
   here offset [] = tt
   here offset (u ∷ us) = ((omega arith, omega arith), here offset us)
 
   at_one : (offset high : ℕ) (us : List Use) → offset < high → Rising us → Spans offset high (at_offset offset us)
   at_one offset high us lt h = wider offset (offset + 1) offset high (at_offset offset us) (omega arith) (omega arith) (record {
-    within = All-from_recursion (λ (p : Place). (offset ≤ p.offset) × (p.offset < offset + 1)) (at_offset offset us) (here offset us);
+    within = All-from_recursion (λ (p : PlacedUse). (offset ≤ p.offset) × (p.offset < offset + 1)) (at_offset offset us) (here offset us);
     ascends = rising_places offset us h;
   })
 
   -- ---- items one after the other
 
-  each : {X : Type 0} (places : ℕ → List X → X → List Place) (text : X → List ℕ) → ((offset : ℕ) (earlier : List X) (x : X) → Spans offset (offset + length (text x)) (places offset earlier x))
+  each : {X : Type 0} (places : ℕ → List X → X → List PlacedUse) (text : X → List ℕ) → ((offset : ℕ) (earlier : List X) (x : X) → Spans offset (offset + length (text x)) (places offset earlier x))
       → (offset : ℕ) (earlier xs : List X) → Spans offset (offset + length (flat_map text xs)) (each_place places (λ x. length (text x)) offset earlier xs)
   each places text item offset earlier [] = none offset (offset + 0)
   each places text item offset earlier (x ∷ xs) =
@@ -154,7 +154,7 @@ module _ (order : Reason → Reason → Ordering) where
     member_length m = simp length-append (omega arith)
 
     -- what follows the flags of a member
-    named : (names descriptors : Grammar) (places : ℕ → List Attribute → Attribute → List Place) → ((offset : ℕ) (earlier : List Attribute) (a : Attribute) → Spans offset (offset + length (attribute a)) (places offset earlier a))
+    named : (names descriptors : Grammar) (places : ℕ → List Attribute → Attribute → List PlacedUse) → ((offset : ℕ) (earlier : List Attribute) (a : Attribute) → Spans offset (offset + length (attribute a)) (places offset earlier a))
         → (offset : ℕ) (earlier : List Member) (m : Member)
         → Spans (offset + 2) (offset + length (member m)) (name_places names descriptors (offset + 2) earlier m ++ each_place places (λ a. length (attribute a)) (offset + 8) [] m.attributes)
     named names descriptors places item offset earlier m =
@@ -237,24 +237,24 @@ module _ (order : Reason → Reason → Ordering) where
   itself same (Use.code_allowed m earlier a) = same.unexpected
 
   -- the places before the one that is told hold, and those after it are not before it
-  least : KnowsItself → (pool : List PoolEntry) (places : List Place) (offset : ℕ) (reason : Reason) → AreAscending order places → FirstBreach pool places (Some (offset, reason))
-      → AllByRecursion (λ (q : Place). ¬ Holds pool q.use_ → IsNotBefore order offset reason q) places
+  least : KnowsItself → (pool : List PoolEntry) (places : List PlacedUse) (offset : ℕ) (reason : Reason) → AreAscending order places → FirstBreach pool places (Some (offset, reason))
+      → AllByRecursion (λ (q : PlacedUse). ¬ UseHolds pool q.use_ → IsNotBefore order offset reason q) places
   least same pool [] offset reason up first = tt
   least same pool (p ∷ places) offset reason up (inl (holds, first)) =
       let rest : AreAscending order places = λ i j d lt within. up (suc i) (suc j) d (omega arith) (omega arith) in
       (λ breaks. absurd (breaks holds), least same pool places offset reason rest first)
   least same pool (p ∷ places) offset reason up (inr (breaks, e)) =
-      subst (λ (t : ℕ × Reason). AllByRecursion (λ (q : Place). ¬ Holds pool q.use_ → IsNotBefore order t.0 t.1 q) (p ∷ places)) (told (p.offset, reason_of p.use_) (offset, reason) (sym e)) (λ _. IsNotBefore.by_reason refl (itself same p.use_), after pool p places up)
+      subst (λ (t : ℕ × Reason). AllByRecursion (λ (q : PlacedUse). ¬ UseHolds pool q.use_ → IsNotBefore order t.0 t.1 q) (p ∷ places)) (told (p.offset, reason_of p.use_) (offset, reason) (sym e)) (λ _. IsNotBefore.by_reason refl (itself same p.use_), after pool p places up)
     where
       told : (s t : ℕ × Reason) → Some s ≡ Some t → s ≡ t
       told s t e = cc
 
-      after : (pool : List PoolEntry) (p : Place) (places : List Place) → AreAscending order (p ∷ places) → AllByRecursion (λ (q : Place). ¬ Holds pool q.use_ → IsNotBefore order p.offset (reason_of p.use_) q) places
+      after : (pool : List PoolEntry) (p : PlacedUse) (places : List PlacedUse) → AreAscending order (p ∷ places) → AllByRecursion (λ (q : PlacedUse). ¬ UseHolds pool q.use_ → IsNotBefore order p.offset (reason_of p.use_) q) places
       after pool p places up =
-          recursion_from_All (λ (q : Place). ¬ Holds pool q.use_ → IsNotBefore order p.offset (reason_of p.use_) q) places (λ k d lt. λ _. up 0 (suc k) d (omega arith) (omega arith))
+          recursion_from_All (λ (q : PlacedUse). ¬ UseHolds pool q.use_ → IsNotBefore order p.offset (reason_of p.use_) q) places (λ k d lt. λ _. up 0 (suc k) d (omega arith) (omega arith))
 
-  pub first_is_least : KnowsItself → (pool : List PoolEntry) (places : List Place) (offset : ℕ) (reason : Reason) → AreAscending order places → IsFirstBreach pool places (Some (offset, reason))
-      → (p : Place) → Contains places p → ¬ Holds pool p.use_ → IsNotBefore order offset reason p
+  pub first_is_least : KnowsItself → (pool : List PoolEntry) (places : List PlacedUse) (offset : ℕ) (reason : Reason) → AreAscending order places → IsFirstBreach pool places (Some (offset, reason))
+      → (p : PlacedUse) → Contains places p → ¬ UseHolds pool p.use_ → IsNotBefore order offset reason p
   first_is_least same pool places offset reason up first p in_list =
-      All-contains (λ (q : Place). ¬ Holds pool q.use_ → IsNotBefore order offset reason q) places p
-      (All-from_recursion (λ (q : Place). ¬ Holds pool q.use_ → IsNotBefore order offset reason q) places (least same pool places offset reason up first.is)) in_list
+      All-contains (λ (q : PlacedUse). ¬ UseHolds pool q.use_ → IsNotBefore order offset reason q) places p
+      (All-from_recursion (λ (q : PlacedUse). ¬ UseHolds pool q.use_ → IsNotBefore order offset reason q) places (least same pool places offset reason up first.is)) in_list

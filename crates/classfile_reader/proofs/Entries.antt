@@ -9,7 +9,7 @@ use Rattle.jvm_model.specs.declared.pool.PoolEntry.{PoolEntry}
 use Rattle.jvm_model.specs.declared.pool.PoolEntry.TheVariants.{Utf8, Integer, Float, Long, Double, Class, Str, Fieldref, Methodref, InterfaceMethodref, NameAndType, MethodHandle, MethodType, InvokeDynamic, Taken}
 use Rattle.jvm_model.specs.Spelling.{u2, u4, u8, entry, pool, EntryFits, is_wide, is_taken, IsPairedAfter}
 use Rattle.byte_reader.specs.Reading.{Place, Fault}
-use Rattle.classfile_reader.specs.PoolReading.{one_at, pair_at, two_at, text_at, handle_at, contents_at, tagged_at, as_field, entry_at, wide_at, index_at, indices_at, pool_at}
+use Rattle.classfile_reader.specs.PoolReading.{one_at, pair_at, two_at, utf8_at, handle_at, contents_at, tagged_at, as_field, entry_at, wide_at, index_at, indices_at, pool_at}
 use Rattle.classfile_reader.proofs.Fields.{IsBytes, bind_ok, ok_is, chosen, unless_ok, goes_on_with, Takes, Takes-then, IsSpelledBy, IsReadBack, IsWide, wide16, wide32, wide64, number_takes, number_again, byte_takes, byte_again, bytes_take, bytes_again}
 
 -- ---- what a tag calls for
@@ -45,8 +45,8 @@ two_takes tag make spelled fit plain place x fits e =
     subst (λ (y : PoolEntry × Place). TakesContents tag place y) is
     (record { contents = u2 a.0.0 ++ u2 b.0.0; spelled = spelled a.0.0 b.0.0; taken = both; fits = fit a.0.0 b.0.0 first.1 second.1; plain = plain a.0.0 b.0.0 })
 
-text_takes : (place : Place) (x : PoolEntry × Place) → IsBytes place.rest → text_at place ≡ Ok x → TakesContents 1 place x
-unfolding text_at
+text_takes : (place : Place) (x : PoolEntry × Place) → IsBytes place.rest → utf8_at place ≡ Ok x → TakesContents 1 place x
+unfolding utf8_at
 text_takes place x fits e =
     let a = bind_ok _ _ x e in
     let b = bind_ok _ _ x a.2 in
@@ -214,8 +214,8 @@ two_again make m n p q o rest =
     (second.0, goes_on_with _ _ _ _ pair refl)
 
 text_again : (bytes : List ℕ) → length bytes < 2 ^ 16 → (o : ℕ) (rest : List ℕ)
-    → (end : ℕ) × (text_at (record { offset = o; rest = (u2 (length bytes) ++ bytes) ++ rest }) ≡ Ok (Utf8 bytes, record { offset = end; rest = rest }))
-unfolding text_at
+    → (end : ℕ) × (utf8_at (record { offset = o; rest = (u2 (length bytes) ++ bytes) ++ rest }) ≡ Ok (Utf8 bytes, record { offset = end; rest = rest }))
+unfolding utf8_at
 text_again bytes lt o rest =
     let first = number_again w16 (2 ^ 16) wide16 (length bytes) o (bytes ++ rest) lt in
     let second = bytes_again bytes first.0 rest in

@@ -9,7 +9,7 @@ use Rattle.jvm_model.specs.declared.pool.PoolEntry.{PoolEntry}
 use Rattle.std.proofs.lemmas.Option.{slice_get-get_or}
 use Rattle.jvm_model.specs.declared.reason.Reason.{Reason}
 use Rattle.jvm_model.specs.declared.class_file.ClassFile.{ClassFile}
-use Rattle.jvm_model.specs.Soundness.{Use, Place, Holds, at_offset, each_place, places_of, IsSoundClass}
+use Rattle.jvm_model.specs.Soundness.{Use, PlacedUse, UseHolds, at_offset, each_place, places_of, IsSoundClass}
 use Rattle.jvm_model.proofs.Lengths.{one_more}
 use Rattle.classfile_reader.specs.FirstPlace.{FirstUse, IsFirstUse, FirstBreach, IsFirstBreach}
 use Rattle.classfile_reader.specs.Repeats.{IsRepeat, AreRepeats}
@@ -26,20 +26,20 @@ placed_uses pool offset uses reason first = record { is = placed pool offset use
 
 -- ---- one list of places after another
 
-after_all : (pool : List PoolEntry) (xs ys : List Place) (answer : Option (ℕ × Reason)) → FirstBreach pool xs None → FirstBreach pool ys answer → FirstBreach pool (xs ++ ys) answer
+after_all : (pool : List PoolEntry) (xs ys : List PlacedUse) (answer : Option (ℕ × Reason)) → FirstBreach pool xs None → FirstBreach pool ys answer → FirstBreach pool (xs ++ ys) answer
 after_all pool [] ys answer none first = first
 after_all pool (p ∷ xs) ys answer (inl (holds, none)) first = inl (holds, after_all pool xs ys answer none first)
 after_all pool (p ∷ xs) ys answer (inr (breaks, e)) first = absurd cc
 
-in_front : (pool : List PoolEntry) (xs ys : List Place) (fault : ℕ × Reason) → FirstBreach pool xs (Some fault) → FirstBreach pool (xs ++ ys) (Some fault)
+in_front : (pool : List PoolEntry) (xs ys : List PlacedUse) (fault : ℕ × Reason) → FirstBreach pool xs (Some fault) → FirstBreach pool (xs ++ ys) (Some fault)
 in_front pool [] ys fault e = absurd cc
 in_front pool (p ∷ xs) ys fault (inl (holds, first)) = inl (holds, in_front pool xs ys fault first)
 in_front pool (p ∷ xs) ys fault (inr breaks) = inr breaks
 
-pub goes_on : (pool : List PoolEntry) (xs ys : List Place) (answer : Option (ℕ × Reason)) → IsFirstBreach pool xs None → IsFirstBreach pool ys answer → IsFirstBreach pool (xs ++ ys) answer
+pub goes_on : (pool : List PoolEntry) (xs ys : List PlacedUse) (answer : Option (ℕ × Reason)) → IsFirstBreach pool xs None → IsFirstBreach pool ys answer → IsFirstBreach pool (xs ++ ys) answer
 goes_on pool xs ys answer none first = record { is = after_all pool xs ys answer none.is first.is }
 
-pub stops : (pool : List PoolEntry) (xs ys : List Place) (fault : ℕ × Reason) → IsFirstBreach pool xs (Some fault) → IsFirstBreach pool (xs ++ ys) (Some fault)
+pub stops : (pool : List PoolEntry) (xs ys : List PlacedUse) (fault : ℕ × Reason) → IsFirstBreach pool xs (Some fault) → IsFirstBreach pool (xs ++ ys) (Some fault)
 stops pool xs ys fault first = record { is = in_front pool xs ys fault first.is }
 
 -- the same of uses
@@ -61,7 +61,7 @@ uses_stop pool xs ys reason first = record { is = uses_front pool xs ys reason f
 
 -- ---- items one after the other
 
-module _ {X : Type 0} (pool : List PoolEntry) (places : ℕ → List X → X → List Place) (text : X → List ℕ) where
+module _ {X : Type 0} (pool : List PoolEntry) (places : ℕ → List X → X → List PlacedUse) (text : X → List ℕ) where
   parts : (offset : ℕ) (earlier xs ys : List X) → each_place places (λ x. length (text x)) offset earlier (xs ++ ys)
       ≡ each_place places (λ x. length (text x)) offset earlier xs ++ each_place places (λ x. length (text x)) (offset + length (flat_map text xs)) (earlier ++ xs) ys
   parts offset earlier [] ys =
@@ -72,7 +72,7 @@ module _ {X : Type 0} (pool : List PoolEntry) (places : ℕ → List X → X →
       let others = each_place places (λ x. length (text x)) (offset + length (text x)) (earlier ++ x ∷ []) xs in
       let there : offset + length (text x) + length (flat_map text xs) ≡ offset + length (text x ++ flat_map text xs) = omega (arith, length-append (text x) (flat_map text xs)) in
       let regrouped : (earlier ++ x ∷ []) ++ xs ≡ earlier ++ x ∷ xs = append_assoc earlier (x ∷ []) xs in
-      ap (λ (ps : List Place). at_x ++ ps) (parts (offset + length (text x)) (earlier ++ x ∷ []) xs ys)
+      ap (λ (ps : List PlacedUse). at_x ++ ps) (parts (offset + length (text x)) (earlier ++ x ∷ []) xs ys)
       ∙ sym (append_assoc at_x others _)
       ∙ ap (λ (o : ℕ). (at_x ++ others) ++ each_place places (λ x. length (text x)) o ((earlier ++ x ∷ []) ++ xs) ys) there
       ∙ ap (λ (e : List X). (at_x ++ others) ++ each_place places (λ x. length (text x)) (offset + length (text x ++ flat_map text xs)) e ys) regrouped
@@ -101,7 +101,7 @@ module _ {X : Type 0} (pool : List PoolEntry) (places : ℕ → List X → X →
       let whole = ap (each_place places (λ x. length (text x)) start []) (split_at xs i x lt is).0 ∙ parts start [] (take i xs) (x ∷ []) in
       record {
         at = omega (arith, w.at, one_more text xs i x lt is);
-        none = subst (λ (ps : List Place). IsFirstBreach pool ps None) (sym whole) both;
+        none = subst (λ (ps : List PlacedUse). IsFirstBreach pool ps None) (sym whole) both;
       }
 
   pub Walked-stops : (start : ℕ) (xs : List X) (i offset : ℕ) (x : X) (fault : ℕ × Reason) → i < length xs → x ≡ get_or xs i x → Walked start xs i offset → IsFirstBreach pool (places offset (take i xs) x) (Some fault)
@@ -113,7 +113,7 @@ module _ {X : Type 0} (pool : List PoolEntry) (places : ℕ → List X → X →
       let at_x = subst (λ (o : ℕ). IsFirstBreach pool (places o (take i xs) x) (Some fault)) w.at first in
       let both = goes_on pool (each_place places (λ x. length (text x)) start [] (take i xs)) (places there (take i xs) x ++ after) (Some fault) w.none (stops pool (places there (take i xs) x) after fault at_x) in
       let whole = ap (each_place places (λ x. length (text x)) start []) (split_at xs i x lt is).1 ∙ parts start [] (take i xs) (x ∷ rest) in
-      subst (λ (ps : List Place). IsFirstBreach pool ps (Some fault)) (sym whole) both
+      subst (λ (ps : List PlacedUse). IsFirstBreach pool ps (Some fault)) (sym whole) both
 
   pub Walked-all : (start : ℕ) (xs : List X) (i offset : ℕ) → length xs ≤ i → Walked start xs i offset → IsFirstBreach pool (each_place places (λ x. length (text x)) start [] xs) None
   Walked-all start xs i offset le w = subst (λ (ys : List X). IsFirstBreach pool (each_place places (λ x. length (text x)) start [] ys) None) (take_all i xs le) w.none
@@ -135,7 +135,7 @@ pub moved_uses : (pool other : List PoolEntry) (offset there : ℕ) (uses : List
 moved_uses pool other offset there uses answer e f first =
     subst (λ (o : ℕ). IsFirstBreach other (at_offset o uses) answer) f (subst (λ (p : List PoolEntry). IsFirstBreach p (at_offset offset uses) answer) e first)
 
-pub moved_items : {X : Type 0} (places : ℕ → List X → X → List Place) (size : X → ℕ) (pool other : List PoolEntry) (start there : ℕ) (xs ys : List X) (answer : Option (ℕ × Reason)) → pool ≡ other → start ≡ there → xs ≡ ys
+pub moved_items : {X : Type 0} (places : ℕ → List X → X → List PlacedUse) (size : X → ℕ) (pool other : List PoolEntry) (start there : ℕ) (xs ys : List X) (answer : Option (ℕ × Reason)) → pool ≡ other → start ≡ there → xs ≡ ys
     → IsFirstBreach pool (each_place places size start [] xs) answer → IsFirstBreach other (each_place places size there [] ys) answer
 moved_items {X} places size pool other start there xs ys answer e f g first =
     let in_pool = subst (λ (p : List PoolEntry). IsFirstBreach p (each_place places size start [] xs) answer) e first in
@@ -175,35 +175,35 @@ each_from_All : {X : Type 0} (P : X → Type 0) (xs : List X) → All P xs → A
 each_from_All P [] h = tt
 each_from_All P (x ∷ xs) h = (h 0 x (omega arith), each_from_All P xs (λ k d lt. h (suc k) d (omega arith)))
 
-pub goes_on_ok : {E : Type 0} (pool : List PoolEntry) (xs ys : List Place) (r : Result (Option (ℕ × Reason)) E) → IsFirstBreach pool xs None → IfOk r (IsFirstBreach pool ys) → IfOk r (IsFirstBreach pool (xs ++ ys))
+pub goes_on_ok : {E : Type 0} (pool : List PoolEntry) (xs ys : List PlacedUse) (r : Result (Option (ℕ × Reason)) E) → IsFirstBreach pool xs None → IfOk r (IsFirstBreach pool ys) → IfOk r (IsFirstBreach pool (xs ++ ys))
 goes_on_ok pool xs ys (Ok answer) none first = goes_on pool xs ys answer none first
 goes_on_ok pool xs ys (Err e) none first = tt
 
 -- where no place is told, each use holds
-all_hold : (pool : List PoolEntry) (places : List Place) → FirstBreach pool places None → AllByRecursion (λ (p : Place). Holds pool p.use_) places
+all_hold : (pool : List PoolEntry) (places : List PlacedUse) → FirstBreach pool places None → AllByRecursion (λ (p : PlacedUse). UseHolds pool p.use_) places
 all_hold pool [] none = tt
 all_hold pool (p ∷ places) (inl (holds, none)) = (holds, all_hold pool places none)
 all_hold pool (p ∷ places) (inr (breaks, e)) = absurd cc
 
 pub none_told : (c : ClassFile) → IsFirstBreach c.pool (places_of c) None → IsSoundClass c
-none_told c first = All-from_each (λ (p : Place). Holds c.pool p.use_) (places_of c) (all_hold c.pool (places_of c) first.is)
+none_told c first = All-from_each (λ (p : PlacedUse). UseHolds c.pool p.use_) (places_of c) (all_hold c.pool (places_of c) first.is)
 
 -- where one is told, some use does not hold
-some_breaks : (pool : List PoolEntry) (places : List Place) (fault : ℕ × Reason) → FirstBreach pool places (Some fault) → AllByRecursion (λ (p : Place). Holds pool p.use_) places → ⊥
+some_breaks : (pool : List PoolEntry) (places : List PlacedUse) (fault : ℕ × Reason) → FirstBreach pool places (Some fault) → AllByRecursion (λ (p : PlacedUse). UseHolds pool p.use_) places → ⊥
 some_breaks pool [] fault e all = cc
 some_breaks pool (p ∷ places) fault (inl (holds, first)) all = some_breaks pool places fault first all.1
 some_breaks pool (p ∷ places) fault (inr (breaks, e)) all = breaks all.0
 
 pub one_told : (c : ClassFile) (fault : ℕ × Reason) → IsFirstBreach c.pool (places_of c) (Some fault) → IsSoundClass c → ⊥
-one_told c fault first sound = some_breaks c.pool (places_of c) fault first.is (each_from_All (λ (p : Place). Holds c.pool p.use_) (places_of c) sound)
+one_told c fault first sound = some_breaks c.pool (places_of c) fault first.is (each_from_All (λ (p : PlacedUse). UseHolds c.pool p.use_) (places_of c) sound)
 
 -- one place is told
-same_breach : (pool : List PoolEntry) (places : List Place) (a b : Option (ℕ × Reason)) → FirstBreach pool places a → FirstBreach pool places b → a ≡ b
+same_breach : (pool : List PoolEntry) (places : List PlacedUse) (a b : Option (ℕ × Reason)) → FirstBreach pool places a → FirstBreach pool places b → a ≡ b
 same_breach pool [] a b e f = e ∙ sym f
 same_breach pool (p ∷ places) a b (inl (holds, first)) (inl (holds2, second)) = same_breach pool places a b first second
 same_breach pool (p ∷ places) a b (inl (holds, first)) (inr (breaks, f)) = absurd (breaks holds)
 same_breach pool (p ∷ places) a b (inr (breaks, e)) (inl (holds, second)) = absurd (breaks holds)
 same_breach pool (p ∷ places) a b (inr (breaks, e)) (inr (breaks2, f)) = e ∙ sym f
 
-pub one_breach : (pool : List PoolEntry) (places : List Place) (a b : Option (ℕ × Reason)) → IsFirstBreach pool places a → IsFirstBreach pool places b → a ≡ b
+pub one_breach : (pool : List PoolEntry) (places : List PlacedUse) (a b : Option (ℕ × Reason)) → IsFirstBreach pool places a → IsFirstBreach pool places b → a ≡ b
 one_breach pool places a b first second = same_breach pool places a b first.is second.is

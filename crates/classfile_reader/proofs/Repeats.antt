@@ -13,7 +13,7 @@ use Rattle.std.proofs.lemmas.Option.{gets, none-some, same_Some, slice_get_read,
 use Rattle.jvm_model.specs.declared.class_file.Member.{Member}
 use Rattle.jvm_model.specs.declared.pool.PoolEntry.{PoolEntry}
 use Rattle.jvm_model.specs.Lookups.{text_at}
-use Rattle.jvm_model.specs.Soundness.{Holds}
+use Rattle.jvm_model.specs.Soundness.{UseHolds}
 use Rattle.jvm_model.specs.Soundness.Use.{differs}
 use Rattle.classfile_reader.specs.declared.soundness.repeats.NumberedSignature.{NumberedSignature}
 use Rattle.classfile_reader.specs.Repeats.{signature_cmp, signature_of, has_signature, is_repeat, AreRepeats}
@@ -135,7 +135,7 @@ equal_itself s = sym (tied_then (nat_cmp s.name s.name) (nat_cmp s.descriptor s.
 -- ---- at the end
 
 -- a member that is told to repeat none
-new_holds : (pool : List PoolEntry) (earlier : List Member) (m : Member) → is_repeat (text_numbers pool) earlier m ≡ false → Holds pool (differs earlier m)
+new_holds : (pool : List PoolEntry) (earlier : List Member) (m : Member) → is_repeat (text_numbers pool) earlier m ≡ false → UseHolds pool (differs earlier m)
 new_holds pool earlier m told = λ name descriptor name_at descriptor_at e among e_name e_descriptor.
     let numbers = text_numbers pool in
     let n = has_number pool m.name name name_at in
@@ -149,7 +149,7 @@ new_holds pool earlier m told = λ name descriptor name_at descriptor_at e among
     false≢true (sym told ∙ mine ∙ list_any_at p earlier among.0 e among.1 (ap p among.2 ∙ theirs))
 
 -- a member that is told to repeat an earlier one
-old_fails : (pool : List PoolEntry) (earlier : List Member) (m : Member) → is_repeat (text_numbers pool) earlier m ≡ true → ¬ Holds pool (differs earlier m)
+old_fails : (pool : List PoolEntry) (earlier : List Member) (m : Member) → is_repeat (text_numbers pool) earlier m ≡ true → ¬ UseHolds pool (differs earlier m)
 old_fails pool earlier m told = λ holds.
     let numbers = text_numbers pool in
     let mine = passing (λ (t : NumberedSignature). list_any (has_signature numbers t) earlier) (signature_of numbers m) told in

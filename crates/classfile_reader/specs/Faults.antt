@@ -15,6 +15,6 @@ pub data IsFaulty (bytes : List ℕ) (offset : ℕ) (reason : Reason) : Type 0 w
   by_use : (c : ClassFile) → SpellsReadable bytes c → IsFirstBreach c.pool (places_of c) (Some (offset, reason)) → IsFaulty bytes offset reason
 
 -- A refusal is such a fault, or memory ran out.
-abbrev pub IsRefusal : List ℕ → ReadRefusal → Type 0
-IsRefusal bytes refusals.Memory = Unit {0}
-IsRefusal bytes (refusals.Refused offset reason) = IsFaulty bytes offset reason
+abbrev pub IsClassFileRefusal : List ℕ → ReadRefusal → Type 0
+IsClassFileRefusal bytes refusals.Memory = Unit {0}
+IsClassFileRefusal bytes (refusals.Refused offset reason) = IsFaulty bytes offset reason

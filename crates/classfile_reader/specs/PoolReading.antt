@@ -27,8 +27,8 @@ two_at make place = do
   Ok (make pair.0.0 pair.0.1, pair.1)
 
 -- A text: its length and its bytes (JVMS 4.4.7).
-unfoldable pub text_at : Place → Result (PoolEntry × Place) Fault
-text_at place = do
+unfoldable pub utf8_at : Place → Result (PoolEntry × Place) Fault
+utf8_at place = do
   len ← number_at w16 place
   bytes ← bytes_at len.0 len.1
   Ok (Utf8 bytes.0, bytes.1)
@@ -43,7 +43,7 @@ handle_at place = do
 -- What a tag calls for (JVMS 4.4, table 4.4-A).
 unfoldable pub contents_at : ℕ → Place → Result (PoolEntry × Place) Fault
 contents_at tag place =
-    if tag == 1 then text_at place else
+    if tag == 1 then utf8_at place else
     if tag == 3 then one_at w32 Integer place else
     if tag == 4 then one_at w32 Float place else
     if tag == 5 then one_at w64 Long place else

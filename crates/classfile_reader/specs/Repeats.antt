@@ -6,7 +6,7 @@ use Rattle.std.specs.Option.{option_map_or}
 use Rattle.std.specs.Ordering.{is_eq, nat_cmp, ordering_then}
 use Rattle.jvm_model.specs.declared.class_file.Member.{Member}
 use Rattle.jvm_model.specs.declared.pool.PoolEntry.{PoolEntry}
-use Rattle.jvm_model.specs.Soundness.{Holds}
+use Rattle.jvm_model.specs.Soundness.{UseHolds}
 use Rattle.jvm_model.specs.Soundness.Use.{differs}
 use Rattle.classfile_reader.specs.TextNumbers.{number_at}
 use Rattle.classfile_reader.specs.declared.soundness.repeats.NumberedSignature.{NumberedSignature}
@@ -14,8 +14,8 @@ use Rattle.classfile_reader.specs.declared.soundness.repeats.NumberedSignature.{
 -- The answers tell of each member, in turn, whether an earlier one has its name and its descriptor.
 pub record AreRepeats (pool : List PoolEntry) (members : List Member) (answers : List Bool) : Type 0 where
   pub long : length answers ≡ length members
-  pub fresh : (k : ℕ) (m : Member) → slice_get members k ≡ Some m → slice_get answers k ≡ Some false → Holds pool (differs (take k members) m)
-  pub repeated : (k : ℕ) (m : Member) → slice_get members k ≡ Some m → slice_get answers k ≡ Some true → ¬ Holds pool (differs (take k members) m)
+  pub fresh : (k : ℕ) (m : Member) → slice_get members k ≡ Some m → slice_get answers k ≡ Some false → UseHolds pool (differs (take k members) m)
+  pub repeated : (k : ℕ) (m : Member) → slice_get members k ≡ Some m → slice_get answers k ≡ Some true → ¬ UseHolds pool (differs (take k members) m)
 
 -- The order of pairs of numbers.
 abbrev pub signature_cmp : NumberedSignature → NumberedSignature → Ordering
@@ -36,5 +36,5 @@ is_repeat numbers earlier m = option_map_or (λ (s : NumberedSignature). list_an
 
 -- The answer says whether the member has the name and the descriptor of an earlier one.
 pub record IsRepeat (pool : List PoolEntry) (earlier : List Member) (m : Member) (answer : Bool) : Type 0 where
-  pub fresh : answer ≡ false → Holds pool (differs earlier m)
-  pub repeated : answer ≡ true → Holds pool (differs earlier m) → ⊥
+  pub fresh : answer ≡ false → UseHolds pool (differs earlier m)
+  pub repeated : answer ≡ true → UseHolds pool (differs earlier m) → ⊥

@@ -4,7 +4,7 @@ ghost use Rattle.std.specs.Prelude.{◌≡◌, ℕ, List, Some, Contains};
 ghost use Rattle.jvm_model.specs.declared.class_file.ClassFile.{ClassFile};
 ghost use Rattle.jvm_model.specs.declared.reason.Reason.{Reason};
 ghost use Rattle.jvm_model.specs.Spelling.{IsSpelling};
-ghost use Rattle.jvm_model.specs.Soundness.{Place, Holds, places_of};
+ghost use Rattle.jvm_model.specs.Soundness.{PlacedUse, UseHolds, places_of};
 ghost use Rattle.classfile_reader.specs.FirstPlace.{IsFirstBreach};
 ghost use Rattle.classfile_reader.specs.Order.{IsNotBefore, AreAscending};
 
@@ -24,5 +24,5 @@ pub fn places_ascend()
 /// offset and a lower reason.
 pub fn first_breach_is_least()
     ensures { (c : ClassFile) (offset : ℕ) (reason : Reason) → IsFirstBreach c.pool (places_of c) (Some (offset, reason))
-        → (p : Place) → Contains (places_of c) p → ¬ Holds c.pool p.use_ → IsNotBefore ⟦<Reason as Ord>⟧.cmp offset reason p }
+        → (p : PlacedUse) → Contains (places_of c) p → ¬ UseHolds c.pool p.use_ → IsNotBefore ⟦<Reason as Ord>⟧.cmp offset reason p }
 {}

@@ -4,7 +4,7 @@ ghost use Rattle.std.specs.Prelude.{◌≡◌, ◌-◌, None, List};
 ghost use Rattle.std.specs.Int.{w32, w64};
 ghost use Rattle.jvm_model.specs.Spelling.{is_wide};
 ghost use Rattle.byte_reader.specs.Reading.{Reads, Gives};
-ghost use Rattle.classfile_reader.specs.PoolReading.{pair_at, text_at, handle_at, contents_at, tagged_at, entry_at, index_at, indices_at, pool_at};
+ghost use Rattle.classfile_reader.specs.PoolReading.{pair_at, utf8_at, handle_at, contents_at, tagged_at, entry_at, index_at, indices_at, pool_at};
 
 use byte_reader::Input;
 use jvm_model::pool::PoolEntry;
@@ -23,9 +23,9 @@ fn pair(input: &mut Input) -> Result<(u16, u16), ReadRefusal>
 }
 
 /// A text, behind its tag.
-#[tactic(auto, unfolding(crate::specs::PoolReading::text_at))]
+#[tactic(auto, unfolding(crate::specs::PoolReading::utf8_at))]
 fn text(input: &mut Input, alloc: Global) -> Result<PoolEntry, ReadRefusal>
-    ensures { Reads result input.new (text_at input.old) }
+    ensures { Reads result input.new (utf8_at input.old) }
 {
     let len = input.u2()?;
     let bytes = input.take(len as usize)?;
@@ -40,7 +40,7 @@ fn handle(input: &mut Input) -> Result<PoolEntry, ReadRefusal>
 {
     let kind = input.u1()?;
     let reference = input.u2()?;
-    Ok(PoolEntry::MethodHandle(kind, reference))
+    Ok(PoolEntry::MethodHandle { kind, reference })
 }
 
 /// What a tag calls for.
@@ -58,27 +58,27 @@ fn contents(input: &mut Input, alloc: Global, tag: u8) -> Result<PoolEntry, Read
         8 => Ok(PoolEntry::Str(input.u2()?)),
         9 => {
             let (class, member) = pair(input)?;
-            Ok(PoolEntry::Fieldref(class, member))
+            Ok(PoolEntry::Fieldref { class, member })
         }
         10 => {
             let (class, member) = pair(input)?;
-            Ok(PoolEntry::Methodref(class, member))
+            Ok(PoolEntry::Methodref { class, member })
         }
         11 => {
             let (class, member) = pair(input)?;
-            Ok(PoolEntry::InterfaceMethodref(class, member))
+            Ok(PoolEntry::InterfaceMethodref { class, member })
         }
         12 => {
             let (name, descriptor) = pair(input)?;
-            Ok(PoolEntry::NameAndType(name, descriptor))
+            Ok(PoolEntry::NameAndType { name, descriptor })
         }
         15 => handle(input),
         16 => Ok(PoolEntry::MethodType(input.u2()?)),
         18 => {
             let (bootstrap, member) = pair(input)?;
-            Ok(PoolEntry::InvokeDynamic(bootstrap, member))
+            Ok(PoolEntry::InvokeDynamic { bootstrap, member })
         }
-        _ => Err(ReadRefusal::Refused(input.offset(), Reason::BadTag)),
+        _ => Err(ReadRefusal::Refused { offset: input.offset(), reason: Reason::BadTag }),
     }
 }
 
@@ -99,7 +99,7 @@ fn entry(input: &mut Input, alloc: Global) -> Result<PoolEntry, ReadRefusal>
     let start = input.offset();
     match tagged(input, alloc) {
         Ok(entry) => Ok(entry),
-        Err(ReadRefusal::Refused(_, reason)) => Err(ReadRefusal::Refused(start, reason)),
+        Err(ReadRefusal::Refused { reason, .. }) => Err(ReadRefusal::Refused { offset: start, reason }),
         Err(ReadRefusal::Memory) => Err(ReadRefusal::Memory),
     }
 }
@@ -143,7 +143,7 @@ fn indices(input: &mut Input, alloc: Global, count: u16) -> Result<Sequence<Pool
     }
     match wide {
         None => Ok(Sequence::from_vec(entries)),
-        Some(tag) => Err(ReadRefusal::Refused(tag, Reason::BadIndex)),
+        Some(tag) => Err(ReadRefusal::Refused { offset: tag, reason: Reason::BadIndex }),
     }
 }
 
@@ -155,7 +155,7 @@ pub(crate) fn pool(input: &mut Input, alloc: Global) -> Result<Sequence<PoolEntr
     let start = input.offset();
     let count = input.u2()?;
     if count == 0 {
-        return Err(ReadRefusal::Refused(start, Reason::BadIndex));
+        return Err(ReadRefusal::Refused { offset: start, reason: Reason::BadIndex });
     }
     indices(input, alloc, count - 1)
 }

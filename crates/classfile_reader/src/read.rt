@@ -5,7 +5,7 @@ ghost use Rattle.jvm_model.specs.declared.class_file.ClassFile.{ClassFile};
 ghost use Rattle.jvm_model.specs.Soundness.{IsSoundClass};
 ghost use Rattle.byte_reader.specs.Reading.{Tells};
 ghost use Rattle.classfile_reader.specs.ClassReading.{SpellsReadable};
-ghost use Rattle.classfile_reader.specs.Faults.{IsRefusal};
+ghost use Rattle.classfile_reader.specs.Faults.{IsClassFileRefusal};
 
 use crate::class::spelled_class;
 use crate::soundness::first_fault;
@@ -47,14 +47,14 @@ pub fn read_class(alloc: Global, bytes: &[u8]) -> Result<ClassFile, ReadRefusal>
     ensures sound { IfOk result IsSoundClass }
 
     // What is refused has this fault first.
-    ensures refused { IfErr result (IsRefusal bytes.now) }
+    ensures refused { IfErr result (IsClassFileRefusal bytes.now) }
 
     // What is spelled so and sound is read, unless memory runs out.
     ensures only { (c : ClassFile) → SpellsReadable bytes.now c → IsSoundClass c → Tells result (Ok c) }
 {
     let class = spelled_class(alloc, bytes)?;
     match first_fault(alloc, &class)? {
-        Some((offset, reason)) => Err(ReadRefusal::Refused(offset, reason)),
+        Some((offset, reason)) => Err(ReadRefusal::Refused { offset, reason }),
         None => Ok(class),
     }
 }

@@ -76,7 +76,7 @@ fn field_of(byte: usize) -> u32 {
 
 fn refusal(alloc: Global, bytes: &[u8]) -> Option<(u32, Reason)> {
     match read_class(alloc, bytes) {
-        Err(ReadRefusal::Refused(offset, reason)) => Some((offset, reason)),
+        Err(ReadRefusal::Refused { offset, reason }) => Some((offset, reason)),
         _ => None,
     }
 }

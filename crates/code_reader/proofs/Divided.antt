@@ -6,14 +6,14 @@ use Rattle.std.proofs.lemmas.List.{append-nil, get_or-set_same, get_or-set_other
 use Rattle.std.proofs.lemmas.List.Folds.{list_any-append}
 use Rattle.jvm_model.specs.declared.pool.PoolEntry.{PoolEntry}
 use Rattle.jvm_model.specs.declared.reason.Reason.{Reason}
-use Rattle.jvm_model.specs.Instructions.{Instruction}
+use Rattle.jvm_model.specs.Instructions.{DecodedInstruction}
 use Rattle.code_reader.specs.Division.{Spot, instruction_in, Divides, at_end, stops, goes_on, starts, first_or, first_fault}
 
 -- what is divided from an offset on belongs to what was divided before
 abbrev pub GoesBefore : List PoolEntry → List ℕ → ℕ → List Spot → Type 0
 GoesBefore pool code offset spots = (others : List Spot) (stop : Option (ℕ × Reason)) → Divides pool code stop offset others → Divides pool code stop 0 (spots ++ others)
 
-pub one_more : (pool : List PoolEntry) (code : List ℕ) (offset : ℕ) (spots : List Spot) (i : Instruction) → offset < length code → instruction_in pool code offset ≡ Ok i
+pub one_more : (pool : List PoolEntry) (code : List ℕ) (offset : ℕ) (spots : List Spot) (i : DecodedInstruction) → offset < length code → instruction_in pool code offset ≡ Ok i
     → GoesBefore pool code offset spots → GoesBefore pool code (offset + i.size) (spots ++ record { offset = offset; instruction = i } ∷ [])
 one_more pool code offset spots i lt is before others stop rest =
     let s : Spot = record { offset = offset; instruction = i } in
@@ -40,7 +40,7 @@ mark spots table offset t false lt known e =
     rw (get_or-set_other table offset t true false (differs offset t e), e) (known ∙ sym (or_none (starts spots t)))
 
 -- one more instruction starts at an offset
-pub marks_one : (spots : List Spot) (table : List Bool) (offset : ℕ) (i : Instruction) → offset < length table → ((t : ℕ) → get_or table t false ≡ starts spots t)
+pub marks_one : (spots : List Spot) (table : List Bool) (offset : ℕ) (i : DecodedInstruction) → offset < length table → ((t : ℕ) → get_or table t false ≡ starts spots t)
     → (t : ℕ) → get_or (set table offset true) t false ≡ starts (spots ++ record { offset = offset; instruction = i } ∷ []) t
 marks_one spots table offset i lt known t =
     mark spots table offset t (eqb offset t) lt (known t) refl ∙ sym (list_any-append (λ (s : Spot). eqb s.offset t) spots (record { offset = offset; instruction = i } ∷ []))

@@ -12,7 +12,7 @@ use Rattle.jvm_model.specs.declared.descriptor.Kind.{Kind}
 use Rattle.jvm_model.specs.declared.pool.PoolEntry.{PoolEntry}
 use Rattle.jvm_model.specs.declared.reason.Reason.{Reason}
 use Rattle.jvm_model.specs.DescriptorValues.{IsMethodOf}
-use Rattle.jvm_model.specs.Instructions.{Instruction}
+use Rattle.jvm_model.specs.Instructions.{DecodedInstruction}
 use Rattle.jvm_model.specs.Layout.{IsCodePlace, HasFirstCode}
 use Rattle.jvm_model.specs.Soundness.{is_code}
 use Rattle.jvm_model.specs.Spelling.{attribute}
@@ -31,29 +31,29 @@ Divided = List Spot × Option (ℕ × Reason)
 abbrev divided : List Spot → Option (ℕ × Reason) → Divided
 divided spots stop = (spots, stop)
 
-abbrev found : Instruction → Result Instruction Reason
+abbrev found : DecodedInstruction → Result DecodedInstruction Reason
 found i = Ok i
 
-abbrev refused : Reason → Result Instruction Reason
+abbrev refused : Reason → Result DecodedInstruction Reason
 refused r = Err r
 
-not_both : (r : Result Instruction Reason) (i : Instruction) (reason : Reason) → r ≡ found i → r ≡ refused reason → ⊥
+not_both : (r : Result DecodedInstruction Reason) (i : DecodedInstruction) (reason : Reason) → r ≡ found i → r ≡ refused reason → ⊥
 not_both r i reason x y = let e : found i ≡ refused reason = sym x ∙ y in absurd cc
 
-same_reason : (r : Result Instruction Reason) (a b : Reason) → r ≡ refused a → r ≡ refused b → a ≡ b
+same_reason : (r : Result DecodedInstruction Reason) (a b : Reason) → r ≡ refused a → r ≡ refused b → a ≡ b
 same_reason r a b x y = let e : refused a ≡ refused b = sym x ∙ y in cc
 
-same_instruction : (r : Result Instruction Reason) (i j : Instruction) → r ≡ found i → r ≡ found j → i ≡ j
+same_instruction : (r : Result DecodedInstruction Reason) (i j : DecodedInstruction) → r ≡ found i → r ≡ found j → i ≡ j
 same_instruction r i j x y = let e : found i ≡ found j = sym x ∙ y in cc
 
-abbrev spot_at : ℕ → Instruction → Spot
+abbrev spot_at : ℕ → DecodedInstruction → Spot
 spot_at offset i = record { offset = offset; instruction = i }
 
-join : (xs ys others others2 : List Spot) (offset : ℕ) (i j : Instruction) (s t : Option (ℕ × Reason)) → xs ≡ spot_at offset i ∷ others → ys ≡ spot_at offset j ∷ others2 → j ≡ i
+join : (xs ys others others2 : List Spot) (offset : ℕ) (i j : DecodedInstruction) (s t : Option (ℕ × Reason)) → xs ≡ spot_at offset i ∷ others → ys ≡ spot_at offset j ∷ others2 → j ≡ i
     → divided others s ≡ divided others2 t → divided xs s ≡ divided ys t
 join xs ys others others2 offset i j s t is is2 same more =
     ap (λ (zs : List Spot). divided zs s) is ∙ ap (λ (d : Divided). divided (spot_at offset i ∷ d.0) d.1) more
-    ∙ sym (ap (λ (k : Instruction). divided (spot_at offset k ∷ others2) t) same) ∙ sym (ap (λ (zs : List Spot). divided zs t) is2)
+    ∙ sym (ap (λ (k : DecodedInstruction). divided (spot_at offset k ∷ others2) t) same) ∙ sym (ap (λ (zs : List Spot). divided zs t) is2)
 
 one_division : (pool : List PoolEntry) (code : List ℕ) (s t : Option (ℕ × Reason)) (offset : ℕ) (xs ys : List Spot) → Divides pool code s offset xs → Divides pool code t offset ys → divided xs s ≡ divided ys t
 one_division pool code s t offset xs ys (at_end o zs end none is) (at_end o2 zs2 end2 none2 is2) = cc (is, is2, none, none2)
@@ -68,7 +68,7 @@ one_division pool code s t offset xs ys (goes_on o zs i others lt read is rest) 
 one_division pool code s t offset xs ys (goes_on o zs i others lt read is rest) (stops o2 zs2 why2 lt2 wrong2 early2 is2) = absurd (not_both (instruction_in pool code offset) i why2 read wrong2)
 one_division pool code s t offset xs ys (goes_on o zs i others lt read is rest) (goes_on o2 zs2 j others2 lt2 read2 is2 rest2) =
     let same : j ≡ i = same_instruction (instruction_in pool code offset) j i read2 read in
-    let rest_of : Divides pool code t (offset + i.size) others2 = subst (λ (k : Instruction). Divides pool code t (offset + k.size) others2) same rest2 in
+    let rest_of : Divides pool code t (offset + i.size) others2 = subst (λ (k : DecodedInstruction). Divides pool code t (offset + k.size) others2) same rest2 in
     let more = one_division pool code s t (offset + i.size) others others2 rest rest_of in
     join xs ys others others2 offset i j s t is is2 same more
 

@@ -19,7 +19,7 @@ use Rattle.jvm_model.specs.declared.reason.Reason.{Reason}
 use Rattle.jvm_model.specs.declared.reason.Reason.TheVariants.{Truncated, CodeCut, BadHandler}
 use Rattle.jvm_model.specs.Access.{has_flag}
 use Rattle.jvm_model.specs.DescriptorValues.{IsMethodOf}
-use Rattle.jvm_model.specs.Instructions.{Instruction}
+use Rattle.jvm_model.specs.Instructions.{DecodedInstruction}
 use Rattle.jvm_model.specs.Layout.{HasFirstCode, IsCodePlace}
 use Rattle.jvm_model.specs.Lookups.{text_at}
 use Rattle.jvm_model.specs.Soundness.{plain_descriptor}
@@ -113,7 +113,7 @@ known_targets (None ∷ targets) = known_targets targets
 known_targets (Some offset ∷ targets) = offset ∷ known_targets targets
 
 -- An instruction as it is given.
-abbrev pub given : Instruction → Given
+abbrev pub given : DecodedInstruction → Given
 given i = record { opcode = i.opcode; operand = i.operand; dimensions = i.dimensions; targets = known_targets i.targets }
 
 abbrev pub placed : Spot → PlacedInstruction

@@ -6,7 +6,7 @@ use Rattle.jvm_model.specs.declared.pool.EntryKind.TheVariants as kinds
 use Rattle.jvm_model.specs.declared.pool.PoolEntry.{PoolEntry}
 use Rattle.jvm_model.specs.declared.reason.Reason.{Reason}
 use Rattle.jvm_model.specs.declared.reason.Reason.TheVariants.{BadOpcode, BadTarget, BadLocal, Subroutine, BadIndex}
-use Rattle.jvm_model.specs.Instructions.{Instruction, instruction_at}
+use Rattle.jvm_model.specs.Instructions.{DecodedInstruction, instruction_at}
 use Rattle.jvm_model.specs.InstructionUses.{locals_fit, is_subroutine, leads_right, within_dimensions}
 use Rattle.jvm_model.specs.Soundness.{leads_to}
 
@@ -15,14 +15,14 @@ use Rattle.jvm_model.specs.Soundness.{leads_to}
 -- An instruction, and its offset in the code.
 pub record Spot : Type 0 where
   pub offset : ℕ
-  pub instruction : Instruction
+  pub instruction : DecodedInstruction
 
-abbrev pub within : List PoolEntry → Result Instruction Reason → Result Instruction Reason
+abbrev pub within : List PoolEntry → Result DecodedInstruction Reason → Result DecodedInstruction Reason
 within pool (Ok i) = if within_dimensions pool i then Ok i else Err BadOpcode
 within pool (Err reason) = Err reason
 
 -- The instruction at an offset, with no more dimensions than its array; or why none is there.
-abbrev pub instruction_in : List PoolEntry → List ℕ → ℕ → Result Instruction Reason
+abbrev pub instruction_in : List PoolEntry → List ℕ → ℕ → Result DecodedInstruction Reason
 instruction_in pool code offset = within pool (instruction_at code offset)
 
 -- The instructions from an offset on, one after the other, and where they end: where the code does; or at the first
@@ -31,7 +31,7 @@ pub data Divides (pool : List PoolEntry) (code : List ℕ) (stop : Option (ℕ �
   at_end : (offset : ℕ) (spots : List Spot) → offset ≡ length code → stop ≡ None → spots ≡ [] → Divides pool code stop offset spots
   stops : (offset : ℕ) (spots : List Spot) (reason : Reason) → offset < length code → instruction_in pool code offset ≡ Err reason
       → stop ≡ Some (offset, reason) → spots ≡ [] → Divides pool code stop offset spots
-  goes_on : (offset : ℕ) (spots : List Spot) (i : Instruction) (others : List Spot) → offset < length code → instruction_in pool code offset ≡ Ok i
+  goes_on : (offset : ℕ) (spots : List Spot) (i : DecodedInstruction) (others : List Spot) → offset < length code → instruction_in pool code offset ≡ Ok i
       → spots ≡ record { offset = offset; instruction = i } ∷ others → Divides pool code stop (offset + i.size) others → Divides pool code stop offset spots
 
 -- ---- what is wrong with an instruction

@@ -1,7 +1,7 @@
 //! One instruction of a code array: its opcode, and what its operands say (JVMS 6.5).
 
 ghost use Rattle.std.specs.Prelude.{◌≡◌, ◌≤◌, ◌<◌, ◌^◌, [], ◌∷◌, length, Some, None, Ok, IfOk, IfErr};
-ghost use Rattle.jvm_model.specs.Instructions.{Instruction, instruction, byte, short, needs, with_operands, widened_by, widened_first, first_instruction};
+ghost use Rattle.jvm_model.specs.Instructions.{DecodedInstruction, instruction, byte, short, needs, with_operands, widened_by, widened_first, first_instruction};
 ghost use Rattle.jvm_model.specs.RowViews.{row_view, operands_view};
 ghost use Rattle.jvm_model.specs.declared.reason.Reason.TheVariants.{BadOpcode};
 ghost use Rattle.jvm_model.specs.Table.{row_of, type_code, offset_2, offset_4, pool_2_and_dimensions};
@@ -52,7 +52,7 @@ pub(crate) struct Decoded {
 }
 
 impl Model for Decoded {
-    ghost Value = { Instruction };
+    ghost Value = { DecodedInstruction };
 
     ghost view = { λ d. instruction d.opcode (row_view d.row.now) d.operand d.dimensions d.targets.items d.size };
 }

@@ -47,7 +47,7 @@ fn next_handler(
         catch_type,
     };
     if !is_handler(pool, long, division, handler) {
-        return Err(ReadRefusal::Refused(offset, Reason::BadHandler));
+        return Err(ReadRefusal::Refused { offset, reason: Reason::BadHandler });
     }
     Ok(handler)
 }

@@ -110,7 +110,7 @@ fn units_spelled(spelled: &Option<Descriptor>) -> u16
     ensures most { result ≤ 255 }
 {
     match spelled {
-        Some(Descriptor::Method(kinds, _)) => units_of(kinds.as_slice()),
+        Some(Descriptor::Method { parameters: kinds, .. }) => units_of(kinds.as_slice()),
         _ => 0,
     }
 }

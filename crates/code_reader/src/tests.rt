@@ -42,13 +42,13 @@ fn pool(alloc: Global) -> Result<Vec<PoolEntry>, AllocError> {
         PoolEntry::Taken,
         PoolEntry::Double(7),
         PoolEntry::Taken,
-        PoolEntry::Fieldref(2, 15),
-        PoolEntry::Methodref(2, 15),
-        PoolEntry::InterfaceMethodref(2, 15),
-        PoolEntry::NameAndType(1, 1),
-        PoolEntry::MethodHandle(1, 12),
+        PoolEntry::Fieldref { class: 2, member: 15 },
+        PoolEntry::Methodref { class: 2, member: 15 },
+        PoolEntry::InterfaceMethodref { class: 2, member: 15 },
+        PoolEntry::NameAndType { name: 1, descriptor: 1 },
+        PoolEntry::MethodHandle { kind: 1, reference: 12 },
         PoolEntry::MethodType(1),
-        PoolEntry::InvokeDynamic(0, 15),
+        PoolEntry::InvokeDynamic { bootstrap: 0, member: 15 },
     ]?)
 }
 
@@ -103,7 +103,7 @@ fn check_refused(rt: &impl Abort, alloc: Global, rows: &[Refused]) -> Result<(),
 /// The first fault that was found.
 fn fault_of(read: &Result<Code, ReadRefusal>) -> Option<(u32, Reason)> {
     match read {
-        Err(ReadRefusal::Refused(offset, reason)) => Some((*offset, *reason)),
+        Err(ReadRefusal::Refused { offset, reason }) => Some((*offset, *reason)),
         _ => None,
     }
 }

@@ -4,7 +4,7 @@ use Rattle.std.proofs.lemmas.Option.{same_Some}
 use Rattle.jvm_model.specs.declared.pool.PoolEntry.{PoolEntry}
 use Rattle.jvm_model.specs.declared.pool.PoolEntry.TheVariants.{Fieldref, Methodref, InterfaceMethodref, NameAndType, InvokeDynamic}
 use Rattle.jvm_model.specs.Instructions.{member_in, member_of, member_at}
-use Rattle.jvm_model.specs.Lookups.{MethodName, Signature, entry_at, text_at, class_name_at, signature_in, signature_at}
+use Rattle.jvm_model.specs.Lookups.{MemberReference, Signature, entry_at, text_at, class_name_at, signature_in, signature_at}
 use Rattle.flow_graph.specs.Effects.{site_in, site_at}
 use Rattle.flow_graph.specs.Reading.{descriptor_index_in, signature_descriptor_at, member_descriptor_in, member_descriptor_at, site_descriptor_in, site_descriptor_at}
 
@@ -21,13 +21,13 @@ signature_text pool index s e = by (entry_at pool index) e
     by (Some (NameAndType name descriptor)) h = both (text_at pool name) (text_at pool descriptor) h
     by (Some entry) h = absurd cc
 
-pub member_text : (pool : List PoolEntry) (index : ℕ) (m : MethodName) → member_at pool index ≡ Some m → option_and_then (text_at pool) (member_descriptor_at pool index) ≡ Some m.signature.descriptor
+pub member_text : (pool : List PoolEntry) (index : ℕ) (m : MemberReference) → member_at pool index ≡ Some m → option_and_then (text_at pool) (member_descriptor_at pool index) ≡ Some m.signature.descriptor
 member_text pool index m e = by (entry_at pool index) e
   where
-    named : (c : Option (List ℕ)) (o : Option Signature) → option_and_then (λ (x : List ℕ). option_map (λ (s : Signature). let z : MethodName = record { class = x; signature = s } in z) o) c ≡ Some m → o ≡ Some m.signature
+    named : (c : Option (List ℕ)) (o : Option Signature) → option_and_then (λ (x : List ℕ). option_map (λ (s : Signature). let z : MemberReference = record { class = x; signature = s } in z) o) c ≡ Some m → o ≡ Some m.signature
     named None o h = absurd cc
     named (Some c) None h = absurd cc
-    named (Some c) (Some s) h = ap Some (ap (λ (n : MethodName). n.signature) (same_Some (record { class = c; signature = s }) m h))
+    named (Some c) (Some s) h = ap Some (ap (λ (n : MemberReference). n.signature) (same_Some (record { class = c; signature = s }) m h))
 
     there : (class signature : ℕ) → member_in pool class signature ≡ Some m → option_and_then (text_at pool) (signature_descriptor_at pool signature) ≡ Some m.signature.descriptor
     there class signature h = signature_text pool signature m.signature (named (class_name_at pool class) (signature_at pool signature) h)

@@ -12,9 +12,9 @@ use Rattle.jvm_model.specs.declared.grammar.Grammar.TheVariants as grammars
 use Rattle.jvm_model.specs.Descriptors.{IsMethodDescriptor}
 use Rattle.jvm_model.specs.Instructions.{member_at, kinds_of, made_for, with_units, constant_row, IsFieldRow, IsCallRow, RowBy}
 use Rattle.jvm_model.specs.InstructionUses.{target_kinds}
-use Rattle.jvm_model.specs.Lookups.{MethodName, Signature, entry_at, text_at}
+use Rattle.jvm_model.specs.Lookups.{MemberReference, Signature, entry_at, text_at}
 use Rattle.jvm_model.specs.Soundness.{is_of_kind}
-use Rattle.jvm_model.specs.Table.{Row, row_of, Kind, reference, Origin, loadable, a_field, class_method, any_method, interface_method, call_site, Action, load_constant, get_static, put_static, get_field, put_field, invoke_virtual, invoke_special, invoke_static, invoke_interface, refused}
+use Rattle.jvm_model.specs.Table.{Row, row_of, UnitKind, reference, UnitSource, loadable, a_field, class_method, any_method, interface_method, call_site, Action, load_constant, get_static, put_static, get_field, put_field, invoke_virtual, invoke_special, invoke_static, invoke_interface, refused}
 use Rattle.flow_graph.specs.declared.effect.Effect.{Effect}
 use Rattle.flow_graph.specs.Effects.{with_row, site_at, IsEffectBy}
 use Rattle.flow_graph.specs.Reading.{IsSoundInstruction, IsCallEffect, IsCallAt, member_descriptor_at, site_descriptor_at}
@@ -84,14 +84,14 @@ loads_constant c i r is a sound =
 
 -- the units of the field that is named
 abbrev Counts : ClassFile → Given → ℕ → Type 0
-Counts c i units = (m : MethodName) → member_at c.pool i.operand ≡ Some m → units ≡ length (kinds_of m.signature.descriptor)
+Counts c i units = (m : MemberReference) → member_at c.pool i.operand ≡ Some m → units ≡ length (kinds_of m.signature.descriptor)
 
-record HasField (c : ClassFile) (i : Given) (r : Row) (units : ℕ) (pops : List Kind → List Kind) (pushes : List Kind → List Origin) : Type 0 where
-  pub value : List Kind
+record HasField (c : ClassFile) (i : Given) (r : Row) (units : ℕ) (pops : List UnitKind → List UnitKind) (pushes : List UnitKind → List UnitSource) : Type 0 where
+  pub value : List UnitKind
   pub counted : units ≡ length value
   pub is_row : IsFieldRow c.pool (with_row i r) pops pushes (with_units r (pops value) (pushes value))
 
-field_of : (c : ClassFile) (i : Given) (r : Row) (units : ℕ) (pops : List Kind → List Kind) (pushes : List Kind → List Origin) → row_of i.opcode ≡ Some r → expected r.action ≡ Some a_field → IsSoundInstruction c i → Counts c i units
+field_of : (c : ClassFile) (i : Given) (r : Row) (units : ℕ) (pops : List UnitKind → List UnitKind) (pushes : List UnitKind → List UnitSource) → row_of i.opcode ≡ Some r → expected r.action ≡ Some a_field → IsSoundInstruction c i → Counts c i units
     → HasField c i r units pops pushes
 field_of c i r units pops pushes is e sound counts =
     let f = field_there c i.operand sound.sound (leads_by c i r a_field sound is e) in
@@ -137,7 +137,7 @@ puts_field c i r units is a counts sound =
 
 -- of the method that is named, the units of its descriptor are popped and pushed
 abbrev pub Calls : ClassFile → Given → ℕ → Effect → Type 0
-Calls c i receiver e = (m : MethodName) → member_at c.pool i.operand ≡ Some m → IsMethodDescriptor m.signature.descriptor → IsCallEffect m.signature.descriptor receiver e
+Calls c i receiver e = (m : MemberReference) → member_at c.pool i.operand ≡ Some m → IsMethodDescriptor m.signature.descriptor → IsCallEffect m.signature.descriptor receiver e
 
 -- so they are where the index is that of the descriptor's text
 pub calls_at : (c : ClassFile) (i : Given) (pool read : List PoolEntry) (index : Option ℕ) (receiver : ℕ) (e : Effect) → pool ≡ c.pool → read ≡ c.pool
@@ -147,16 +147,16 @@ calls_at c i pool read index receiver e same same2 found call m named =
     call.by_descriptor m.signature.descriptor
     (ap (λ (p : List PoolEntry). option_and_then (text_at p) index) same2 ∙ ap (λ (o : Option ℕ). option_and_then (text_at c.pool) o) is ∙ member_text c.pool i.operand m named)
 
-record HasCall (c : ClassFile) (i : Given) (r : Row) (receiver : List Kind) (e : Effect) : Type 0 where
-  pub parameters : List Kind
-  pub results : List Kind
+record HasCall (c : ClassFile) (i : Given) (r : Row) (receiver : List UnitKind) (e : Effect) : Type 0 where
+  pub parameters : List UnitKind
+  pub results : List UnitKind
   pub is_row : IsCallRow c.pool (with_row i r) receiver (with_units r (receiver ++ parameters) (map made_for results))
   pub effect_is : e ≡ effect (length (receiver ++ parameters)) (length (map made_for results))
 
 effect_of : (e : Effect) (pops pushes : ℕ) → e.pops ≡ pops → e.pushes ≡ pushes → e ≡ effect pops pushes
 effect_of e pops pushes p q = same_effect e.pops e.pushes pops pushes p q
 
-call_of : (c : ClassFile) (i : Given) (r : Row) (receiver : List Kind) (e : Effect) → NamesMember c.pool i.operand grammars.MethodDescriptor → Calls c i (length receiver) e → HasCall c i r receiver e
+call_of : (c : ClassFile) (i : Given) (r : Row) (receiver : List UnitKind) (e : Effect) → NamesMember c.pool i.operand grammars.MethodDescriptor → Calls c i (length receiver) e → HasCall c i r receiver e
 call_of c i r receiver e f calls =
     let call = calls f.method f.named f.in_grammar in
     let h = call.counted in

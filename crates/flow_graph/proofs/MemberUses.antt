@@ -13,8 +13,8 @@ use Rattle.jvm_model.specs.declared.pool.PoolEntry.TheVariants.{Utf8, Integer, F
 use Rattle.jvm_model.specs.declared.class_file.ClassFile.{ClassFile}
 use Rattle.jvm_model.specs.Descriptors.{IsMethodDescriptor}
 use Rattle.jvm_model.specs.Instructions.{member_in, member_of, member_at}
-use Rattle.jvm_model.specs.Lookups.{Signature, MethodName, entry_at, text_in, text_at, signature_in, signature_at}
-use Rattle.jvm_model.specs.Soundness.{Place, Holds, IsIn, IsSoundClass, is_of_kind, leads_to, at_offset, each_place, entry_uses, entry_places, header_places, body_places, places_of}
+use Rattle.jvm_model.specs.Lookups.{Signature, MemberReference, entry_at, text_in, text_at, signature_in, signature_at}
+use Rattle.jvm_model.specs.Soundness.{PlacedUse, UseHolds, IsIn, IsSoundClass, is_of_kind, leads_to, at_offset, each_place, entry_uses, entry_places, header_places, body_places, places_of}
 use Rattle.jvm_model.specs.Spelling.{entry}
 use Rattle.jvm_model.proofs.CodePlaces.{cut_around}
 use Rattle.jvm_model.proofs.SoundUses.{NamesClass, class_there}
@@ -22,14 +22,14 @@ use Rattle.flow_graph.specs.Effects.{site_in, site_at}
 
 -- ---- the uses in an entry hold
 
-abbrev Hold : List PoolEntry → List Place → Type 0
-Hold pool places = AllByRecursion (λ (p : Place). Holds pool p.use_) places
+abbrev Hold : List PoolEntry → List PlacedUse → Type 0
+Hold pool places = AllByRecursion (λ (p : PlacedUse). UseHolds pool p.use_) places
 
-Hold-left : (pool : List PoolEntry) (xs ys : List Place) → Hold pool (xs ++ ys) → Hold pool xs
+Hold-left : (pool : List PoolEntry) (xs ys : List PlacedUse) → Hold pool (xs ++ ys) → Hold pool xs
 Hold-left pool [] ys h = tt
 Hold-left pool (x ∷ xs) ys h = (h.0, Hold-left pool xs ys h.1)
 
-Hold-right : (pool : List PoolEntry) (xs ys : List Place) → Hold pool (xs ++ ys) → Hold pool ys
+Hold-right : (pool : List PoolEntry) (xs ys : List PlacedUse) → Hold pool (xs ++ ys) → Hold pool ys
 Hold-right pool [] ys h = h
 Hold-right pool (x ∷ xs) ys h = Hold-right pool xs ys h.1
 
@@ -44,7 +44,7 @@ at_entry pool major offset earlier (y ∷ before) e after h =
     at_entry pool major (offset + entry_size y) (earlier ++ y ∷ []) before e after (Hold-right pool (at_offset offset (entry_uses major y)) _ h)
 
 sound_pool : (c : ClassFile) → IsSoundClass c → Hold c.pool (each_place (entry_places c.major) entry_size 10 [] c.pool)
-sound_pool c sound = Hold-left c.pool _ (header_places c ++ body_places c) (recursion_from_All (λ (p : Place). Holds c.pool p.use_) (places_of c) sound)
+sound_pool c sound = Hold-left c.pool _ (header_places c ++ body_places c) (recursion_from_All (λ (p : PlacedUse). UseHolds c.pool p.use_) (places_of c) sound)
 
 entry_holds : (c : ClassFile) (index : ℕ) (e : PoolEntry) → IsSoundClass c → entry_at c.pool index ≡ Some e → (at : ℕ) × Hold c.pool (at_offset at (entry_uses c.major e))
 entry_holds c zero e sound is = absurd cc
@@ -221,14 +221,14 @@ signature_there c index names descriptors sound leads grammar =
 
 -- a member, of which the descriptor is in its grammar
 pub record NamesMember (pool : List PoolEntry) (index : ℕ) (grammar : Grammar) : Type 0 where
-  pub method : MethodName
+  pub method : MemberReference
   pub named : member_at pool index ≡ Some method
   pub in_grammar : IsIn grammar method.signature.descriptor
 
 member_there : (c : ClassFile) (index class signature : ℕ) (e : PoolEntry) (grammar : Grammar) → entry_at c.pool index ≡ Some e → member_of c.pool e ≡ member_in c.pool class signature
     → NamesClass c class → HasSignature c.pool signature grammar → NamesMember c.pool index grammar
 member_there c index class signature e grammar is of named described =
-    let m : MethodName = record { class = named.name; signature = described.signature } in
+    let m : MemberReference = record { class = named.name; signature = described.signature } in
     let both : member_in c.pool class signature ≡ Some m = simp (named.named, described.named) refl in
     record { method = m; named = ap (option_and_then (member_of c.pool)) is ∙ of ∙ both; in_grammar = described.in_grammar }
 

@@ -17,9 +17,9 @@ use Rattle.jvm_model.specs.declared.reason.ReadRefusal.TheVariants as refusals
 use Rattle.jvm_model.specs.declared.reason.Reason.{Reason}
 use Rattle.jvm_model.specs.Descriptors.{IsFieldType, IsFieldDescriptor}
 use Rattle.jvm_model.specs.DescriptorValues.{is_wide, IsKind, IsOutcome, IsMethodOf}
-use Rattle.jvm_model.specs.Instructions.{Instruction, HasUnits, kinds_of, made_for, with_units, IsCallRow, IsFieldRow, RowBy}
-use Rattle.jvm_model.specs.Lookups.{MethodName, Signature}
-use Rattle.jvm_model.specs.Table.{Row, Kind, Origin, Action, plain, load_constant, load_element, store_element, probe, get_static, put_static, get_field, put_field, invoke_virtual, invoke_special, invoke_static, invoke_interface, make_object, make_array, throw_object, cast, leave_method, refused}
+use Rattle.jvm_model.specs.Instructions.{DecodedInstruction, HasDescriptorUnits, kinds_of, made_for, with_units, IsCallRow, IsFieldRow, RowBy}
+use Rattle.jvm_model.specs.Lookups.{MemberReference, Signature}
+use Rattle.jvm_model.specs.Table.{Row, UnitKind, UnitSource, Action, plain, load_constant, load_element, store_element, probe, get_static, put_static, get_field, put_field, invoke_virtual, invoke_special, invoke_static, invoke_interface, make_object, make_array, throw_object, cast, leave_method, refused}
 use Rattle.jvm_model.proofs.Fields.{field-component}
 use Rattle.jvm_model.proofs.MethodKinds.{one_value}
 use Rattle.code_reader.specs.CodeReading.{kind_units}
@@ -77,7 +77,7 @@ record Counted (text : List ℕ) (parameters results : ℕ) : Type 0 where
   pub parameters_are : parameters ≡ sum_by kind_units kinds
   pub results_are : results ≡ outcome_units outcome
 
-counted : (text : List ℕ) (ps rs : List Kind) → HasUnits text ps rs → Counted text (length ps) (length rs)
+counted : (text : List ℕ) (ps rs : List UnitKind) → HasDescriptorUnits text ps rs → Counted text (length ps) (length rs)
 counted text ps rs u =
     let m = u.is in
     let k = all_kinds m.parameters (recursion_from_All IsFieldDescriptor m.parameters m.each) in
@@ -86,8 +86,8 @@ counted text ps rs u =
       kinds = k.kinds;
       outcome = o.outcome;
       is = record { parameters = m.parameters; outcome = m.outcome; spelled = m.spelled; each = k.are; units = m.units; outcome_is = o.is };
-      parameters_are = ap (λ (ks : List Kind). length ks) u.parameters_are ∙ kinds_length m.parameters k.kinds k.are;
-      results_are = ap (λ (ks : List Kind). length ks) u.results_are ∙ outcome_length m.outcome o.outcome o.is;
+      parameters_are = ap (λ (ks : List UnitKind). length ks) u.parameters_are ∙ kinds_length m.parameters k.kinds k.are;
+      results_are = ap (λ (ks : List UnitKind). length ks) u.results_are ∙ outcome_length m.outcome o.outcome o.is;
     }
 
 same_counts : (text : List ℕ) (a b m n : ℕ) → Counted text a b → Counted text m n → (a ≡ m) × (b ≡ n)
@@ -97,7 +97,7 @@ same_counts text a b m n x y =
     let outcome : x.outcome ≡ y.outcome = cc same in
     (x.parameters_are ∙ ap (λ (ks : List TypeKind). sum_by kind_units ks) kinds ∙ sym y.parameters_are, x.results_are ∙ ap outcome_units outcome ∙ sym y.results_are)
 
-same_units : (text : List ℕ) (ps rs qs ss : List Kind) → HasUnits text ps rs → HasUnits text qs ss → (length ps ≡ length qs) × (length rs ≡ length ss)
+same_units : (text : List ℕ) (ps rs qs ss : List UnitKind) → HasDescriptorUnits text ps rs → HasDescriptorUnits text qs ss → (length ps ≡ length qs) × (length rs ≡ length ss)
 same_units text ps rs qs ss x y = same_counts text (length ps) (length rs) (length qs) (length ss) (counted text ps rs x) (counted text qs ss y)
 
 -- ---- the units of a row
@@ -108,23 +108,23 @@ SameUnits r s = (length r.pops ≡ length s.pops) × (length r.pushes ≡ length
 same_row : (r s : Row) → r ≡ s → SameUnits r s
 same_row r s e = (ap (λ (y : Row). length y.pops) e, ap (λ (y : Row). length y.pushes) e)
 
-same_call : (pool : List PoolEntry) (i : Instruction) (receiver : List Kind) (r s : Row) → IsCallRow pool i receiver r → IsCallRow pool i receiver s → SameUnits r s
+same_call : (pool : List PoolEntry) (i : DecodedInstruction) (receiver : List UnitKind) (r s : Row) → IsCallRow pool i receiver r → IsCallRow pool i receiver s → SameUnits r s
 same_call pool i receiver r s x y =
     let methods : x.method ≡ y.method = same_Some x.method y.method (sym x.named ∙ y.named) in
-    let units = subst (λ (m : MethodName). HasUnits m.signature.descriptor x.parameters x.results) methods x.units in
+    let units = subst (λ (m : MemberReference). HasDescriptorUnits m.signature.descriptor x.parameters x.results) methods x.units in
     let same = same_units y.method.signature.descriptor x.parameters x.results y.parameters y.results units y.units in (
       ap (λ (z : Row). length z.pops) x.row_is ∙ length-append receiver x.parameters ∙ ap (λ (n : ℕ). length receiver + n) same.0 ∙ sym (length-append receiver y.parameters) ∙ sym (ap (λ (z : Row). length z.pops) y.row_is),
       ap (λ (z : Row). length z.pushes) x.row_is ∙ length-map x.results made_for ∙ same.1 ∙ sym (length-map y.results made_for) ∙ sym (ap (λ (z : Row). length z.pushes) y.row_is),
     )
 
-same_field : (pool : List PoolEntry) (i : Instruction) (pops : List Kind → List Kind) (pushes : List Kind → List Origin) (r s : Row) → IsFieldRow pool i pops pushes r → IsFieldRow pool i pops pushes s → SameUnits r s
+same_field : (pool : List PoolEntry) (i : DecodedInstruction) (pops : List UnitKind → List UnitKind) (pushes : List UnitKind → List UnitSource) (r s : Row) → IsFieldRow pool i pops pushes r → IsFieldRow pool i pops pushes s → SameUnits r s
 same_field pool i pops pushes r s x y =
     let fields : x.field ≡ y.field = same_Some x.field y.field (sym x.named ∙ y.named) in
     let rows : r ≡ s =
-    x.row_is ∙ ap (λ (m : MethodName). with_units i.row (pops (kinds_of m.signature.descriptor)) (pushes (kinds_of m.signature.descriptor))) fields ∙ sym y.row_is in
+    x.row_is ∙ ap (λ (m : MemberReference). with_units i.row (pops (kinds_of m.signature.descriptor)) (pushes (kinds_of m.signature.descriptor))) fields ∙ sym y.row_is in
     same_row r s rows
 
-same_by : (a : Action) (pool : List PoolEntry) (i : Instruction) (r s : Row) → RowBy a pool i r → RowBy a pool i s → SameUnits r s
+same_by : (a : Action) (pool : List PoolEntry) (i : DecodedInstruction) (r s : Row) → RowBy a pool i r → RowBy a pool i s → SameUnits r s
 same_by load_constant pool i r s x y = same_row r s (same_Some r s (sym x ∙ y))
 same_by get_static pool i r s x y = same_field pool i _ _ r s x y
 same_by put_static pool i r s x y = same_field pool i _ _ r s x y
@@ -159,7 +159,7 @@ row_effects pool i r e f x y =
 site_effects : (pool : List PoolEntry) (i : Given) (e f : Effect) → IsSiteEffect pool i e → IsSiteEffect pool i f → e ≡ f
 site_effects pool i e f x y =
     let signatures : x.signature ≡ y.signature = same_Some x.signature y.signature (sym x.named ∙ y.named) in
-    let units = subst (λ (s : Signature). HasUnits s.descriptor x.parameters x.results) signatures x.units in
+    let units = subst (λ (s : Signature). HasDescriptorUnits s.descriptor x.parameters x.results) signatures x.units in
     let same = same_units y.signature.descriptor x.parameters x.results y.parameters y.results units y.units in
     x.effect_is ∙ same_effect (length x.parameters) (length x.results) (length y.parameters) (length y.results) same.0 same.1 ∙ sym y.effect_is
 

@@ -5,13 +5,13 @@ use Rattle.jvm_model.specs.declared.code.Instruction.{Instruction as Given}
 use Rattle.jvm_model.specs.declared.code.PlacedInstruction.{PlacedInstruction}
 use Rattle.jvm_model.specs.declared.pool.PoolEntry.{PoolEntry}
 use Rattle.jvm_model.specs.declared.pool.PoolEntry.TheVariants.{InvokeDynamic}
-use Rattle.jvm_model.specs.Instructions.{Instruction, instruction, IsRowAt, HasUnits}
+use Rattle.jvm_model.specs.Instructions.{DecodedInstruction, instruction, IsRowAt, HasDescriptorUnits}
 use Rattle.jvm_model.specs.Lookups.{Signature, entry_at, signature_at}
-use Rattle.jvm_model.specs.Table.{Row, row_of, Kind, Action, refused}
+use Rattle.jvm_model.specs.Table.{Row, row_of, UnitKind, Action, refused}
 use Rattle.flow_graph.specs.declared.effect.Effect.{Effect}
 
 -- The instruction with the row of its opcode.
-abbrev pub with_row : Given → Row → Instruction
+abbrev pub with_row : Given → Row → DecodedInstruction
 with_row i r = instruction i.opcode r i.operand i.dimensions [] 0
 
 -- The name and the descriptor that an InvokeDynamic entry has (JVMS 4.4.10).
@@ -26,9 +26,9 @@ site_at pool index = option_and_then (site_in pool) (entry_at pool index)
 pub record IsSiteEffect (pool : List PoolEntry) (i : Given) (e : Effect) : Type 0 where
   pub signature : Signature
   pub named : site_at pool i.operand ≡ Some signature
-  pub parameters : List Kind
-  pub results : List Kind
-  pub units : HasUnits signature.descriptor parameters results
+  pub parameters : List UnitKind
+  pub results : List UnitKind
+  pub units : HasDescriptorUnits signature.descriptor parameters results
   pub effect_is : e ≡ record { pops = length parameters; pushes = length results }
 
 -- Any other instruction pops and pushes the units of its row, with what the constant pool says of them.

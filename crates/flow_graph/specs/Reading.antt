@@ -13,11 +13,11 @@ use Rattle.jvm_model.specs.declared.descriptor.Kind.{Kind as TypeKind}
 use Rattle.jvm_model.specs.declared.pool.PoolEntry.{PoolEntry}
 use Rattle.jvm_model.specs.declared.pool.PoolEntry.TheVariants.{Fieldref, Methodref, InterfaceMethodref, NameAndType, InvokeDynamic}
 use Rattle.jvm_model.specs.Descriptors.{IsMethodDescriptor}
-use Rattle.jvm_model.specs.Instructions.{HasUnits}
+use Rattle.jvm_model.specs.Instructions.{HasDescriptorUnits}
 use Rattle.jvm_model.specs.InstructionUses.{is_subroutine, leads_right}
 use Rattle.jvm_model.specs.Lookups.{entry_at, text_at}
 use Rattle.jvm_model.specs.Soundness.{IsSoundClass}
-use Rattle.jvm_model.specs.Table.{Row, row_of, Kind, Operands, widened}
+use Rattle.jvm_model.specs.Table.{Row, row_of, UnitKind, Operands, widened}
 use Rattle.code_reader.specs.CodeReading.{kind_units}
 use Rattle.flow_graph.specs.declared.effect.Effect.{Effect}
 use Rattle.flow_graph.specs.declared.mark.Mark.{Mark}
@@ -49,9 +49,9 @@ pub record AreInOrder (instructions : List PlacedInstruction) : Type 0 where
 
 -- A method descriptor has so many units of parameters and of the result (JVMS 4.3.3).
 pub record HasCounts (descriptor : List ℕ) (u : MethodUnits) : Type 0 where
-  pub parameters : List Kind
-  pub results : List Kind
-  pub units : HasUnits descriptor parameters results
+  pub parameters : List UnitKind
+  pub results : List UnitKind
+  pub units : HasDescriptorUnits descriptor parameters results
   pub parameters_are : u.parameters ≡ length parameters
   pub results_are : u.results ≡ length results
 

@@ -3,7 +3,7 @@
 ghost use Rattle.std.specs.Prelude.{◌≡◌, ◌≤◌, length, sum_by, IfOk, Some, option_map};
 ghost use Rattle.jvm_model.specs.Descriptors.{IsMethodDescriptor};
 ghost use Rattle.jvm_model.specs.Instructions.{kinds_of, member_in, member_at};
-ghost use Rattle.jvm_model.specs.Lookups.{MethodName, entry_at};
+ghost use Rattle.jvm_model.specs.Lookups.{MemberReference, entry_at};
 ghost use Rattle.code_reader.specs.CodeReading.{kind_units};
 ghost use Rattle.code_reader.specs.Parameters.{HasFewUnits};
 ghost use Rattle.flow_graph.specs.Reading.{HasCounts, outcome_units, spelled_units, member_descriptor_at, site_descriptor_at, signature_descriptor_at};
@@ -34,7 +34,7 @@ fn spelled_units(spelled: &Option<Descriptor>) -> MethodUnits
     ensures { result ≡ spelled_units spelled.now }
 {
     match spelled {
-        Some(Descriptor::Method(kinds, outcome)) => MethodUnits {
+        Some(Descriptor::Method { parameters: kinds, outcome }) => MethodUnits {
             parameters: units_of(kinds.as_slice()),
             results: outcome_units(outcome),
         },
@@ -99,19 +99,19 @@ fn entry_at(pool: &[PoolEntry], index: u32) -> Option<&PoolEntry>
 
 /// The descriptor of the field or the method that the entry at an index names (JVMS 4.4.2).
 fn member_descriptor(pool: &[PoolEntry], index: u32) -> Option<&[u8]>
-    ensures { option_map (λ d. d.now) result ≡ option_map (λ (m : MethodName). m.signature.descriptor) (member_at pool.now index) }
+    ensures { option_map (λ d. d.now) result ≡ option_map (λ (m : MemberReference). m.signature.descriptor) (member_at pool.now index) }
 {
     match entry_at(pool, index)? {
-        PoolEntry::Fieldref(class, signature) => descriptor_in(pool, *class, *signature),
-        PoolEntry::Methodref(class, signature) => descriptor_in(pool, *class, *signature),
-        PoolEntry::InterfaceMethodref(class, signature) => descriptor_in(pool, *class, *signature),
+        PoolEntry::Fieldref { class, member: signature } => descriptor_in(pool, *class, *signature),
+        PoolEntry::Methodref { class, member: signature } => descriptor_in(pool, *class, *signature),
+        PoolEntry::InterfaceMethodref { class, member: signature } => descriptor_in(pool, *class, *signature),
         _ => None,
     }
 }
 
 /// The descriptor of a member that is named by its class, and by its name and descriptor.
 fn descriptor_in(pool: &[PoolEntry], class: u16, signature: u16) -> Option<&[u8]>
-    ensures { option_map (λ d. d.now) result ≡ option_map (λ (m : MethodName). m.signature.descriptor) (member_in pool.now class signature) }
+    ensures { option_map (λ d. d.now) result ≡ option_map (λ (m : MemberReference). m.signature.descriptor) (member_in pool.now class signature) }
 {
     let _class = class_name_at(pool, class)?;
     let signature = signature_at(pool, signature)?;
@@ -120,7 +120,7 @@ fn descriptor_in(pool: &[PoolEntry], class: u16, signature: u16) -> Option<&[u8]
 
 /// The same as a text, which is empty where none is named.
 pub(crate) fn member_text(pool: &[PoolEntry], index: u32) -> &[u8]
-    ensures { (m : MethodName) → member_at pool.now index ≡ Some m → result.now ≡ m.signature.descriptor }
+    ensures { (m : MemberReference) → member_at pool.now index ≡ Some m → result.now ≡ m.signature.descriptor }
 {
     match member_descriptor(pool, index) {
         Some(descriptor) => descriptor,
@@ -133,9 +133,9 @@ pub(crate) fn member_descriptor_at(pool: &[PoolEntry], index: u32) -> Option<u16
     ensures { result ≡ member_descriptor_at pool.now index }
 {
     match entry_at(pool, index)? {
-        PoolEntry::Fieldref(_, signature) => signature_descriptor_at(pool, *signature),
-        PoolEntry::Methodref(_, signature) => signature_descriptor_at(pool, *signature),
-        PoolEntry::InterfaceMethodref(_, signature) => signature_descriptor_at(pool, *signature),
+        PoolEntry::Fieldref { member: signature, .. } => signature_descriptor_at(pool, *signature),
+        PoolEntry::Methodref { member: signature, .. } => signature_descriptor_at(pool, *signature),
+        PoolEntry::InterfaceMethodref { member: signature, .. } => signature_descriptor_at(pool, *signature),
         _ => None,
     }
 }
@@ -145,7 +145,7 @@ pub(crate) fn site_descriptor_at(pool: &[PoolEntry], index: u32) -> Option<u16>
     ensures { result ≡ site_descriptor_at pool.now index }
 {
     match entry_at(pool, index)? {
-        PoolEntry::InvokeDynamic(_, signature) => signature_descriptor_at(pool, *signature),
+        PoolEntry::InvokeDynamic { member: signature, .. } => signature_descriptor_at(pool, *signature),
         _ => None,
     }
 }
@@ -155,7 +155,7 @@ fn signature_descriptor_at(pool: &[PoolEntry], index: u16) -> Option<u16>
     ensures { result ≡ signature_descriptor_at pool.now index }
 {
     match entry_at(pool, u32::from(index))? {
-        PoolEntry::NameAndType(_, descriptor) => Some(*descriptor),
+        PoolEntry::NameAndType { descriptor, .. } => Some(*descriptor),
         _ => None,
     }
 }

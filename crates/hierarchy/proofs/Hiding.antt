@@ -5,12 +5,12 @@ use Rattle.std.specs.Bool.{IsTrue}
 use Rattle.std.specs.List.{slice_get, Contains}
 use Rattle.std.proofs.lemmas.Option.{same_Some}
 use Rattle.jvm_model.specs.LinkedPrograms.{IsProgram}
-use Rattle.jvm_model.specs.Lookups.{Signature, MethodName}
+use Rattle.jvm_model.specs.Lookups.{Signature, MemberReference}
 use Rattle.jvm_model.specs.Programs.{Class, Method, Program}
 use Rattle.jvm_model.specs.Selection.{StandsBelow, IsPackageOverridden, IsPackagePrivate, IsSuperCall, StartsSearch, at_super, at_named}
 use Rattle.linked_program.specs.Numbers.{name_at, IsClassNumber}
 use Rattle.linked_program.specs.Ranks.{IsRanked}
-use Rattle.hierarchy.specs.Searches.{HasNamed, IsUpward, Hides, HidesAlong, IsHidden}
+use Rattle.hierarchy.specs.Searches.{HasNamed, IsReachedUpward, Hides, HidesAlong, IsHidden}
 use Rattle.hierarchy.proofs.ClassPlaces.{class_of_number}
 use Rattle.hierarchy.proofs.Chains.{Along, along_up, along_down, along_first, along_last, chain_split, IsStep, IsTop}
 
@@ -112,30 +112,30 @@ overridden_hidden p class resolved m stands h =
 abbrev NamedAlong : List ℕ → List Class → Type 0
 NamedAlong name chain = HasNamed chain name
 
-upward_along : (p : Program) (start name : List ℕ) → IsUpward p start name → Along p (NamedAlong name) start
+upward_along : (p : Program) (start name : List ℕ) → IsReachedUpward p start name → Along p (NamedAlong name) start
 upward_along p start name h = record { chain = h.chain; of_start = h.of_start; holds = h.among }
 
-along_upward : (p : Program) (start name : List ℕ) → Along p (NamedAlong name) start → IsUpward p start name
+along_upward : (p : Program) (start name : List ℕ) → Along p (NamedAlong name) start → IsReachedUpward p start name
 along_upward p start name h = record { chain = h.chain; of_start = h.of_start; among = h.holds }
 
-pub upward_here : (p : Program) → IsProgram p → IsRanked p → (n : ℕ) (name : List ℕ) → IsClassNumber p n → name_at p n ≡ name → IsUpward p (name_at p n) name
+pub upward_here : (p : Program) → IsProgram p → IsRanked p → (n : ℕ) (name : List ℕ) → IsClassNumber p n → name_at p n ≡ name → IsReachedUpward p (name_at p n) name
 upward_here p program ranked n name within same =
     let there = class_of_number p program n within in
     along_upward p (name_at p n) name
     (along_first p program ranked (NamedAlong name) (name_at p n) there.0 there.1.named (λ rest. inl (sym there.1.name ∙ same)))
 
-pub upward_above : (p : Program) (n up : ℕ) (name : List ℕ) → IsStep p n up → IsUpward p (name_at p up) name → IsUpward p (name_at p n) name
+pub upward_above : (p : Program) (n up : ℕ) (name : List ℕ) → IsStep p n up → IsReachedUpward p (name_at p up) name → IsReachedUpward p (name_at p n) name
 upward_above p n up name step h =
     along_upward p (name_at p n) name
     (along_down p (NamedAlong name) (name_at p n) (name_at p up) step.class step.at.named step.super (λ rest x. inr x) (upward_along p (name_at p up) name h))
 
-pub upward_below : (p : Program) (n up : ℕ) (name : List ℕ) → IsStep p n up → name_at p n ≢ name → IsUpward p (name_at p n) name → IsUpward p (name_at p up) name
+pub upward_below : (p : Program) (n up : ℕ) (name : List ℕ) → IsStep p n up → name_at p n ≢ name → IsReachedUpward p (name_at p n) name → IsReachedUpward p (name_at p up) name
 upward_below p n up name step differs h =
     along_upward p (name_at p up) name
     (along_up p (NamedAlong name) (name_at p n) (name_at p up) step.class step.at.named step.super
     (λ rest x. elim x [ inl here ↦ absurd (differs (step.at.name ∙ here)) | inr above ↦ above ]) (upward_along p (name_at p n) name h))
 
-pub upward_last : (p : Program) (n : ℕ) (name : List ℕ) → IsTop p n → name_at p n ≢ name → IsUpward p (name_at p n) name → ⊥
+pub upward_last : (p : Program) (n : ℕ) (name : List ℕ) → IsTop p n → name_at p n ≢ name → IsReachedUpward p (name_at p n) name → ⊥
 upward_last p n name top differs h =
     let last : NamedAlong name (top.class ∷ []) = along_last p (NamedAlong name) (name_at p n) top.class top.at.named top.super (upward_along p (name_at p n) name h) in
     elim last [ inl here ↦ differs (top.at.name ∙ here) | inr above ↦ above ]
@@ -156,17 +156,17 @@ place_named [] k above name lt at named = absurd (omega (arith, lt))
 place_named (c ∷ chain) zero above name lt at named = inl (ap (λ (x : Class). x.name) at ∙ named)
 place_named (c ∷ chain) (suc k) above name lt at named = inr (place_named chain k above name (omega (arith, lt)) at named)
 
-pub super_upward : (p : Program) (current : List ℕ) (m : MethodName) → IsSuperCall p current m → IsUpward p current m.class
+pub super_upward : (p : Program) (current : List ℕ) (m : MemberReference) → IsSuperCall p current m → IsReachedUpward p current m.class
 super_upward p current m h =
     record { chain = h.chain; of_start = h.upward; among = place_named h.chain h.stands.0 h.above m.class h.stands.1 h.stands.2 h.named }
 
-pub upward_super : (p : Program) (current : List ℕ) (m : MethodName) (no_constructor : m.signature.name ≢ codes "<init>") → current ≢ m.class → IsUpward p current m.class → IsSuperCall p current m
+pub upward_super : (p : Program) (current : List ℕ) (m : MemberReference) (no_constructor : m.signature.name ≢ codes "<init>") → current ≢ m.class → IsReachedUpward p current m.class → IsSuperCall p current m
 upward_super p current m no_constructor other h =
     let found = named_contained_in h.chain m.class h.among in
     record { no_constructor = no_constructor; other = other; chain = h.chain; upward = h.of_start; above = found.0; stands = found.1; named = found.2 }
 
 -- the search begins at one class
-pub starts_same : (p : Program) (current : List ℕ) (m : MethodName) (x y : List ℕ) → StartsSearch p current m x → StartsSearch p current m y → x ≡ y
+pub starts_same : (p : Program) (current : List ℕ) (m : MemberReference) (x y : List ℕ) → StartsSearch p current m x → StartsSearch p current m y → x ≡ y
 starts_same p current m x y (at_super c call named super) (at_super d also named_too super_too) =
     same_Some x y (sym super ∙ ap (λ (v : Class). v.super_class) (same_Some c d (sym named ∙ named_too)) ∙ super_too)
 starts_same p current m x y (at_super c call named super) (at_named none is) = absurd (none call)

@@ -9,7 +9,7 @@ use Rattle.jvm_model.specs.Programs.{Class, Program}
 use Rattle.jvm_model.specs.Resolution.{Declares, HasSignature}
 use Rattle.linked_program.specs.declared.member_view.MemberView.{MemberView}
 use Rattle.linked_program.specs.Numbers.{name_at, IsClassNumber}
-use Rattle.linked_program.specs.Ranks.{MembersDiffer}
+use Rattle.jvm_model.specs.LinkedPrograms.{MembersDiffer}
 use Rattle.hierarchy.specs.Searches.{IsOffered}
 use Rattle.linked_program.specs.Whole.{IsMethodView}
 use Rattle.hierarchy.proofs.ClassPlaces.{name_at-at, class_there}

@@ -14,7 +14,8 @@ use Rattle.jvm_model.specs.Resolution.{IsInherited, IsMostSpecific, IsDefault, I
 use Rattle.jvm_model.specs.Subtypes.{IsProperSubtype}
 use Rattle.linked_program.specs.declared.member_view.MemberView.{MemberView}
 use Rattle.linked_program.specs.Numbers.{name_at, IsClassNumber, IsMethodNumber}
-use Rattle.linked_program.specs.Ranks.{IsRanked, MembersDiffer}
+use Rattle.linked_program.specs.Ranks.{IsRanked}
+use Rattle.jvm_model.specs.LinkedPrograms.{MembersDiffer}
 use Rattle.hierarchy.specs.Searches.{IsBelow, IsLowestConcrete, IsOffered, IsLeast, IsKeptOrOffered}
 use Rattle.linked_program.specs.Whole.{IsMethodView}
 use Rattle.hierarchy.proofs.ClassPlaces.{method_there}

@@ -14,7 +14,7 @@ use Rattle.linked_program.specs.declared.member_view.MemberView.{MemberView}
 use Rattle.hierarchy.specs.declared.wanted.Wanted.{Wanted}
 use Rattle.hierarchy.specs.declared.wanted.Wanted.TheVariants.{Any, Instance, PublicInstance, Selected}
 use Rattle.linked_program.specs.Numbers.{IsClassNumber, IsMethodNumber}
-use Rattle.linked_program.specs.Ranks.{MembersDiffer}
+use Rattle.jvm_model.specs.LinkedPrograms.{MembersDiffer}
 use Rattle.hierarchy.specs.Searches.{IsFor, HasOwnSignature}
 use Rattle.hierarchy.specs.Wanted.{IsWanted}
 use Rattle.linked_program.specs.Whole.{IsMethodView}

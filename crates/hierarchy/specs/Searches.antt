@@ -110,7 +110,7 @@ HasNamed [] name = ⊥
 HasNamed (c ∷ chain) name = (c.name ≡ name) ⊎ HasNamed chain name
 
 -- The second name is that of the class of the first, or of one of its superclasses.
-pub record IsUpward (p : Program) (start name : List ℕ) : Type 0 where
+pub record IsReachedUpward (p : Program) (start name : List ℕ) : Type 0 where
   pub chain : List Class
   pub of_start : IsChain p (Some start) chain
   pub among : HasNamed chain name

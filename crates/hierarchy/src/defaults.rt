@@ -11,7 +11,7 @@ use crate::sought::{Sought, first_inherited, offered};
 use jvm_model::AccessFlag;
 use linked_program::program::Program;
 
-// A method of a proper subtype of a class.
+/// A method of a proper subtype of a class.
 #[derive(Clone, Copy)]
 struct InSubtype {
     upper: u32,
@@ -30,7 +30,7 @@ impl Sought for InSubtype {
     }
 }
 
-// A method that is maximally specific among those that a class inherits, and not abstract. One number may be left out.
+/// A method that is maximally specific among those that a class inherits, and not abstract. One number may be left out.
 #[derive(Clone, Copy)]
 struct LowestConcrete<'a> {
     class: u32,
@@ -54,7 +54,7 @@ impl Sought for LowestConcrete<'_> {
     }
 }
 
-// Whether a method is not abstract, and no method that the class inherits is declared in a subinterface of its interface.
+/// Whether a method is not abstract, and no method that the class inherits is declared in a subinterface of its interface.
 fn is_lowest_concrete(
     program: &Program,
     class: u32,
@@ -131,7 +131,7 @@ pub(crate) fn least_inherited(
     unreachable!()
 }
 
-// The least number of those that the interfaces offer, and of the one that was there before.
+/// The least number of those that the interfaces offer, and of the one that was there before.
 fn least_among(
     program: &Program,
     interfaces: &[u32],
@@ -151,7 +151,7 @@ fn least_among(
     least
 }
 
-// The lesser of two numbers, if there are two.
+/// The lesser of two numbers, if there are two.
 fn lesser(number: Option<u32>, other: Option<u32>) -> Option<u32>
     ensures { IsLeast (λ n. (number ≡ Some n) ⊎ (other ≡ Some n)) result }
 {

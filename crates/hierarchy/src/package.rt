@@ -10,7 +10,7 @@ pub(crate) fn is_same_package(name: &[u8], other: &[u8]) -> bool
     package(name) == package(other)
 }
 
-// The package of the class of a name: the bytes up to the last slash.
+/// The package of the class of a name: the bytes up to the last slash.
 fn package(name: &[u8]) -> &[u8]
     ensures { result.now ≡ package_of name.now }
 {

@@ -41,7 +41,7 @@ pub fn resolve_method(
     }
 }
 
-// The method that a reference resolves to, whatever it takes the class for.
+/// The method that a reference resolves to, whatever it takes the class for.
 fn resolved(program: &Program, class: u32, name: &[u8], descriptor: &[u8]) -> Option<u32>
     requires { IsClassNumber program.now class }
     ensures found { IfSome result (Resolves program.now (record { class = name_at program.now class; signature = signature_from name.now descriptor.now })) }
@@ -58,7 +58,7 @@ fn resolved(program: &Program, class: u32, name: &[u8], descriptor: &[u8]) -> Op
     }
 }
 
-// The reason if a class that is named with a method has none.
+/// The reason if a class that is named with a method has none.
 fn missing_method(program: &Program, class: u32) -> Reason
     requires { IsClassNumber program.now class }
     ensures { (c : Class) → slice_get program.now.classes class ≡ Some c → result ≡ missing c MissingMethod }

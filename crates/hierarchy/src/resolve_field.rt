@@ -39,7 +39,7 @@ pub fn resolve_field(
     }
 }
 
-// Whether a field is static.
+/// Whether a field is static.
 fn is_static_field(program: &Program, number: u32) -> bool
     requires { number < length program.now.fields }
     ensures { (f : Field) → slice_get program.now.fields number ≡ Some f → result ≡ has_flag f.flags Static }
@@ -47,7 +47,7 @@ fn is_static_field(program: &Program, number: u32) -> bool
     AccessFlag::Static.is_set_in(program.field(number).flags)
 }
 
-// The reason if a class that is named with a field has none.
+/// The reason if a class that is named with a field has none.
 fn missing_field(program: &Program, class: u32) -> Reason
     requires { IsClassNumber program.now class }
     ensures { (c : Class) → slice_get program.now.classes class ≡ Some c → result ≡ missing c MissingField }
@@ -59,7 +59,7 @@ fn missing_field(program: &Program, class: u32) -> Reason
     }
 }
 
-// The field that the search from a class finds.
+/// The field that the search from a class finds.
 fn found_field(program: &Program, class: u32, name: &[u8], descriptor: &[u8]) -> Option<u32>
     requires { IsClassNumber program.now class }
     ensures finds { FindsField program.now (signature_from name.now descriptor.now) (name_at program.now class) result }
@@ -83,7 +83,7 @@ fn found_field(program: &Program, class: u32, name: &[u8], descriptor: &[u8]) ->
     unreachable!()
 }
 
-// The field of the first of the classes that declares one of the name and descriptor.
+/// The field of the first of the classes that declares one of the name and descriptor.
 fn first_field(program: &Program, classes: &[u32], name: &[u8], descriptor: &[u8]) -> Option<u32>
     requires { All (IsClassNumber program.now) classes.now }
     ensures { IsFirstField program.now (signature_from name.now descriptor.now) classes.now result }

@@ -26,14 +26,14 @@ pub(crate) fn is_proper_subtype(program: &Program, lower: u32, upper: u32) -> bo
     lower != upper && program.is_at_or_above(lower, upper)
 }
 
-// Whether a method with these flags is an instance method.
+/// Whether a method with these flags is an instance method.
 fn is_instance(flags: u16) -> bool
     ensures { IsTrue result ↔ (has_flag flags Static ≡ false) }
 {
     !AccessFlag::Static.is_set_in(flags)
 }
 
-// Whether a method may be overridden in a class (JVMS 5.4.5).
+/// Whether a method may be overridden in a class (JVMS 5.4.5).
 fn is_overridable(program: &Program, number: u32, class: u32) -> bool
     requires number { IsMethodNumber program.now number }
     requires class { IsClassNumber program.now class }
@@ -52,7 +52,7 @@ fn is_overridable(program: &Program, number: u32, class: u32) -> bool
     is_same_package(program.class_name(other.class), program.class_name(class))
 }
 
-// Whether a method overrides another one of the same name and descriptor (JVMS 5.4.5).
+/// Whether a method overrides another one of the same name and descriptor (JVMS 5.4.5).
 fn overrides(program: &Program, number: u32, other: u32) -> bool
     requires number { IsMethodNumber program.now number }
     requires other { IsMethodNumber program.now other }
@@ -70,7 +70,7 @@ fn overrides(program: &Program, number: u32, other: u32) -> bool
     is_overridable(program, other, method.class)
 }
 
-// Whether an instance method is a resolved one, or overrides it.
+/// Whether an instance method is a resolved one, or overrides it.
 fn is_selectable(program: &Program, resolved: u32, number: u32) -> bool
     requires number { IsMethodNumber program.now number }
     requires resolved { IsMethodNumber program.now resolved }
@@ -80,7 +80,7 @@ fn is_selectable(program: &Program, resolved: u32, number: u32) -> bool
     number == resolved || overrides(program, number, resolved)
 }
 
-// Whether a method of the looked-for name and descriptor is wanted.
+/// Whether a method of the looked-for name and descriptor is wanted.
 fn accepts(program: &Program, wanted: Wanted, number: u32) -> bool
     requires number { IsMethodNumber program.now number }
     requires own { (m : Method) → slice_get program.now.methods number ≡ Some m → IsFor program.now wanted m.signature }
@@ -171,7 +171,7 @@ pub(crate) fn found_in(
     of_object(program, name, descriptor)
 }
 
-// The public instance method of java/lang/Object.
+/// The public instance method of java/lang/Object.
 fn of_object(program: &Program, name: &[u8], descriptor: &[u8]) -> Option<u32>
     ensures found { IfSome result (λ n. Declares program.now (IsPublicWith (signature_from name.now descriptor.now)) object_name n) }
     ensures none { IfNone result ((n : ℕ) → Declares program.now (IsPublicWith (signature_from name.now descriptor.now)) object_name n → ⊥) }

@@ -55,7 +55,7 @@ pub(crate) fn is_abstract(program: &Program, number: u32) -> bool
     AccessFlag::Abstract.is_set_in(program.method(number).flags)
 }
 
-// The method that is selected, whether it is abstract or not.
+/// The method that is selected, whether it is abstract or not.
 fn chosen(program: &Program, resolved: u32, receiver: u32, interface: bool) -> Choice
     requires resolved { IsMethodNumber program.now resolved }
     requires receiver { IsClassNumber program.now receiver }
@@ -72,7 +72,7 @@ fn chosen(program: &Program, resolved: u32, receiver: u32, interface: bool) -> C
     find_defaults(program, receiver, method.name, method.descriptor)
 }
 
-// Whether the resolved method is private, and the call is none of an interface's method.
+/// Whether the resolved method is private, and the call is none of an interface's method.
 fn is_direct(program: &Program, resolved: u32, interface: bool) -> bool
     requires { IsMethodNumber program.now resolved }
     ensures { (m : Method) → slice_get program.now.methods resolved ≡ Some m → result ≡ is_direct interface m }
@@ -83,7 +83,7 @@ fn is_direct(program: &Program, resolved: u32, interface: bool) -> bool
     AccessFlag::Private.is_set_in(program.method(resolved).flags)
 }
 
-// What is looked for upward.
+/// What is looked for upward.
 fn wanted_for(interface: bool, resolved: u32) -> Wanted
     ensures { result ≡ wanted_of interface resolved }
 {
@@ -94,8 +94,8 @@ fn wanted_for(interface: bool, resolved: u32) -> Wanted
     }
 }
 
-// Whether a method that is visible in its package alone has, from the class upward to below its own, a method of its name and
-// descriptor in another package.
+/// Whether a method that is visible in its package alone has, from the class upward to below its own, a method of its name and
+/// descriptor in another package.
 fn is_package_overridden(program: &Program, class: u32, resolved: u32) -> bool
     requires class { IsClassNumber program.now class }
     requires resolved { IsMethodNumber program.now resolved }
@@ -108,7 +108,7 @@ fn is_package_overridden(program: &Program, class: u32, resolved: u32) -> bool
     is_hidden(program, class, method.class, method.name, method.descriptor)
 }
 
-// Whether a method has no flag of access.
+/// Whether a method has no flag of access.
 fn is_package_private(program: &Program, number: u32) -> bool
     requires { IsMethodNumber program.now number }
     ensures { (m : Method) → slice_get program.now.methods number ≡ Some m → IsTrue result ↔ IsPackagePrivate m }
@@ -123,8 +123,8 @@ fn is_package_private(program: &Program, number: u32) -> bool
     !AccessFlag::Private.is_set_in(flags)
 }
 
-// Whether, from the class upward to below another one, a class in another package than that one has a method of the name and
-// descriptor.
+/// Whether, from the class upward to below another one, a class in another package than that one has a method of the name and
+/// descriptor.
 fn is_hidden(program: &Program, class: u32, owner: u32, name: &[u8], descriptor: &[u8]) -> bool
     requires class { IsClassNumber program.now class }
     requires owner { IsClassNumber program.now owner }
@@ -147,7 +147,7 @@ fn is_hidden(program: &Program, class: u32, owner: u32, name: &[u8], descriptor:
     unreachable!()
 }
 
-// Whether a class in another package than the owner has a method of the name and descriptor.
+/// Whether a class in another package than the owner has a method of the name and descriptor.
 fn hides(program: &Program, class: u32, owner: u32, name: &[u8], descriptor: &[u8]) -> bool
     requires class { IsClassNumber program.now class }
     requires owner { IsClassNumber program.now owner }

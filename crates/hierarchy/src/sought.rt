@@ -55,7 +55,7 @@ pub(crate) fn first_inherited<S: Sought>(
     unreachable!()
 }
 
-// The first method that one of the interfaces offers, and that is looked for.
+/// The first method that one of the interfaces offers, and that is looked for.
 fn first_among<S: Sought>(
     program: &Program,
     interfaces: &[u32],
@@ -76,7 +76,7 @@ fn first_among<S: Sought>(
     None
 }
 
-// The method that an interface offers, if it is looked for.
+/// The method that an interface offers, if it is looked for.
 fn offered_sought<S: Sought>(
     program: &Program,
     interface: u32,
@@ -121,7 +121,7 @@ pub(crate) fn offered(
     }
 }
 
-// Whether subtypes inherit a method of an interface that has these flags.
+/// Whether subtypes inherit a method of an interface that has these flags.
 fn is_inheritable(flags: u16) -> bool
     ensures { IsTrue result ↔ ((has_flag flags Private ≡ false) × (has_flag flags Static ≡ false)) }
 {

@@ -4,7 +4,7 @@ ghost use Rattle.std.specs.Prelude.{◌≡◌, ◌↔◌, ℕ, codes, Some, slic
 ghost use Rattle.jvm_model.specs.Programs.{Method};
 ghost use Rattle.jvm_model.specs.Selection.{SpecialSelection, StartsSearch};
 ghost use Rattle.linked_program.specs.Numbers.{name_at, IsClassNumber, IsMethodNumber, method_number};
-ghost use Rattle.hierarchy.specs.Searches.{signature_from, IsUpward, SelectsInstance};
+ghost use Rattle.hierarchy.specs.Searches.{signature_from, IsReachedUpward, SelectsInstance};
 
 use crate::choice::Choice;
 use crate::defaults::find_defaults;
@@ -42,7 +42,7 @@ pub fn special_target(
     Ok(MethodNo(target))
 }
 
-// The class at which the search begins: at a call of a superclass's method, the superclass of the current class.
+/// The class at which the search begins: at a call of a superclass's method, the superclass of the current class.
 fn search_start(program: &Program, current: u32, named: u32, name: &[u8], descriptor: &[u8]) -> u32
     requires current { IsClassNumber program.now current }
     requires named { IsClassNumber program.now named }
@@ -65,18 +65,18 @@ fn search_start(program: &Program, current: u32, named: u32, name: &[u8], descri
     }
 }
 
-// Whether a method of this name is a constructor (JVMS 2.9).
+/// Whether a method of this name is a constructor (JVMS 2.9).
 fn is_constructor(name: &[u8]) -> bool
     ensures { IsTrue result ↔ (name.now ≡ codes "<init>") }
 {
     name == b"<init>".as_slice()
 }
 
-// Whether a class is another one, or among the superclasses of it.
+/// Whether a class is another one, or among the superclasses of it.
 fn is_upward(program: &Program, class: u32, upper: u32) -> bool
     requires class { IsClassNumber program.now class }
     requires upper { IsClassNumber program.now upper }
-    ensures { IsTrue result ↔ IsUpward program.now (name_at program.now class) (name_at program.now upper) }
+    ensures { IsTrue result ↔ IsReachedUpward program.now (name_at program.now class) (name_at program.now upper) }
 {
     program.well_formed();
     let mut current = class;
@@ -92,7 +92,7 @@ fn is_upward(program: &Program, class: u32, upper: u32) -> bool
     unreachable!()
 }
 
-// The instance method of the name and descriptor that a search from a class finds, upward or as the only default.
+/// The instance method of the name and descriptor that a search from a class finds, upward or as the only default.
 fn selected_from(program: &Program, start: u32, name: &[u8], descriptor: &[u8]) -> Option<u32>
     requires { IsClassNumber program.now start }
     ensures found { IfSome result (SelectsInstance program.now (name_at program.now start) (signature_from name.now descriptor.now)) }

@@ -6,4 +6,5 @@ pub mod Lengths
 pub mod MethodKinds
 pub mod Parameters
 pub mod SoundUses
+pub mod SumFronts
 pub mod ViewedItems

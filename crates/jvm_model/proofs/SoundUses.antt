@@ -1,4 +1,4 @@
--- What the uses of a sound class file give at one index, one member or one attribute.
+-- What the uses of a sound class file give at one index, one member or one attribute. The layers above cite it.
 use Rattle.std.proofs.Common.{codes, ◌≡◌, ◌⊎◌, inl, inr, ℕ, zero, suc, ◌+◌, ◌<◌, Bool, true, false, ◌||◌, List, [], ◌∷◌, ◌++◌, length, take, drop, get_or, Contains, IsSome, IfSome, IfNone, Option, Some, None, option_map, option_and_then, refl, sym, ap, ◌∙◌, subst, append_assoc}
 use Rattle.std.specs.List.{list_any, AllByRecursion}
 use Rattle.std.specs.Option.{option_map_or}
@@ -18,58 +18,58 @@ use Rattle.jvm_model.specs.declared.class_file.ClassFile.{ClassFile}
 use Rattle.jvm_model.specs.declared.class_file.Member.{Member}
 use Rattle.jvm_model.specs.declared.class_file.Attribute.{Attribute}
 use Rattle.jvm_model.specs.Layout.{HasFirstCode, IsOnlyCode}
-use Rattle.jvm_model.specs.Lookups.{Signature, MethodName, entry_at, text_in, text_at, class_index_in, class_name_at, signature_in, signature_at, method_in, method_at}
+use Rattle.jvm_model.specs.Lookups.{Signature, MemberReference, entry_at, text_in, text_at, class_index_in, class_name_at, signature_in, signature_at, method_in, method_at}
 use Rattle.jvm_model.specs.Names.{IsClassName}
-use Rattle.jvm_model.specs.Soundness.{Place, Holds, IsIn, IsSoundClass, is_array, is_code, is_of_kind, leads_to, wants_code, at_offset, each_place, entry_uses, entry_places, attribute_places, code_places, field_places, method_places, name_places, header_places, body_places, places_of}
+use Rattle.jvm_model.specs.Soundness.{PlacedUse, UseHolds, IsIn, IsSoundClass, is_array, is_code, is_of_kind, leads_to, wants_code, at_offset, each_place, entry_uses, entry_places, attribute_places, code_places, field_places, method_places, name_places, header_places, body_places, places_of}
 use Rattle.jvm_model.specs.Spelling.{entry, attribute, member}
 use Rattle.jvm_model.proofs.CodePlaces.{cut_around}
 
 -- ---- places of which each use holds
 
-abbrev Hold : List PoolEntry → List Place → Type 0
-Hold pool places = AllByRecursion (λ (p : Place). Holds pool p.use_) places
+abbrev pub Hold : List PoolEntry → List PlacedUse → Type 0
+Hold pool places = AllByRecursion (λ (p : PlacedUse). UseHolds pool p.use_) places
 
-Hold-left : (pool : List PoolEntry) (xs ys : List Place) → Hold pool (xs ++ ys) → Hold pool xs
+pub Hold-left : (pool : List PoolEntry) (xs ys : List PlacedUse) → Hold pool (xs ++ ys) → Hold pool xs
 Hold-left pool [] ys h = tt
 Hold-left pool (x ∷ xs) ys h = (h.0, Hold-left pool xs ys h.1)
 
-Hold-right : (pool : List PoolEntry) (xs ys : List Place) → Hold pool (xs ++ ys) → Hold pool ys
+pub Hold-right : (pool : List PoolEntry) (xs ys : List PlacedUse) → Hold pool (xs ++ ys) → Hold pool ys
 Hold-right pool [] ys h = h
 Hold-right pool (x ∷ xs) ys h = Hold-right pool xs ys h.1
 
 -- the places of one item, where other items stand before it and after it
-module _ {X : Type 0} (pool : List PoolEntry) (places : ℕ → List X → X → List Place) (size : X → ℕ) where
+module _ {X : Type 0} (pool : List PoolEntry) (places : ℕ → List X → X → List PlacedUse) (size : X → ℕ) where
   -- at some offset
-  abbrev HoldAt : List X → X → Type 0
+  abbrev pub HoldAt : List X → X → Type 0
   HoldAt earlier x = (offset : ℕ) × Hold pool (places offset earlier x)
 
-  at_item : (offset : ℕ) (earlier before : List X) (x : X) (after : List X) → Hold pool (each_place places size offset earlier (before ++ x ∷ after)) → HoldAt (earlier ++ before) x
+  pub at_item : (offset : ℕ) (earlier before : List X) (x : X) (after : List X) → Hold pool (each_place places size offset earlier (before ++ x ∷ after)) → HoldAt (earlier ++ before) x
   at_item offset earlier [] x after h = (offset, subst (λ (e : List X). Hold pool (places offset e x)) (sym (append-nil earlier)) (Hold-left pool (places offset earlier x) _ h))
   at_item offset earlier (y ∷ before) x after h =
       let rest = Hold-right pool (places offset earlier y) _ h in
       subst (λ (e : List X). HoldAt e x) (append_assoc earlier (y ∷ []) before) (at_item (offset + size y) (earlier ++ y ∷ []) before x after rest)
 
-  at_place : (offset : ℕ) (xs : List X) (k : ℕ) (x : X) → k < length xs → x ≡ get_or xs k x → Hold pool (each_place places size offset [] xs) → HoldAt (take k xs) x
+  pub at_place : (offset : ℕ) (xs : List X) (k : ℕ) (x : X) → k < length xs → x ≡ get_or xs k x → Hold pool (each_place places size offset [] xs) → HoldAt (take k xs) x
   at_place offset xs k x lt is h =
       at_item offset [] (take k xs) x (drop (k + 1) xs) (subst (λ (ys : List X). Hold pool (each_place places size offset [] ys)) (cut_around xs k x lt is) h)
 
 -- ---- the parts of a sound class file
 
 sound_places : (c : ClassFile) → IsSoundClass c → Hold c.pool (places_of c)
-sound_places c sound = recursion_from_All (λ (p : Place). Holds c.pool p.use_) (places_of c) sound
+sound_places c sound = recursion_from_All (λ (p : PlacedUse). UseHolds c.pool p.use_) (places_of c) sound
 
-sound_pool : (c : ClassFile) → IsSoundClass c → Hold c.pool (each_place (entry_places c.major) (λ e. length (entry e)) 10 [] c.pool)
+pub sound_pool : (c : ClassFile) → IsSoundClass c → Hold c.pool (each_place (entry_places c.major) (λ e. length (entry e)) 10 [] c.pool)
 sound_pool c sound = Hold-left c.pool _ (header_places c ++ body_places c) (sound_places c sound)
 
-sound_header : (c : ClassFile) → IsSoundClass c → Hold c.pool (header_places c)
+pub sound_header : (c : ClassFile) → IsSoundClass c → Hold c.pool (header_places c)
 sound_header c sound = Hold-left c.pool (header_places c) (body_places c) (Hold-right c.pool (each_place (entry_places c.major) (λ e. length (entry e)) 10 [] c.pool) _ (sound_places c sound))
 
-sound_body : (c : ClassFile) → IsSoundClass c → Hold c.pool (body_places c)
+pub sound_body : (c : ClassFile) → IsSoundClass c → Hold c.pool (body_places c)
 sound_body c sound = Hold-right c.pool (header_places c) (body_places c) (Hold-right c.pool (each_place (entry_places c.major) (λ e. length (entry e)) 10 [] c.pool) _ (sound_places c sound))
 
 -- ---- an entry of a kind
 
-of_class : (o : Option PoolEntry) → option_map_or (λ (e : PoolEntry). list_any (λ (k : EntryKind). is_of_kind k e) (kinds.Class ∷ [])) o false ≡ true → (name : ℕ) × (o ≡ Some (Class name))
+pub of_class : (o : Option PoolEntry) → option_map_or (λ (e : PoolEntry). list_any (λ (k : EntryKind). is_of_kind k e) (kinds.Class ∷ [])) o false ≡ true → (name : ℕ) × (o ≡ Some (Class name))
 of_class None h = absurd cc
 of_class (Some (Utf8 bytes)) h = absurd cc
 of_class (Some (Integer bits)) h = absurd cc
@@ -87,7 +87,7 @@ of_class (Some (MethodType descriptor)) h = absurd cc
 of_class (Some (InvokeDynamic bootstrap signature)) h = absurd cc
 of_class (Some Taken) h = absurd cc
 
-of_text : (o : Option PoolEntry) → option_map_or (λ (e : PoolEntry). list_any (λ (k : EntryKind). is_of_kind k e) (kinds.Text ∷ [])) o false ≡ true → (bytes : List ℕ) × (o ≡ Some (Utf8 bytes))
+pub of_text : (o : Option PoolEntry) → option_map_or (λ (e : PoolEntry). list_any (λ (k : EntryKind). is_of_kind k e) (kinds.Text ∷ [])) o false ≡ true → (bytes : List ℕ) × (o ≡ Some (Utf8 bytes))
 of_text None h = absurd cc
 of_text (Some (Utf8 bytes)) h = (bytes, refl)
 of_text (Some (Integer bits)) h = absurd cc
@@ -105,7 +105,7 @@ of_text (Some (MethodType descriptor)) h = absurd cc
 of_text (Some (InvokeDynamic bootstrap signature)) h = absurd cc
 of_text (Some Taken) h = absurd cc
 
-of_signature : (o : Option PoolEntry) → option_map_or (λ (e : PoolEntry). list_any (λ (k : EntryKind). is_of_kind k e) (kinds.NameAndType ∷ [])) o false ≡ true → (name : ℕ) × (descriptor : ℕ) × (o ≡ Some (NameAndType name descriptor))
+pub of_signature : (o : Option PoolEntry) → option_map_or (λ (e : PoolEntry). list_any (λ (k : EntryKind). is_of_kind k e) (kinds.NameAndType ∷ [])) o false ≡ true → (name : ℕ) × (descriptor : ℕ) × (o ≡ Some (NameAndType name descriptor))
 of_signature None h = absurd cc
 of_signature (Some (Utf8 bytes)) h = absurd cc
 of_signature (Some (Integer bits)) h = absurd cc
@@ -123,7 +123,7 @@ of_signature (Some (MethodType descriptor)) h = absurd cc
 of_signature (Some (InvokeDynamic bootstrap signature)) h = absurd cc
 of_signature (Some Taken) h = absurd cc
 
-of_method : (o : Option PoolEntry) → option_map_or (λ (e : PoolEntry). list_any (λ (k : EntryKind). is_of_kind k e) (kinds.Method ∷ [])) o false ≡ true → (class : ℕ) × (signature : ℕ) × (o ≡ Some (Methodref class signature))
+pub of_method : (o : Option PoolEntry) → option_map_or (λ (e : PoolEntry). list_any (λ (k : EntryKind). is_of_kind k e) (kinds.Method ∷ [])) o false ≡ true → (class : ℕ) × (signature : ℕ) × (o ≡ Some (Methodref class signature))
 of_method None h = absurd cc
 of_method (Some (Utf8 bytes)) h = absurd cc
 of_method (Some (Integer bits)) h = absurd cc
@@ -142,14 +142,14 @@ of_method (Some (InvokeDynamic bootstrap signature)) h = absurd cc
 of_method (Some Taken) h = absurd cc
 
 -- its uses hold
-entry_holds : (c : ClassFile) (index : ℕ) (e : PoolEntry) → IsSoundClass c → entry_at c.pool index ≡ Some e → (offset : ℕ) × Hold c.pool (at_offset offset (entry_uses c.major e))
+pub entry_holds : (c : ClassFile) (index : ℕ) (e : PoolEntry) → IsSoundClass c → entry_at c.pool index ≡ Some e → (offset : ℕ) × Hold c.pool (at_offset offset (entry_uses c.major e))
 entry_holds c zero e sound is = absurd cc
 entry_holds c (suc k) e sound is =
     at_place c.pool (entry_places c.major) (λ e. length (entry e)) 10 c.pool k e (slice_get_within c.pool k e is) (sym (get_or_from_slice_get c.pool k e e is)) (sound_pool c sound)
 
 -- ---- what an index stands for
 
-text_there : (pool : List PoolEntry) (index : ℕ) → leads_to pool (kinds.Text ∷ []) index ≡ true → (text : List ℕ) × (text_at pool index ≡ Some text)
+pub text_there : (pool : List PoolEntry) (index : ℕ) → leads_to pool (kinds.Text ∷ []) index ≡ true → (text : List ℕ) × (text_at pool index ≡ Some text)
 text_there pool index leads =
     let e = of_text (entry_at pool index) leads in
     (e.0, ap (option_and_then text_in) e.1)
@@ -180,7 +180,7 @@ signature_there c index sound leads =
     let both : signature_in c.pool (NameAndType e.0 e.1) ≡ Some (record { name = name.0; descriptor = descriptor.0 }) = simp (name.1, descriptor.1) refl in
     (record { name = name.0; descriptor = descriptor.0 }, ap (option_and_then (signature_in c.pool)) e.2 ∙ both)
 
-pub method_there : (c : ClassFile) (index : ℕ) → IsSoundClass c → leads_to c.pool (kinds.Method ∷ []) index ≡ true → (m : MethodName) × (method_at c.pool index ≡ Some m)
+pub method_there : (c : ClassFile) (index : ℕ) → IsSoundClass c → leads_to c.pool (kinds.Method ∷ []) index ≡ true → (m : MemberReference) × (method_at c.pool index ≡ Some m)
 method_there c index sound leads =
     let e = of_method (entry_at c.pool index) leads in
     let h = entry_holds c index (Methodref e.0 e.1) sound e.2 in

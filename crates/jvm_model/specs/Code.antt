@@ -1,4 +1,4 @@
--- The body of a Code attribute (JVMS 4.7.3).
+-- The body of a CodeBody attribute (JVMS 4.7.3).
 use Rattle.std.specs.Prelude.{◌≡◌, ℕ, ◌<◌, ◌^◌, List, [], ◌∷◌, ◌++◌, length, filter, All}
 use Rattle.jvm_model.specs.declared.class_file.ClassFile.{ClassFile}
 use Rattle.jvm_model.specs.declared.class_file.Member.{Member}
@@ -8,7 +8,7 @@ use Rattle.jvm_model.specs.Spelling.{u2, u4, table, attribute, AttributeFits}
 use Rattle.jvm_model.specs.Soundness.{is_code}
 
 -- What stands in the body: two limits, the code, the handlers in their order, and attributes.
-pub record Code : Type 0 where
+pub record CodeBody : Type 0 where
   pub max_stack : ℕ
   pub max_locals : ℕ
   pub bytes : List ℕ
@@ -18,7 +18,7 @@ pub record Code : Type 0 where
 abbrev pub handler : Handler → List ℕ
 handler h = u2 h.start ++ u2 h.finish ++ u2 h.target ++ u2 h.catch_type
 
-abbrev pub spell_code : Code → List ℕ
+abbrev pub spell_code : CodeBody → List ℕ
 spell_code c = u2 c.max_stack ++ u2 c.max_locals ++ u4 (length c.bytes) ++ c.bytes ++ table handler c.handlers ++ table attribute c.attributes
 
 pub record HandlerFits (h : Handler) : Type 0 where
@@ -28,7 +28,7 @@ pub record HandlerFits (h : Handler) : Type 0 where
   pub catch_type : h.catch_type < 2 ^ 16
 
 -- The bytes are this body: each number fits its field, and each list its count.
-pub record IsCode (bytes : List ℕ) (c : Code) : Type 0 where
+pub record IsCode (bytes : List ℕ) (c : CodeBody) : Type 0 where
   pub max_stack : c.max_stack < 2 ^ 16
   pub max_locals : c.max_locals < 2 ^ 16
   pub code_length : length c.bytes < 2 ^ 32
@@ -38,8 +38,8 @@ pub record IsCode (bytes : List ℕ) (c : Code) : Type 0 where
   pub attributes : All AttributeFits c.attributes
   pub spelled : bytes ≡ spell_code c
 
--- The method's only attribute named Code has this body.
-pub record HasCode (c : ClassFile) (m : Member) (contents : Code) : Type 0 where
+-- The method's only attribute named CodeBody has this body.
+pub record HasCode (c : ClassFile) (m : Member) (contents : CodeBody) : Type 0 where
   pub code : Attribute
   pub only : filter (is_code c.pool) m.attributes ≡ code ∷ []
   pub body : IsCode code.body contents

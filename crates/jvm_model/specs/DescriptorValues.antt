@@ -1,5 +1,5 @@
 -- The values that descriptors spell (JVMS 4.3): kinds of types, and the kinds of a method's parameters and result.
-use Rattle.std.specs.Prelude.{codes, ◌≡◌, ℕ, ◌≤◌, Bool, ◌||◌, List, [], ◌∷◌, ◌++◌, Option, Some, None, sum_by, replicate}
+use Rattle.std.specs.Prelude.{codes, ◌≡◌, ℕ, ◌≤◌, Bool, ◌||◌, List, [], ◌∷◌, ◌++◌, Option, Some, None, sum_by, replicate, if◌then◌else◌}
 use Rattle.std.specs.List.{AllZip, flat_map}
 use Rattle.std.specs.Str.{bytes_eq}
 use Rattle.jvm_model.specs.declared.descriptor.Kind.{Kind}
@@ -9,6 +9,12 @@ use Rattle.jvm_model.specs.declared.descriptor.Descriptor.TheVariants.{Field, Me
 use Rattle.jvm_model.specs.Descriptors.{units_of, IsBaseType, IsFieldDescriptor, IsFieldType}
 use Rattle.jvm_model.specs.Fronts.{IsFrontLength}
 use Rattle.jvm_model.specs.Names.{IsClassName}
+
+-- The units of a value of a kind: two of a long or a double, and else one (JVMS 2.6.2, 4.3.3).
+abbrev pub kind_units : Kind → ℕ
+kind_units (Prim wide) = if wide then 2 else 1
+kind_units (Class name) = 1
+kind_units (Array dimensions element) = 1
 
 -- The text is J or D, for long or double.
 abbrev pub is_wide : List ℕ → Bool

@@ -4,7 +4,7 @@ use Rattle.std.specs.Option.{option_map_or}
 use Rattle.jvm_model.specs.declared.pool.EntryKind.{EntryKind}
 use Rattle.jvm_model.specs.declared.pool.EntryKind.TheVariants as kinds
 use Rattle.jvm_model.specs.declared.pool.PoolEntry.{PoolEntry}
-use Rattle.jvm_model.specs.Instructions.{Instruction}
+use Rattle.jvm_model.specs.Instructions.{DecodedInstruction}
 use Rattle.jvm_model.specs.Lookups.{class_name_at}
 use Rattle.jvm_model.specs.Soundness.{is_array, leads_to}
 use Rattle.jvm_model.specs.Table.{Row, Operands, implied, local_1, local_and_value, pool_1, pool_2, pool_2_and_count, pool_2_and_zeros, pool_2_and_dimensions, PoolTarget, loadable, wide_number, a_field, class_method, any_method, interface_method, call_site, any_class, no_array, an_array, Flow, subroutine}
@@ -24,7 +24,7 @@ abbrev pub local_units : Row → ℕ
 local_units r = if nat_eq (length r.pushes + length r.stores) 0 then 1 else length r.pushes + length r.stores
 
 -- They are below the limit.
-abbrev pub locals_fit : ℕ → Instruction → Bool
+abbrev pub locals_fit : ℕ → DecodedInstruction → Bool
 locals_fit limit i = not (names_local i.row.operands) || nat_le (i.operand + local_units i.row) limit
 
 -- jsr, jsr_w and ret.
@@ -67,7 +67,7 @@ abbrev pub leads_there : List PoolEntry → ℕ → PoolTarget → Bool
 leads_there pool index target = leads_to pool (target_kinds target) index && has_shape (class_name_at pool index) target
 
 -- The index of the instruction, if it has one, leads to what it should.
-abbrev pub leads_right : List PoolEntry → Instruction → Bool
+abbrev pub leads_right : List PoolEntry → DecodedInstruction → Bool
 leads_right pool i = option_map_or (leads_there pool i.operand) (pool_target i.row.operands) true
 
 -- How many [ the text begins with: the dimensions of an array, by its descriptor (JVMS 4.3.2).
@@ -77,5 +77,5 @@ brackets (b ∷ rest) = if b == 91 then suc (brackets rest) else 0
 
 -- Where the instruction names an array, it has no more dimensions than this one (JVMS 6.5.multianewarray); what is no
 -- array is no matter of this.
-abbrev pub within_dimensions : List PoolEntry → Instruction → Bool
+abbrev pub within_dimensions : List PoolEntry → DecodedInstruction → Bool
 within_dimensions pool i = option_map_or (λ name. not (is_array name) || nat_le i.dimensions (brackets name)) (class_name_at pool i.operand) true

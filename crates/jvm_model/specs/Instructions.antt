@@ -7,14 +7,14 @@ use Rattle.jvm_model.specs.declared.pool.PoolEntry.TheVariants.{Integer, Float, 
 use Rattle.jvm_model.specs.declared.reason.Reason.{Reason}
 use Rattle.jvm_model.specs.declared.reason.Reason.TheVariants.{BadOpcode, CodeCut}
 use Rattle.jvm_model.specs.Descriptors.{IsMethodDescriptor, IsFieldDescriptor}
-use Rattle.jvm_model.specs.Lookups.{MethodName, Signature, entry_at, class_name_at, signature_at}
-use Rattle.jvm_model.specs.Table.{Row, row, row_of, Operands, nothing, implied, value_1, value_2, type_code, local_1, pool_1, pool_2, offset_2, offset_4, local_and_value, pool_2_and_count, pool_2_and_zeros, pool_2_and_dimensions, table_of_offsets, pairs_with_offsets, widened, Kind, primitive, reference, Origin, a_primitive, the_made, Action, plain, load_constant, get_static, put_static, get_field, put_field, invoke_virtual, invoke_special, invoke_static, invoke_interface, make_array}
+use Rattle.jvm_model.specs.Lookups.{MemberReference, Signature, entry_at, class_name_at, signature_at}
+use Rattle.jvm_model.specs.Table.{Row, row, row_of, Operands, nothing, implied, value_1, value_2, type_code, local_1, pool_1, pool_2, offset_2, offset_4, local_and_value, pool_2_and_count, pool_2_and_zeros, pool_2_and_dimensions, table_of_offsets, pairs_with_offsets, widened, UnitKind, primitive, reference, UnitSource, a_primitive, the_made, Action, plain, load_constant, get_static, put_static, get_field, put_field, invoke_virtual, invoke_special, invoke_static, invoke_interface, make_array}
 
 -- An instruction: its opcode and the row of it; its operand, which is an index of the constant pool, a local variable
 -- or the code of a type, and else 0; for multianewarray its dimensions; the offsets to which it may branch, in the
 -- order of its operands, where None is one before the code; and how many bytes it takes. What the prefix wide stands
 -- before is given as that instruction.
-pub record Instruction : Type 0 where
+pub record DecodedInstruction : Type 0 where
   pub opcode : ℕ
   pub row : Row
   pub operand : ℕ
@@ -22,7 +22,7 @@ pub record Instruction : Type 0 where
   pub targets : List (Option ℕ)
   pub size : ℕ
 
-abbrev pub instruction : ℕ → Row → ℕ → ℕ → List (Option ℕ) → ℕ → Instruction
+abbrev pub instruction : ℕ → Row → ℕ → ℕ → List (Option ℕ) → ℕ → DecodedInstruction
 instruction opcode r operand dimensions targets size = record { opcode = opcode; row = r; operand = operand; dimensions = dimensions; targets = targets; size = size }
 
 -- ---- numbers
@@ -70,13 +70,13 @@ table_targets offset entry (suc n) bytes = far_target offset (word bytes) ∷ ta
 
 -- A switch at an offset, from the bytes after its padding, of which it takes this many: its default, and so many
 -- entries, whose targets begin with the thirteenth byte.
-abbrev pub switch : ℕ → Row → ℕ → ℕ → ℕ → ℕ → List ℕ → Result Instruction Reason
+abbrev pub switch : ℕ → Row → ℕ → ℕ → ℕ → ℕ → List ℕ → Result DecodedInstruction Reason
 switch opcode r offset long entry count bytes =
     if nat_lt (length bytes) long then Err CodeCut
     else Ok (instruction opcode r 0 0 (far_target offset (word bytes) ∷ table_targets offset entry count (drop 12 bytes)) (1 + padding offset + long))
 
 -- From its lowest to its highest value, both signed, tableswitch has one target each.
-abbrev pub table_switch : ℕ → Row → ℕ → List ℕ → Result Instruction Reason
+abbrev pub table_switch : ℕ → Row → ℕ → List ℕ → Result DecodedInstruction Reason
 table_switch opcode r offset bytes =
     let low = above_least (word (drop 4 bytes)) in
     let high = above_least (word (drop 8 bytes)) in
@@ -85,7 +85,7 @@ table_switch opcode r offset bytes =
     else switch opcode r offset (12 + 4 * (high - low + 1)) 4 (high - low + 1) bytes
 
 -- lookupswitch has so many pairs of a value and a target, a number that is signed and not below 0.
-abbrev pub pairs_switch : ℕ → Row → ℕ → List ℕ → Result Instruction Reason
+abbrev pub pairs_switch : ℕ → Row → ℕ → List ℕ → Result DecodedInstruction Reason
 pairs_switch opcode r offset bytes =
     let count = word (drop 4 bytes) in
     if nat_lt (length bytes) 8 then Err CodeCut
@@ -102,11 +102,11 @@ abbrev pub short : List ℕ → ℕ
 short bytes = number_2 (slice_index bytes 0) (slice_index bytes 1)
 
 -- The instruction, if there are so many bytes after its opcode.
-abbrev pub needs : ℕ → List ℕ → Instruction → Result Instruction Reason
+abbrev pub needs : ℕ → List ℕ → DecodedInstruction → Result DecodedInstruction Reason
 needs count bytes i = if nat_lt (length bytes) count then Err CodeCut else Ok i
 
 -- The same, unless something is wrong with what stands there.
-abbrev pub needs_right : ℕ → List ℕ → Bool → Instruction → Result Instruction Reason
+abbrev pub needs_right : ℕ → List ℕ → Bool → DecodedInstruction → Result DecodedInstruction Reason
 needs_right count bytes wrong i =
     if nat_lt (length bytes) count then Err CodeCut
     else if wrong then Err BadOpcode
@@ -114,22 +114,22 @@ needs_right count bytes wrong i =
 
 -- An instruction that the prefix wide stands before: one with a local variable, which takes two bytes here, and the
 -- value of iinc two (JVMS 6.5.wide).
-abbrev pub widened_by : ℕ → Row → Operands → List ℕ → Result Instruction Reason
+abbrev pub widened_by : ℕ → Row → Operands → List ℕ → Result DecodedInstruction Reason
 widened_by opcode r local_1 bytes = needs 2 bytes (instruction opcode r (short bytes) 0 [] 4)
 widened_by opcode r local_and_value bytes = needs 4 bytes (instruction opcode r (short bytes) 0 [] 6)
 widened_by opcode r _ bytes = Err BadOpcode
 
-abbrev pub widened_row : ℕ → Option Row → List ℕ → Result Instruction Reason
+abbrev pub widened_row : ℕ → Option Row → List ℕ → Result DecodedInstruction Reason
 widened_row opcode (Some r) bytes = widened_by opcode r r.operands bytes
 widened_row opcode None bytes = Err BadOpcode
 
-abbrev pub widened_first : List ℕ → Result Instruction Reason
+abbrev pub widened_first : List ℕ → Result DecodedInstruction Reason
 widened_first [] = Err CodeCut
 widened_first (opcode ∷ bytes) = widened_row opcode (row_of opcode) bytes
 
 -- The instruction of an opcode and its row at an offset, from the bytes after its opcode. It is cut where the code ends
 -- before its last operand; and newarray has the code of a type, from 4 to 11, and multianewarray a dimension.
-abbrev pub with_operands : ℕ → Row → ℕ → Operands → List ℕ → Result Instruction Reason
+abbrev pub with_operands : ℕ → Row → ℕ → Operands → List ℕ → Result DecodedInstruction Reason
 with_operands opcode r offset nothing bytes = Ok (instruction opcode r 0 0 [] 1)
 with_operands opcode r offset (implied local) bytes = Ok (instruction opcode r local 0 [] 1)
 with_operands opcode r offset value_1 bytes = needs 1 bytes (instruction opcode r 0 0 [] 2)
@@ -149,76 +149,76 @@ with_operands opcode r offset table_of_offsets bytes = table_switch opcode r off
 with_operands opcode r offset pairs_with_offsets bytes = pairs_switch opcode r offset (drop (padding offset) bytes)
 with_operands opcode r offset widened bytes = widened_first bytes
 
-abbrev pub with_row : ℕ → Option Row → ℕ → List ℕ → Result Instruction Reason
+abbrev pub with_row : ℕ → Option Row → ℕ → List ℕ → Result DecodedInstruction Reason
 with_row opcode (Some r) offset bytes = with_operands opcode r offset r.operands bytes
 with_row opcode None offset bytes = Err BadOpcode
 
 -- The instruction that the bytes at an offset begin with, or why none is there.
-abbrev pub first_instruction : ℕ → List ℕ → Result Instruction Reason
+abbrev pub first_instruction : ℕ → List ℕ → Result DecodedInstruction Reason
 first_instruction offset [] = Err CodeCut
 first_instruction offset (opcode ∷ bytes) = with_row opcode (row_of opcode) offset bytes
 
 -- The instruction at an offset of the code.
-abbrev pub instruction_at : List ℕ → ℕ → Result Instruction Reason
+abbrev pub instruction_at : List ℕ → ℕ → Result DecodedInstruction Reason
 instruction_at code offset = first_instruction offset (drop offset code)
 
 -- ---- what the constant pool says
 
 -- A member that is named: its class, and its name and descriptor (JVMS 4.4.2).
-abbrev pub member_in : List PoolEntry → ℕ → ℕ → Option MethodName
+abbrev pub member_in : List PoolEntry → ℕ → ℕ → Option MemberReference
 member_in pool class signature =
     option_and_then (λ (c : List ℕ). option_map (λ (s : Signature). record { class = c; signature = s }) (signature_at pool signature)) (class_name_at pool class)
 
-abbrev pub member_of : List PoolEntry → PoolEntry → Option MethodName
+abbrev pub member_of : List PoolEntry → PoolEntry → Option MemberReference
 member_of pool (Fieldref class signature) = member_in pool class signature
 member_of pool (Methodref class signature) = member_in pool class signature
 member_of pool (InterfaceMethodref class signature) = member_in pool class signature
 member_of pool _ = None
 
 -- The field or the method that the entry at an index names.
-abbrev pub member_at : List PoolEntry → ℕ → Option MethodName
+abbrev pub member_at : List PoolEntry → ℕ → Option MemberReference
 member_at pool index = option_and_then (member_of pool) (entry_at pool index)
 
 -- The kinds of the units of a type, by the first letter of its descriptor (JVMS 4.3.2): two for J and D; a
 -- reference for a class and an array; none for V.
-abbrev pub kinds_by : ℕ → List Kind
+abbrev pub kinds_by : ℕ → List UnitKind
 kinds_by letter =
     if letter == 74 || letter == 68 then primitive ∷ primitive ∷ []
     else if letter == 76 || letter == 91 then reference ∷ []
     else if letter == 86 then []
     else primitive ∷ []
 
-abbrev pub kinds_of : List ℕ → List Kind
+abbrev pub kinds_of : List ℕ → List UnitKind
 kinds_of [] = []
 kinds_of (letter ∷ rest) = kinds_by letter
 
 -- The units of a method's parameters, without the receiver, and those of its result (JVMS 4.3.3).
-pub record HasUnits (descriptor : List ℕ) (parameters results : List Kind) : Type 0 where
+pub record HasDescriptorUnits (descriptor : List ℕ) (parameters results : List UnitKind) : Type 0 where
   pub is : IsMethodDescriptor descriptor
   pub parameters_are : parameters ≡ flat_map kinds_of is.parameters
   pub results_are : results ≡ kinds_of is.outcome
 
 -- What is pushed for a unit of a kind.
-abbrev pub made_for : Kind → Origin
+abbrev pub made_for : UnitKind → UnitSource
 made_for primitive = a_primitive
 made_for _ = the_made
 
 -- The row with these units popped and pushed.
-abbrev pub with_units : Row → List Kind → List Origin → Row
+abbrev pub with_units : Row → List UnitKind → List UnitSource → Row
 with_units r pops pushes = row r.mnemonic r.operands pops pushes r.stores r.flow r.action r.raises
 
 -- A call pops its receiver, if it has one, and its arguments, and pushes its result.
-pub record IsCallRow (pool : List PoolEntry) (i : Instruction) (receiver : List Kind) (r : Row) : Type 0 where
-  pub method : MethodName
+pub record IsCallRow (pool : List PoolEntry) (i : DecodedInstruction) (receiver : List UnitKind) (r : Row) : Type 0 where
+  pub method : MemberReference
   pub named : member_at pool i.operand ≡ Some method
-  pub parameters : List Kind
-  pub results : List Kind
-  pub units : HasUnits method.signature.descriptor parameters results
+  pub parameters : List UnitKind
+  pub results : List UnitKind
+  pub units : HasDescriptorUnits method.signature.descriptor parameters results
   pub row_is : r ≡ with_units i.row (receiver ++ parameters) (map made_for results)
 
 -- An access to a field pops its object, if it has one, and what is put, and pushes what is got.
-pub record IsFieldRow (pool : List PoolEntry) (i : Instruction) (pops : List Kind → List Kind) (pushes : List Kind → List Origin) (r : Row) : Type 0 where
-  pub field : MethodName
+pub record IsFieldRow (pool : List PoolEntry) (i : DecodedInstruction) (pops : List UnitKind → List UnitKind) (pushes : List UnitKind → List UnitSource) (r : Row) : Type 0 where
+  pub field : MemberReference
   pub named : member_at pool i.operand ≡ Some field
   pub is : IsFieldDescriptor field.signature.descriptor
   pub row_is : r ≡ with_units i.row (pops (kinds_of field.signature.descriptor)) (pushes (kinds_of field.signature.descriptor))
@@ -234,12 +234,12 @@ constant_row r (MethodType descriptor) = Some (with_units r [] (the_made ∷ [])
 constant_row r _ = None
 
 -- multianewarray pops a size for each of its dimensions.
-abbrev pub array_row : Operands → Instruction → Row
+abbrev pub array_row : Operands → DecodedInstruction → Row
 array_row pool_2_and_dimensions i = with_units i.row (replicate i.dimensions primitive) i.row.pushes
 array_row _ i = i.row
 
 -- The row of an instruction, by its action, with what the constant pool says of its units.
-abbrev pub RowBy : Action → List PoolEntry → Instruction → Row → Type 0
+abbrev pub RowBy : Action → List PoolEntry → DecodedInstruction → Row → Type 0
 RowBy load_constant pool i r = option_and_then (constant_row i.row) (entry_at pool i.operand) ≡ Some r
 RowBy get_static pool i r = IsFieldRow pool i (λ value. []) (map made_for) r
 RowBy put_static pool i r = IsFieldRow pool i (λ value. value) (λ value. []) r
@@ -252,5 +252,5 @@ RowBy invoke_interface pool i r = IsCallRow pool i (reference ∷ []) r
 RowBy make_array pool i r = r ≡ array_row i.row.operands i
 RowBy _ pool i r = r ≡ i.row
 
-abbrev pub IsRowAt : List PoolEntry → Instruction → Row → Type 0
+abbrev pub IsRowAt : List PoolEntry → DecodedInstruction → Row → Type 0
 IsRowAt pool i r = RowBy i.row.action pool i r

@@ -3,7 +3,6 @@ pub mod Automata
 pub mod Code
 pub mod Descriptors
 pub mod DescriptorValues
-pub mod Executions
 pub mod Fronts
 pub mod Instructions
 pub mod InstructionUses
@@ -11,7 +10,6 @@ pub mod Layout
 pub mod LinkedPrograms
 pub mod Linking
 pub mod Lookups
-pub mod Machine
 pub mod Names
 pub mod Programs
 pub mod Resolution
@@ -19,7 +17,7 @@ pub mod RowViews
 pub mod Selection
 pub mod Soundness
 pub mod Spelling
-pub mod States
+pub mod StubRules
 pub mod Stubs
 pub mod Subtypes
 pub mod Table

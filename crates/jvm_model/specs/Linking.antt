@@ -1,7 +1,7 @@
 -- Linking: from the class files of a folder and from stubs to a program in which each name has its class (JVMS 5.3, 5.3.5);
 -- or the first thing that is wrong.
-use Rattle.std.specs.Prelude.{◌≡◌, ◌⊎◌, ℕ, ◌+◌, Bool, true, false, not, ◌&&◌, List, [], ◌∷◌, ◌++◌, map, filter, find, Result, Ok, Err, All, Contains, IsPermutation, IsSorted, if◌then◌else◌}
-use Rattle.std.specs.List.{flat_map, list_any}
+use Rattle.std.specs.Prelude.{codes, ◌≡◌, ◌⊎◌, ℕ, ◌+◌, Bool, true, false, not, ◌&&◌, List, [], ◌∷◌, ◌++◌, map, filter, find, Result, Ok, Err, All, Contains, IsPermutation, IsSorted, if◌then◌else◌}
+use Rattle.std.specs.List.{enumerate_from, flat_map, list_any}
 use Rattle.std.specs.Option.{option_to_list, option_map_or}
 use Rattle.std.specs.Ordering.{nat_cmp}
 use Rattle.std.specs.Cmp.Lexicographic.{slice_cmp}
@@ -21,7 +21,7 @@ use Rattle.jvm_model.specs.declared.stub.StubMethod.{StubMethod}
 use Rattle.jvm_model.specs.Access.{has_flag}
 use Rattle.jvm_model.specs.Lookups.{class_name_at}
 use Rattle.jvm_model.specs.Programs.{Class, Method, Field, Body, in_file, described, Program, name_of, class_or_none, signature_of, class_of, field_of}
-use Rattle.jvm_model.specs.Soundness.{flags_offset, interfaces_offset}
+use Rattle.jvm_model.specs.Soundness.{this_class_offset, super_class_offset, interfaces_offset}
 use Rattle.jvm_model.specs.Stubs.{is_same_method, super_of, class_of_stub, method_of_stub, field_of_stub, method_names, field_names}
 use Rattle.jvm_model.specs.Subtypes.{IsCyclic}
 
@@ -88,15 +88,15 @@ abbrev pub class_from : Origin → Class
 class_from (Folder f natives) = class_of f.file f.class
 class_from (Stub c) = class_of_stub c
 
--- A method of a class file: its member, or what a stub says of a native one.
-abbrev pub body_from : List StubMethod → ClassFile → Member → Body
-body_from natives c m = option_map_or described (find (λ (d : StubMethod). describes c.pool d m) natives) (in_file c m)
+-- A method of a class file, of a number: its member, or what a stub says of a native one.
+abbrev pub body_from : List StubMethod → ClassFile → ℕ × Member → Body
+body_from natives c m = option_map_or described (find (λ (d : StubMethod). describes c.pool d m.1) natives) (in_file c m.0 m.1)
 
-abbrev pub folder_method : List StubMethod → ClassFile → Member → Method
-folder_method natives c m = record { class = name_of c; signature = signature_of c.pool m; flags = m.flags; body = body_from natives c m }
+abbrev pub folder_method : List StubMethod → ClassFile → ℕ × Member → Method
+folder_method natives c m = record { class = name_of c; signature = signature_of c.pool m.1; flags = m.1.flags; body = body_from natives c m }
 
 abbrev pub methods_from : Origin → List Method
-methods_from (Folder f natives) = map (folder_method natives f.class) f.class.methods
+methods_from (Folder f natives) = map (folder_method natives f.class) (enumerate_from 0 f.class.methods)
 methods_from (Stub c) = map (method_of_stub c.name) c.methods
 
 abbrev pub fields_from : Origin → List Field
@@ -148,10 +148,6 @@ claim file offset demand = record { file = file; offset = offset; demand = deman
 
 -- ---- names that differ
 
--- The index of the class itself in a class file (JVMS 4.1).
-abbrev pub this_class_offset : ClassFile → ℕ
-this_class_offset c = flags_offset c + 2
-
 -- Class files differ from earlier ones, and from all stubs; stubs from earlier ones.
 abbrev pub file_claims : List (List ℕ) → List (List ℕ) → List NamedClass → List Claim
 file_claims others earlier [] = []
@@ -162,8 +158,16 @@ abbrev pub stub_claims : List (List ℕ) → List StubClass → List Claim
 stub_claims earlier [] = []
 stub_claims earlier (c ∷ stubs) = claim c.file 0 (differs earlier c.name) ∷ stub_claims (earlier ++ c.name ∷ []) stubs
 
+-- The stubs that are there from the start name no file: a minus stands for it. They come before those of the user's files, so
+-- that of two stubs of one name a user's file is named.
+abbrev pub is_base_stub : StubClass → Bool
+is_base_stub c = bytes_eq c.file (codes "-")
+
+abbrev pub base_first : List StubClass → List StubClass
+base_first classes = filter is_base_stub classes ++ filter (λ c. not (is_base_stub c)) classes
+
 abbrev pub name_claims : List NamedClass → List StubClass → List Claim
-name_claims files classes = file_claims (map (λ (c : StubClass). c.name) classes) [] files ++ stub_claims [] classes
+name_claims files classes = file_claims (map (λ (c : StubClass). c.name) classes) [] files ++ stub_claims [] (base_first classes)
 
 -- ---- supertypes
 
@@ -181,7 +185,7 @@ interface_places file pool offset (index ∷ others) =
     record { name = class_or_none pool index; as_interface = true; file = file; offset = offset } ∷ interface_places file pool (offset + 2) others
 
 abbrev pub superclass_place : NamedClass → List ℕ → NamedSuper
-superclass_place f name = record { name = name; as_interface = false; file = f.file; offset = flags_offset f.class + 4 }
+superclass_place f name = record { name = name; as_interface = false; file = f.file; offset = super_class_offset f.class }
 
 abbrev pub supers_of_file : NamedClass → List NamedSuper
 supers_of_file f =
@@ -245,9 +249,20 @@ IsFirstUnmet p refusal (c ∷ others) =
 abbrev pub AreMet : Program → List Claim → Type 0
 AreMet p all = All (λ (c : Claim). Meets p c.demand) all
 
--- What linking class files and stubs gives: their program, or the first demand that is not met.
-pub data Links (files : List NamedClass) (stubs : List StubClass) (outcome : Result Program Refusal) : Type 0 where
+-- The same class files in byte order of the names of their files.
+pub record IsFileOrder (files ordered : List NamedClass) : Type 0 where
+  pub same : IsPermutation files ordered
+  pub sorted : IsSorted (slice_cmp nat_cmp) (map (λ (f : NamedClass). f.file) ordered)
+
+-- What linking class files, in the order of their files, and stubs gives: their program, or the first demand that is not met.
+pub data LinksInOrder (files : List NamedClass) (stubs : List StubClass) (outcome : Result Program Refusal) : Type 0 where
   linked : (order : List Origin) → IsOrder (origins files stubs) order → AreMet (program_from order) (claims files stubs order)
-      → outcome ≡ Ok (program_from order) → Links files stubs outcome
+      → outcome ≡ Ok (program_from order) → LinksInOrder files stubs outcome
   barred : (order : List Origin) (refusal : Refusal) → IsOrder (origins files stubs) order → IsFirstUnmet (program_from order) refusal (claims files stubs order)
-      → outcome ≡ Err refusal → Links files stubs outcome
+      → outcome ≡ Err refusal → LinksInOrder files stubs outcome
+
+-- What linking class files and stubs gives, in whatever order the class files come.
+pub record Links (files : List NamedClass) (stubs : List StubClass) (outcome : Result Program Refusal) : Type 0 where
+  pub ordered : List NamedClass
+  pub by_file : IsFileOrder files ordered
+  pub links : LinksInOrder ordered stubs outcome

@@ -1,7 +1,6 @@
--- A program as the machine and the analysis see it: classes, methods and fields; and the program of one class file.
-use Rattle.std.specs.Prelude.{codes, ℕ, Bool, true, false, List, [], ◌∷◌, ◌++◌, map, Option, None, unwrap_or, if◌then◌else◌}
-use Rattle.std.specs.Ordering.{nat_cmp, is_lt}
-use Rattle.std.specs.Cmp.Lexicographic.{slice_cmp}
+-- A program as the machine and the analysis see it: classes, methods and fields.
+use Rattle.std.specs.Prelude.{codes, ℕ, Bool, true, ◌&&◌, ◌||◌, List, [], map, Option, None, unwrap_or}
+use Rattle.std.specs.Str.{bytes_eq}
 use Rattle.jvm_model.specs.declared.access.AccessFlag.TheVariants.{Public, Private, Static, Interface, Abstract}
 use Rattle.jvm_model.specs.declared.class_file.ClassFile.{ClassFile}
 use Rattle.jvm_model.specs.declared.class_file.Member.{Member}
@@ -22,10 +21,11 @@ pub record Class : Type 0 where
   pub is_folder : Bool
   pub file : List ℕ
 
--- What stands for a method when it is called: the member of a class file; the description of a stub; or a method of the
--- library of which all that is known is that it returns nothing and changes nothing.
+-- What stands for a method when it is called: the member of a class file, with its number among the methods of the file;
+-- the description of a stub; or a method of the library of which all that is known is that it returns nothing and changes
+-- nothing.
 pub data Body : Type 0 where
-  in_file : ClassFile → Member → Body
+  in_file : (file : ClassFile) → (number : ℕ) → (member : Member) → Body
   described : StubMethod → Body
   returns_at_once : Body
 
@@ -57,11 +57,20 @@ is_public m = has_flag m.flags Public
 abbrev pub is_private : Method → Bool
 is_private m = has_flag m.flags Private
 
+-- The initialiser of a class: <clinit> without parameters and result (JVMS 2.9).
+abbrev pub is_class_initialiser : Signature → Bool
+is_class_initialiser s = bytes_eq s.name (codes "<clinit>") && bytes_eq s.descriptor plain_descriptor
+
+-- The initialiser of a class counts as static whatever its flags are (JVMS 2.9, 4.6).
 abbrev pub is_static : Method → Bool
-is_static m = has_flag m.flags Static
+is_static m = has_flag m.flags Static || is_class_initialiser m.signature
 
 abbrev pub is_abstract : Method → Bool
 is_abstract m = has_flag m.flags Abstract
+
+-- java/lang/Object, which has no superclass (JVMS 4.1).
+abbrev pub object_name : List ℕ
+object_name = codes "java/lang/Object"
 
 -- ---- the classes and members of a class file
 
@@ -82,30 +91,9 @@ signature_of pool m = record { name = text_or_none pool m.name; descriptor = tex
 abbrev pub class_of : List ℕ → ClassFile → Class
 class_of file c = record { name = name_of c; super_class = class_name_at c.pool c.super_class; interfaces = map (class_or_none c.pool) c.interfaces; is_interface = has_flag c.flags Interface; is_folder = true; file = file }
 
-abbrev pub method_of : ClassFile → Member → Method
-method_of c m = record { class = name_of c; signature = signature_of c.pool m; flags = m.flags; body = in_file c m }
+-- The method of a class file that has this number, and is this member.
+abbrev pub method_of : ClassFile → ℕ × Member → Method
+method_of c m = record { class = name_of c; signature = signature_of c.pool m.1; flags = m.1.flags; body = in_file c m.0 m.1 }
 
 abbrev pub field_of : ClassFile → Member → Field
 field_of c m = record { class = name_of c; signature = signature_of c.pool m; flags = m.flags; holds = None }
-
--- ---- the program of one class file
-
--- java/lang/Object, with its public constructor.
-abbrev pub object_name : List ℕ
-object_name = codes "java/lang/Object"
-
-abbrev pub object_class : Class
-object_class = record { name = object_name; super_class = None; interfaces = []; is_interface = false; is_folder = false; file = codes "-" }
-
-abbrev pub object_constructor : Method
-object_constructor = record { class = object_name; signature = record { name = codes "<init>"; descriptor = plain_descriptor }; flags = 1; body = returns_at_once }
-
--- What belongs to the class of a name, and what belongs to java/lang/Object, in byte order of the names.
-abbrev pub in_order : {X : Type 0} → List ℕ → List X → List X → List X
-in_order name own library = if is_lt (slice_cmp nat_cmp name object_name) then own ++ library else library ++ own
-
--- The program of a class file: its class, and java/lang/Object beside it.
-abbrev pub program_of : ClassFile → Program
-program_of c =
-    let name = name_of c in
-    record { classes = in_order name (class_of [] c ∷ []) (object_class ∷ []); methods = in_order name (map (method_of c) c.methods) (object_constructor ∷ []); fields = map (field_of c) c.fields }

@@ -5,7 +5,7 @@ use Rattle.jvm_model.specs.declared.access.AccessFlag.TheVariants.{Static}
 use Rattle.jvm_model.specs.declared.reason.Reason.{Reason}
 use Rattle.jvm_model.specs.declared.reason.Reason.TheVariants.{MissingField, MissingMethod, NoStub, KindMismatch}
 use Rattle.jvm_model.specs.Access.{has_flag}
-use Rattle.jvm_model.specs.Lookups.{MethodName, Signature}
+use Rattle.jvm_model.specs.Lookups.{MemberReference, Signature}
 use Rattle.jvm_model.specs.Programs.{Class, Method, Field, Program, is_public, is_private, is_static, is_abstract, object_name}
 use Rattle.jvm_model.specs.Subtypes.{class_named, IsChain, IsProperSubtype, IsSuperinterface}
 
@@ -93,7 +93,7 @@ pub data ResolvesFrom (p : Program) (class : List ℕ) (s : Signature) (Own : �
   by_name : ((other : ℕ) → Own other → ⊥) → ((other : ℕ) → IsOnlyDefault p class s other → ⊥) → IsLeastInherited p class s number → ResolvesFrom p class s Own number
 
 -- A reference to a method resolves to the method (JVMS 5.4.3.3, 5.4.3.4).
-pub record Resolves (p : Program) (m : MethodName) (number : ℕ) : Type 0 where
+pub record Resolves (p : Program) (m : MemberReference) (number : ℕ) : Type 0 where
   pub class : Class
   pub named : class_named p m.class ≡ Some class
   pub search : ResolvesFrom p m.class m.signature (IsFoundIn p (HasSignature m.signature) m.signature class) number

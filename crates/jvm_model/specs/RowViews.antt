@@ -4,10 +4,10 @@ use Rattle.jvm_model.specs.declared.opcode.PoolTarget.{PoolTarget as CodePoolTar
 use Rattle.jvm_model.specs.declared.opcode.PoolTarget.TheVariants as targets
 use Rattle.jvm_model.specs.declared.opcode.Operands.{Operands as CodeOperands}
 use Rattle.jvm_model.specs.declared.opcode.Operands.TheVariants as operands
-use Rattle.jvm_model.specs.declared.opcode.UnitKind.{UnitKind}
+use Rattle.jvm_model.specs.declared.opcode.UnitKind.{UnitKind as CodeUnitKind}
 use Rattle.jvm_model.specs.declared.opcode.UnitKind.TheVariants as kinds
-use Rattle.jvm_model.specs.declared.opcode.Origin.{Origin as CodeOrigin}
-use Rattle.jvm_model.specs.declared.opcode.Origin.TheVariants as origins
+use Rattle.jvm_model.specs.declared.opcode.UnitSource.{UnitSource as CodeUnitSource}
+use Rattle.jvm_model.specs.declared.opcode.UnitSource.TheVariants as sources
 use Rattle.jvm_model.specs.declared.opcode.Flow.{Flow as CodeFlow}
 use Rattle.jvm_model.specs.declared.opcode.Flow.TheVariants as flows
 use Rattle.jvm_model.specs.declared.opcode.Action.{Action as CodeAction}
@@ -15,7 +15,7 @@ use Rattle.jvm_model.specs.declared.opcode.Action.TheVariants as actions
 use Rattle.jvm_model.specs.declared.opcode.Raise.{Raise as CodeRaise}
 use Rattle.jvm_model.specs.declared.opcode.Raise.TheVariants as raises
 use Rattle.jvm_model.specs.declared.opcode.Row.{Row as CodeRow}
-use Rattle.jvm_model.specs.Table.{PoolTarget, loadable, wide_number, a_field, class_method, any_method, interface_method, call_site, any_class, no_array, an_array, Operands, nothing, implied, value_1, value_2, type_code, local_1, pool_1, pool_2, offset_2, offset_4, local_and_value, pool_2_and_count, pool_2_and_zeros, pool_2_and_dimensions, table_of_offsets, pairs_with_offsets, widened, Kind, any_kind, primitive, reference, Origin, popped, the_local, a_null, a_primitive, the_made, Flow, onward, jump, branch, branch_if_null, branch_if_object, branch_if_same, branch_if_other, leave, subroutine, Action, plain, load_constant, load_element, store_element, probe, get_static, put_static, get_field, put_field, invoke_virtual, invoke_special, invoke_static, invoke_interface, make_object, make_array, throw_object, cast, leave_method, refused, Raise, null_pointer, array_index, array_store, arithmetic, class_cast, negative_size, Row, row}
+use Rattle.jvm_model.specs.Table.{PoolTarget, loadable, wide_number, a_field, class_method, any_method, interface_method, call_site, any_class, no_array, an_array, Operands, nothing, implied, value_1, value_2, type_code, local_1, pool_1, pool_2, offset_2, offset_4, local_and_value, pool_2_and_count, pool_2_and_zeros, pool_2_and_dimensions, table_of_offsets, pairs_with_offsets, widened, UnitKind, any_kind, primitive, reference, UnitSource, popped, the_local, a_null, a_primitive, the_made, Flow, onward, jump, branch, branch_if_null, branch_if_object, branch_if_same, branch_if_other, leave, subroutine, Action, plain, load_constant, load_element, store_element, probe, get_static, put_static, get_field, put_field, invoke_virtual, invoke_special, invoke_static, invoke_interface, make_object, make_array, throw_object, cast, leave_method, refused, Raise, null_pointer, array_index, array_store, arithmetic, class_cast, negative_size, Row, row}
 
 abbrev pub target_view : CodePoolTarget → PoolTarget
 target_view targets.Loadable = loadable
@@ -48,17 +48,17 @@ operands_view operands.TableOfOffsets = table_of_offsets
 operands_view operands.PairsWithOffsets = pairs_with_offsets
 operands_view operands.Widened = widened
 
-abbrev pub kind_view : UnitKind → Kind
+abbrev pub kind_view : CodeUnitKind → UnitKind
 kind_view kinds.Any = any_kind
 kind_view kinds.Primitive = primitive
 kind_view kinds.Reference = reference
 
-abbrev pub origin_view : CodeOrigin → Origin
-origin_view (origins.Popped unit) = popped unit
-origin_view origins.Local = the_local
-origin_view origins.Null = a_null
-origin_view origins.Primitive = a_primitive
-origin_view origins.Made = the_made
+abbrev pub source_view : CodeUnitSource → UnitSource
+source_view (sources.Popped unit) = popped unit
+source_view sources.Local = the_local
+source_view sources.Null = a_null
+source_view sources.Primitive = a_primitive
+source_view sources.Made = the_made
 
 abbrev pub flow_view : CodeFlow → Flow
 flow_view flows.Onward = onward
@@ -103,5 +103,5 @@ raise_view raises.NegativeSize = negative_size
 -- A row of the code's table, as a row of the standard's.
 abbrev pub row_view : CodeRow → Row
 row_view r =
-    row r.mnemonic.now (operands_view r.operands) (map kind_view r.pops.now) (map origin_view r.pushes.now) (map origin_view r.stores.now) (flow_view r.flow) (action_view r.action)
+    row r.mnemonic.now (operands_view r.operands) (map kind_view r.pops.now) (map source_view r.pushes.now) (map source_view r.stores.now) (flow_view r.flow) (action_view r.action)
     (map raise_view r.raises.now)

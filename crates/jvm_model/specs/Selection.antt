@@ -6,7 +6,7 @@ use Rattle.jvm_model.specs.declared.access.AccessFlag.TheVariants.{Public, Priva
 use Rattle.jvm_model.specs.declared.reason.Reason.{Reason}
 use Rattle.jvm_model.specs.declared.reason.Reason.TheVariants.{NoImplementation, ClashingDefaults, PackageOverride}
 use Rattle.jvm_model.specs.Access.{has_flag}
-use Rattle.jvm_model.specs.Lookups.{MethodName, Signature}
+use Rattle.jvm_model.specs.Lookups.{MemberReference, Signature}
 use Rattle.jvm_model.specs.Programs.{Class, Method, Program, is_private, is_static, is_abstract}
 use Rattle.jvm_model.specs.Resolution.{Declares, HasSignature, IsInstanceWith, IsFound, IsFoundIn, IsDefault, IsOnlyDefault}
 use Rattle.jvm_model.specs.Subtypes.{class_named, IsChain, IsProperSubtype}
@@ -110,7 +110,7 @@ pub data Selection (p : Program) (by_interface : Bool) (class : List ℕ) (resol
 -- ---- special calls
 
 -- A special call from the code of a class to a method of a superclass, that is no constructor.
-pub record IsSuperCall (p : Program) (current : List ℕ) (m : MethodName) : Type 0 where
+pub record IsSuperCall (p : Program) (current : List ℕ) (m : MemberReference) : Type 0 where
   pub no_constructor : m.signature.name ≢ codes "<init>"
   pub other : current ≢ m.class
   pub chain : List Class
@@ -120,12 +120,12 @@ pub record IsSuperCall (p : Program) (current : List ℕ) (m : MethodName) : Typ
   pub named : above.name ≡ m.class
 
 -- Where the search for the target of a special call begins.
-pub data StartsSearch (p : Program) (current : List ℕ) (m : MethodName) (start : List ℕ) : Type 0 where
+pub data StartsSearch (p : Program) (current : List ℕ) (m : MemberReference) (start : List ℕ) : Type 0 where
   at_super : (c : Class) → IsSuperCall p current m → class_named p current ≡ Some c → c.super_class ≡ Some start → StartsSearch p current m start
   at_named : (IsSuperCall p current m → ⊥) → start ≡ m.class → StartsSearch p current m start
 
 -- A special call goes to the first instance method of the name and descriptor, from there upward.
-pub record SelectsSpecial (p : Program) (current : List ℕ) (m : MethodName) (target : ℕ) : Type 0 where
+pub record SelectsSpecial (p : Program) (current : List ℕ) (m : MemberReference) (target : ℕ) : Type 0 where
   pub start : List ℕ
   pub begins : StartsSearch p current m start
   pub class : Class
@@ -133,7 +133,7 @@ pub record SelectsSpecial (p : Program) (current : List ℕ) (m : MethodName) (t
   pub chosen : SelectsFrom p start m.signature (IsFoundIn p (IsInstanceWith m.signature) m.signature class) target
 
 -- What a special call gives: the target; or none, where there is no method, or several, or an abstract one.
-pub data SpecialSelection (p : Program) (current : List ℕ) (m : MethodName) (outcome : Result ℕ Reason) : Type 0 where
+pub data SpecialSelection (p : Program) (current : List ℕ) (m : MemberReference) (outcome : Result ℕ Reason) : Type 0 where
   selected : (target : ℕ) (method : Method) → SelectsSpecial p current m target → slice_get p.methods target ≡ Some method
       → is_abstract method ≡ false → outcome ≡ Ok target → SpecialSelection p current m outcome
   no_code : (target : ℕ) (method : Method) → SelectsSpecial p current m target → slice_get p.methods target ≡ Some method

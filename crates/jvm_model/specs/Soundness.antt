@@ -1,6 +1,6 @@
 -- What makes a class file sound beyond its spelling (JVMS 4.2 to 4.7): each place where it uses an index, a text or a
 -- name, in the order of the file, and what has to hold there.
-use Rattle.std.specs.Prelude.{codes, ◌≡◌, ◌⊎◌, ℕ, ◌+◌, ◌*◌, Bool, true, false, ◌&&◌, ◌||◌, not, ◌==◌, nat_lt, nat_le, List, [], ◌∷◌, ◌++◌, length, map, Some, All, Contains, IsTrue, if◌then◌else◌}
+use Rattle.std.specs.Prelude.{codes, ◌≡◌, ◌⊎◌, ℕ, ◌+◌, ◌*◌, ◌<◌, ◌^◌, Bool, true, false, ◌&&◌, ◌||◌, not, ◌==◌, nat_lt, nat_le, List, [], ◌∷◌, ◌++◌, length, map, Some, All, Contains, IsTrue, if◌then◌else◌}
 use Rattle.std.specs.List.{flat_map, list_all, list_any}
 use Rattle.std.specs.Str.{bytes_eq}
 use Rattle.std.specs.Option.{option_map_or}
@@ -20,7 +20,7 @@ use Rattle.jvm_model.specs.Access.{has_flag}
 use Rattle.jvm_model.specs.Descriptors.{IsFieldDescriptor, IsMethodDescriptor}
 use Rattle.jvm_model.specs.Lookups.{entry_at, text_at, class_name_at}
 use Rattle.jvm_model.specs.Names.{is_unqualified_name, is_method_name, IsClassName}
-use Rattle.jvm_model.specs.Spelling.{entry, attribute, member}
+use Rattle.jvm_model.specs.Spelling.{entry, attribute, member, spell, ClassFits}
 
 -- ---- texts
 
@@ -116,22 +116,22 @@ pub data Use : Type 0 where
 abbrev pub TextIsIn : List PoolEntry → Grammar → ℕ → Type 0
 TextIsIn pool grammar index = (text : List ℕ) → text_at pool index ≡ Some text → IsIn grammar text
 
-abbrev pub Holds : List PoolEntry → Use → Type 0
-Holds pool (text_bytes bytes) = list_all is_text_byte bytes ≡ true
-Holds pool (leads allowed index) = leads_to pool allowed index ≡ true
-Holds pool (superclass this_class index) =
+abbrev pub UseHolds : List PoolEntry → Use → Type 0
+UseHolds pool (text_bytes bytes) = list_all is_text_byte bytes ≡ true
+UseHolds pool (leads allowed index) = leads_to pool allowed index ≡ true
+UseHolds pool (superclass this_class index) =
     (leads_to pool (kinds.Class ∷ []) index ≡ true) ⊎ ((index ≡ 0) × (class_name_at pool this_class ≡ Some (codes "java/lang/Object")))
-Holds pool (in_grammar grammar index) = TextIsIn pool grammar index
-Holds pool (signature names descriptors index) =
+UseHolds pool (in_grammar grammar index) = TextIsIn pool grammar index
+UseHolds pool (signature names descriptors index) =
     (name descriptor : ℕ) → entry_at pool index ≡ Some (NameAndType name descriptor) → TextIsIn pool names name × TextIsIn pool descriptors descriptor
-Holds pool (either_signature name descriptor) =
+UseHolds pool (either_signature name descriptor) =
     (TextIsIn pool MethodName name × TextIsIn pool MethodDescriptor descriptor) ⊎ (TextIsIn pool FieldName name × TextIsIn pool FieldDescriptor descriptor)
-Holds pool (no_array index) = (name : List ℕ) → class_name_at pool index ≡ Some name → is_array name ≡ false
-Holds pool (differs earlier m) =
+UseHolds pool (no_array index) = (name : List ℕ) → class_name_at pool index ≡ Some name → is_array name ≡ false
+UseHolds pool (differs earlier m) =
     (name descriptor : List ℕ) → text_at pool m.name ≡ Some name → text_at pool m.descriptor ≡ Some descriptor
     → (e : Member) → Contains earlier e → text_at pool e.name ≡ Some name → text_at pool e.descriptor ≡ Some descriptor → ⊥
-Holds pool (code_there m) = wants_code m ≡ true → list_any (is_code pool) m.attributes ≡ true
-Holds pool (code_allowed m earlier a) = is_code pool a ≡ true → (wants_code m ≡ true) × (list_any (is_code pool) earlier ≡ false)
+UseHolds pool (code_there m) = wants_code m ≡ true → list_any (is_code pool) m.attributes ≡ true
+UseHolds pool (code_allowed m earlier a) = is_code pool a ≡ true → (wants_code m ≡ true) × (list_any (is_code pool) earlier ≡ false)
 
 -- The reason where a use does not hold.
 abbrev pub reason_of : Use → Reason
@@ -149,12 +149,12 @@ reason_of (code_allowed m earlier a) = CodeUnexpected
 -- ---- the places of a class file
 
 -- A use, and the file offset where it would be told.
-pub record Place : Type 0 where
+pub record PlacedUse : Type 0 where
   pub offset : ℕ
   pub use_ : Use
 
 -- Uses at one offset, in the order of their reasons.
-abbrev pub at_offset : ℕ → List Use → List Place
+abbrev pub at_offset : ℕ → List Use → List PlacedUse
 at_offset offset uses = map (λ (u : Use). record { offset = offset; use_ = u }) uses
 
 -- A text at an index, in a grammar.
@@ -189,33 +189,33 @@ entry_uses major Taken = []
 
 -- The places of items that stand one after the other, from an offset on: those of each item, at its offset and after
 -- the earlier items, by the number of bytes that an item takes.
-abbrev pub each_place : {X : Type 0} → (ℕ → List X → X → List Place) → (X → ℕ) → ℕ → List X → List X → List Place
+abbrev pub each_place : {X : Type 0} → (ℕ → List X → X → List PlacedUse) → (X → ℕ) → ℕ → List X → List X → List PlacedUse
 each_place places size offset earlier [] = []
 each_place places size offset earlier (x ∷ items) = places offset earlier x ++ each_place places size (offset + size x) (earlier ++ x ∷ []) items
 
 -- An entry of the constant pool.
-abbrev pub entry_places : ℕ → ℕ → List PoolEntry → PoolEntry → List Place
+abbrev pub entry_places : ℕ → ℕ → List PoolEntry → PoolEntry → List PlacedUse
 entry_places major offset earlier e = at_offset offset (entry_uses major e)
 
 -- An attribute of the class or of a field (JVMS 4.7).
-abbrev pub attribute_places : ℕ → List Attribute → Attribute → List Place
+abbrev pub attribute_places : ℕ → List Attribute → Attribute → List PlacedUse
 attribute_places offset earlier a = at_offset offset (leads (kinds.Text ∷ []) a.name ∷ [])
 
 -- An attribute of a method (JVMS 4.7.3).
-abbrev pub code_places : Member → ℕ → List Attribute → Attribute → List Place
+abbrev pub code_places : Member → ℕ → List Attribute → Attribute → List PlacedUse
 code_places m offset earlier a = at_offset offset (leads (kinds.Text ∷ []) a.name ∷ code_allowed m earlier a ∷ [])
 
 -- The name and the descriptor of a member, two bytes each.
-abbrev pub name_places : Grammar → Grammar → ℕ → List Member → Member → List Place
+abbrev pub name_places : Grammar → Grammar → ℕ → List Member → Member → List PlacedUse
 name_places names descriptors offset earlier m = at_offset offset (text_uses names m.name ++ differs earlier m ∷ []) ++ at_offset (offset + 2) (text_uses descriptors m.descriptor)
 
 -- A field (JVMS 4.5).
-abbrev pub field_places : ℕ → List Member → Member → List Place
+abbrev pub field_places : ℕ → List Member → Member → List PlacedUse
 field_places offset earlier m =
     name_places FieldName FieldDescriptor (offset + 2) earlier m ++ each_place attribute_places (λ a. length (attribute a)) (offset + 8) [] m.attributes
 
 -- A method (JVMS 4.6).
-abbrev pub method_places : ℕ → List Member → Member → List Place
+abbrev pub method_places : ℕ → List Member → Member → List PlacedUse
 method_places offset earlier m =
     at_offset offset (code_there m ∷ [])
     ++ (name_places MethodName MethodDescriptor (offset + 2) earlier m ++ each_place (code_places m) (λ a. length (attribute a)) (offset + 8) [] m.attributes)
@@ -224,6 +224,13 @@ method_places offset earlier m =
 -- method; and the first attribute of the class.
 abbrev pub flags_offset : ClassFile → ℕ
 flags_offset c = 10 + length (flat_map entry c.pool)
+
+-- The index of the class itself, and that of its superclass, stand after the flags, two bytes each.
+abbrev pub this_class_offset : ClassFile → ℕ
+this_class_offset c = flags_offset c + 2
+
+abbrev pub super_class_offset : ClassFile → ℕ
+super_class_offset c = flags_offset c + 4
 
 abbrev pub interfaces_offset : ClassFile → ℕ
 interfaces_offset c = flags_offset c + 8
@@ -238,23 +245,29 @@ abbrev pub attributes_offset : ClassFile → ℕ
 attributes_offset c = methods_offset c + length (flat_map member c.methods) + 2
 
 -- The class, its superclass and its interfaces.
-abbrev pub header_places : ClassFile → List Place
+abbrev pub header_places : ClassFile → List PlacedUse
 header_places c =
-    at_offset (flags_offset c + 2) (class_uses c.this_class)
-    ++ (at_offset (flags_offset c + 4) (superclass c.this_class c.super_class ∷ no_array c.super_class ∷ [])
+    at_offset (this_class_offset c) (class_uses c.this_class)
+    ++ (at_offset (super_class_offset c) (superclass c.this_class c.super_class ∷ no_array c.super_class ∷ [])
     ++ each_place (λ offset earlier index. at_offset offset (class_uses index)) (λ index. 2) (interfaces_offset c) [] c.interfaces)
 
 -- The fields, the methods and the attributes of the class.
-abbrev pub body_places : ClassFile → List Place
+abbrev pub body_places : ClassFile → List PlacedUse
 body_places c =
     each_place field_places (λ m. length (member m)) (fields_offset c) [] c.fields
     ++ (each_place method_places (λ m. length (member m)) (methods_offset c) [] c.methods
     ++ each_place attribute_places (λ a. length (attribute a)) (attributes_offset c) [] c.attributes)
 
 -- All places, in the order of the file.
-abbrev pub places_of : ClassFile → List Place
+abbrev pub places_of : ClassFile → List PlacedUse
 places_of c = each_place (entry_places c.major) (λ e. length (entry e)) 10 [] c.pool ++ (header_places c ++ body_places c)
 
 -- Each use holds.
 abbrev pub IsSoundClass : ClassFile → Type 0
-IsSoundClass c = All (λ (p : Place). Holds c.pool p.use_) (places_of c)
+IsSoundClass c = All (λ (p : PlacedUse). UseHolds c.pool p.use_) (places_of c)
+
+-- A class file that was checked (JVMS 4.8): each number fits its field, each use holds, and four bytes count its bytes.
+pub record IsChecked (c : ClassFile) : Type 0 where
+  pub fits : ClassFits c
+  pub sound : IsSoundClass c
+  pub size : length (spell c) < 2 ^ 32

@@ -10,6 +10,7 @@ use Rattle.jvm_model.specs.declared.stub.StubMethod.{StubMethod}
 use Rattle.jvm_model.specs.declared.stub.StubResult.{StubResult}
 use Rattle.jvm_model.specs.declared.stub.StubResult.TheVariants.{New, Kept}
 use Rattle.jvm_model.specs.Access.{mask_of}
+use Rattle.jvm_model.specs.Lookups.{Signature}
 use Rattle.jvm_model.specs.Programs.{Class, Method, Field, described}
 
 -- ---- classes, methods and fields
@@ -32,11 +33,18 @@ class_of_stub c = record { name = c.name; super_class = super_of c; interfaces =
 abbrev pub stub_flags : Bool → Bool → ℕ
 stub_flags is_static is_abstract = mask_of Public + (if is_static then mask_of Static else 0) + (if is_abstract then mask_of Abstract else 0)
 
+-- The name and the descriptor that a stub's method, or field, has.
+abbrev pub stub_signature : StubMethod → Signature
+stub_signature m = record { name = m.name; descriptor = m.descriptor }
+
+abbrev pub field_signature : StubField → Signature
+field_signature f = record { name = f.name; descriptor = f.descriptor }
+
 abbrev pub method_of_stub : List ℕ → StubMethod → Method
-method_of_stub class m = record { class = class; signature = record { name = m.name; descriptor = m.descriptor }; flags = stub_flags m.is_static m.is_abstract; body = described m }
+method_of_stub class m = record { class = class; signature = stub_signature m; flags = stub_flags m.is_static m.is_abstract; body = described m }
 
 abbrev pub field_of_stub : List ℕ → StubField → Field
-field_of_stub class f = record { class = class; signature = record { name = f.name; descriptor = f.descriptor }; flags = stub_flags f.is_static false; holds = f.holds }
+field_of_stub class f = record { class = class; signature = field_signature f; flags = stub_flags f.is_static false; holds = f.holds }
 
 -- ---- the classes that a stub mentions
 

@@ -1,8 +1,8 @@
 //! Descriptors as values (JVMS 4.3): the kind of a field, and the kinds of a method's parameters and result.
 
-ghost use Rattle.std.specs.Prelude.{codes, ◌≡◌, ◌⊎◌, IfNone, IfOk, IfSome, IsTrue};
+ghost use Rattle.std.specs.Prelude.{codes, ◌≡◌, ◌<◌, ◌≤◌, ◌^◌, sum_by, ◌⊎◌, IfNone, IfOk, IfSome, IsTrue};
 ghost use Rattle.jvm_model.specs.Descriptors.{IsFieldDescriptor, IsMethodDescriptor};
-ghost use Rattle.jvm_model.specs.DescriptorValues.{is_wide, AreKinds, IsDescriptorOf, IsKind, IsOutcome};
+ghost use Rattle.jvm_model.specs.DescriptorValues.{is_wide, kind_units, AreKinds, IsDescriptorOf, IsKind, IsOutcome};
 ghost use Rattle.jvm_model.specs.Soundness.{is_array};
 
 use crate::grammar::{
@@ -21,7 +21,32 @@ pub enum Kind {
     Class(Bytes),
     /// An array: its dimensions, 1 to 255, and the descriptor of its elements, which is that of a primitive type
     /// or of a class, as `I` or `Ljava/lang/String;`.
-    Array(u8, Bytes),
+    Array { dimensions: u8, element: Bytes },
+}
+
+impl Kind {
+    /// How many units a value of the kind takes: two of a long or a double, and else one (JVMS 2.6.2, 4.3.3).
+    pub fn units(&self) -> u16
+        ensures exact { result ≡ kind_units self.now }
+        ensures few { result ≤ 2 }
+    {
+        match self {
+            Kind::Prim { wide: true } => 2,
+            Kind::Prim { wide: false } | Kind::Class(_) | Kind::Array { .. } => 1,
+        }
+    }
+}
+
+/// How many units values of these kinds take (JVMS 2.6.2, 4.3.3).
+pub fn units_of(kinds: &[Kind]) -> u16
+    requires { sum_by kind_units kinds.now < 2 ^ 16 }
+    ensures { result ≡ sum_by kind_units kinds.now }
+{
+    let mut units = 0;
+    for kind in kinds {
+        units += kind.units();
+    }
+    units
 }
 
 /// A descriptor (JVMS 4.3.2, 4.3.3).
@@ -30,7 +55,10 @@ pub enum Descriptor {
     /// The descriptor of a field.
     Field(Kind),
     /// The descriptor of a method: its parameters, in order, and its result, `None` for void.
-    Method(Sequence<Kind>, Option<Kind>),
+    Method {
+        parameters: Sequence<Kind>,
+        outcome: Option<Kind>,
+    },
 }
 
 /// The descriptor that the bytes spell (JVMS 4.3), or `None` where they are in neither grammar. It takes time
@@ -57,7 +85,10 @@ fn method_of(alloc: Global, text: &[u8]) -> Result<Descriptor, AllocError>
     let parameters = &text[1..];
     let outcome = after_parameters(parameters).unwrap();
     let kinds = kinds_of(alloc, parameters)?;
-    Ok(Descriptor::Method(kinds, outcome_of(alloc, outcome)?))
+    Ok(Descriptor::Method {
+        parameters: kinds,
+        outcome: outcome_of(alloc, outcome)?,
+    })
 }
 
 /// The kind of a method's result, `None` for void (JVMS 4.3.3).
@@ -110,7 +141,10 @@ fn array_of(alloc: Global, text: &[u8]) -> Result<Kind, AllocError>
 {
     let dimensions = dimensions_of(text).unwrap();
     let element = copy_of(alloc, &text[dimensions..])?;
-    Ok(Kind::Array(dimensions as u8, element))
+    Ok(Kind::Array {
+        dimensions: dimensions as u8,
+        element,
+    })
 }
 
 /// Whether a descriptor is that of long or double (JVMS 4.3.2).
@@ -141,7 +175,10 @@ mod tests {
                 text.extend_from_slice(name.as_slice())?;
                 text.extend_from_slice(b" ")?;
             }
-            Kind::Array(dimensions, element) => {
+            Kind::Array {
+                dimensions,
+                element,
+            } => {
                 text.push(*dimensions)?;
                 text.extend_from_slice(b" of ")?;
                 text.extend_from_slice(element.as_slice())?;
@@ -157,7 +194,12 @@ mod tests {
         match descriptor_of(alloc, bytes)? {
             None => text.extend_from_slice(b"none")?,
             Some(Descriptor::Field(kind)) => push_kind(&mut text, &kind)?,
-            Some(Descriptor::Method(parameters, outcome)) => {
+            Some(
+                Descriptor::Method {
+                    parameters,
+                    outcome,
+                },
+            ) => {
                 text.extend_from_slice(b"takes ")?;
                 for kind in parameters.as_slice() {
                     push_kind(&mut text, kind)?;

@@ -4,7 +4,7 @@
 ghost use Rattle.std.specs.Prelude.{◌≡◌, ◌^◌, ◌<◌, true, length, flat_map};
 ghost use Rattle.std.specs.List.{list_any};
 ghost use Rattle.jvm_model.specs.Layout.{HasCodeAttribute, IsBeforeCode, IsCodePlace};
-ghost use Rattle.jvm_model.specs.Soundness.{flags_offset, interfaces_offset, fields_offset, methods_offset, attributes_offset, is_code};
+ghost use Rattle.jvm_model.specs.Soundness.{flags_offset, this_class_offset, super_class_offset, interfaces_offset, fields_offset, methods_offset, attributes_offset, is_code};
 ghost use Rattle.jvm_model.specs.Spelling as spelling;
 
 use crate::class_file::{Attribute, ClassFile, Member};
@@ -24,13 +24,13 @@ pub fn entry_length(entry: &PoolEntry) -> u32
         PoolEntry::Double(_) => 9,
         PoolEntry::Class(_) => 3,
         PoolEntry::Str(_) => 3,
-        PoolEntry::Fieldref(_, _) => 5,
-        PoolEntry::Methodref(_, _) => 5,
-        PoolEntry::InterfaceMethodref(_, _) => 5,
-        PoolEntry::NameAndType(_, _) => 5,
-        PoolEntry::MethodHandle(_, _) => 4,
+        PoolEntry::Fieldref { .. } => 5,
+        PoolEntry::Methodref { .. } => 5,
+        PoolEntry::InterfaceMethodref { .. } => 5,
+        PoolEntry::NameAndType { .. } => 5,
+        PoolEntry::MethodHandle { .. } => 4,
         PoolEntry::MethodType(_) => 3,
-        PoolEntry::InvokeDynamic(_, _) => 5,
+        PoolEntry::InvokeDynamic { .. } => 5,
         PoolEntry::Taken => 0,
     }
 }
@@ -94,6 +94,22 @@ pub fn flags_offset(class: &ClassFile) -> u32
     ensures { result ≡ flags_offset class.now }
 {
     pool_length(class.pool.as_slice()) + 10
+}
+
+/// The file offset of the index of the class itself, after the flags (JVMS 4.1).
+pub fn this_class_offset(class: &ClassFile) -> u32
+    requires { length (spelling.spell class.now) < 2 ^ 32 }
+    ensures { result ≡ this_class_offset class.now }
+{
+    flags_offset(class) + 2
+}
+
+/// The file offset of the index of the superclass, after that of the class itself (JVMS 4.1).
+pub fn super_class_offset(class: &ClassFile) -> u32
+    requires { length (spelling.spell class.now) < 2 ^ 32 }
+    ensures { result ≡ super_class_offset class.now }
+{
+    flags_offset(class) + 4
 }
 
 /// The file offset of the first interface (JVMS 4.1): the flags, the class, its superclass and the count of

@@ -29,7 +29,7 @@ pub use class_file::{Attribute, ClassFile, Member};
 pub use code::{Code, Handler, Instruction, PlacedInstruction};
 pub use descriptor::{Descriptor, Kind, descriptor_of};
 pub use grammar::Grammar;
-pub use lookup::{MethodName, Signature};
+pub use lookup::{MemberReference, Signature};
 pub use name::Name;
 pub use number::{ClassNo, FieldNo, MethodNo, SiteNo};
 pub use pool::{EntryKind, PoolEntry};

@@ -2,9 +2,13 @@
 //! entry has the index 1, and answer `None` where the index is out of range or of another kind.
 
 ghost use Rattle.std.specs.Prelude.{◌≡◌, option_map};
-ghost use Rattle.jvm_model.specs.Lookups.{entry_at, text_at, class_name_at, signature_at, method_at};
+ghost use Rattle.jvm_model.specs.Lookups.{entry_at, lent_reference, lent_signature, text_at, class_name_at, signature_at, method_at};
+ghost use Rattle.std.specs.List.{list_any};
+ghost use Rattle.jvm_model.specs.declared.pool.EntryKind.{EntryKind};
+ghost use Rattle.jvm_model.specs.Programs.{is_class_initialiser};
+ghost use Rattle.jvm_model.specs.Soundness.{is_of_kind, leads_to};
 
-use crate::pool::PoolEntry;
+use crate::pool::{EntryKind, PoolEntry};
 
 /// A name and a descriptor, as bytes.
 #[derive(Clone, Copy, Debug)]
@@ -13,9 +17,18 @@ pub struct Signature<'a> {
     pub descriptor: &'a [u8],
 }
 
-/// A method that is named: its class, and its name and descriptor.
+impl Signature<'_> {
+    /// Whether the method of this name and descriptor is the initialiser of its class: `<clinit>` of `()V` (JVMS 2.9).
+    pub fn is_class_initialiser(self) -> bool
+        ensures { result ≡ is_class_initialiser (lent_signature self.entry) }
+    {
+        self.name == b"<clinit>".as_slice() && self.descriptor == b"()V".as_slice()
+    }
+}
+
+/// A field or a method that is named: its class, and its name and descriptor (JVMS 5.1).
 #[derive(Clone, Copy, Debug)]
-pub struct MethodName<'a> {
+pub struct MemberReference<'a> {
     pub class: &'a [u8],
     pub signature: Signature<'a>,
 }
@@ -26,6 +39,23 @@ pub fn entry_at(pool: &[PoolEntry], index: u16) -> Option<&PoolEntry>
 {
     let place = index.checked_sub(1)?;
     pool.get(usize::from(place))
+}
+
+/// Whether an index leads to an entry of one of these kinds (JVMS 4.4).
+pub fn leads_to(pool: &[PoolEntry], allowed: &[EntryKind], index: u16) -> bool
+    ensures { result ≡ leads_to pool.now allowed.now index }
+{
+    match entry_at(pool, index) {
+        Some(entry) => is_of_any(entry, allowed),
+        None => false,
+    }
+}
+
+/// Whether an entry is of one of these kinds.
+fn is_of_any(entry: &PoolEntry, allowed: &[EntryKind]) -> bool
+    ensures { result ≡ list_any (λ (k : EntryKind). is_of_kind k entry.now) allowed.now }
+{
+    allowed.iter().any(|kind| kind.is_of(entry))
 }
 
 /// The bytes of the Utf8 entry at an index (JVMS 4.4.7).
@@ -50,10 +80,10 @@ pub fn class_name_at(pool: &[PoolEntry], index: u16) -> Option<&[u8]>
 
 /// The name and the descriptor of the NameAndType entry at an index (JVMS 4.4.6).
 pub fn signature_at(pool: &[PoolEntry], index: u16) -> Option<Signature<'_>>
-    ensures { option_map (λ s. record { name = s.name.now; descriptor = s.descriptor.now }) result ≡ signature_at pool.now index }
+    ensures { option_map (λ s. lent_signature s) result ≡ signature_at pool.now index }
 {
     match entry_at(pool, index)? {
-        PoolEntry::NameAndType(name, descriptor) => {
+        PoolEntry::NameAndType { name, descriptor } => {
             let name = text_at(pool, *name)?;
             let descriptor = text_at(pool, *descriptor)?;
             Some(Signature { name, descriptor })
@@ -63,14 +93,17 @@ pub fn signature_at(pool: &[PoolEntry], index: u16) -> Option<Signature<'_>>
 }
 
 /// The method that the Methodref entry at an index names (JVMS 4.4.2).
-pub fn method_at(pool: &[PoolEntry], index: u16) -> Option<MethodName<'_>>
-    ensures { option_map (λ m. record { class = m.class.now; signature = record { name = m.signature.name.now; descriptor = m.signature.descriptor.now } }) result ≡ method_at pool.now index }
+pub fn method_at(pool: &[PoolEntry], index: u16) -> Option<MemberReference<'_>>
+    ensures { option_map (λ m. lent_reference m) result ≡ method_at pool.now index }
 {
     match entry_at(pool, index)? {
-        PoolEntry::Methodref(class, signature) => {
+        PoolEntry::Methodref {
+            class,
+            member: signature,
+        } => {
             let class = class_name_at(pool, *class)?;
             let signature = signature_at(pool, *signature)?;
-            Some(MethodName { class, signature })
+            Some(MemberReference { class, signature })
         }
         _ => None,
     }

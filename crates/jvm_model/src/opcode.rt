@@ -8,6 +8,28 @@ mod rows;
 
 use rows::ROWS;
 
+/// `aload_0`: pushes the local variable 0, a reference. The local variables 1 to 3 have the opcodes after it (JVMS 6.5.aload_n).
+pub const ALOAD_0: u8 = 42;
+
+/// `astore_0`: pops a reference into the local variable 0. The local variables 1 to 3 have the opcodes after it
+/// (JVMS 6.5.astore_n).
+pub const ASTORE_0: u8 = 75;
+
+/// `dup`: pushes the unit at the top once more (JVMS 6.5.dup).
+pub const DUP: u8 = 89;
+
+/// `return`: leaves a method without a result (JVMS 6.5.return).
+pub const RETURN: u8 = 177;
+
+/// `invokevirtual` (JVMS 6.5.invokevirtual).
+pub const INVOKE_VIRTUAL: u8 = 182;
+
+/// `invokespecial` (JVMS 6.5.invokespecial).
+pub const INVOKE_SPECIAL: u8 = 183;
+
+/// `new` (JVMS 6.5.new).
+pub const NEW: u8 = 187;
+
 /// What an index of the constant pool has to lead to.
 #[derive(Clone, Copy, Debug, PartialEq, Eq)]
 pub enum PoolTarget {
@@ -68,7 +90,7 @@ pub enum UnitKind {
 
 /// Where a unit that is written comes from.
 #[derive(Clone, Copy, Debug, PartialEq, Eq)]
-pub enum Origin {
+pub enum UnitSource {
     /// A popped unit, counted from the lowest one.
     Popped(u8),
     /// The local variable that the operand names.
@@ -141,8 +163,8 @@ pub struct Row {
     pub mnemonic: &'static str,
     pub operands: Operands,
     pub pops: &'static [UnitKind],
-    pub pushes: &'static [Origin],
-    pub stores: &'static [Origin],
+    pub pushes: &'static [UnitSource],
+    pub stores: &'static [UnitSource],
     pub flow: Flow,
     pub action: Action,
     pub raises: &'static [Raise],
@@ -155,7 +177,7 @@ pub fn row_of_opcode(opcode: u8) -> Option<&'static Row>
     row_among(&ROWS, opcode)
 }
 
-// The row of an opcode among all rows.
+/// The row of an opcode among all rows.
 fn row_among(all: &'static [Row], opcode: u8) -> Option<&'static Row>
     requires { map (λ r. row_view r) all.now ≡ rows }
     ensures { option_map (λ r. row_view r.now) result ≡ row_of opcode }

@@ -23,19 +23,19 @@ pub enum PoolEntry {
     /// Tag 8: the text of a string constant (JVMS 4.4.3).
     Str(u16),
     /// Tag 9: a class, and the name and descriptor of a field (JVMS 4.4.2).
-    Fieldref(u16, u16),
+    Fieldref { class: u16, member: u16 },
     /// Tag 10: a class, and the name and descriptor of a method (JVMS 4.4.2).
-    Methodref(u16, u16),
+    Methodref { class: u16, member: u16 },
     /// Tag 11: an interface, and the name and descriptor of a method (JVMS 4.4.2).
-    InterfaceMethodref(u16, u16),
+    InterfaceMethodref { class: u16, member: u16 },
     /// Tag 12: a name and a descriptor (JVMS 4.4.6).
-    NameAndType(u16, u16),
+    NameAndType { name: u16, descriptor: u16 },
     /// Tag 15: a kind, and the member that the handle is for (JVMS 4.4.8).
-    MethodHandle(u8, u16),
+    MethodHandle { kind: u8, reference: u16 },
     /// Tag 16: the descriptor of a method (JVMS 4.4.9).
     MethodType(u16),
     /// Tag 18: a bootstrap method, and the name and descriptor of a method (JVMS 4.4.10).
-    InvokeDynamic(u16, u16),
+    InvokeDynamic { bootstrap: u16, member: u16 },
     /// The second index of a Long or a Double. It has no tag and no bytes.
     Taken,
 }
@@ -81,18 +81,18 @@ impl EntryKind {
         match self {
             EntryKind::Text => matches!(entry, PoolEntry::Utf8(_)),
             EntryKind::Class => matches!(entry, PoolEntry::Class(_)),
-            EntryKind::Field => matches!(entry, PoolEntry::Fieldref(..)),
-            EntryKind::Method => matches!(entry, PoolEntry::Methodref(..)),
-            EntryKind::InterfaceMethod => matches!(entry, PoolEntry::InterfaceMethodref(..)),
-            EntryKind::NameAndType => matches!(entry, PoolEntry::NameAndType(..)),
+            EntryKind::Field => matches!(entry, PoolEntry::Fieldref { .. }),
+            EntryKind::Method => matches!(entry, PoolEntry::Methodref { .. }),
+            EntryKind::InterfaceMethod => matches!(entry, PoolEntry::InterfaceMethodref { .. }),
+            EntryKind::NameAndType => matches!(entry, PoolEntry::NameAndType { .. }),
             EntryKind::Integer => matches!(entry, PoolEntry::Integer(_)),
             EntryKind::Float => matches!(entry, PoolEntry::Float(_)),
             EntryKind::Long => matches!(entry, PoolEntry::Long(_)),
             EntryKind::Double => matches!(entry, PoolEntry::Double(_)),
             EntryKind::Str => matches!(entry, PoolEntry::Str(_)),
-            EntryKind::MethodHandle => matches!(entry, PoolEntry::MethodHandle(..)),
+            EntryKind::MethodHandle => matches!(entry, PoolEntry::MethodHandle { .. }),
             EntryKind::MethodType => matches!(entry, PoolEntry::MethodType(_)),
-            EntryKind::InvokeDynamic => matches!(entry, PoolEntry::InvokeDynamic(..)),
+            EntryKind::InvokeDynamic => matches!(entry, PoolEntry::InvokeDynamic { .. }),
         }
     }
 }

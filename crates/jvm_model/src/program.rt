@@ -16,7 +16,10 @@ pub struct NamedClass {
 #[derive(Debug, Drop)]
 pub enum Origin {
     /// A class file of the folder, and the descriptions that patches give of its native methods.
-    Folder(NamedClass, Sequence<StubMethod>),
+    Folder {
+        file: NamedClass,
+        natives: Sequence<StubMethod>,
+    },
     /// A class of the library that stubs describe, with what patches add to it.
     Stub(StubClass),
 }

@@ -138,7 +138,7 @@ pub struct Refusal {
 #[derive(Debug, Drop)]
 pub enum ReadRefusal {
     /// The file is refused at this offset, counted from its first byte.
-    Refused(u32, Reason),
+    Refused { offset: u32, reason: Reason },
     /// Memory ran out.
     Memory,
 }

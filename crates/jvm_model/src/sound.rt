@@ -6,13 +6,13 @@ ghost use Rattle.std.specs.List.{list_any};
 ghost use Rattle.jvm_model.specs.declared.grammar.Grammar.TheVariants.{ClassOrArray};
 ghost use Rattle.jvm_model.specs.declared.pool.EntryKind.TheVariants as kinds;
 ghost use Rattle.jvm_model.specs.Layout.{HasFirstCode, IsOnlyCode};
-ghost use Rattle.jvm_model.specs.Lookups.{text_at, class_name_at, signature_at, method_at};
+ghost use Rattle.jvm_model.specs.Lookups.{lent_reference, lent_signature, text_at, class_name_at, signature_at, method_at};
 ghost use Rattle.jvm_model.specs.Names.{IsClassName};
 ghost use Rattle.jvm_model.specs.Soundness.{is_code, leads_to, wants_code, IsIn, IsSoundClass};
 
 use crate::class_file::{Attribute, ClassFile, Member};
 use crate::layout::is_code;
-use crate::lookup::{MethodName, Signature, class_name_at, method_at, signature_at, text_at};
+use crate::lookup::{MemberReference, Signature, class_name_at, method_at, signature_at, text_at};
 use crate::pool::PoolEntry;
 
 /// The bytes of the text at an index that leads to one (JVMS 4.4.7).
@@ -96,19 +96,16 @@ pub fn first_code<'a>(pool: &[PoolEntry], attributes: &'a [Attribute]) -> Option
 pub fn signature(class: &ClassFile, index: u16) -> Signature<'_>
     requires sound { IsSoundClass class.now }
     requires kind { leads_to class.now.pool (kinds.NameAndType ∷ []) index ≡ true }
-    ensures { signature_at class.now.pool index ≡ Some (record { name = result.name.now; descriptor = result.descriptor.now }) }
+    ensures { signature_at class.now.pool index ≡ Some (lent_signature result) }
 {
     signature_at(class.pool.as_slice(), index).unwrap()
 }
 
 /// The method that a Methodref entry names (JVMS 4.4.2).
-pub fn method(class: &ClassFile, index: u16) -> MethodName<'_>
+pub fn method(class: &ClassFile, index: u16) -> MemberReference<'_>
     requires sound { IsSoundClass class.now }
     requires kind { leads_to class.now.pool (kinds.Method ∷ []) index ≡ true }
-    ensures { method_at class.now.pool index ≡ Some (record {
-      class = result.class.now;
-      signature = record { name = result.signature.name.now; descriptor = result.signature.descriptor.now };
-    }) }
+    ensures { method_at class.now.pool index ≡ Some (lent_reference result) }
 {
     method_at(class.pool.as_slice(), index).unwrap()
 }

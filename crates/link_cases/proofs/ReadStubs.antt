@@ -6,7 +6,7 @@ use Rattle.toml.specs.Data.{Members}
 use Rattle.jvm_model.specs.declared.stub.StubClass.{StubClass}
 use Rattle.linked_program.specs.Origins.{HasDifferent}
 use Rattle.stub_file.specs.StubFile.{GivesClass, IsStubFile}
-use Rattle.stub_file.specs.StubRules.{IsSoundStub}
+use Rattle.jvm_model.specs.StubRules.{IsSoundStub}
 
 different : (c : StubClass) → IsSoundStub c → HasDifferent c
 different c sound = record { methods = sound.methods_differ; fields = sound.fields_differ }

@@ -21,7 +21,7 @@ pub fn answer(alloc: Global, program: &Program, search: &Search<'_>) -> Result<S
     }
 }
 
-// What a search finds, as text.
+/// What a search finds, as text.
 fn found<'a>(
     alloc: Global,
     program: &Program,
@@ -54,7 +54,7 @@ fn yes_or_no<'a>(alloc: Global, is: bool) -> Result<String, SearchEnd<'a>> {
     Ok(String::from_str(alloc, word)?)
 }
 
-// The class, the name and the descriptor of a method.
+/// The class, the name and the descriptor of a method.
 fn full_name<'a>(
     alloc: Global,
     program: &Program,
@@ -69,7 +69,7 @@ fn full_name<'a>(
     Ok(format!(in alloc; "{class}.{name} {descriptor}")?)
 }
 
-// The name of the class that declares a method.
+/// The name of the class that declares a method.
 fn owner_of_method<'a>(
     alloc: Global,
     program: &Program,
@@ -81,7 +81,7 @@ fn owner_of_method<'a>(
     Ok(String::from_str(alloc, shown(class))?)
 }
 
-// The name of the class that declares a field.
+/// The name of the class that declares a field.
 fn owner_of_field<'a>(
     alloc: Global,
     program: &Program,
@@ -93,7 +93,7 @@ fn owner_of_field<'a>(
     Ok(String::from_str(alloc, shown(class))?)
 }
 
-// A name as text.
+/// A name as text.
 fn shown(name: &[u8]) -> &str {
     match str::from_utf8(name) {
         Ok(text) => text,

@@ -32,7 +32,7 @@ pub fn tell_case<R: Print, T: Tree>(rt: &R, alloc: Global, tree: &mut T) -> Resu
     }
 }
 
-// The program of the files of a case.
+/// The program of the files of a case.
 fn linked<T: Tree>(alloc: Global, tree: &mut T) -> Result<Program, CaseEnd> {
     let files = read_files(alloc, tree)?;
     let stubs = read_all_stubs(alloc, tree)?;
@@ -43,7 +43,7 @@ fn linked<T: Tree>(alloc: Global, tree: &mut T) -> Result<Program, CaseEnd> {
     }
 }
 
-// Prints each query and its answer.
+/// Prints each query and its answer.
 fn tell_answers<R: Print, T: Tree>(
     rt: &R,
     alloc: Global,
@@ -58,7 +58,7 @@ fn tell_answers<R: Print, T: Tree>(
     Ok(())
 }
 
-// The queries of a case; none if there is no such file.
+/// The queries of a case; none if there is no such file.
 fn queries_of<T: Tree>(alloc: Global, tree: &mut T) -> Result<String, CaseEnd> {
     match tree.read(alloc, QUERIES, u32::MAX) {
         Ok(bytes) => match String::from_utf8(bytes) {
@@ -71,7 +71,7 @@ fn queries_of<T: Tree>(alloc: Global, tree: &mut T) -> Result<String, CaseEnd> {
     }
 }
 
-// The answer to the query of a line.
+/// The answer to the query of a line.
 fn answer_to<T: Tree>(
     alloc: Global,
     tree: &mut T,

@@ -30,7 +30,7 @@ pub fn read_file<T: Tree>(alloc: Global, tree: &mut T, name: String) -> Result<N
             file: Name::from_string(name),
             class,
         }),
-        Err(ReadRefusal::Refused(offset, reason)) => Err(CaseEnd::Refused(Refusal {
+        Err(ReadRefusal::Refused { offset, reason }) => Err(CaseEnd::Refused(Refusal {
             file: Name::from_string(name),
             offset,
             reason,

@@ -31,7 +31,7 @@ pub fn tell_graph<T: Tree>(
     }
 }
 
-// The place of a method among those of its class.
+/// The place of a method among those of its class.
 fn place_of(class: &ClassFile, method: &FileMethod<'_>) -> Option<usize> {
     let pool = class.pool.as_slice();
     for (place, member) in class.methods.as_slice().iter().enumerate() {
@@ -42,7 +42,7 @@ fn place_of(class: &ClassFile, method: &FileMethod<'_>) -> Option<usize> {
     None
 }
 
-// Whether a member has the name and the descriptor of a method.
+/// Whether a member has the name and the descriptor of a method.
 fn is_named(pool: &[PoolEntry], member: &Member, method: &FileMethod<'_>) -> bool {
     let (Some(name), Some(descriptor)) = (
         text_at(pool, member.name),
@@ -53,7 +53,7 @@ fn is_named(pool: &[PoolEntry], member: &Member, method: &FileMethod<'_>) -> boo
     name == method.name.as_bytes() && descriptor == method.descriptor.as_bytes()
 }
 
-// What is told of the method at a place.
+/// What is told of the method at a place.
 fn told(alloc: Global, class: &ClassFile, file: &str, place: usize) -> Result<String, AllocError>
     requires sound { IsSoundClass class.now }
     requires size { length (spell class.now) < 2 ^ 32 }
@@ -63,7 +63,7 @@ fn told(alloc: Global, class: &ClassFile, file: &str, place: usize) -> Result<St
     }
     match graph_of(alloc, class, place) {
         Ok(graph) => heights(alloc, &graph),
-        Err(ReadRefusal::Refused(offset, reason)) => {
+        Err(ReadRefusal::Refused { offset, reason }) => {
             let word = reason_word(reason);
             format!(in alloc; "refused {file} {offset} {word}")
         }
@@ -71,7 +71,7 @@ fn told(alloc: Global, class: &ClassFile, file: &str, place: usize) -> Result<St
     }
 }
 
-// Whether the method at a place has code.
+/// Whether the method at a place has code.
 fn has_code(class: &ClassFile, place: usize) -> bool
     ensures { IsTrue result → HasCodeAttribute class.now place }
 {
@@ -81,14 +81,14 @@ fn has_code(class: &ClassFile, place: usize) -> bool
     }
 }
 
-// Whether one of the attributes is named Code.
+/// Whether one of the attributes is named Code.
 fn any_code(pool: &[PoolEntry], attributes: &[Attribute]) -> bool
     ensures { result ≡ list_any (is_code pool.now) attributes.now }
 {
     attributes.iter().any(|attribute| is_code(pool, attribute))
 }
 
-// The flow graph of the method at a place.
+/// The flow graph of the method at a place.
 fn graph_of(alloc: Global, class: &ClassFile, place: usize) -> Result<Graph, ReadRefusal>
     requires sound { IsSoundClass class.now }
     requires size { length (spell class.now) < 2 ^ 32 }
@@ -98,7 +98,7 @@ fn graph_of(alloc: Global, class: &ClassFile, place: usize) -> Result<Graph, Rea
     graph(alloc, class, &code)
 }
 
-// The steps of a graph, each by its offset and its height.
+/// The steps of a graph, each by its offset and its height.
 fn heights(alloc: Global, graph: &Graph) -> Result<String, AllocError> {
     let mut text = String::new(alloc);
     for step in graph.steps.as_slice() {

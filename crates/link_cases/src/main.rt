@@ -34,7 +34,7 @@ fn main(rt: HostRuntime) -> Result<()> {
     Ok(())
 }
 
-// The names of the folders in a folder, in byte order.
+/// The names of the folders in a folder, in byte order.
 fn folders(rt: &impl Files, alloc: Global, path: &str) -> io::Result<Vec<String>> {
     let mut names = Vec::new(alloc);
     for entry in fs::read_dir(&(rt, alloc), path)? {

@@ -68,7 +68,7 @@ pub fn query_of<'a>(alloc: Global, line: &'a str) -> Result<Option<Query<'a>>, A
     }
 }
 
-// The search that some words ask for.
+/// The search that some words ask for.
 fn search_in<'a>(words: &[&'a str]) -> Option<Search<'a>> {
     match words {
         ["find", name] => Some(Search::Find(name)),
@@ -93,7 +93,7 @@ fn search_in<'a>(words: &[&'a str]) -> Option<Search<'a>> {
     }
 }
 
-// The reference to a method that takes its class for one of a kind.
+/// The reference to a method that takes its class for one of a kind.
 fn method_reference<'a>(
     class: &'a str,
     kind: &str,
@@ -113,7 +113,7 @@ fn method_reference<'a>(
     })
 }
 
-// The reference to a field of a kind.
+/// The reference to a field of a kind.
 fn field_reference<'a>(
     class: &'a str,
     kind: &str,

@@ -99,7 +99,7 @@ pub fn selected<'a>(
     Ok(target)
 }
 
-// The class whose methods an object of a class or an array has: an array has those of java/lang/Object (JVMS 4.10.1.2).
+/// The class whose methods an object of a class or an array has: an array has those of java/lang/Object (JVMS 4.10.1.2).
 fn class_of_object(name: &str) -> &str {
     if name.starts_with('[') {
         "java/lang/Object"

@@ -26,7 +26,7 @@ pub fn read_all_stubs<T: Tree>(alloc: Global, tree: &mut T) -> Result<Vec<StubCl
     Ok(stubs)
 }
 
-// The stubs that are there from the start.
+/// The stubs that are there from the start.
 fn base(alloc: Global) -> Result<Vec<StubClass>, AllocError>
     ensures { IfOk result (λ stubs. All HasDifferent stubs.items) }
 {
@@ -35,7 +35,7 @@ fn base(alloc: Global) -> Result<Vec<StubClass>, AllocError>
     Ok(stubs)
 }
 
-// The stubs of the stub file.
+/// The stubs of the stub file.
 fn stubs_in(alloc: Global, bytes: &[u8]) -> Result<Vec<StubClass>, CaseEnd>
     ensures { IfOk result (λ stubs. All HasDifferent stubs.items) }
 {
@@ -47,7 +47,7 @@ fn stubs_in(alloc: Global, bytes: &[u8]) -> Result<Vec<StubClass>, CaseEnd>
     }
 }
 
-// That the stub file is refused.
+/// That the stub file is refused.
 fn refused(alloc: Global, reason: Reason) -> Result<CaseEnd, AllocError> {
     Ok(CaseEnd::Refused(Refusal {
         file: Name::from_string(String::from_str(alloc, STUB_FILE)?),

@@ -25,31 +25,31 @@ use Rattle.jvm_model.specs.LinkedPrograms.{class_names, IsThere}
 use Rattle.jvm_model.specs.Linking.{class_from, methods_from, fields_from, folder_method, program_from}
 use Rattle.jvm_model.specs.Lookups.{Signature, entry_at, text_at, text_in}
 use Rattle.jvm_model.specs.Programs.{Method, Field, field_of, signature_of, text_or_none}
-use Rattle.jvm_model.specs.Soundness.{Place, Use, Holds, IsSoundClass, is_of_kind, leads_to, each_place, entry_places, attribute_places, code_places, field_places, method_places, name_places, header_places, body_places, places_of}
+use Rattle.jvm_model.specs.Soundness.{PlacedUse, Use, UseHolds, IsSoundClass, is_of_kind, leads_to, each_place, entry_places, attribute_places, code_places, field_places, method_places, name_places, header_places, body_places, places_of}
 use Rattle.jvm_model.specs.Spelling.{entry, attribute, member}
 use Rattle.jvm_model.specs.Stubs.{is_same_method, is_same_field, method_of_stub, field_of_stub}
 use Rattle.jvm_model.proofs.CodePlaces.{cut_around}
 use Rattle.jvm_model.proofs.SoundUses.{member_leads}
 use Rattle.linked_program.specs.Origins.{IsSoundOrigin}
-use Rattle.linked_program.specs.Ranks.{MembersDiffer}
+use Rattle.jvm_model.specs.LinkedPrograms.{MembersDiffer}
 use Rattle.class_index.proofs.ListPlaces.{map_at}
 use Rattle.linked_program.proofs.Pieces.{among_at, place_among, in_piece}
 use Rattle.linked_program.proofs.MembersTold.{method_class, field_class, named_at, one_place}
 
 -- ---- the uses of a member of a class file
 
-abbrev Hold : List PoolEntry → List Place → Type 0
-Hold pool places = AllByRecursion (λ (p : Place). Holds pool p.use_) places
+abbrev Hold : List PoolEntry → List PlacedUse → Type 0
+Hold pool places = AllByRecursion (λ (p : PlacedUse). UseHolds pool p.use_) places
 
-Hold-left : (pool : List PoolEntry) (xs ys : List Place) → Hold pool (xs ++ ys) → Hold pool xs
+Hold-left : (pool : List PoolEntry) (xs ys : List PlacedUse) → Hold pool (xs ++ ys) → Hold pool xs
 Hold-left pool [] ys h = tt
 Hold-left pool (x ∷ xs) ys h = (h.0, Hold-left pool xs ys h.1)
 
-Hold-right : (pool : List PoolEntry) (xs ys : List Place) → Hold pool (xs ++ ys) → Hold pool ys
+Hold-right : (pool : List PoolEntry) (xs ys : List PlacedUse) → Hold pool (xs ++ ys) → Hold pool ys
 Hold-right pool [] ys h = h
 Hold-right pool (x ∷ xs) ys h = Hold-right pool xs ys h.1
 
-module _ {X : Type 0} (pool : List PoolEntry) (places : ℕ → List X → X → List Place) (size : X → ℕ) where
+module _ {X : Type 0} (pool : List PoolEntry) (places : ℕ → List X → X → List PlacedUse) (size : X → ℕ) where
   abbrev HoldAt : List X → X → Type 0
   HoldAt earlier x = (offset : ℕ) × Hold pool (places offset earlier x)
 
@@ -67,22 +67,22 @@ module _ {X : Type 0} (pool : List PoolEntry) (places : ℕ → List X → X →
 module _ (c : ClassFile) (sound : IsSoundClass c) where
   body_holds : Hold c.pool (body_places c)
   body_holds =
-      let all = recursion_from_All (λ (p : Place). Holds c.pool p.use_) (places_of c) sound in
+      let all = recursion_from_All (λ (p : PlacedUse). UseHolds c.pool p.use_) (places_of c) sound in
       let beyond = Hold-right c.pool (each_place (entry_places c.major) (λ e. length (entry e)) 10 [] c.pool) (header_places c ++ body_places c) all in
       Hold-right c.pool (header_places c) (body_places c) beyond
 
   -- the name and the descriptor of a member are not those of an earlier one
-  differs_then : (names descriptors : Grammar) (offset : ℕ) (earlier : List Member) (m : Member) → Hold c.pool (name_places names descriptors offset earlier m) → Holds c.pool (Use.differs earlier m)
+  differs_then : (names descriptors : Grammar) (offset : ℕ) (earlier : List Member) (m : Member) → Hold c.pool (name_places names descriptors offset earlier m) → UseHolds c.pool (Use.differs earlier m)
   differs_then names descriptors offset earlier m h = h.1.1.0
 
-  field_differs : (k : ℕ) (m : Member) → slice_get c.fields k ≡ Some m → Holds c.pool (Use.differs (take k c.fields) m)
+  field_differs : (k : ℕ) (m : Member) → slice_get c.fields k ≡ Some m → UseHolds c.pool (Use.differs (take k c.fields) m)
   field_differs k m e =
       let h = at_place c.pool field_places (λ m. length (member m)) _ c.fields k m e (Hold-left c.pool _ _ body_holds) in
       let names = name_places grammars.FieldName grammars.FieldDescriptor (h.0 + 2) (take k c.fields) m in
       differs_then grammars.FieldName grammars.FieldDescriptor (h.0 + 2) (take k c.fields) m
       (Hold-left c.pool names (each_place attribute_places (λ a. length (attribute a)) (h.0 + 8) [] m.attributes) h.1)
 
-  method_differs : (k : ℕ) (m : Member) → slice_get c.methods k ≡ Some m → Holds c.pool (Use.differs (take k c.methods) m)
+  method_differs : (k : ℕ) (m : Member) → slice_get c.methods k ≡ Some m → UseHolds c.pool (Use.differs (take k c.methods) m)
   method_differs k m e =
       let h = at_place c.pool method_places (λ m. length (member m)) _ c.methods k m e (Hold-left c.pool _ _ (Hold-right c.pool _ _ body_holds)) in
       let names = name_places grammars.MethodName grammars.MethodDescriptor (h.0 + 2) (take k c.methods) m in
@@ -121,7 +121,7 @@ text_is pool index text e = ap (λ t. unwrap_or t []) e
 
 members_apart : (pool : List PoolEntry) (ms : List Member)
     → ((m : Member) → Contains ms m → (leads_to pool (kinds.Text ∷ []) m.name ≡ true) × (leads_to pool (kinds.Text ∷ []) m.descriptor ≡ true))
-    → ((k : ℕ) (m : Member) → slice_get ms k ≡ Some m → Holds pool (Use.differs (take k ms) m))
+    → ((k : ℕ) (m : Member) → slice_get ms k ≡ Some m → UseHolds pool (Use.differs (take k ms) m))
     → AreApart (signature_of pool) ms
 members_apart pool ms leads differs =
     apart_from_earlier (signature_of pool) ms (λ p q m n lt at_p at_q same.

@@ -4,7 +4,7 @@ use Rattle.jvm_model.specs.declared.program.Origin.{Origin}
 use Rattle.jvm_model.specs.declared.reason.Reason.TheVariants.{Cycle}
 use Rattle.jvm_model.specs.Linking.{AreMet, IsFirstUnmet, cycle_claim, program_from}
 use Rattle.jvm_model.specs.Programs.{Program}
-use Rattle.linked_program.specs.LinkEnds.{IsRefusal}
+use Rattle.linked_program.specs.LinkEnds.{IsLinkRefusal}
 use Rattle.linked_program.specs.declared.link_end.LinkEnd.{LinkEnd}
 use Rattle.linked_program.specs.declared.link_end.LinkEnd.TheVariants.{Refused, Memory}
 
@@ -16,4 +16,4 @@ Assembles order (Err Memory) = Unit {0}
 
 -- The class is told to be above itself.
 abbrev pub IsCycleEnd : Origin → LinkEnd → Type 0
-IsCycleEnd o end = let c = cycle_claim o in IsRefusal c.file c.offset Cycle end
+IsCycleEnd o end = let c = cycle_claim o in IsLinkRefusal c.file c.offset Cycle end

@@ -5,6 +5,6 @@ use Rattle.linked_program.specs.declared.link_end.LinkEnd.{LinkEnd}
 use Rattle.linked_program.specs.declared.link_end.LinkEnd.TheVariants.{Refused, Memory}
 
 -- The refusal of a file at an offset, or want of memory.
-abbrev pub IsRefusal : List ℕ → ℕ → Reason → LinkEnd → Type 0
-IsRefusal file offset reason (Refused refusal) = refusal ≡ record { file = file; offset = offset; reason = reason }
-IsRefusal file offset reason Memory = Unit {0}
+abbrev pub IsLinkRefusal : List ℕ → ℕ → Reason → LinkEnd → Type 0
+IsLinkRefusal file offset reason (Refused refusal) = refusal ≡ record { file = file; offset = offset; reason = reason }
+IsLinkRefusal file offset reason Memory = Unit {0}

@@ -1,7 +1,7 @@
 //! How linking ends without a program.
 
 ghost use Rattle.std.specs.Prelude.{◌≡◌};
-ghost use Rattle.linked_program.specs.LinkEnds.{IsRefusal};
+ghost use Rattle.linked_program.specs.LinkEnds.{IsLinkRefusal};
 ghost use Rattle.linked_program.specs.declared.link_end.LinkEnd.TheVariants.{Memory};
 
 use jvm_model::{Name, Reason, Refusal};
@@ -34,7 +34,7 @@ impl<T: Drop> From<AllocFailed<T>> for LinkEnd {
 
 /// The refusal of a file at an offset. The file's name is copied; want of memory for it is `Memory`.
 pub fn refused(alloc: Global, file: &Name, offset: u32, reason: Reason) -> LinkEnd
-    ensures { IsRefusal file.now offset reason result }
+    ensures { IsLinkRefusal file.now offset reason result }
 {
     match String::from_str(alloc, file.as_str()) {
         Ok(copy) => LinkEnd::Refused(Refusal {

@@ -63,7 +63,7 @@ pub fn index_fields(
     Ok((index, places))
 }
 
-// Adds the methods of a class last.
+/// Adds the methods of a class last.
 fn add_methods(
     index: &mut MemberIndex,
     places: &mut Vec<MemberPlace>,
@@ -80,7 +80,7 @@ fn add_methods(
     Ok(())
 }
 
-// Adds the fields of a class last.
+/// Adds the fields of a class last.
 fn add_fields(
     index: &mut MemberIndex,
     places: &mut Vec<MemberPlace>,
@@ -97,7 +97,7 @@ fn add_fields(
     Ok(())
 }
 
-// Adds a member last, which stands at a place of its class.
+/// Adds a member last, which stands at a place of its class.
 fn add_last(
     index: &mut MemberIndex,
     places: &mut Vec<MemberPlace>,
@@ -232,7 +232,7 @@ mod tests {
         })
     }
 
-    // A stub of one method and one field.
+    /// A stub of one method and one field.
     fn stub(alloc: Global, name: &[u8]) -> Result<StubClass, AllocError>
         ensures { IfOk result (λ c. IsSoundOrigin (Origin.Stub c)) }
     {

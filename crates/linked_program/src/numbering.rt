@@ -22,7 +22,7 @@ pub fn names_of(alloc: Global, order: &[Origin]) -> Result<Vec<Bytes>, AllocErro
     Ok(all)
 }
 
-// A text of its own.
+/// A text of its own.
 fn copy_of(alloc: Global, text: &[u8]) -> Result<Bytes, AllocError>
     ensures { IfOk result (λ copy. copy ≡ text.now) }
 {
@@ -48,7 +48,7 @@ pub fn parents_of_all(
     Ok(parents)
 }
 
-// The supertypes of a class, by number.
+/// The supertypes of a class, by number.
 fn parents_of(alloc: Global, all: &[Bytes], origin: &Origin) -> Result<Parents, AllocError>
     requires ascending { IsAscending all.now }
     requires small { length all.now < 2 ^ 32 }
@@ -66,7 +66,7 @@ fn parents_of(alloc: Global, all: &[Bytes], origin: &Origin) -> Result<Parents, 
     })
 }
 
-// The superinterfaces of a class, by number.
+/// The superinterfaces of a class, by number.
 fn interfaces_of(alloc: Global, all: &[Bytes], origin: &Origin) -> Result<Vec<u32>, AllocError>
     requires ascending { IsAscending all.now }
     requires small { length all.now < 2 ^ 32 }
@@ -82,7 +82,7 @@ fn interfaces_of(alloc: Global, all: &[Bytes], origin: &Origin) -> Result<Vec<u3
     Ok(numbers)
 }
 
-// The number of a name that is there.
+/// The number of a name that is there.
 fn number_of(all: &[Bytes], text: &[u8]) -> u32
     requires ascending { IsAscending all.now }
     requires small { length all.now < 2 ^ 32 }

@@ -11,7 +11,7 @@ pub fn name(origin: &Origin) -> &[u8]
     ensures { result.now ≡ (class_from origin.now).name }
 {
     match origin {
-        Origin::Folder(file, _) => {
+        Origin::Folder { file, .. } => {
             class_name_at(file.class.pool.as_slice(), file.class.this_class).unwrap_or(b"")
         }
         Origin::Stub(stub) => stub.name.as_slice(),
@@ -23,7 +23,7 @@ pub fn is_interface(origin: &Origin) -> bool
     ensures { result ≡ (class_from origin.now).is_interface }
 {
     match origin {
-        Origin::Folder(file, _) => AccessFlag::Interface.is_set_in(file.class.flags),
+        Origin::Folder { file, .. } => AccessFlag::Interface.is_set_in(file.class.flags),
         Origin::Stub(stub) => stub.is_interface,
     }
 }
@@ -33,7 +33,7 @@ pub fn is_folder(origin: &Origin) -> bool
     ensures { result ≡ (class_from origin.now).is_folder }
 {
     match origin {
-        Origin::Folder(_, _) => true,
+        Origin::Folder { .. } => true,
         Origin::Stub(_) => false,
     }
 }
@@ -43,7 +43,7 @@ pub fn super_name(origin: &Origin) -> Option<&[u8]>
     ensures { option_map (λ name. name.now) result ≡ (class_from origin.now).super_class }
 {
     match origin {
-        Origin::Folder(file, _) => {
+        Origin::Folder { file, .. } => {
             class_name_at(file.class.pool.as_slice(), file.class.super_class)
         }
         Origin::Stub(stub) if stub.super_class.is_empty() => None,
@@ -56,7 +56,7 @@ pub fn interface_count(origin: &Origin) -> usize
     ensures { result ≡ length (class_from origin.now).interfaces }
 {
     match origin {
-        Origin::Folder(file, _) => file.class.interfaces.len(),
+        Origin::Folder { file, .. } => file.class.interfaces.len(),
         Origin::Stub(stub) => stub.interfaces.len(),
     }
 }
@@ -67,7 +67,7 @@ pub fn interface_name(origin: &Origin, place: usize) -> &[u8]
     ensures { result.now ≡ slice_index_or (class_from origin.now).interfaces place [] }
 {
     match origin {
-        Origin::Folder(file, _) => {
+        Origin::Folder { file, .. } => {
             let index = file.class.interfaces.as_slice()[place];
             class_name_at(file.class.pool.as_slice(), index).unwrap_or(b"")
         }

@@ -19,7 +19,7 @@ pub fn method_count(origin: &Origin) -> usize
     ensures { result ≡ length (methods_from origin.now) }
 {
     match origin {
-        Origin::Folder(file, _) => file.class.methods.len(),
+        Origin::Folder { file, .. } => file.class.methods.len(),
         Origin::Stub(stub) => stub.methods.len(),
     }
 }
@@ -29,7 +29,7 @@ pub fn field_count(origin: &Origin) -> usize
     ensures { result ≡ length (fields_from origin.now) }
 {
     match origin {
-        Origin::Folder(file, _) => file.class.fields.len(),
+        Origin::Folder { file, .. } => file.class.fields.len(),
         Origin::Stub(stub) => stub.fields.len(),
     }
 }
@@ -41,7 +41,7 @@ pub fn method_in(origin: &Origin, place: usize, class: u32) -> MemberView<'_>
     ensures { (m : Method) → slice_get (methods_from origin.now) place ≡ Some m → IsShownAs class m.flags m.signature result }
 {
     match origin {
-        Origin::Folder(file, _) => method_of_file(&file.class, place, class),
+        Origin::Folder { file, .. } => method_of_file(&file.class, place, class),
         Origin::Stub(stub) => {
             let method = &stub.methods.as_slice()[place];
             let flags = public_flags(method.is_static, method.is_abstract);
@@ -57,7 +57,7 @@ pub fn field_in(origin: &Origin, place: usize, class: u32) -> MemberView<'_>
     ensures { (f : Field) → slice_get (fields_from origin.now) place ≡ Some f → IsShownAs class f.flags f.signature result }
 {
     match origin {
-        Origin::Folder(file, _) => field_of_file(&file.class, place, class),
+        Origin::Folder { file, .. } => field_of_file(&file.class, place, class),
         Origin::Stub(stub) => {
             let field = &stub.fields.as_slice()[place];
             let flags = public_flags(field.is_static, false);
@@ -66,7 +66,7 @@ pub fn field_in(origin: &Origin, place: usize, class: u32) -> MemberView<'_>
     }
 }
 
-// The method at a place of a class file.
+/// The method at a place of a class file.
 fn method_of_file(file: &ClassFile, place: usize, class: u32) -> MemberView<'_>
     requires sound { IsSoundClass file.now }
     requires there { place < length file.now.methods }
@@ -76,7 +76,7 @@ fn method_of_file(file: &ClassFile, place: usize, class: u32) -> MemberView<'_>
     member_of_file(file, &methods[place], class)
 }
 
-// The field at a place of a class file.
+/// The field at a place of a class file.
 fn field_of_file(file: &ClassFile, place: usize, class: u32) -> MemberView<'_>
     requires sound { IsSoundClass file.now }
     requires there { place < length file.now.fields }
@@ -86,7 +86,7 @@ fn field_of_file(file: &ClassFile, place: usize, class: u32) -> MemberView<'_>
     member_of_file(file, &fields[place], class)
 }
 
-// A method or a field of a class file.
+/// A method or a field of a class file.
 fn member_of_file<'a>(file: &'a ClassFile, member: &Member, class: u32) -> MemberView<'a>
     requires sound { IsSoundClass file.now }
     requires there { Contains file.now.fields member.now ⊎ Contains file.now.methods member.now }
@@ -101,7 +101,7 @@ fn member_of_file<'a>(file: &'a ClassFile, member: &Member, class: u32) -> Membe
     }
 }
 
-// What a stub describes.
+/// What a stub describes.
 fn view_of<'a>(class: u32, flags: u16, name: &'a Bytes, descriptor: &'a Bytes) -> MemberView<'a>
     ensures { IsShownAs class flags (record { name = name.now; descriptor = descriptor.now }) result }
 {
@@ -113,7 +113,7 @@ fn view_of<'a>(class: u32, flags: u16, name: &'a Bytes, descriptor: &'a Bytes) -
     }
 }
 
-// The flags of a public method or field (JVMS 4.5, 4.6).
+/// The flags of a public method or field (JVMS 4.5, 4.6).
 fn public_flags(is_static: bool, is_abstract: bool) -> u16
     ensures { result ≡ stub_flags is_static is_abstract }
 {
@@ -122,7 +122,7 @@ fn public_flags(is_static: bool, is_abstract: bool) -> u16
         + mask_if(AccessFlag::Abstract, is_abstract)
 }
 
-// The flag's bit, if it is to be set.
+/// The flag's bit, if it is to be set.
 fn mask_if(flag: AccessFlag, is_set: bool) -> u16
     ensures mask { result ≡ (if is_set then mask_of flag else 0) }
     ensures small { result ≤ 0x0400 }

@@ -7,7 +7,8 @@ ghost use Rattle.jvm_model.specs.Resolution.{Declares, DeclaresField, HasSignatu
 ghost use Rattle.jvm_model.specs.Subtypes.{IsSubtype};
 ghost use Rattle.linked_program.specs.FieldSearches.{IsSearchOrder};
 ghost use Rattle.linked_program.specs.Numbers.{name_at, IsClassNumber, IsMethodNumber, AreNumbers, IsNumber};
-ghost use Rattle.linked_program.specs.Ranks.{IsRanked, MembersDiffer};
+ghost use Rattle.linked_program.specs.Ranks.{IsRanked};
+ghost use Rattle.jvm_model.specs.LinkedPrograms.{MembersDiffer};
 ghost use Rattle.linked_program.specs.Assembling.{Assembles, IsCycleEnd};
 ghost use Rattle.linked_program.specs.Origins.{IsSoundOrigin};
 ghost use Rattle.linked_program.specs.Whole.{IsLinkable, IsThroughInterface, IsMethodView, IsFieldView};
@@ -209,13 +210,13 @@ impl Program {
     }
 }
 
-// The refusal of a class that is above itself.
+/// The refusal of a class that is above itself.
 fn cycle_at(alloc: Global, class: &Origin) -> LinkEnd
     requires { IsSoundOrigin class.now }
     ensures { IsCycleEnd class.now result }
 {
     match class {
-        Origin::Folder(file, _) => {
+        Origin::Folder { file, .. } => {
             let offset = flags_offset(&file.class) + 2;
             refused(alloc, &file.file, offset, Reason::Cycle)
         }

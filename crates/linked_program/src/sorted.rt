@@ -23,7 +23,7 @@ pub fn find_in_order(names: &[Bytes], text: &[u8]) -> Option<u32>
     }
 }
 
-// Where the text stands, or where it would go.
+/// Where the text stands, or where it would go.
 fn search(names: &[Bytes], text: &[u8]) -> Result<usize, usize>
     ensures bound { IsSearchInRange result (length names.now) }
     ensures position { IsBinarySearchResult (λ name. slice_cmp nat_cmp name text.now) names.now result }

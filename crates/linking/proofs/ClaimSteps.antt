@@ -12,7 +12,7 @@ use Rattle.linked_program.specs.declared.link_end.LinkEnd.{LinkEnd}
 use Rattle.linked_program.specs.declared.link_end.LinkEnd.TheVariants.{Refused, Memory}
 use Rattle.linking.specs.declared.supers.SuperRule.{SuperRule}
 use Rattle.linking.specs.Claims.{TellsEnd, TellsClaims, of_own, super_claim}
-use Rattle.linked_program.specs.LinkEnds.{IsRefusal}
+use Rattle.linked_program.specs.LinkEnds.{IsLinkRefusal}
 
 -- ---- claims before others
 
@@ -45,7 +45,7 @@ tells_back p xs ys (Err e) met h = end_back p xs ys e met h
 pub one_met : (p : Program) (c : Claim) → Meets p c.demand → AreMet p (c ∷ [])
 one_met p c h = All-cons (IsMet p) c [] h (All-nil (IsMet p))
 
-pub one_unmet : (p : Program) (c : Claim) (e : LinkEnd) → (Meets p c.demand → ⊥) → IsRefusal c.file c.offset (reason_of c.demand) e → TellsEnd p (c ∷ []) e
+pub one_unmet : (p : Program) (c : Claim) (e : LinkEnd) → (Meets p c.demand → ⊥) → IsLinkRefusal c.file c.offset (reason_of c.demand) e → TellsEnd p (c ∷ []) e
 one_unmet p c (Refused r) h is = inl (h, is)
 one_unmet p c Memory h is = tt
 

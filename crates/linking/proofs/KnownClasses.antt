@@ -9,7 +9,7 @@ use Rattle.jvm_model.specs.Linking.{Claim, Demand, differs, is_there, of_kind, n
 use Rattle.jvm_model.specs.Programs.{Class, Program}
 use Rattle.linked_program.specs.declared.link_end.LinkEnd.{LinkEnd}
 use Rattle.linked_program.specs.declared.link_end.LinkEnd.TheVariants.{Refused, Memory}
-use Rattle.linking.specs.Claims.{TellsEnd, TellsClaims, known_class, known_classes, known_program, known_part, Knows, HasKind, IsFlat}
+use Rattle.linking.specs.Claims.{TellsEnd, TellsClaims, known_class, known_classes, known_program, known_part, Knows, IsKnownAs, IsFlat}
 use Rattle.class_index.specs.FirstPlaces.{StandsNowhere}
 use Rattle.class_index.proofs.OrderPlaces.{contains_at, place_of}
 use Rattle.class_index.proofs.ListPlaces.{map_at, at_map}
@@ -52,7 +52,7 @@ module _ (names : List (List ℕ)) (kinds : List Bool) (long : length names ≡ 
   no_kind name none has = nowhere_not names name none (subst (λ (ns : List (List ℕ)). Contains ns name) (known_names names kinds long) has)
 
   pub has_kind : (name : List ℕ) (place : ℕ) (kind : Bool) → slice_get names place ≡ Some name → slice_get kinds place ≡ Some kind
-      → ((number : ℕ) → slice_get names number ≡ Some name → Some place ≡ Some number) → HasKind (known_program names kinds) name kind
+      → ((number : ℕ) → slice_get names number ≡ Some name → Some place ≡ Some number) → IsKnownAs (known_program names kinds) name kind
   has_kind name place kind stands is only = record {
     there = subst (λ (ns : List (List ℕ)). Contains ns name) (sym (known_names names kinds long)) (contains_at names place name stands);
     only = λ c has named.
@@ -63,7 +63,7 @@ module _ (names : List (List ℕ)) (kinds : List Bool) (long : length names ≡ 
   }
 
 -- a kind that is there is the only one
-pub other_kind : (p : Program) (name : List ℕ) (kind wanted : Bool) → HasKind p name kind → (kind ≡ wanted → ⊥) → Meets p (of_kind wanted name) → ⊥
+pub other_kind : (p : Program) (name : List ℕ) (kind wanted : Bool) → IsKnownAs p name kind → (kind ≡ wanted → ⊥) → Meets p (of_kind wanted name) → ⊥
 other_kind p name kind wanted has differs' meets =
     let at = place_of (map (λ (c : Class). c.name) p.classes) name has.there in
     let c = map_at (λ (c : Class). c.name) p.classes at.0 name at.1 in

@@ -50,7 +50,7 @@ abbrev pub known_program : List (List ℕ) → List Bool → Program
 known_program names kinds = record { classes = known_classes names kinds; methods = []; fields = [] }
 
 -- A class of the name is there, and each of the name is of this kind.
-pub record HasKind (p : Program) (name : List ℕ) (kind : Bool) : Type 0 where
+pub record IsKnownAs (p : Program) (name : List ℕ) (kind : Bool) : Type 0 where
   pub there : Meets p (is_there name)
   pub only : Meets p (of_kind kind name)
 

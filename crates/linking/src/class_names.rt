@@ -27,7 +27,7 @@ pub(crate) fn stub_names(alloc: Global, stubs: &[StubClass]) -> Result<TextIndex
     Ok(names)
 }
 
-// Adds the name of a stub that is a class of its own.
+/// Adds the name of a stub that is a class of its own.
 fn add_own(names: &mut TextIndex, c: &StubClass) -> Result<(), AllocError>
     ensures { OnOk result (names.new ≡ with_own_names names.old (c.now ∷ [])) }
 {
@@ -54,7 +54,7 @@ pub(crate) fn check_file_names(
     Ok(())
 }
 
-// The name of a class file differs from all these others, and from the earlier ones, to which it is added.
+/// The name of a class file differs from all these others, and from the earlier ones, to which it is added.
 fn check_file_name(
     alloc: Global,
     others: &TextIndex,
@@ -85,7 +85,7 @@ pub(crate) fn check_stub_names(alloc: Global, stubs: &[StubClass]) -> Result<(),
     Ok(())
 }
 
-// The name of a stub that is a class of its own differs from the earlier ones, to which it is added.
+/// The name of a stub that is a class of its own differs from the earlier ones, to which it is added.
 fn check_stub_name(alloc: Global, earlier: &mut TextIndex, c: &StubClass) -> Result<(), LinkEnd>
     ensures added { OnOk result (earlier.new ≡ earlier.old ++ own_name c.now) }
     ensures told { (p : Program) → TellsClaims p (own_claim earlier.old c.now) result }
@@ -96,7 +96,7 @@ fn check_stub_name(alloc: Global, earlier: &mut TextIndex, c: &StubClass) -> Res
     add_name(alloc, earlier, c.name.as_slice(), &c.file, 0)
 }
 
-// Adds a name that is none of the earlier ones.
+/// Adds a name that is none of the earlier ones.
 fn add_name(
     alloc: Global,
     earlier: &mut TextIndex,
@@ -113,7 +113,7 @@ fn add_name(
     }
 }
 
-// Adds a name that is not there.
+/// Adds a name that is not there.
 fn add_new_name(earlier: &mut TextIndex, name: &[u8]) -> Result<(), LinkEnd>
     requires { StandsNowhere earlier.old name.now }
     ensures added { OnOk result (earlier.new ≡ earlier.old ++ name.now ∷ []) }

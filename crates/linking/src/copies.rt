@@ -8,7 +8,7 @@ use crate::descriptions::Described;
 use jvm_model::{Bytes, Sequence, StubMethod, StubResult};
 use std::alloc::{AllocError, Global};
 
-// A copy of bytes.
+/// A copy of bytes.
 fn copied_bytes(alloc: Global, bytes: &Bytes) -> Result<Bytes, AllocError>
     ensures { IfOk result (λ copy. copy ≡ bytes.now) }
 {
@@ -16,7 +16,7 @@ fn copied_bytes(alloc: Global, bytes: &Bytes) -> Result<Bytes, AllocError>
     Ok(Bytes::from_vec(copy))
 }
 
-// A copy of names.
+/// A copy of names.
 fn copied_names(alloc: Global, names: &[Bytes]) -> Result<Sequence<Bytes>, AllocError>
     ensures { IfOk result (λ copy. copy ≡ names.now) }
 {
@@ -28,7 +28,7 @@ fn copied_names(alloc: Global, names: &[Bytes]) -> Result<Sequence<Bytes>, Alloc
     Ok(Sequence::from_vec(copies))
 }
 
-// A copy of a result.
+/// A copy of a result.
 fn copied_result(alloc: Global, returned: &StubResult) -> Result<StubResult, AllocError>
     ensures { IfOk result (λ copy. copy ≡ returned.now) }
 {
@@ -45,7 +45,7 @@ fn copied_result(alloc: Global, returned: &StubResult) -> Result<StubResult, All
     }
 }
 
-// A copy of results.
+/// A copy of results.
 fn copied_results(alloc: Global, all: &[StubResult]) -> Result<Sequence<StubResult>, AllocError>
     ensures { IfOk result (λ copy. copy ≡ all.now) }
 {

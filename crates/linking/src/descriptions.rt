@@ -36,7 +36,7 @@ impl<'a> Model for Descriptions<'a> {
     ghost invariant = { λ s. s.index ≡ map method_key (map description_of s.items.items) };
 }
 
-// The key of a description among those of one class.
+/// The key of a description among those of one class.
 fn key_of_method(method: &StubMethod) -> MemberKey<'_>
     ensures class { result.class ≡ 0 }
     ensures name { result.name.now ≡ method.now.name }
@@ -67,7 +67,7 @@ impl<'a> Descriptions<'a> {
         self.items.as_slice()
     }
 
-    // Adds a description last.
+    /// Adds a description last.
     fn push(&mut self, described: Described<'a>) -> Result<(), AllocError>
         ensures { OnOk result (self.new ≡ self.old ++ description_of described.entry ∷ []) }
     {

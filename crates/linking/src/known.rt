@@ -1,7 +1,7 @@
 //! The names of all classes, and which of them are interfaces.
 
 ghost use Rattle.std.specs.Prelude.{◌≡◌, [], ◌∷◌, ◌++◌, map, IfSome, IfNone, OnOk, IfOk};
-ghost use Rattle.linking.specs.Claims.{HasKind, Knows, unsorted, AreNewNames, all_names, file_name, file_kind, stub_name, stub_kind, own_name, own_kind};
+ghost use Rattle.linking.specs.Claims.{IsKnownAs, Knows, unsorted, AreNewNames, all_names, file_name, file_kind, stub_name, stub_kind, own_name, own_kind};
 ghost use Rattle.class_index.specs.FirstPlaces.{StandsNowhere};
 ghost use Rattle.jvm_model.specs.Linking.{Meets, is_there, own_classes};
 
@@ -33,7 +33,7 @@ impl Model for Known {
 impl Known {
     /// Whether the class of a name is an interface (JVMS 4.1), if there is one of the name.
     pub fn kind_of(&self, name: &[u8]) -> Option<bool>
-        ensures found { IfSome result (HasKind self.now name.now) }
+        ensures found { IfSome result (IsKnownAs self.now name.now) }
         ensures none { IfNone result (Meets self.now (is_there name.now) → ⊥) }
     {
         let place = self.names.find(name)?;
@@ -57,7 +57,7 @@ pub fn known_classes(
     Ok(Known { names, interfaces })
 }
 
-// Adds class files.
+/// Adds class files.
 fn add_files(
     names: &mut TextIndex,
     interfaces: &mut Vec<bool>,
@@ -73,7 +73,7 @@ fn add_files(
     Ok(())
 }
 
-// Adds a class file.
+/// Adds a class file.
 fn add_file(
     names: &mut TextIndex,
     interfaces: &mut Vec<bool>,
@@ -88,7 +88,7 @@ fn add_file(
     add_class(names, interfaces, name, is_interface)
 }
 
-// Adds stubs that are classes of their own.
+/// Adds stubs that are classes of their own.
 fn add_stubs(
     names: &mut TextIndex,
     interfaces: &mut Vec<bool>,
@@ -104,7 +104,7 @@ fn add_stubs(
     Ok(())
 }
 
-// Adds a stub, if it is a class of its own.
+/// Adds a stub, if it is a class of its own.
 fn add_stub(
     names: &mut TextIndex,
     interfaces: &mut Vec<bool>,
@@ -120,7 +120,7 @@ fn add_stub(
     add_class(names, interfaces, c.name.as_slice(), c.is_interface)
 }
 
-// Adds a class of a new name.
+/// Adds a class of a new name.
 fn add_class(
     names: &mut TextIndex,
     interfaces: &mut Vec<bool>,

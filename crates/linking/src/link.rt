@@ -49,7 +49,7 @@ pub fn link(
     Program::assemble(alloc, order)
 }
 
-// What is demanded before the classes are put in order.
+/// What is demanded before the classes are put in order.
 fn check(alloc: Global, files: &[NamedClass], stubs: &[StubClass]) -> Result<(), LinkEnd>
     requires { All IsSoundFile files.now }
     ensures { TellsClaims (unsorted files.now stubs.now) (flat_claims files.now stubs.now) result }
@@ -61,7 +61,7 @@ fn check(alloc: Global, files: &[NamedClass], stubs: &[StubClass]) -> Result<(),
     check_kinds(alloc, &known, files, stubs)
 }
 
-// Puts classes in byte order of their names.
+/// Puts classes in byte order of their names.
 fn put_in_order(order: &mut Vec<Origin>)
     ensures { IsOrder order.old.items order.new.items }
 {

@@ -22,7 +22,7 @@ fn result_class(descriptor: &[u8]) -> Option<&[u8]>
     class_in(after_parameters(descriptor))
 }
 
-// What follows the parameters of a method descriptor.
+/// What follows the parameters of a method descriptor.
 fn after_parameters(descriptor: &[u8]) -> &[u8]
     ensures { result.now ≡ after_parameters false descriptor.now }
 {
@@ -36,21 +36,21 @@ fn after_parameters(descriptor: &[u8]) -> &[u8]
     &[]
 }
 
-// The parenthesis after the parameters, which is none in the name of a class.
+/// The parenthesis after the parameters, which is none in the name of a class.
 fn ends_parameters(in_class: bool, byte: u8) -> bool
     ensures { result ≡ (not in_class && (byte == 41)) }
 {
     !in_class && byte == b')'
 }
 
-// Whether what follows a byte is in the name of a class: from an L up to a semicolon.
+/// Whether what follows a byte is in the name of a class: from an L up to a semicolon.
 fn is_then_in_class(in_class: bool, byte: u8) -> bool
     ensures { result ≡ (if in_class then not (byte == 59) else (byte == 76)) }
 {
     if in_class { byte != b';' } else { byte == b'L' }
 }
 
-// The class of a field descriptor of a class (JVMS 4.3.2).
+/// The class of a field descriptor of a class (JVMS 4.3.2).
 fn class_in(descriptor: &[u8]) -> Option<&[u8]>
     ensures { option_map (λ name. name.now) result ≡ class_in descriptor.now }
 {
@@ -62,14 +62,14 @@ fn class_in(descriptor: &[u8]) -> Option<&[u8]>
     }
 }
 
-// A class that a file mentions.
+/// A class that a file mentions.
 fn check_mention(alloc: Global, known: &Known, file: &Name, name: &[u8]) -> Result<(), LinkEnd>
     ensures { TellsClaims known.now (mention_claim file.now name.now ∷ []) result }
 {
     check_there(alloc, known, name, file, 0)
 }
 
-// The class that a result of a call mentions.
+/// The class that a result of a call mentions.
 fn check_result(
     alloc: Global,
     known: &Known,
@@ -92,7 +92,7 @@ fn check_result(
     }
 }
 
-// The classes that the results of a method mention.
+/// The classes that the results of a method mention.
 fn check_results(
     alloc: Global,
     known: &Known,
@@ -107,7 +107,7 @@ fn check_results(
     Ok(())
 }
 
-// The classes of the exceptions of a method.
+/// The classes of the exceptions of a method.
 fn check_throws(
     alloc: Global,
     known: &Known,
@@ -122,7 +122,7 @@ fn check_throws(
     Ok(())
 }
 
-// The classes that a method mentions.
+/// The classes that a method mentions.
 fn check_method(
     alloc: Global,
     known: &Known,
@@ -135,7 +135,7 @@ fn check_method(
     check_throws(alloc, known, file, method)
 }
 
-// The classes that descriptions mention.
+/// The classes that descriptions mention.
 fn check_descriptions(alloc: Global, known: &Known, all: &[Described<'_>]) -> Result<(), LinkEnd>
     ensures { TellsClaims known.now (description_claims (map description_of all.now)) result }
 {
@@ -145,7 +145,7 @@ fn check_descriptions(alloc: Global, known: &Known, all: &[Described<'_>]) -> Re
     Ok(())
 }
 
-// The class of the object that a field holds.
+/// The class of the object that a field holds.
 fn check_field(alloc: Global, known: &Known, file: &Name, field: &StubField) -> Result<(), LinkEnd>
     ensures { TellsClaims known.now (map (mention_claim file.now) (field_names field.now)) result }
 {
@@ -155,7 +155,7 @@ fn check_field(alloc: Global, known: &Known, file: &Name, field: &StubField) -> 
     }
 }
 
-// The classes that the fields of a stub mention.
+/// The classes that the fields of a stub mention.
 fn check_fields(alloc: Global, known: &Known, c: &StubClass) -> Result<(), LinkEnd>
     ensures { TellsClaims known.now (map (mention_claim c.now.file) (flat_map field_names c.now.fields)) result }
 {
@@ -165,7 +165,7 @@ fn check_fields(alloc: Global, known: &Known, c: &StubClass) -> Result<(), LinkE
     Ok(())
 }
 
-// All classes that a stub names: supertypes, those of its fields, and those of its methods and of its patches.
+/// All classes that a stub names: supertypes, those of its fields, and those of its methods and of its patches.
 fn check_stub(
     alloc: Global,
     known: &Known,
@@ -179,7 +179,7 @@ fn check_stub(
     check_stub_methods(alloc, known, patches, c)
 }
 
-// The classes that the methods of a stub and of its patches mention.
+/// The classes that the methods of a stub and of its patches mention.
 fn check_stub_methods(
     alloc: Global,
     known: &Known,
@@ -192,7 +192,7 @@ fn check_stub_methods(
     check_descriptions(alloc, known, all.as_slice())
 }
 
-// The same of a stub that is a class of its own.
+/// The same of a stub that is a class of its own.
 fn check_own_stub(
     alloc: Global,
     known: &Known,
@@ -222,7 +222,7 @@ pub(crate) fn check_stubs(
     Ok(())
 }
 
-// The classes that descriptions of native methods of a class file mention.
+/// The classes that descriptions of native methods of a class file mention.
 fn check_file_natives(
     alloc: Global,
     known: &Known,

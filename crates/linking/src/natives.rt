@@ -32,7 +32,7 @@ impl<'a> Model for Natives<'a> {
     ghost invariant = { λ n. n.index ≡ native_keys n.class.now.pool n.class.now.methods };
 }
 
-// The key of a method of a class file: in place of the number of a class it tells whether the method is static.
+/// The key of a method of a class file: in place of the number of a class it tells whether the method is static.
 fn key_of_member<'a>(pool: &'a [PoolEntry], member: &Member) -> MemberKey<'a>
     ensures { key_of result ≡ member_key pool.entry.now member.now }
 {
@@ -43,7 +43,7 @@ fn key_of_member<'a>(pool: &'a [PoolEntry], member: &Member) -> MemberKey<'a>
     }
 }
 
-// The key of the method that a stub would describe.
+/// The key of the method that a stub would describe.
 fn key_of_described(method: &StubMethod) -> MemberKey<'_>
     ensures { key_of result ≡ described_key method.entry.now }
 {
@@ -54,7 +54,7 @@ fn key_of_described(method: &StubMethod) -> MemberKey<'_>
     }
 }
 
-// The index of the native ones of methods.
+/// The index of the native ones of methods.
 fn native_index(
     alloc: Global,
     pool: &[PoolEntry],
@@ -69,7 +69,7 @@ fn native_index(
     Ok(index)
 }
 
-// Adds a method, if it is native.
+/// Adds a method, if it is native.
 fn add_native(
     index: &mut MemberIndex,
     pool: &[PoolEntry],

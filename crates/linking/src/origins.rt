@@ -10,7 +10,7 @@ use crate::patches::{native_descriptions, stub_descriptions};
 use jvm_model::{NamedClass, Origin, Sequence, StubClass, StubMethod};
 use std::alloc::{AllocError, Global};
 
-// Stubs that are classes of their own, and patches.
+/// Stubs that are classes of their own, and patches.
 #[derive(Drop)]
 struct Parted {
     own: Vec<StubClass>,
@@ -35,7 +35,7 @@ pub fn origins(
     Ok(all)
 }
 
-// Stubs, parted.
+/// Stubs, parted.
 fn part(alloc: Global, stubs: Vec<StubClass>) -> Result<Parted, AllocError>
     ensures own { IfOk result (λ parted. parted.own.items ≡ own_classes stubs.items) }
     ensures patches { IfOk result (λ parted. parted.patches.items ≡ filter is_patch_stub stubs.items) }
@@ -48,7 +48,7 @@ fn part(alloc: Global, stubs: Vec<StubClass>) -> Result<Parted, AllocError>
     Ok(Parted { own, patches })
 }
 
-// Puts a stub where it belongs.
+/// Puts a stub where it belongs.
 fn put(
     own: &mut Vec<StubClass>,
     patches: &mut Vec<StubClass>,
@@ -65,15 +65,15 @@ fn put(
     Ok(())
 }
 
-// The origin of a class file.
+/// The origin of a class file.
 fn origin_of_file(alloc: Global, patches: &Patches<'_>, f: NamedClass) -> Result<Origin, AllocError>
     ensures { IfOk result (λ o. o ≡ folder_origin patches.now f) }
 {
     let natives = told_of_file(alloc, patches, &f)?;
-    Ok(Origin::Folder(f, natives))
+    Ok(Origin::Folder { file: f, natives })
 }
 
-// What patches say of the native methods of a class file.
+/// What patches say of the native methods of a class file.
 fn told_of_file(
     alloc: Global,
     patches: &Patches<'_>,
@@ -85,7 +85,7 @@ fn told_of_file(
     copied_methods(alloc, all.as_slice())
 }
 
-// The origin of a stub.
+/// The origin of a stub.
 fn origin_of_stub(
     alloc: Global,
     patches: &Patches<'_>,
@@ -97,7 +97,7 @@ fn origin_of_stub(
     Ok(Origin::Stub(c))
 }
 
-// What a stub and its patches say of methods.
+/// What a stub and its patches say of methods.
 fn told_of_stub(
     alloc: Global,
     patches: &Patches<'_>,
@@ -109,7 +109,7 @@ fn told_of_stub(
     copied_methods(alloc, all.as_slice())
 }
 
-// Adds class files.
+/// Adds class files.
 fn add_files(
     alloc: Global,
     all: &mut Vec<Origin>,
@@ -125,7 +125,7 @@ fn add_files(
     Ok(())
 }
 
-// Adds stubs.
+/// Adds stubs.
 fn add_stubs(
     alloc: Global,
     all: &mut Vec<Origin>,

@@ -57,7 +57,7 @@ impl<'a> Patches<'a> {
     }
 }
 
-// Adds a stub, if it is a patch, to the list of its name.
+/// Adds a stub, if it is a patch, to the list of its name.
 fn add_patch<'a>(
     alloc: Global,
     names: &mut TextIndex,
@@ -75,7 +75,7 @@ fn add_patch<'a>(
     Ok(())
 }
 
-// The place of the list of a name, which is a new one if there is none.
+/// The place of the list of a name, which is a new one if there is none.
 fn list_of<'a>(
     alloc: Global,
     names: &mut TextIndex,

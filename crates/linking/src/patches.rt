@@ -27,7 +27,7 @@ pub fn stub_descriptions<'a>(
     Ok(all)
 }
 
-// Adds what a patch says of native methods.
+/// Adds what a patch says of native methods.
 fn add_natives<'a>(
     all: &mut Descriptions<'a>,
     natives: &Natives<'_>,
@@ -45,7 +45,7 @@ fn add_natives<'a>(
     Ok(())
 }
 
-// Adds what patches say of native methods.
+/// Adds what patches say of native methods.
 fn add_patches<'a>(
     all: &mut Descriptions<'a>,
     natives: &Natives<'_>,
@@ -59,7 +59,7 @@ fn add_patches<'a>(
     Ok(())
 }
 
-// Adds a description, if it is one of a native method.
+/// Adds a description, if it is one of a native method.
 fn add_native<'a>(
     all: &mut Descriptions<'a>,
     natives: &Natives<'_>,

@@ -53,7 +53,7 @@ pub(crate) fn check_there(
     }
 }
 
-// The class of a name, if it is there, is of a kind.
+/// The class of a name, if it is there, is of a kind.
 fn check_kind(
     alloc: Global,
     known: &Known,
@@ -76,7 +76,7 @@ fn check_kind(
     }
 }
 
-// What is demanded of a supertype.
+/// What is demanded of a supertype.
 fn check_super(alloc: Global, known: &Known, rule: SuperRule, s: Super<'_>) -> Result<(), LinkEnd>
     ensures { TellsClaims known.now (super_claim rule (named_super s.entry) ∷ []) result }
 {
@@ -86,7 +86,7 @@ fn check_super(alloc: Global, known: &Known, rule: SuperRule, s: Super<'_>) -> R
     }
 }
 
-// The superclass of a class file (JVMS 4.1).
+/// The superclass of a class file (JVMS 4.1).
 fn check_superclass(
     alloc: Global,
     known: &Known,
@@ -111,7 +111,7 @@ fn check_superclass(
     }
 }
 
-// The superinterfaces of a class file, two bytes each (JVMS 4.1).
+/// The superinterfaces of a class file, two bytes each (JVMS 4.1).
 fn check_interfaces(
     alloc: Global,
     known: &Known,
@@ -136,7 +136,7 @@ fn check_interfaces(
     Ok(())
 }
 
-// The supertypes of a class file: the superclass first.
+/// The supertypes of a class file: the superclass first.
 fn check_file_supers(
     alloc: Global,
     known: &Known,
@@ -150,7 +150,7 @@ fn check_file_supers(
     check_interfaces(alloc, known, rule, f)
 }
 
-// The supertypes of all class files.
+/// The supertypes of all class files.
 pub(crate) fn check_supers_of_files(
     alloc: Global,
     known: &Known,
@@ -166,7 +166,7 @@ pub(crate) fn check_supers_of_files(
     Ok(())
 }
 
-// The superclass that a stub names.
+/// The superclass that a stub names.
 fn check_stub_superclass(
     alloc: Global,
     known: &Known,
@@ -187,7 +187,7 @@ fn check_stub_superclass(
     check_super(alloc, known, rule, s)
 }
 
-// The superinterfaces that a stub names.
+/// The superinterfaces that a stub names.
 fn check_stub_interfaces(
     alloc: Global,
     known: &Known,
@@ -208,7 +208,7 @@ fn check_stub_interfaces(
     Ok(())
 }
 
-// The supertypes of a stub: the superclass first.
+/// The supertypes of a stub: the superclass first.
 pub(crate) fn check_stub_supers(
     alloc: Global,
     known: &Known,
@@ -221,7 +221,7 @@ pub(crate) fn check_stub_supers(
     check_stub_interfaces(alloc, known, rule, c)
 }
 
-// The supertypes of a stub that is a class of its own.
+/// The supertypes of a stub that is a class of its own.
 fn check_own_supers(
     alloc: Global,
     known: &Known,
@@ -236,7 +236,7 @@ fn check_own_supers(
     check_stub_supers(alloc, known, rule, c)
 }
 
-// The supertypes of all stubs that are classes of their own.
+/// The supertypes of all stubs that are classes of their own.
 pub(crate) fn check_supers_of_stubs(
     alloc: Global,
     known: &Known,

@@ -19,7 +19,7 @@ use Rattle.property_file.specs.declared.refusal.PropertyRefusal.TheVariants.{Bad
 use Rattle.property_file.specs.Documents.{other_keys, IsDocument, IsLeast}
 use Rattle.property_file.specs.Rules.{GivesVersion, GivesClass, GivesStates, GivesInitial, GivesError, GivesEvents}
 use Rattle.property_file.specs.PropertyFile.{file_keys, GivesAutomaton, IsPropertyFile}
-use Rattle.property_file.specs.Refusals.{IsNoDocument, too_large, no_text, no_toml, IsBroken, version, class, states, initial, error, event, other, IsBrokenFile, IsRefusal}
+use Rattle.property_file.specs.Refusals.{IsNoDocument, too_large, no_text, no_toml, IsBroken, version, class, states, initial, error, event, other, IsBrokenFile, IsPropertyRefusal}
 use Rattle.property_file.specs.Reading.{NamesKey, IsTableRefusal}
 use Rattle.property_file.proofs.Parts.{text_same, NamesState-unique, GivesStates-unique, GivesEvents-unique}
 use Rattle.property_file.proofs.Whole.{IsDocument-same, GivesParts-unique, GivesParts-sound}
@@ -159,7 +159,7 @@ IsBrokenFile-not bytes key a b p =
     IsBroken-not p.members a key p.gives (subst (λ (ms : Members). IsBroken ms key) members b.broken)
 
 -- at most one refusal, and none beside an automaton
-pub IsRefusal-same : (bytes : List ℕ) (r s : PropertyRefusal) → r ≢ Memory → s ≢ Memory → IsRefusal bytes r → IsRefusal bytes s → r ≡ s
+pub IsRefusal-same : (bytes : List ℕ) (r s : PropertyRefusal) → r ≢ Memory → s ≢ Memory → IsPropertyRefusal bytes r → IsPropertyRefusal bytes s → r ≡ s
 IsRefusal-same bytes BadToml BadToml m n a b = refl
 IsRefusal-same bytes BadToml (BadProperty l) m n a b = absurd (IsNoDocument-not_broken bytes l a b)
 IsRefusal-same bytes (BadProperty k) BadToml m n a b = absurd (IsNoDocument-not_broken bytes k b a)
@@ -169,7 +169,7 @@ IsRefusal-same bytes (BadProperty k) (BadProperty l) m n a b =
 IsRefusal-same bytes Memory s m n a b = absurd (m refl)
 IsRefusal-same bytes r Memory m n a b = absurd (n refl)
 
-pub IsRefusal-not : (bytes : List ℕ) (a : Automaton) (r : PropertyRefusal) → r ≢ Memory → IsPropertyFile bytes a → IsRefusal bytes r → ⊥
+pub IsRefusal-not : (bytes : List ℕ) (a : Automaton) (r : PropertyRefusal) → r ≢ Memory → IsPropertyFile bytes a → IsPropertyRefusal bytes r → ⊥
 IsRefusal-not bytes a BadToml m p bad = IsNoDocument-not bytes a bad p
 IsRefusal-not bytes a (BadProperty key) m p b = IsBrokenFile-not bytes key a b p
 IsRefusal-not bytes a Memory m p u = absurd (m refl)

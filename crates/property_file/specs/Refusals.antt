@@ -47,7 +47,7 @@ pub record IsBrokenFile (bytes : List ℕ) (key : List ℕ) : Type 0 where
   pub broken : IsBroken members key
 
 -- What a refusal says of the bytes.
-abbrev pub IsRefusal : List ℕ → PropertyRefusal → Type 0
-IsRefusal bytes BadToml = IsNoDocument bytes
-IsRefusal bytes (BadProperty key) = IsBrokenFile bytes key
-IsRefusal bytes Memory = Unit {0}
+abbrev pub IsPropertyRefusal : List ℕ → PropertyRefusal → Type 0
+IsPropertyRefusal bytes BadToml = IsNoDocument bytes
+IsPropertyRefusal bytes (BadProperty key) = IsBrokenFile bytes key
+IsPropertyRefusal bytes Memory = Unit {0}

@@ -6,7 +6,7 @@ ghost use Rattle.jvm_model.specs.Automata.{IsAutomaton};
 ghost use Rattle.property_file.specs.declared.refusal.PropertyRefusal.{PropertyRefusal};
 ghost use Rattle.property_file.specs.declared.refusal.PropertyRefusal.TheVariants.{Memory};
 ghost use Rattle.property_file.specs.PropertyFile.{IsPropertyFile};
-ghost use Rattle.property_file.specs.Refusals.{IsRefusal};
+ghost use Rattle.property_file.specs.Refusals.{IsPropertyRefusal};
 
 /// What a property file gives is the automaton of a property.
 pub fn property_is_sound()
@@ -20,10 +20,10 @@ pub fn one_automaton()
 
 /// Bytes have at most one refusal but that for memory: no document, or one key.
 pub fn one_refusal()
-    ensures { (bytes : List ℕ) (r s : PropertyRefusal) → r ≢ Memory → s ≢ Memory → IsRefusal bytes r → IsRefusal bytes s → r ≡ s }
+    ensures { (bytes : List ℕ) (r s : PropertyRefusal) → r ≢ Memory → s ≢ Memory → IsPropertyRefusal bytes r → IsPropertyRefusal bytes s → r ≡ s }
 {}
 
 /// The bytes of a property file have no refusal but that for memory.
 pub fn automaton_or_refusal()
-    ensures { (bytes : List ℕ) (a : Automaton) (r : PropertyRefusal) → r ≢ Memory → IsPropertyFile bytes a → IsRefusal bytes r → ⊥ }
+    ensures { (bytes : List ℕ) (a : Automaton) (r : PropertyRefusal) → r ≢ Memory → IsPropertyFile bytes a → IsPropertyRefusal bytes r → ⊥ }
 {}

@@ -9,7 +9,7 @@ ghost use Rattle.property_file.specs.declared.refusal.PropertyRefusal.TheVariant
 ghost use Rattle.property_file.specs.Documents.{property_limit};
 ghost use Rattle.property_file.specs.PropertyFile.{file_keys, GivesAutomaton, IsPropertyFile};
 ghost use Rattle.property_file.specs.Reading.{Finds, FindsOtherKey, IsTableRefusal};
-ghost use Rattle.property_file.specs.Refusals.{IsRefusal};
+ghost use Rattle.property_file.specs.Refusals.{IsPropertyRefusal};
 ghost use Rattle.property_file.specs.Rules.{GivesVersion, GivesClass, GivesError};
 
 use crate::event_list::events_at;
@@ -32,7 +32,7 @@ pub fn read_property(alloc: Global, bytes: &[u8]) -> Result<Automaton, PropertyR
     ensures found { IfOk result (IsPropertyFile bytes.now) }
     ensures sound { IfOk result IsAutomaton }
     ensures only { (a : Automaton) → IsPropertyFile bytes.now a → (result ≡ Ok a) ⊎ (result ≡ Err Memory) }
-    ensures refused { IfErr result (IsRefusal bytes.now) }
+    ensures refused { IfErr result (IsPropertyRefusal bytes.now) }
 
     // Such bytes are not even read.
     ensures large { property_limit < length bytes.now → result ≡ Err BadToml }

@@ -21,7 +21,7 @@ use Rattle.jvm_model.specs.DescriptorValues.{is_wide, IsKind, IsMethodOf, IsOutc
 use Rattle.jvm_model.specs.Names.{is_method_name, is_unqualified_name, IsClassName}
 use Rattle.jvm_model.proofs.ClassNames.{class_name_from_parts}
 use Rattle.jvm_model.specs.Stubs.{is_same_field, is_same_method}
-use Rattle.stub_file.specs.StubRules.{is_class, is_object_argument, is_primitive, is_reference, lists_outcomes, patches_methods_alone, IsSoundField, IsSoundMethod, IsSoundStub, MayHold, MayReturn}
+use Rattle.jvm_model.specs.StubRules.{is_class, is_object_argument, is_primitive, is_reference, lists_outcomes, patches_methods_alone, IsSoundField, IsSoundMethod, IsSoundStub, MayHold, MayReturn}
 
 -- a field descriptor: a letter, a class, or an array of a letter
 pub data Part : Type 0 where

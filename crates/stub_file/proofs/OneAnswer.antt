@@ -5,7 +5,7 @@ use Rattle.toml.specs.Data.{Members}
 use Rattle.jvm_model.specs.declared.stub.StubClass.{StubClass}
 use Rattle.stub_file.specs.declared.refusal.StubRefusal.{StubRefusal}
 use Rattle.stub_file.specs.declared.refusal.StubRefusal.TheVariants.{BadToml, BadStub, Memory}
-use Rattle.stub_file.specs.StubFile.{stub_limit, GivesClass, IsDocument, IsFirstBreach, IsRefusal, IsStubFile, IsTableRefusal, SpellsFile}
+use Rattle.stub_file.specs.StubFile.{stub_limit, GivesClass, IsDocument, IsFirstBreach, IsStubRefusal, IsStubFile, IsTableRefusal, SpellsFile}
 use Rattle.stub_file.proofs.Whole.{for_memory, HasOuterKeys-unique, IsDocument-unique, SpellsFile-unique}
 
 pub IsStubFile-unique : (file bytes : List ℕ) (cs es : List StubClass) → IsStubFile file bytes cs → IsStubFile file bytes es → cs ≡ es
@@ -45,7 +45,7 @@ one_class file ms (Some n) (Some m) p q =
 not_a_document : (bytes : List ℕ) (ms : Members) → length bytes ≤ stub_limit → IsDocument bytes ms → (stub_limit < length bytes) ⊎ ((members : Members) → IsDocument bytes members → ⊥) → ⊥
 not_a_document bytes ms limit document = ⊎_elim (λ long. omega arith) (λ none. none ms document)
 
-pub one_reason : (file bytes : List ℕ) (r s : StubRefusal) → IsRefusal file bytes r → IsRefusal file bytes s → ((r ≡ Memory) ⊎ (s ≡ Memory)) ⊎ (r ≡ s)
+pub one_reason : (file bytes : List ℕ) (r s : StubRefusal) → IsStubRefusal file bytes r → IsStubRefusal file bytes s → ((r ≡ Memory) ⊎ (s ≡ Memory)) ⊎ (r ≡ s)
 one_reason file bytes Memory s p q = inl (inl refl)
 one_reason file bytes BadToml BadToml p q = inr refl
 one_reason file bytes BadToml (BadStub b) p q = absurd (not_a_document bytes q.members q.limit q.document p)
@@ -56,7 +56,7 @@ one_reason file bytes (BadStub a) (BadStub b) p q =
     inr (ap BadStub (one_class file q.members a b (subst (λ (ms : Members). IsTableRefusal file ms (BadStub a)) same p.refused) q.refused))
 one_reason file bytes (BadStub a) Memory p q = inl (inr refl)
 
-pub not_both : (file bytes : List ℕ) (cs : List StubClass) (r : StubRefusal) → IsStubFile file bytes cs → IsRefusal file bytes r → r ≡ Memory
+pub not_both : (file bytes : List ℕ) (cs : List StubClass) (r : StubRefusal) → IsStubFile file bytes cs → IsStubRefusal file bytes r → r ≡ Memory
 not_both file bytes cs BadToml is refused = absurd (not_a_document bytes is.members is.limit is.document refused)
 not_both file bytes cs (BadStub a) is refused =
     let same : is.members ≡ refused.members = IsDocument-unique bytes is.members refused.members is.document refused.document in

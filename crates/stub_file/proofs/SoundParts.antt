@@ -6,7 +6,7 @@ use Rattle.jvm_model.specs.declared.stub.StubMethod.{StubMethod}
 use Rattle.jvm_model.specs.DescriptorValues.{IsKind, IsMethodOf}
 use Rattle.jvm_model.proofs.MethodKinds.{one_value}
 use Rattle.stub_file.specs.StubReading.{AreSoundParts}
-use Rattle.stub_file.specs.StubRules.{IsSoundMethod}
+use Rattle.jvm_model.specs.StubRules.{IsSoundMethod}
 
 -- no text is a descriptor of a field and of a method
 pub field_is_no_method : (text : List ℕ) (kind : Kind) (kinds : List Kind) (outcome : Option Kind) → IsKind text kind → IsMethodOf text kinds outcome → ⊥

@@ -6,7 +6,7 @@ use Rattle.std.specs.Str.{bytes_eq}
 use Rattle.jvm_model.specs.declared.stub.StubClass.{StubClass}
 use Rattle.jvm_model.specs.Automata.{all_differ}
 use Rattle.jvm_model.specs.Stubs.{mentioned}
-use Rattle.stub_file.specs.StubRules.{IsSoundStub}
+use Rattle.jvm_model.specs.StubRules.{IsSoundStub}
 
 abbrev pub names_of : List StubClass → List (List ℕ)
 names_of classes = map (λ c. c.name) classes

@@ -10,5 +10,4 @@ pub mod BaseStubs
 pub mod Signatures
 pub mod StubFile
 pub mod StubReading
-pub mod StubRules
 pub mod StubSpelling

@@ -8,7 +8,7 @@ use Rattle.jvm_model.specs.declared.stub.StubClass.{StubClass}
 use Rattle.stub_file.specs.declared.refusal.StubRefusal.{StubRefusal}
 use Rattle.stub_file.specs.declared.refusal.StubRefusal.TheVariants.{BadToml, BadStub, Memory}
 use Rattle.std.specs.Prelude.{None}
-use Rattle.stub_file.specs.StubRules.{IsSoundStub}
+use Rattle.jvm_model.specs.StubRules.{IsSoundStub}
 use Rattle.stub_file.specs.StubSpelling.{has_only, SpellsClass}
 
 -- The most bytes of a stub file.
@@ -78,7 +78,7 @@ pub record IsRefusedDocument (file bytes : List ℕ) (refusal : StubRefusal) : T
   pub refused : IsTableRefusal file members refusal
 
 -- Why bytes are refused: there are too many, or they are no document; the document's table is refused; or memory ran out.
-abbrev pub IsRefusal : List ℕ → List ℕ → StubRefusal → Type 0
-IsRefusal file bytes BadToml = (stub_limit < length bytes) ⊎ ((members : Members) → IsDocument bytes members → ⊥)
-IsRefusal file bytes (BadStub class) = IsRefusedDocument file bytes (BadStub class)
-IsRefusal file bytes Memory = Unit {0}
+abbrev pub IsStubRefusal : List ℕ → List ℕ → StubRefusal → Type 0
+IsStubRefusal file bytes BadToml = (stub_limit < length bytes) ⊎ ((members : Members) → IsDocument bytes members → ⊥)
+IsStubRefusal file bytes (BadStub class) = IsRefusedDocument file bytes (BadStub class)
+IsStubRefusal file bytes Memory = Unit {0}

@@ -15,7 +15,7 @@ use Rattle.stub_file.specs.declared.refusal.StubRefusal.{StubRefusal}
 use Rattle.stub_file.specs.declared.refusal.StubRefusal.TheVariants.{BadToml, BadStub, Memory}
 use Rattle.stub_file.specs.StubFile.{tables, IsFirstBreach}
 use Rattle.jvm_model.specs.Stubs.{is_same_field, is_same_method}
-use Rattle.stub_file.specs.StubRules.{is_object_argument, lists_outcomes, patches_methods_alone, HasSuper, IsSoundField, IsSoundMethod, MayReturn}
+use Rattle.jvm_model.specs.StubRules.{is_object_argument, lists_outcomes, patches_methods_alone, HasSuper, IsSoundField, IsSoundMethod, MayReturn}
 use Rattle.stub_file.specs.StubSpelling.{SpellsResult}
 
 -- The answer has the property, and None is answered only where nothing has it.

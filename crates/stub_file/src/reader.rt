@@ -7,7 +7,7 @@ ghost use Rattle.toml.specs.Data.{array, as_table, get_member, integer, Members}
 ghost use Rattle.toml.specs.View.{items_view, table_view, view};
 ghost use Rattle.jvm_model.specs.declared.stub.StubClass.{StubClass};
 ghost use Rattle.stub_file.specs.declared.refusal.StubRefusal.TheVariants.{BadToml, Memory};
-ghost use Rattle.stub_file.specs.StubFile.{file_keys, stub_limit, tables, GivesClass, IsRefusal, IsStubFile, IsTableRefusal, SpellsFile};
+ghost use Rattle.stub_file.specs.StubFile.{file_keys, stub_limit, tables, GivesClass, IsStubRefusal, IsStubFile, IsTableRefusal, SpellsFile};
 ghost use Rattle.stub_file.specs.StubReading.{Finds, GivesTables, IsBreachAt, IsListRefusal};
 ghost use Rattle.stub_file.specs.StubSpelling.{has_only, SpellsTable};
 
@@ -30,7 +30,7 @@ pub fn read_stubs(alloc: Global, file: &str, bytes: &[u8]) -> Result<Vec<StubCla
     // Whatever the bytes spell is read as these very classes.
     ensures only { (classes : List StubClass) → IsStubFile file.now bytes.now classes
         → MatchResult result (λ read. read.items ≡ classes) (λ refusal. refusal ≡ Memory) }
-    ensures refused { IfErr result (IsRefusal file.now bytes.now) }
+    ensures refused { IfErr result (IsStubRefusal file.now bytes.now) }
 
     // Such bytes are not even read.
     ensures large { stub_limit < length bytes.now → result ≡ Err BadToml }

@@ -4,7 +4,7 @@ ghost use Rattle.std.specs.Prelude.{codes, ◌≡◌, ◌↔◌, All, IfOk, IsTr
 ghost use Rattle.jvm_model.specs.DescriptorValues.{IsKind, IsMethodOf};
 ghost use Rattle.jvm_model.specs.Names.{IsClassName};
 ghost use Rattle.stub_file.specs.StubReading.{AreSoundFields, AreSoundMethods, AreSoundParts, Finds, HasSoundHead};
-ghost use Rattle.stub_file.specs.StubRules.{is_class, is_object_argument, is_reference, lists_outcomes, may_lack_super, patches_methods_alone, HasSuper, IsSoundField, IsSoundMethod, IsSoundStub, MayHold, MayReturn};
+ghost use Rattle.jvm_model.specs.StubRules.{is_class, is_object_argument, is_reference, lists_outcomes, may_lack_super, patches_methods_alone, HasSuper, IsSoundField, IsSoundMethod, IsSoundStub, MayHold, MayReturn};
 
 use crate::signature::{fields_differ, methods_differ};
 use jvm_model::grammar::{is_class_name, is_method_name, is_unqualified_name};
@@ -107,7 +107,7 @@ fn method_kinds(
 {
     let found = descriptor_of(alloc, text)?;
     match found {
-        Some(Descriptor::Method(parameters, outcome)) => Ok(Some((parameters, outcome))),
+        Some(Descriptor::Method { parameters, outcome }) => Ok(Some((parameters, outcome))),
         Some(Descriptor::Field(_)) => Ok(None),
         None => Ok(None),
     }
@@ -198,7 +198,7 @@ fn is_reference(kind: &Kind) -> bool
     match kind {
         Kind::Prim { wide: _ } => false,
         Kind::Class(_) => true,
-        Kind::Array(_, _) => true,
+        Kind::Array { .. } => true,
     }
 }
 
@@ -209,7 +209,7 @@ fn is_class(kind: &Kind) -> bool
     match kind {
         Kind::Prim { wide: _ } => false,
         Kind::Class(_) => true,
-        Kind::Array(_, _) => false,
+        Kind::Array { .. } => false,
     }
 }
 
@@ -266,7 +266,7 @@ fn field_kind(alloc: Global, text: &[u8]) -> Result<Option<Kind>, AllocError>
     let found = descriptor_of(alloc, text)?;
     match found {
         Some(Descriptor::Field(kind)) => Ok(Some(kind)),
-        Some(Descriptor::Method(_, _)) => Ok(None),
+        Some(Descriptor::Method { .. }) => Ok(None),
         None => Ok(None),
     }
 }

@@ -9,7 +9,7 @@ use Rattle.std.proofs.lemmas.List.Elements.{All-push, All-contains}
 use Rattle.std.proofs.lemmas.List.Folds.{list_any-append}
 use Rattle.jvm_model.specs.declared.class_file.ClassFile.{ClassFile}
 use Rattle.jvm_model.specs.Automata.{all_differ}
-use Rattle.jvm_model.specs.Lookups.{MethodName, method_at}
+use Rattle.jvm_model.specs.Lookups.{MemberReference, method_at}
 use Rattle.typestate_core.specs.declared.simple.Simple.{Simple}
 use Rattle.typestate_core.specs.declared.simple.Simple.TheVariants.{Load, InvokeVirtual}
 use Rattle.typestate_core.specs.StraightLine.{plain_method, calls_on}
@@ -188,11 +188,11 @@ same_call slot i j xs ys e = (ap first_of (ap (drop 1) e), ap (drop 2) e)
 one_call : (slot : ℕ) (code : List Simple) (i : ℕ) (xs : List Simple) (j : ℕ) (ys : List Simple) → StartsWithCall slot code i xs → StartsWithCall slot code j ys → (i ≡ j) × (xs ≡ ys)
 one_call slot code i xs j ys a b = same_call slot i j xs ys (sym a.parts ∙ b.parts)
 
-some_method : (class x y : List ℕ) (o : Option MethodName) → o ≡ Some (plain_method class x) → o ≡ Some (plain_method class y) → x ≡ y
+some_method : (class x y : List ℕ) (o : Option MemberReference) → o ≡ Some (plain_method class x) → o ≡ Some (plain_method class y) → x ≡ y
 some_method class x y o a b =
     let both : Some (plain_method class x) ≡ Some (plain_method class y) = sym a ∙ b in
     let methods : plain_method class x ≡ plain_method class y = cc in
-    ap (λ (m : MethodName). m.signature.name) methods
+    ap (λ (m : MemberReference). m.signature.name) methods
 
 module _ (c : ClassFile) (names : List (List ℕ)) (class : List ℕ) (slot : ℕ) (code rest : List Simple) (called : List Bool) (h : Walked c names class slot code rest called) where
   pub next_left : (all : List (List ℕ)) → AreCalls c class slot code all → All (Contains names) all → 0 < length rest → Next c names class slot rest

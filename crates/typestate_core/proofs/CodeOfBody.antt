@@ -13,7 +13,7 @@ use Rattle.jvm_model.specs.declared.code.Handler.{Handler}
 use Rattle.jvm_model.specs.declared.pool.PoolEntry.{PoolEntry}
 use Rattle.jvm_model.specs.declared.reason.Reason.{Reason}
 use Rattle.jvm_model.specs.declared.reason.Reason.TheVariants.{CodeCut}
-use Rattle.jvm_model.specs.Code.{Code, handler, HasCode, spell_code}
+use Rattle.jvm_model.specs.Code.{CodeBody, handler, HasCode, spell_code}
 use Rattle.jvm_model.specs.Layout.{HasFirstCode}
 use Rattle.jvm_model.specs.Soundness.{is_code}
 use Rattle.jvm_model.specs.Spelling.{u2, u4, table, attribute}
@@ -40,7 +40,7 @@ first_of p before after x y none it only =
     let at_x : x ∷ filter p after ≡ y ∷ [] = sym (ap (λ (b : Bool). cond b (x ∷ filter p after) (filter p after)) it) ∙ whole in
     cc at_x
 
--- the first attribute named Code is the only one
+-- the first attribute named CodeBody is the only one
 only_first : (pool : List PoolEntry) (attributes : List Attribute) (a b : Attribute) → HasFirstCode pool attributes a → filter (is_code pool) attributes ≡ b ∷ [] → a ≡ b
 only_first pool attributes a b h only =
     first_of (is_code pool) h.before h.after a b h.first.none_before h.first.named_code (sym (ap (filter (is_code pool)) h.first.parts) ∙ only)
@@ -111,7 +111,7 @@ no_handlers : (handlers : List Handler) → length handlers ≡ 0 → handlers �
 no_handlers [] e = refl
 no_handlers (h ∷ handlers) e = absurd (omega (arith, e))
 
-code_parts : (k : Code) → spell_code k ≡ u2 k.max_stack ++ (u2 k.max_locals ++ (u4 (length k.bytes) ++ (k.bytes ++ (u2 (length k.handlers) ++ (flat_map handler k.handlers ++ table attribute k.attributes)))))
+code_parts : (k : CodeBody) → spell_code k ≡ u2 k.max_stack ++ (u2 k.max_locals ++ (u4 (length k.bytes) ++ (k.bytes ++ (u2 (length k.handlers) ++ (flat_map handler k.handlers ++ table attribute k.attributes)))))
 code_parts k = simp append_assoc
 
 -- ---- what is read
@@ -163,7 +163,7 @@ parts_of pool parameters place code (reads head after spots stop handlers begun 
     }
 
 -- the machine finds these instructions, and no handlers
-pub one_code : (c : ClassFile) (m : Member) (b : Body) (k : Code) → HasBody c m b → HasCode c m k → Stands k.bytes 0 b.code × (k.handlers ≡ [])
+pub one_code : (c : ClassFile) (m : Member) (b : Body) (k : CodeBody) → HasBody c m b → HasCode c m k → Stands k.bytes 0 b.code × (k.handlers ≡ [])
 one_code c m b k has_b has_k =
     let owner : has_b.reads.owner ≡ m = same_Some _ _ (sym has_b.reads.there ∙ has_b.there) in
     let first : HasFirstCode c.pool m.attributes has_b.reads.code = subst (λ (n : Member). HasFirstCode c.pool n.attributes has_b.reads.code) owner has_b.reads.first in

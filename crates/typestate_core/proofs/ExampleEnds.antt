@@ -1,10 +1,10 @@
 -- What the runs of the examples come to.
 use Rattle.std.proofs.Common.{codes, ◌≡◌, ℕ, ◌+◌, ◌<◌, ◌^◌, List, [], ◌∷◌, length, slice_index, refl, arith, Ok}
-use Rattle.jvm_model.specs.Executions.{Errs, start}
+use Rattle.bytecode_machine.specs.Executions.{Errs, start}
 use Rattle.jvm_model.specs.Instructions.{instruction_at}
-use Rattle.jvm_model.specs.Machine.{Subject, by_event}
+use Rattle.bytecode_machine.specs.Machine.{Subject, by_event}
 use Rattle.jvm_model.specs.Subtypes.{same}
-use Rattle.jvm_model.specs.States.{State, ends_with}
+use Rattle.bytecode_machine.specs.States.{State, ends_with}
 use Rattle.typestate_core.specs.Claims.{made_at, subject_of}
 use Rattle.typestate_core.specs.Examples.{RunsToEnd, call_close, call_read, close_twice_then_read, event_of, main_code, one_read, read_then_close, two_reads, with_reads}
 use Rattle.typestate_core.proofs.ExampleSteps.{Reaches, stays, load_0, virtual_call}

@@ -2,10 +2,11 @@
 use Rattle.std.proofs.Common.{codes, ◌≡◌, ℕ, ◌<◌, ◌^◌, List, [], ◌∷◌, length, All, Some, slice_get, refl, sym, ap, subst, inl, arith}
 use Rattle.std.proofs.lemmas.List.Elements.{All-nil}
 use Rattle.jvm_model.specs.declared.class_file.ClassFile.{ClassFile}
-use Rattle.jvm_model.specs.Code.{Code, HandlerFits, HasCode}
-use Rattle.jvm_model.specs.Instructions.{Instruction, HasUnits, IsCallRow, member_at, with_units}
-use Rattle.jvm_model.specs.Lookups.{MethodName}
-use Rattle.jvm_model.specs.Programs.{Program, Method, class_of, object_name, object_class, object_constructor, method_of, program_of}
+use Rattle.jvm_model.specs.Code.{CodeBody, HandlerFits, HasCode}
+use Rattle.jvm_model.specs.Instructions.{DecodedInstruction, HasDescriptorUnits, IsCallRow, member_at, with_units}
+use Rattle.jvm_model.specs.Lookups.{MemberReference}
+use Rattle.jvm_model.specs.Programs.{Program, Method, class_of, object_name, method_of}
+use Rattle.typestate_core.specs.OneClassPrograms.{object_class, object_constructor, program_of}
 use Rattle.jvm_model.specs.Resolution.{HasSignature, IsFound, Resolves, itself}
 use Rattle.jvm_model.specs.Subtypes.{class_named}
 use Rattle.jvm_model.specs.Soundness.{plain_descriptor}
@@ -15,7 +16,7 @@ use Rattle.typestate_core.specs.Examples.{example_pool, method_with, main_code, 
 use Rattle.typestate_core.proofs.ExampleSteps.{CodeOf}
 
 -- the descriptor ()V has no parameters and no result
-pub plain_units : HasUnits plain_descriptor [] []
+pub plain_units : HasDescriptorUnits plain_descriptor [] []
 plain_units = record {
   is = record { parameters = []; outcome = codes "V"; spelled = refl; each = All-nil _; units = omega arith; outcome_is = inl refl };
   parameters_are = refl;
@@ -23,14 +24,14 @@ plain_units = record {
 }
 
 -- a call of such a method pops a reference
-pub call_row : (i : Instruction) (name : MethodName) → member_at example_pool i.operand ≡ Some name → name.signature.descriptor ≡ plain_descriptor
+pub call_row : (i : DecodedInstruction) (name : MemberReference) → member_at example_pool i.operand ≡ Some name → name.signature.descriptor ≡ plain_descriptor
     → IsCallRow example_pool i (reference ∷ []) (with_units i.row (reference ∷ []) [])
 call_row i name named is_plain = record {
   method = name;
   named = named;
   parameters = [];
   results = [];
-  units = subst (λ (d : List ℕ). HasUnits d [] []) (sym is_plain) plain_units;
+  units = subst (λ (d : List ℕ). HasDescriptorUnits d [] []) (sym is_plain) plain_units;
   row_is = refl;
 }
 
@@ -43,7 +44,7 @@ module _ (called : List ℕ) where
 
   -- ---- the code
 
-  pub has_code : (flags name : ℕ) (c : Code) → c.max_stack < 2 ^ 16 → c.max_locals < 2 ^ 16 → length c.bytes < 2 ^ 32
+  pub has_code : (flags name : ℕ) (c : CodeBody) → c.max_stack < 2 ^ 16 → c.max_locals < 2 ^ 16 → length c.bytes < 2 ^ 32
       → c.handlers ≡ [] → c.attributes ≡ [] → HasCode file (method_with flags name c) c
   has_code flags name c stack locals long no_handlers no_attributes = record {
     code = _;
@@ -60,7 +61,7 @@ module _ (called : List ℕ) where
     };
   }
 
-  abbrev pub method_code : (number flags name : ℕ) (c : Code) → slice_get program.methods number ≡ Some (method_of file (method_with flags name c))
+  abbrev pub method_code : (number flags name : ℕ) (c : CodeBody) → slice_get program.methods number ≡ Some (method_of file (method_with flags name c))
       → HasCode file (method_with flags name c) c → CodeOf program number
   method_code number flags name c stands has =
       record { method = method_of file (method_with flags name c); stands = stands; file = file; member = method_with flags name c; of_file = refl; code = c; has = has }
@@ -95,7 +96,7 @@ module _ (called : List ℕ) where
   }
 
   -- a reference to a method of the class, or to that constructor, resolves to it
-  pub resolves : (name : MethodName) (number : ℕ) (m : Method) → slice_get program.methods number ≡ Some m
+  pub resolves : (name : MemberReference) (number : ℕ) (m : Method) → slice_get program.methods number ≡ Some m
       → name.class ≡ codes "F" → m.class ≡ codes "F" → m.signature ≡ name.signature → Resolves program name number
   resolves name number m stands named of_class same_call = record {
     class = class_of [] file;
@@ -103,7 +104,7 @@ module _ (called : List ℕ) where
     search = itself (found (HasSignature name.signature) number m stands of_class same_call);
   }
 
-  pub resolves_above : (name : MethodName) → name.class ≡ object_name → object_constructor.signature ≡ name.signature → Resolves program name 4
+  pub resolves_above : (name : MemberReference) → name.class ≡ object_name → object_constructor.signature ≡ name.signature → Resolves program name 4
   resolves_above name named same_call = record {
     class = object_class;
     named = ap (class_named program) named;

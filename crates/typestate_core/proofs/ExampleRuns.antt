@@ -1,13 +1,14 @@
 -- The runs of the examples, step by step: up to the first call on the object; one call; and the last steps.
 use Rattle.std.proofs.Common.{codes, ◌≡◌, ℕ, ◌+◌, ◌<◌, ◌^◌, Bool, false, true, List, [], ◌∷◌, length, drop, Some, slice_get, refl, inl, arith, Ok}
 use Rattle.jvm_model.specs.declared.automaton.Automaton.{Automaton}
-use Rattle.jvm_model.specs.Executions.{start, start_frame}
+use Rattle.bytecode_machine.specs.Executions.{start, start_frame}
 use Rattle.jvm_model.specs.Instructions.{instruction_at, member_at}
-use Rattle.jvm_model.specs.Machine.{Subject, AtInstruction, IsMoved, Step, calls_entry, calls_special, calls_virtual, ends, returns_now, of_start, of_code}
-use Rattle.jvm_model.specs.Programs.{class_of, object_name, object_class, object_constructor, method_of, text_or_none}
+use Rattle.bytecode_machine.specs.Machine.{Subject, AtInstruction, IsMoved, Step, calls_entry, calls_special, calls_virtual, ends, returns_now, of_start, of_code}
+use Rattle.jvm_model.specs.Programs.{class_of, object_name, method_of, text_or_none}
+use Rattle.typestate_core.specs.OneClassPrograms.{object_class, object_constructor}
 use Rattle.jvm_model.specs.Selection.{at_named, upward}
 use Rattle.jvm_model.specs.Subtypes.{same, below}
-use Rattle.jvm_model.specs.States.{Value, primitive_value, reference_to, Frame, World, State, Object, runs_on, ends_with, waiting, with_object, new_object}
+use Rattle.bytecode_machine.specs.States.{Value, primitive_value, reference_to, Frame, World, State, Object, runs_on, ends_with, waiting, with_object, new_object}
 use Rattle.typestate_core.specs.Claims.{subject_of, made_at}
 use Rattle.typestate_core.specs.Examples.{example_pool, method_with, main_code, empty_code}
 use Rattle.typestate_core.specs.StraightLine.{plain_method}

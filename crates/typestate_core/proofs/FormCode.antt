@@ -9,7 +9,7 @@ use Rattle.jvm_model.specs.declared.pool.PoolEntry.{PoolEntry}
 use Rattle.jvm_model.specs.declared.reason.Reason.{Reason}
 use Rattle.jvm_model.specs.declared.reason.Reason.TheVariants.{CodeCut}
 use Rattle.jvm_model.specs.Table.{Row, row_of, plain, make_object, invoke_virtual, invoke_special, leave_method, onward}
-use Rattle.jvm_model.specs.Instructions.{Instruction as Decoded, instruction_at, first_instruction}
+use Rattle.jvm_model.specs.Instructions.{DecodedInstruction as Decoded, instruction_at, first_instruction}
 use Rattle.code_reader.specs.CodeReading.{placed}
 use Rattle.code_reader.specs.Division.{Spot, Divides, at_end, stops, goes_on}
 use Rattle.typestate_core.specs.declared.simple.Simple.{Simple}

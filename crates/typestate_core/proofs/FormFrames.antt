@@ -11,11 +11,12 @@ use Rattle.std.proofs.lemmas.List.Elements.{All-contains, All-contains_itself, C
 use Rattle.std.proofs.lemmas.Option.{same_Some, slice_get_within, get_or_from_slice_get}
 use Rattle.jvm_model.specs.declared.class_file.ClassFile.{ClassFile}
 use Rattle.jvm_model.specs.declared.class_file.Member.{Member}
-use Rattle.jvm_model.specs.Code.{Code, HasCode}
+use Rattle.jvm_model.specs.Code.{CodeBody, HasCode}
 use Rattle.jvm_model.specs.Lookups.{text_at, method_at}
-use Rattle.jvm_model.specs.Machine.{InCode}
-use Rattle.jvm_model.specs.Programs.{Body as MethodBody, in_file, described, returns_at_once, Method, program_of, method_of, object_constructor, object_name, class_or_none}
-use Rattle.jvm_model.specs.States.{Frame}
+use Rattle.bytecode_machine.specs.Machine.{InCode}
+use Rattle.jvm_model.specs.Programs.{Body as MethodBody, in_file, described, returns_at_once, Method, method_of, object_name, class_or_none}
+use Rattle.typestate_core.specs.OneClassPrograms.{program_of, object_constructor}
+use Rattle.bytecode_machine.specs.States.{Frame}
 use Rattle.typestate_core.specs.Bodies.{Body, HasBody}
 use Rattle.typestate_core.specs.declared.simple.Simple.{Simple}
 use Rattle.typestate_core.specs.declared.simple.Simple.TheVariants.{New, Dup, Store, Load, InvokeSpecial, InvokeVirtual, Return}
@@ -42,7 +43,7 @@ pub record IsOfForm (c : ClassFile) (calls : List (List ℕ)) (i : Simple) : Typ
 pub record HasForm (c : ClassFile) (calls : List (List ℕ)) (m : Member) : Type 0 where
   pub instructions : List Simple
   pub each : AllByRecursion (IsOfForm c calls) instructions
-  pub spelled : (k : Code) → HasCode c m k → Stands k.bytes 0 instructions × (k.handlers ≡ [])
+  pub spelled : (k : CodeBody) → HasCode c m k → Stands k.bytes 0 instructions × (k.handlers ≡ [])
 
 has_form : (c : ClassFile) (calls : List (List ℕ)) (m : Member) (b : Body) (instructions : List Simple) → HasBody c m b → b.code ≡ instructions → AllByRecursion (IsOfForm c calls) instructions → HasForm c calls m
 has_form c calls m b instructions has code each = record {

@@ -9,10 +9,10 @@ use Rattle.jvm_model.specs.declared.automaton.Automaton.{Automaton}
 use Rattle.jvm_model.specs.declared.automaton.Event.{Event}
 use Rattle.jvm_model.specs.declared.class_file.ClassFile.{ClassFile}
 use Rattle.jvm_model.specs.declared.pool.PoolEntry.{PoolEntry}
-use Rattle.jvm_model.specs.Instructions.{Instruction as Decoded, IsRowAt, RowBy}
-use Rattle.jvm_model.specs.Machine.{AtInstruction}
-use Rattle.jvm_model.specs.Programs.{program_of}
-use Rattle.jvm_model.specs.States.{Object, Frame, State}
+use Rattle.jvm_model.specs.Instructions.{DecodedInstruction as Decoded, IsRowAt, RowBy}
+use Rattle.bytecode_machine.specs.Machine.{AtInstruction}
+use Rattle.typestate_core.specs.OneClassPrograms.{program_of}
+use Rattle.bytecode_machine.specs.States.{Object, Frame, State}
 use Rattle.jvm_model.specs.Table.{Row, Action, plain, invoke_virtual, invoke_special, make_object, leave_method, onward}
 use Rattle.typestate_core.specs.StageOne.{events_of, state_after}
 use Rattle.typestate_core.specs.declared.simple.Simple.{Simple}

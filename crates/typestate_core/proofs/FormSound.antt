@@ -5,9 +5,9 @@ use Rattle.std.specs.List.{AllByRecursion}
 use Rattle.jvm_model.specs.declared.automaton.Automaton.{Automaton}
 use Rattle.jvm_model.specs.declared.class_file.ClassFile.{ClassFile}
 use Rattle.jvm_model.specs.declared.site.Site.{Site}
-use Rattle.jvm_model.specs.Executions.{start, AreSteps, Errs}
-use Rattle.jvm_model.specs.Programs.{program_of}
-use Rattle.jvm_model.specs.States.{Object, State}
+use Rattle.bytecode_machine.specs.Executions.{start, AreSteps, Errs}
+use Rattle.typestate_core.specs.OneClassPrograms.{program_of}
+use Rattle.bytecode_machine.specs.States.{Object, State}
 use Rattle.typestate_core.specs.Claims.{IsEntryOf, subject_of}
 use Rattle.typestate_core.specs.StageOne.{events_of, IsSafe}
 use Rattle.typestate_core.specs.StraightLine.{IsStraightLine}

@@ -8,14 +8,15 @@ use Rattle.jvm_model.specs.declared.class_file.ClassFile.{ClassFile}
 use Rattle.jvm_model.specs.declared.pool.PoolEntry.{PoolEntry}
 use Rattle.jvm_model.specs.declared.pool.PoolEntry.TheVariants.{Methodref}
 use Rattle.jvm_model.specs.declared.code.Handler.{Handler}
-use Rattle.jvm_model.specs.Instructions.{Instruction as Decoded, member_at, member_of}
-use Rattle.jvm_model.specs.Lookups.{MethodName, Signature, method_at, method_in, entry_at}
-use Rattle.jvm_model.specs.Machine.{Subject, At, AtStart, Makes, Goes, Advances, Invokes, enters, returns_now, IsMoved, by_event, no_event, other_class, CallsVirtual, CallsSpecial, CallsEntry, IsAfterCall, of_start, of_code, Returns, Resumes, Raises, Throws, Throwing, IsFirstHandler, Catches, unwound, Unwinds, IsInitialiser, Wraps, Step, advances, calls_virtual, calls_special, calls_static, calls_entry, returns, resumes, ends, raises, throws, catches, unwinds, starts, denies, wraps}
-use Rattle.jvm_model.specs.Programs.{Program, Method, program_of, Class}
+use Rattle.jvm_model.specs.Instructions.{DecodedInstruction as Decoded, member_at, member_of}
+use Rattle.jvm_model.specs.Lookups.{MemberReference, Signature, method_at, method_in, entry_at}
+use Rattle.bytecode_machine.specs.Machine.{Subject, At, AtStart, Makes, Goes, Advances, Invokes, enters, returns_now, IsMoved, by_event, no_event, other_class, CallsVirtual, CallsSpecial, CallsEntry, IsAfterCall, of_start, of_code, Returns, Resumes, Raises, Throws, Throwing, IsFirstHandler, Catches, unwound, Unwinds, IsInitialiser, Wraps, Step, advances, calls_virtual, calls_special, calls_static, calls_entry, returns, resumes, ends, raises, throws, catches, unwinds, starts, denies, wraps}
+use Rattle.jvm_model.specs.Programs.{Program, Method, Class}
+use Rattle.typestate_core.specs.OneClassPrograms.{program_of}
 use Rattle.jvm_model.specs.Resolution.{IsFirst, IsFound, IsFoundIn, IsFoundInInterface, declared_there, of_object, HasSignature, IsInstanceWith, IsOnlyDefault, ResolvesFrom, itself, by_default, by_name, Resolves}
 use Rattle.jvm_model.specs.Selection.{is_direct, IsSelectable, Overrides, SelectsFrom, upward, by_default as default_selected, Selects, SelectsSpecial}
 use Rattle.jvm_model.specs.Soundness.{plain_descriptor}
-use Rattle.jvm_model.specs.States.{Object, Frame, World, State, Value}
+use Rattle.bytecode_machine.specs.States.{Object, Frame, World, State, Value}
 use Rattle.jvm_model.specs.Table.{Row, Action, Flow, plain, invoke_virtual, invoke_special, invoke_static, make_object, onward}
 use Rattle.typestate_core.specs.Claims.{IsEntryOf, subject_of}
 use Rattle.typestate_core.specs.StageOne.{events_of, is_called}
@@ -80,7 +81,7 @@ no_static c calls (InvokeVirtual index) d r h e = cc (h.0, e)
 no_static c calls Return d r h e = cc (h, e)
 
 -- a Methodref names the same method for the machine
-named_member : (pool : List PoolEntry) (operand : ℕ) (m : MethodName) → method_at pool operand ≡ Some m → member_at pool operand ≡ Some m
+named_member : (pool : List PoolEntry) (operand : ℕ) (m : MemberReference) → method_at pool operand ≡ Some m → member_at pool operand ≡ Some m
 named_member pool operand m e = by (entry_at pool operand) e
   where
     at : (entry : PoolEntry) → method_in pool entry ≡ Some m → member_of pool entry ≡ Some m
@@ -120,7 +121,7 @@ default_has p class s number o =
     (m.method, m.stands, m.same_call)
 
 -- so has what a reference resolves to
-resolved_has : (p : Program) (m : MethodName) (number : ℕ) → Resolves p m number → Has p m.signature number
+resolved_has : (p : Program) (m : MemberReference) (number : ℕ) → Resolves p m number → Has p m.signature number
 resolved_has p m number r = by r.search
   where
     by : ResolvesFrom p m.class m.signature (IsFoundIn p (HasSignature m.signature) m.signature r.class) number → Has p m.signature number
@@ -129,7 +130,7 @@ resolved_has p m number r = by r.search
     by (by_name nowhere several l) = (l.inherited.method, l.inherited.stands, l.inherited.same_call)
 
 -- and the target of a special call
-special_has : (p : Program) (current : List ℕ) (m : MethodName) (target : ℕ) → SelectsSpecial p current m target → Has p m.signature target
+special_has : (p : Program) (current : List ℕ) (m : MemberReference) (target : ℕ) → SelectsSpecial p current m target → Has p m.signature target
 special_has p current m target selects = by selects.chosen
   where
     by : SelectsFrom p selects.start m.signature (IsFoundIn p (IsInstanceWith m.signature) m.signature selects.class) target → Has p m.signature target
@@ -208,7 +209,7 @@ module _ (c : ClassFile) (class method : List ℕ) (calls : List (List ℕ)) (a 
       subst (λ (d : ClassFile). member_at d.pool at.now.instruction.operand ≡ Some (plain_method names.0 (codes "<init>"))) (sym i.file) (named_member c.pool at.now.instruction.operand _ names.1) in
       let same : call.names.called ≡ plain_method names.0 (codes "<init>") = same_Some _ _ (sym call.names.named ∙ named) in
       let target = special_has (program_of c) at.now.here.method.class call.names.called call.target call.selects in
-      let its_name : target.0.signature.name ≡ codes "<init>" = ap (λ (g : Signature). g.name) target.2 ∙ ap (λ (m : MethodName). m.signature.name) same in
+      let its_name : target.0.signature.name ≡ codes "<init>" = ap (λ (g : Signature). g.name) target.2 ∙ ap (λ (m : MemberReference). m.signature.name) same in
       called (codes "<init>") (constructor_callable c class method calls form) call.target target.0 target.1 its_name call.units call.kept at.frame at.now.instruction.size at.below s.world t frames.0 i.next frames.1 h.heap call.invokes
 
   step_virtual : (s t : State) (at : At (program_of c) s) → CallsVirtual (subject_of c a entry) s t at → IsRight c calls a s → IsRight c calls a t
@@ -221,13 +222,13 @@ module _ (c : ClassFile) (class method : List ℕ) (calls : List (List ℕ)) (a 
       let named : member_at at.now.here.file.pool at.now.instruction.operand ≡ Some (plain_method owner name) =
       subst (λ (d : ClassFile). member_at d.pool at.now.instruction.operand ≡ Some (plain_method owner name)) (sym i.file) (named_member c.pool at.now.instruction.operand _ names.3) in
       let same : call.names.called ≡ plain_method owner name = same_Some _ _ (sym call.names.named ∙ named) in
-      let its_name : call.names.called.signature.name ≡ name = ap (λ (m : MethodName). m.signature.name) same in
+      let its_name : call.names.called.signature.name ≡ name = ap (λ (m : MemberReference). m.signature.name) same in
       let among : Contains calls call.names.called.signature.name = subst (Contains calls) (sym its_name) names.2 in
       let resolved = resolved_has (program_of c) call.names.called call.names.resolved call.names.resolves in
       let target = selected_has (program_of c) call.receiver.object.class call.names.resolved call.target resolved.0 resolved.1 call.selects in
       let target_name : target.0.signature.name ≡ name = ap (λ (g : Signature). g.name) (target.2 ∙ resolved.2) ∙ its_name in
       let led = each_at (λ (o : Object). IsLedTo a (events_of calls a) o.automaton) s.world.heap call.receiver.place call.receiver.object h.heap call.receiver.held in
-      let moved = moved_state c calls a entry call.names.called.signature call.receiver.object call.state among (ap (λ (m : MethodName). m.signature.descriptor) same) led call.moved in
+      let moved = moved_state c calls a entry call.names.called.signature call.receiver.object call.state among (ap (λ (m : MemberReference). m.signature.descriptor) same) led call.moved in
       let heap = each_set (λ (o : Object). IsLedTo a (events_of calls a) o.automaton) s.world.heap call.receiver.place _ h.heap moved in
       called name (callee_callable c class method calls form name names.2) call.target target.0 target.1 target_name call.units call.kept at.frame at.now.instruction.size at.below _ t frames.0 i.next frames.1 heap call.invokes
 

@@ -16,7 +16,7 @@ use Rattle.jvm_model.specs.declared.reason.ReadRefusal.TheVariants as refusals
 use Rattle.jvm_model.specs.declared.reason.Reason.{Reason}
 use Rattle.jvm_model.specs.declared.reason.Reason.TheVariants.{BadToml, BadProperty, NotYet}
 use Rattle.classfile_reader.specs.ClassReading.{SpellsReadable}
-use Rattle.classfile_reader.specs.Faults.{IsRefusal, IsFaulty}
+use Rattle.classfile_reader.specs.Faults.{IsClassFileRefusal, IsFaulty}
 use Rattle.classfile_reader.proofs.Refusals.{faulty_cut}
 use Rattle.classfile_reader.proofs.OneSpelling.{one_spelling}
 use Rattle.jvm_model.specs.Soundness.{IsSoundClass}
@@ -28,7 +28,7 @@ use Rattle.typestate_core.specs.Requests.{AreWords}
 use Rattle.property_file.specs.declared.refusal.PropertyRefusal.{PropertyRefusal}
 use Rattle.property_file.specs.declared.refusal.PropertyRefusal.TheVariants as properties
 use Rattle.property_file.specs.PropertyFile.{IsPropertyFile}
-use Rattle.property_file.specs.Refusals.{IsNoDocument, too_large, IsBrokenFile, IsRefusal as IsPropertyRefusal}
+use Rattle.property_file.specs.Refusals.{IsNoDocument, too_large, IsBrokenFile, IsPropertyRefusal as IsPropertyRefusal}
 use Rattle.typestate_core.specs.declared.verifier.Answer.{Answer}
 use Rattle.typestate_core.specs.Answers.{Says, SaysRefusal, IsReported, IsVerdict, AnswersRun, lines_of}
 use Rattle.typestate_core.specs.Output.{TakesAll, text_of}
@@ -89,9 +89,9 @@ refused_by_form bytes a class method c readable sound none =
     none calls (subst (λ (x : ClassFile). IsOfForm x a class method calls) same j.of_form)) refl refl
 
 pub refused_by_fault : (bytes : List ℕ) (a : Automaton) (class method : List ℕ) (r : ReadRefusal) (offset : ℕ) (reason : Reason) → r ≡ refusals.Refused offset reason
-    → IsRefusal bytes r → (o : ℕ) (s : Reason) → o ≡ offset → s ≡ reason → IsRefusedAs bytes a class method o s
+    → IsClassFileRefusal bytes r → (o : ℕ) (s : Reason) → o ≡ offset → s ≡ reason → IsRefusedAs bytes a class method o s
 refused_by_fault bytes a class method r offset reason is h o s at of =
-    let as_read : IsFaulty bytes offset reason = subst (IsRefusal bytes) is h in
+    let as_read : IsFaulty bytes offset reason = subst (IsClassFileRefusal bytes) is h in
     let there : IsFaulty bytes o reason = subst (λ (x : ℕ). IsFaulty bytes x reason) (sym at) as_read in
     by_fault (subst (IsFaulty bytes o) (sym of) there)
 

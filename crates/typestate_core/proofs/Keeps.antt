@@ -9,7 +9,8 @@ use Rattle.jvm_model.specs.declared.automaton.Automaton.{Automaton}
 use Rattle.jvm_model.specs.declared.class_file.ClassFile.{ClassFile}
 use Rattle.jvm_model.specs.declared.class_file.Member.{Member}
 use Rattle.jvm_model.specs.Lookups.{text_at}
-use Rattle.jvm_model.specs.Programs.{program_of, method_of, object_constructor, object_name, class_or_none}
+use Rattle.jvm_model.specs.Programs.{method_of, object_name, class_or_none}
+use Rattle.typestate_core.specs.OneClassPrograms.{program_of, object_constructor}
 use Rattle.jvm_model.specs.Soundness.{plain_descriptor}
 use Rattle.typestate_core.specs.declared.status.Status.{Status}
 use Rattle.typestate_core.specs.declared.status.Status.TheVariants.{AllSafe}

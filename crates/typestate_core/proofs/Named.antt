@@ -17,7 +17,7 @@ use Rattle.std.proofs.lemmas.List.Folds.{list_any-append}
 use Rattle.std.proofs.lemmas.Grind.{take_at_read}
 use Rattle.std.proofs.lemmas.Option.{slice_get-get_or, slice_get_within, get_or_from_slice_get}
 use Rattle.std.proofs.Common.{IfNone}
-use Rattle.jvm_model.specs.Lookups.{MethodName}
+use Rattle.jvm_model.specs.Lookups.{MemberReference}
 use Rattle.jvm_model.specs.Soundness.{plain_descriptor}
 use Rattle.typestate_core.specs.Bodies.{AreDistinct}
 use Rattle.typestate_core.specs.StraightLine.{plain_method, barred_names}
@@ -112,13 +112,13 @@ place_of_text x keys =
     let long = length-map keys (λ (k : Bor (List ℕ)). k.now) in
     (λ i. cond (ltb (first i) (long i)) (Some (first i)) None)
 
-pub no_place : (r : Option ℕ) (names : List (List ℕ)) (x : List ℕ) (o : Option MethodName) (owner : List ℕ) → r ≡ position (bytes_eq x) names → o ≡ Some (plain_method owner x)
+pub no_place : (r : Option ℕ) (names : List (List ℕ)) (x : List ℕ) (o : Option MemberReference) (owner : List ℕ) → r ≡ position (bytes_eq x) names → o ≡ Some (plain_method owner x)
     → IfNone r ((name : List ℕ) → o ≡ Some (plain_method owner name) → Contains names name → ⊥)
 no_place (Some k) names x o owner e at_x = tt
 no_place None names x o owner e at_x = λ name at_name known.
     let both : Some (plain_method owner x) ≡ Some (plain_method owner name) = sym at_x ∙ at_name in
     let methods : plain_method owner x ≡ plain_method owner name = cc in
-    place_none x names (sym e) (subst (Contains names) (sym (ap (λ (m : MethodName). m.signature.name) methods)) known)
+    place_none x names (sym e) (subst (Contains names) (sym (ap (λ (m : MemberReference). m.signature.name) methods)) known)
 
 -- ---- the methods of a class
 

@@ -9,9 +9,10 @@ use Rattle.jvm_model.specs.declared.class_file.ClassFile.{ClassFile}
 use Rattle.jvm_model.specs.declared.site.Site.{Site}
 use Rattle.jvm_model.specs.declared.site.SiteKind.TheVariants.{New}
 use Rattle.jvm_model.specs.Access.{has_flag}
-use Rattle.jvm_model.specs.Executions.{Errs}
-use Rattle.jvm_model.specs.Machine.{Subject}
-use Rattle.jvm_model.specs.Programs.{Program, Method, program_of}
+use Rattle.bytecode_machine.specs.Executions.{Errs}
+use Rattle.bytecode_machine.specs.Machine.{Subject}
+use Rattle.jvm_model.specs.Programs.{Program, Method}
+use Rattle.typestate_core.specs.OneClassPrograms.{program_of}
 use Rattle.jvm_model.specs.Soundness.{plain_descriptor}
 use Rattle.jvm_model.specs.Spelling.{IsSpelling}
 use Rattle.typestate_core.specs.Lines.{site_text}

@@ -7,11 +7,11 @@ use Rattle.jvm_model.specs.declared.class_file.Member.{Member}
 use Rattle.jvm_model.specs.declared.pool.PoolEntry.{PoolEntry}
 use Rattle.jvm_model.specs.declared.pool.PoolEntry.TheVariants.{Utf8, Class, Methodref, NameAndType}
 use Rattle.jvm_model.specs.declared.site.Site.{Site}
-use Rattle.jvm_model.specs.Code.{Code, spell_code}
-use Rattle.jvm_model.specs.Executions.{IsExecution}
-use Rattle.jvm_model.specs.Machine.{Subject}
+use Rattle.jvm_model.specs.Code.{CodeBody, spell_code}
+use Rattle.bytecode_machine.specs.Executions.{IsExecution}
+use Rattle.bytecode_machine.specs.Machine.{Subject}
 use Rattle.jvm_model.specs.Soundness.{plain_descriptor}
-use Rattle.jvm_model.specs.States.{Object, State, ended}
+use Rattle.bytecode_machine.specs.States.{Object, State, ended}
 use Rattle.typestate_core.specs.declared.simple.Simple.{Simple}
 use Rattle.typestate_core.specs.declared.simple.Simple.TheVariants.{New, Dup, Store, Load, InvokeSpecial, Return}
 use Rattle.typestate_core.specs.SimpleCode.{code_of}
@@ -28,7 +28,7 @@ example_pool =
     ∷ Class 3
     ∷ Utf8 (codes "<init>")
     ∷ Utf8 (codes "()V")
-    ∷ Utf8 (codes "Code")
+    ∷ Utf8 (codes "CodeBody")
     ∷ Utf8 (codes "main")
     ∷ Utf8 (codes "read")
     ∷ Utf8 (codes "close")
@@ -42,25 +42,25 @@ example_pool =
     ∷ []
 
 -- A code of these instructions, with its two limits, and without handlers.
-abbrev pub code_with : ℕ → ℕ → List Simple → Code
+abbrev pub code_with : ℕ → ℕ → List Simple → CodeBody
 code_with max_stack max_locals instructions =
     record { max_stack = max_stack; max_locals = max_locals; bytes = code_of instructions; handlers = []; attributes = [] }
 
 -- A method with these flags and with a name at an index: it has the descriptor ()V, and one attribute, its code.
-abbrev pub method_with : ℕ → ℕ → Code → Member
+abbrev pub method_with : ℕ → ℕ → CodeBody → Member
 method_with flags name code =
     record { flags = flags; name = name; descriptor = 6; attributes = record { name = 7; body = spell_code code } ∷ [] }
 
 -- The entry makes an object, keeps it in its local variable 0, and calls the methods at these indices on it.
-abbrev pub main_code : List ℕ → Code
+abbrev pub main_code : List ℕ → CodeBody
 main_code called = code_with 2 1 (New 2 ∷ Dup ∷ InvokeSpecial 13 ∷ Store 0 ∷ (calls_on 0 called ++ Return ∷ []))
 
 -- The constructor calls the one of java/lang/Object.
-abbrev pub constructor_code : Code
+abbrev pub constructor_code : CodeBody
 constructor_code = code_with 1 1 (Load 0 ∷ InvokeSpecial 12 ∷ Return ∷ [])
 
 -- A method that only returns.
-abbrev pub empty_code : Code
+abbrev pub empty_code : CodeBody
 empty_code = code_with 0 1 (Return ∷ [])
 
 -- The class F, with the static entry `main` that makes these calls, a constructor, and the methods `read` and

@@ -4,6 +4,7 @@ pub mod Claims
 pub mod Examples
 pub mod FormParts
 pub mod Lines
+pub mod OneClassPrograms
 pub mod Outcomes
 pub mod Output
 pub mod Printed

@@ -8,7 +8,7 @@ use Rattle.jvm_model.specs.declared.class_file.Member.{Member}
 use Rattle.jvm_model.specs.declared.access.AccessFlag.TheVariants.{Private, Static, Native, Abstract}
 use Rattle.jvm_model.specs.Access.{has_flag}
 use Rattle.jvm_model.specs.Automata.{all_differ}
-use Rattle.jvm_model.specs.Lookups.{MethodName, text_at, class_name_at, method_at}
+use Rattle.jvm_model.specs.Lookups.{MemberReference, text_at, class_name_at, method_at}
 use Rattle.jvm_model.specs.declared.automaton.Event.{Event}
 use Rattle.jvm_model.specs.Soundness.{plain_descriptor}
 use Rattle.typestate_core.specs.declared.simple.Simple.{Simple}
@@ -17,7 +17,7 @@ use Rattle.typestate_core.specs.Bodies.{Body, HasBody}
 use Rattle.typestate_core.specs.StageOne.{is_called}
 
 -- A method of a class without parameters and result.
-abbrev pub plain_method : List ℕ → List ℕ → MethodName
+abbrev pub plain_method : List ℕ → List ℕ → MemberReference
 plain_method class name = record { class = class; signature = record { name = name; descriptor = plain_descriptor } }
 
 -- The names that no method of the class may have.

@@ -28,7 +28,7 @@ pub(crate) struct Counts {
     pub limit: u32,
 }
 
-// Adds a number in decimal digits.
+/// Adds a number in decimal digits.
 fn push_number(alloc: Global, line: &mut Vec<u8>, number: u32) -> Result<(), AllocError>
     ensures { OnOk result (line.new.items ≡ line.old.items ++ decimal number) }
 {
@@ -67,7 +67,7 @@ pub(crate) fn missing_line(alloc: Global, name: &[u8]) -> Result<Vec<u8>, AllocE
     Ok(line)
 }
 
-// Adds a site.
+/// Adds a site.
 fn push_site(alloc: Global, line: &mut Vec<u8>, site: PrintedSite<'_>) -> Result<(), AllocError>
     ensures { OnOk result (line.new.items ≡ line.old.items ++ site_text site.entry.class.now site.entry.method.now site.entry.descriptor.now site.entry.offset site.entry.object.now) }
 {

@@ -6,7 +6,7 @@ ghost use Rattle.typestate_core.specs.Output.{TakesAll, TakesFront, text_of};
 
 use ts_outside::{Sink, SinkFailed};
 
-// Writes a line.
+/// Writes a line.
 fn write_line<S: Sink>(out: &mut S, line: &[u8]) -> Result<(), SinkFailed>
     ensures all { OnOk result (TakesAll (S.taken out.old) (S.taken out.new) line.now) }
     ensures front { OnErr result (TakesFront (S.taken out.old) (S.taken out.new) line.now) }

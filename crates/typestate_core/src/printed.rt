@@ -6,7 +6,7 @@ ghost use Rattle.typestate_core.specs.Printed.{printed, printed_byte, hex_digit}
 
 use std::alloc::AllocError;
 
-// The digit of a number below 16.
+/// The digit of a number below 16.
 fn hex_digit(number: u8) -> u8
     requires { number < 16 }
     ensures { result ≡ hex_digit number }
@@ -18,7 +18,7 @@ fn hex_digit(number: u8) -> u8
     }
 }
 
-// Adds a byte of a name at the end of a line.
+/// Adds a byte of a name at the end of a line.
 fn push_byte(line: &mut Vec<u8>, byte: u8) -> Result<(), AllocError>
     ensures { OnOk result (line.new.items ≡ line.old.items ++ printed_byte byte) }
 {

@@ -33,7 +33,7 @@ impl<'a> Request<'a> {
     }
 }
 
-// Whether the options stand at their places.
+/// Whether the options stand at their places.
 fn are_options(words: &[String]) -> bool
     ensures { IsTrue result ↔ HasOptions (map string_bytes words.now) }
 {
@@ -44,14 +44,14 @@ fn are_options(words: &[String]) -> bool
         && is_word(words, 7, "1")
 }
 
-// Whether this text stands at the place.
+/// Whether this text stands at the place.
 fn is_word(words: &[String], place: usize, text: &str) -> bool
     ensures { IsTrue result ↔ (slice_get (map string_bytes words.now) place ≡ Some text.now) }
 {
     place < words.len() && words[place].as_str() == text
 }
 
-// The bytes before and after the last full stop.
+/// The bytes before and after the last full stop.
 fn split_at_last_stop(word: &[u8]) -> Option<(&[u8], &[u8])>
     ensures found { IfSome result (λ parts. NamesMethod word.now parts.0.now parts.1.now) }
     ensures none { IfNone result ((class method : List ℕ) → NamesMethod word.now class method → ⊥) }

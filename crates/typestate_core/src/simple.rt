@@ -28,7 +28,7 @@ pub(crate) enum Simple {
 }
 
 impl Simple {
-    // How many bytes it takes.
+    /// How many bytes it takes.
     fn size(self) -> u8
         ensures { result ≡ length (instruction self) }
     {
@@ -91,7 +91,7 @@ pub(crate) fn body_at(
     }
     let code = match read_code_at(alloc, class, method.place, offset) {
         Ok(code) => code,
-        Err(ReadRefusal::Refused(..)) => return Ok(None),
+        Err(ReadRefusal::Refused { .. }) => return Ok(None),
         Err(ReadRefusal::Memory) => return Err(AllocError),
     };
     if !code.handlers.is_empty() {
@@ -107,7 +107,7 @@ pub(crate) fn body_at(
     }))
 }
 
-// The instructions, if all are of the form, and each stands right after the one before it.
+/// The instructions, if all are of the form, and each stands right after the one before it.
 fn simple_code(alloc: Global, code: &[PlacedInstruction]) -> Result<Option<Vec<Simple>>, AllocError>
     ensures found { IfOk result (λ found. IfSome found (λ simple. IsSimple code.now 0 simple.items)) }
     ensures none { IfOk result (λ found. IfNone found ((simple : List OfForm) → IsSimple code.now 0 simple → ⊥)) }
@@ -124,7 +124,7 @@ fn simple_code(alloc: Global, code: &[PlacedInstruction]) -> Result<Option<Vec<S
     Ok(Some(simple))
 }
 
-// The instruction of the form that stands at the offset.
+/// The instruction of the form that stands at the offset.
 fn simple_at(placed: &PlacedInstruction, offset: u64) -> Option<Simple>
     ensures found { IfSome result (λ i. IsPlaced placed.now offset i) }
     ensures none { IfNone result ((i : OfForm) → IsPlaced placed.now offset i → ⊥) }
@@ -140,7 +140,7 @@ fn simple_at(placed: &PlacedInstruction, offset: u64) -> Option<Simple>
     simple_of(instruction.opcode, operand)
 }
 
-// The instruction of the form with this opcode and this operand.
+/// The instruction of the form with this opcode and this operand.
 fn simple_of(opcode: u8, operand: u16) -> Option<Simple>
     ensures { result ≡ simple_of opcode operand }
 {
@@ -156,7 +156,7 @@ fn simple_of(opcode: u8, operand: u16) -> Option<Simple>
     short_of(opcode, operand)
 }
 
-// The same of an instruction that takes one byte.
+/// The same of an instruction that takes one byte.
 fn short_of(opcode: u8, operand: u16) -> Option<Simple>
     ensures { result ≡ short_of opcode operand }
 {

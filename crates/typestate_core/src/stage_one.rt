@@ -25,7 +25,7 @@ pub(crate) fn is_safe(automaton: &Automaton, occurs: &[bool]) -> bool
     !reached[usize::from(automaton.error)]
 }
 
-// A state to which an event that occurs leads from one that is reached, and that is not reached yet.
+/// A state to which an event that occurs leads from one that is reached, and that is not reached yet.
 fn new_state(events: &[Event], occurs: &[bool], reached: &[bool]) -> Option<u8>
     requires within { All (IsWithin (length reached.now)) events.now }
     requires answers { length occurs.now ≡ length events.now }
@@ -42,7 +42,7 @@ fn new_state(events: &[Event], occurs: &[bool], reached: &[bool]) -> Option<u8>
     None
 }
 
-// The same for one event.
+/// The same for one event.
 fn new_state_by(event: &Event, reached: &[bool]) -> Option<u8>
     requires { IsWithin (length reached.now) event.now }
     ensures found { IfSome result (AddsState reached.now event.now) }

@@ -22,7 +22,7 @@ use crate::simple::{Body, Method, Simple, body_at, body_of};
 use indexmap::IndexSet;
 use jvm_model::layout::{member_length, methods_offset};
 use jvm_model::lookup::{class_name_at, method_at, text_at};
-use jvm_model::{AccessFlag, Automaton, ClassFile, Event, Member, MethodName, PoolEntry};
+use jvm_model::{AccessFlag, Automaton, ClassFile, Event, Member, MemberReference, PoolEntry};
 use std::alloc::{AllocError, Global};
 
 /// The descriptor of a method without parameters and result.
@@ -58,8 +58,8 @@ pub(crate) fn occurring_events(
     Ok(Some(occurs))
 }
 
-// Whether the class has this name, outside java/, and stands right below java/lang/Object, without
-// interfaces and fields.
+/// Whether the class has this name, outside java/, and stands right below java/lang/Object, without
+/// interfaces and fields.
 fn has_shape(class: &ClassFile, name: &[u8]) -> bool
     ensures { IsTrue result ↔ HasShape class.now name.now }
 {
@@ -71,7 +71,7 @@ fn has_shape(class: &ClassFile, name: &[u8]) -> bool
         && class.fields.is_empty()
 }
 
-// Whether the class at the index has this name.
+/// Whether the class at the index has this name.
 fn is_class_at(pool: &[PoolEntry], index: u16, name: &[u8]) -> bool
     ensures { IsTrue result ↔ (class_name_at pool.now index ≡ Some name.now) }
 {
@@ -81,7 +81,7 @@ fn is_class_at(pool: &[PoolEntry], index: u16, name: &[u8]) -> bool
     }
 }
 
-// Whether the method at the index is one of the class `owner` with this name and the plain descriptor.
+/// Whether the method at the index is one of the class `owner` with this name and the plain descriptor.
 fn is_method_at(pool: &[PoolEntry], index: u16, owner: &[u8], name: &[u8]) -> bool
     ensures { IsTrue result ↔ (method_at pool.now index ≡ Some (plain_method owner.now name.now)) }
 {
@@ -91,12 +91,12 @@ fn is_method_at(pool: &[PoolEntry], index: u16, owner: &[u8], name: &[u8]) -> bo
     }
 }
 
-// The name of the method at the index, if it is one of the class `owner` with the plain descriptor.
+/// The name of the method at the index, if it is one of the class `owner` with the plain descriptor.
 fn called_name<'a>(pool: &'a [PoolEntry], index: u16, owner: &[u8]) -> Option<&'a [u8]>
     ensures found { IfSome result (λ name. method_at pool.now index ≡ Some (plain_method owner.now name.now)) }
     ensures none { IfNone result ((name : List ℕ) → method_at pool.now index ≡ Some (plain_method owner.now name) → ⊥) }
 {
-    let MethodName {
+    let MemberReference {
         class: named,
         signature,
     } = method_at(pool, index)?;
@@ -106,7 +106,7 @@ fn called_name<'a>(pool: &'a [PoolEntry], index: u16, owner: &[u8]) -> Option<&'
     Some(signature.name)
 }
 
-// The names of the methods in order, if they differ, none is barred, and each descriptor is plain.
+/// The names of the methods in order, if they differ, none is barred, and each descriptor is plain.
 fn method_names(alloc: Global, class: &ClassFile) -> Result<Option<IndexSet<&[u8]>>, AllocError>
     ensures found { IfOk result (λ found. IfSome found (λ names. AreNames class.now (texts names.keys))) }
     ensures none { IfOk result (λ found. IfNone found ((names : List (List ℕ)) → AreNames class.now names → ⊥)) }
@@ -125,7 +125,7 @@ fn method_names(alloc: Global, class: &ClassFile) -> Result<Option<IndexSet<&[u8
     Ok(Some(names))
 }
 
-// The name of a method with the plain descriptor, if it is not barred.
+/// The name of a method with the plain descriptor, if it is not barred.
 fn allowed_name<'a>(pool: &'a [PoolEntry], method: &Member) -> Option<&'a [u8]>
     ensures found { IfSome result (λ name. IsAllowed pool.now method.now name.now) }
     ensures none { IfNone result ((name : List ℕ) → IsAllowed pool.now method.now name → ⊥) }
@@ -140,7 +140,7 @@ fn allowed_name<'a>(pool: &'a [PoolEntry], method: &Member) -> Option<&'a [u8]>
     Some(name)
 }
 
-// Whether this text stands at the index.
+/// Whether this text stands at the index.
 fn is_text_at(pool: &[PoolEntry], index: u16, text: &[u8]) -> bool
     ensures { IsTrue result ↔ (text_at pool.now index ≡ Some text.now) }
 {
@@ -150,7 +150,7 @@ fn is_text_at(pool: &[PoolEntry], index: u16, text: &[u8]) -> bool
     }
 }
 
-// Whether no method of the class may have this name.
+/// Whether no method of the class may have this name.
 fn is_barred(name: &[u8]) -> bool
     ensures { result ≡ list_any (bytes_eq name.now) barred_names }
 {
@@ -162,8 +162,8 @@ fn is_barred(name: &[u8]) -> bool
         || name == b"notifyAll".as_slice()
 }
 
-// Which methods the entry calls, one answer for each method in order, if entry, constructor and the
-// methods that are called have their forms.
+/// Which methods the entry calls, one answer for each method in order, if entry, constructor and the
+/// methods that are called have their forms.
 fn called_methods(
     alloc: Global,
     class: &ClassFile,
@@ -203,7 +203,7 @@ struct Calls {
     code: Vec<Simple>,
 }
 
-// The calls of the entry, if there is one, and a constructor.
+/// The calls of the entry, if there is one, and a constructor.
 fn calls_of_form(
     alloc: Global,
     class: &ClassFile,
@@ -228,7 +228,7 @@ fn calls_of_form(
     calls_of_entry(alloc, class, request.class, &entry)
 }
 
-// The method of this name.
+/// The method of this name.
 fn method_named<'a>(
     class: &'a ClassFile,
     names: &IndexSet<&[u8]>,
@@ -245,7 +245,7 @@ fn method_named<'a>(
     Some(Method { place, member })
 }
 
-// Whether the method is the constructor of the form.
+/// Whether the method is the constructor of the form.
 fn is_constructor(alloc: Global, class: &ClassFile, method: &Method<'_>) -> Result<bool, AllocError>
     requires sound { IsSoundClass class.now }
     requires size { length (spell class.now) < 2 ^ 32 }
@@ -262,7 +262,7 @@ fn is_constructor(alloc: Global, class: &ClassFile, method: &Method<'_>) -> Resu
     Ok(constructs(class, method.member, &body, initialiser))
 }
 
-// Whether a method with this body, which calls the method at an index, is the constructor.
+/// Whether a method with this body, which calls the method at an index, is the constructor.
 fn constructs(class: &ClassFile, method: &Member, body: &Body, initialiser: u16) -> bool
     ensures { IsTrue result ↔ Constructs class.now method.now initialiser body.now.max_stack body.now.max_locals }
 {
@@ -272,7 +272,7 @@ fn constructs(class: &ClassFile, method: &Member, body: &Body, initialiser: u16)
         && body.max_locals >= 1
 }
 
-// The method that the code of the constructor calls.
+/// The method that the code of the constructor calls.
 fn initialiser_of(code: &[Simple]) -> Option<u16>
     ensures found { IfSome result (λ initialiser. IsConstructorCode code.now initialiser) }
     ensures none { IfNone result ((initialiser : ℕ) → IsConstructorCode code.now initialiser → ⊥) }
@@ -298,7 +298,7 @@ struct EntryCode<'a> {
     calls: &'a [Simple],
 }
 
-// The calls of the method, if it is an entry of the form.
+/// The calls of the method, if it is an entry of the form.
 fn calls_of_entry(
     alloc: Global,
     class: &ClassFile,
@@ -327,7 +327,7 @@ fn calls_of_entry(
     }))
 }
 
-// Whether a method with this body and code is the entry, whatever it calls.
+/// Whether a method with this body and code is the entry, whatever it calls.
 fn enters(
     class: &ClassFile,
     name: &[u8],
@@ -345,7 +345,7 @@ fn enters(
         && body.max_locals > code.slot
 }
 
-// The parts of the code of an entry.
+/// The parts of the code of an entry.
 fn entry_code(code: &[Simple]) -> Option<EntryCode<'_>>
     ensures found { IfSome result (λ entry. IsEntryCode code.now entry.made entry.initialiser entry.slot entry.calls.now) }
     ensures none { IfNone result ((made initialiser slot : ℕ) (calls : List OfForm) → IsEntryCode code.now made initialiser slot calls → ⊥) }
@@ -369,7 +369,7 @@ fn entry_code(code: &[Simple]) -> Option<EntryCode<'_>>
     })
 }
 
-// Marks the methods that are called, and answers whether the code is that of calls alone.
+/// Marks the methods that are called, and answers whether the code is that of calls alone.
 fn mark_calls(
     class: &ClassFile,
     names: &IndexSet<&[u8]>,
@@ -398,7 +398,7 @@ fn mark_calls(
     true
 }
 
-// The index that the call at the front of the code has, on the object in the slot, and the code after it.
+/// The index that the call at the front of the code has, on the object in the slot, and the code after it.
 fn split_call(slot: u16, code: &[Simple]) -> Option<(u16, &[Simple])>
     ensures found { IfSome result (λ parts. StartsWithCall slot code.now parts.0 parts.1.now) }
     ensures none { IfNone result ((index : ℕ) (rest : List OfForm) → StartsWithCall slot code.now index rest → ⊥) }
@@ -417,7 +417,7 @@ fn split_call(slot: u16, code: &[Simple]) -> Option<(u16, &[Simple])>
     Some((*index, rest))
 }
 
-// The place of the method that a call names.
+/// The place of the method that a call names.
 fn place_called(
     pool: &[PoolEntry],
     names: &IndexSet<&[u8]>,
@@ -431,14 +431,14 @@ fn place_called(
     place_of(names, name)
 }
 
-// The place of a name.
+/// The place of a name.
 fn place_of(names: &IndexSet<&[u8]>, name: &[u8]) -> Option<usize>
     ensures { result ≡ position (bytes_eq name.now) (texts names.now.keys) }
 {
     names.get_index_of(name)
 }
 
-// Whether each method that is called has the form of a method that may be.
+/// Whether each method that is called has the form of a method that may be.
 fn are_callees(alloc: Global, class: &ClassFile, called: &[bool]) -> Result<bool, AllocError>
     requires sound { IsSoundClass class.now }
     requires size { length (spell class.now) < 2 ^ 32 }
@@ -457,7 +457,7 @@ fn are_callees(alloc: Global, class: &ClassFile, called: &[bool]) -> Result<bool
     Ok(true)
 }
 
-// Whether the method, whose first byte stands at this file offset, has the form of one that may be called, if it is.
+/// Whether the method, whose first byte stands at this file offset, has the form of one that may be called, if it is.
 fn may_stand(
     alloc: Global,
     class: &ClassFile,
@@ -478,7 +478,7 @@ fn may_stand(
     is_callee(alloc, class, method, offset)
 }
 
-// Whether the method, whose first byte stands at this file offset, may be called, and only returns.
+/// Whether the method, whose first byte stands at this file offset, may be called, and only returns.
 fn is_callee(
     alloc: Global,
     class: &ClassFile,
@@ -498,7 +498,7 @@ fn is_callee(
     Ok(returns(method.member, &body))
 }
 
-// Whether a method with this body may be called, and only returns.
+/// Whether a method with this body may be called, and only returns.
 fn returns(method: &Member, body: &Body) -> bool
     ensures { IsTrue result ↔ Returns method.now body.now.code.items body.now.max_locals }
 {
@@ -510,14 +510,14 @@ fn returns(method: &Member, body: &Body) -> bool
         && body.max_locals >= 1
 }
 
-// Whether the code only returns.
+/// Whether the code only returns.
 fn is_return(code: &[Simple]) -> bool
     ensures { IsTrue result ↔ (code.now ≡ Return ∷ []) }
 {
     matches!(code, [Simple::Return])
 }
 
-// Which events are chosen by a call of one of the methods that are called.
+/// Which events are chosen by a call of one of the methods that are called.
 fn chosen_events(
     alloc: Global,
     events: &[Event],
@@ -533,7 +533,7 @@ fn chosen_events(
     Ok(chosen)
 }
 
-// Whether the event is chosen by a call of one of the methods that are called.
+/// Whether the event is chosen by a call of one of the methods that are called.
 fn is_called(event: &Event, names: &IndexSet<&[u8]>, called: &[bool]) -> bool
     ensures { (calls : List (List ℕ)) → Marks (texts names.now.keys) calls called.now → result ≡ is_chosen calls event.now }
 {
@@ -541,7 +541,7 @@ fn is_called(event: &Event, names: &IndexSet<&[u8]>, called: &[bool]) -> bool
     event.descriptor.as_slice() == PLAIN && is_reached
 }
 
-// Whether a method of this name is called.
+/// Whether a method of this name is called.
 fn is_name_called(name: &[u8], names: &IndexSet<&[u8]>, called: &[bool]) -> bool
     ensures { (calls : List (List ℕ)) → Marks (texts names.now.keys) calls called.now → result ≡ list_any (bytes_eq name.now) calls }
 {
@@ -551,7 +551,7 @@ fn is_name_called(name: &[u8], names: &IndexSet<&[u8]>, called: &[bool]) -> bool
     }
 }
 
-// Whether a mark stands at the place.
+/// Whether a mark stands at the place.
 fn is_marked(called: &[bool], place: usize) -> bool
     ensures { result ≡ slice_index_or called.now place false }
 {

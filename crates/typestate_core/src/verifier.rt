@@ -90,7 +90,7 @@ pub fn run<T: Tree, S: Sink>(alloc: Global, words: &[String], tree: &mut T, out:
     judge_and_write(alloc, words, tree, out)
 }
 
-// The run, with the clauses from which those on executions follow.
+/// The run, with the clauses from which those on executions follow.
 fn judge_and_write<T: Tree, S: Sink>(
     alloc: Global,
     words: &[String],
@@ -113,7 +113,7 @@ fn judge_and_write<T: Tree, S: Sink>(
     }
 }
 
-// The words and the property file.
+/// The words and the property file.
 fn judge<T: Tree>(alloc: Global, words: &[String], tree: &mut T) -> Result<Answer, End>
     ensures told { IfOk result (λ a. IfSome (T.files tree.old) (λ files. Outcome (map string_bytes words.now) files a.status (lines_of a))) }
     ensures reported { IfOk result (λ a. IsReported a.status) }
@@ -135,7 +135,7 @@ fn judge<T: Tree>(alloc: Global, words: &[String], tree: &mut T) -> Result<Answe
     judge_class(alloc, &request, &automaton, tree)
 }
 
-// The class file.
+/// The class file.
 fn judge_class<T: Tree>(
     alloc: Global,
     request: &Request<'_>,
@@ -170,7 +170,7 @@ fn judge_class<T: Tree>(
     }
 }
 
-// The class file is refused, or the entry's site is safe or not.
+/// The class file is refused, or the entry's site is safe or not.
 fn verdict(
     alloc: Global,
     request: &Request<'_>,
@@ -182,7 +182,7 @@ fn verdict(
 {
     let class = match read_class(alloc, bytes) {
         Ok(class) => class,
-        Err(ReadRefusal::Refused(offset, reason)) => {
+        Err(ReadRefusal::Refused { offset, reason }) => {
             return Ok(Judgement::Refused(offset, reason));
         }
         Err(ReadRefusal::Memory) => return Err(AllocError),
@@ -193,7 +193,7 @@ fn verdict(
     }
 }
 
-// Whether the entry's site is safe; None where the class has another form, or is another one.
+/// Whether the entry's site is safe; None where the class has another form, or is another one.
 fn site_verdict(
     alloc: Global,
     request: &Request<'_>,
@@ -215,7 +215,7 @@ fn site_verdict(
     Ok(Some(is_safe(automaton, &occurs)))
 }
 
-// A file is refused at an offset, or with `-` no file in particular.
+/// A file is refused at an offset, or with `-` no file in particular.
 fn refuse(alloc: Global, file: &[u8], offset: u32, reason: Reason) -> Result<Answer, End>
     ensures ok { IfOk result (λ a. Says a Status.Refused (refused_line file.now offset reason ∷ [])) }
     ensures memory { IfErr result (λ e. e ≡ End.Memory) }
@@ -229,7 +229,7 @@ fn refuse(alloc: Global, file: &[u8], offset: u32, reason: Reason) -> Result<Ans
     })
 }
 
-// The property file is refused; the key of a broken rule is not printed.
+/// The property file is refused; the key of a broken rule is not printed.
 fn refuse_property(alloc: Global, file: &[u8], refusal: &PropertyRefusal) -> Result<Answer, End>
     ensures ok { IfOk result (SaysRefusal file.now refusal.now) }
     ensures reported { IfOk result (λ a. IsReported a.status) }
@@ -242,7 +242,7 @@ fn refuse_property(alloc: Global, file: &[u8], refusal: &PropertyRefusal) -> Res
     }
 }
 
-// A file of this name is not there.
+/// A file of this name is not there.
 fn miss(alloc: Global, name: &[u8]) -> Result<Answer, End>
     ensures ok { IfOk result (λ a. Says a Status.Usage (missing_line name.now ∷ [])) }
     ensures memory { IfErr result (λ e. e ≡ End.Memory) }
@@ -256,7 +256,7 @@ fn miss(alloc: Global, name: &[u8]) -> Result<Answer, End>
     })
 }
 
-// The report on the only site, that of the entry's first instruction.
+/// The report on the only site, that of the entry's first instruction.
 fn report_site(alloc: Global, request: &Request<'_>, is_safe: bool) -> Result<Answer, End>
     ensures safe { IfOk result (λ a. OnTrue is_safe (Says a Status.AllSafe
         (safe_line 1 (entry_site request.now.class.now request.now.method.now) ∷ summary_line 1 1 0 0 ∷ []))) }
@@ -278,7 +278,7 @@ fn report_site(alloc: Global, request: &Request<'_>, is_safe: bool) -> Result<An
     }
 }
 
-// The report that the only site is safe.
+/// The report that the only site is safe.
 fn report_safe(alloc: Global, site: PrintedSite<'_>) -> Result<Answer, End>
     ensures ok { IfOk result (λ a. Says a Status.AllSafe
         (safe_line 1 (site_text site.entry.class.now site.entry.method.now site.entry.descriptor.now site.entry.offset site.entry.object.now) ∷ summary_line 1 1 0 0 ∷ [])) }
@@ -297,7 +297,7 @@ fn report_safe(alloc: Global, site: PrintedSite<'_>) -> Result<Answer, End>
     })
 }
 
-// The report that the only site is not proved.
+/// The report that the only site is not proved.
 fn report_unproved(alloc: Global, site: PrintedSite<'_>) -> Result<Answer, End>
     ensures ok { IfOk result (λ a. Says a Status.SomeUnproved
         (unproved_line (site_text site.entry.class.now site.entry.method.now site.entry.descriptor.now site.entry.offset site.entry.object.now) ∷ summary_line 1 0 1 0 ∷ [])) }
@@ -316,7 +316,7 @@ fn report_unproved(alloc: Global, site: PrintedSite<'_>) -> Result<Answer, End>
     })
 }
 
-// A line, and the summary after it.
+/// A line, and the summary after it.
 fn with_summary(alloc: Global, line: Vec<u8>, counts: Counts) -> Result<Vec<Vec<u8>>, AllocError>
     ensures { IfOk result (λ lines. map (λ l. l.items) lines.items
         ≡ line.items ∷ summary_line counts.sites counts.safe counts.unproved counts.limit ∷ []) }

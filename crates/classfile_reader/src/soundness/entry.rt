@@ -109,22 +109,22 @@ fn entry_reason(
         | PoolEntry::Taken => Ok(None),
         PoolEntry::Class(name) => text_reason(pool, known, Grammar::ClassOrArray, *name),
         PoolEntry::Str(text) => Ok(index_reason(pool, &[EntryKind::Text], *text)),
-        PoolEntry::Fieldref(class, member) => {
+        PoolEntry::Fieldref { class, member } => {
             reference_reason(pool, known, fields, *class, *member)
         }
-        PoolEntry::Methodref(class, member) | PoolEntry::InterfaceMethodref(class, member) => {
+        PoolEntry::Methodref { class, member } | PoolEntry::InterfaceMethodref { class, member } => {
             reference_reason(pool, known, methods, *class, *member)
         }
-        PoolEntry::NameAndType(name, descriptor) => {
+        PoolEntry::NameAndType { name, descriptor } => {
             name_and_type_reason(pool, known, *name, *descriptor)
         }
-        PoolEntry::MethodHandle(kind, reference) => {
+        PoolEntry::MethodHandle { kind, reference } => {
             Ok(index_reason(pool, handle_targets(major, *kind), *reference))
         }
         PoolEntry::MethodType(descriptor) => {
             text_reason(pool, known, Grammar::MethodDescriptor, *descriptor)
         }
-        PoolEntry::InvokeDynamic(_, member) => signature_reason(pool, known, methods, *member),
+        PoolEntry::InvokeDynamic { member, .. } => signature_reason(pool, known, methods, *member),
     }
 }
 

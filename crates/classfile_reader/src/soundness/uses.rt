@@ -5,7 +5,7 @@ ghost use Rattle.std.specs.List.{list_all, list_any};
 ghost use Rattle.jvm_model.specs.declared.pool.EntryKind.{EntryKind};
 ghost use Rattle.jvm_model.specs.declared.pool.PoolEntry.{PoolEntry};
 ghost use Rattle.jvm_model.specs.Lookups.{class_name_at};
-ghost use Rattle.jvm_model.specs.Soundness.{at_offset, leads, Use, is_text_byte, is_of_kind, leads_to, handle_targets, Holds, TextIsIn, no_array, superclass, signature, either_signature, text_uses, class_uses};
+ghost use Rattle.jvm_model.specs.Soundness.{at_offset, leads, Use, is_text_byte, is_of_kind, leads_to, handle_targets, UseHolds, TextIsIn, no_array, superclass, signature, either_signature, text_uses, class_uses};
 ghost use Rattle.classfile_reader.specs.FirstPlace.{IsFirstUse, IsFirstBreach};
 ghost use Rattle.classfile_reader.specs.KnownTexts.{AreKnown};
 
@@ -71,7 +71,7 @@ pub(crate) fn at_offset(offset: u32, reason: Option<Reason>) -> Option<(u32, Rea
 
 /// Whether a class at an index, if there is one, is no array.
 fn is_no_array(pool: &[PoolEntry], index: u16) -> bool
-    ensures { IsTrue result ↔ Holds pool.now (no_array index) }
+    ensures { IsTrue result ↔ UseHolds pool.now (no_array index) }
 {
     match class_name_at(pool, index) {
         Some(name) => !is_array(name),
@@ -91,7 +91,7 @@ fn is_object_at(pool: &[PoolEntry], index: u16) -> bool
 
 /// Whether a class has a superclass, or is the one that has none (JVMS 4.1).
 fn has_superclass(pool: &[PoolEntry], this_class: u16, index: u16) -> bool
-    ensures { IsTrue result ↔ Holds pool.now (superclass this_class index) }
+    ensures { IsTrue result ↔ UseHolds pool.now (superclass this_class index) }
 {
     leads_to(pool, &[EntryKind::Class], index) || (index == 0 && is_object_at(pool, this_class))
 }
@@ -186,11 +186,11 @@ pub(crate) fn signature_holds(
     index: u16,
 ) -> Result<bool, AllocError>
     requires { AreKnown pool.now known.old }
-    ensures exact { IfOk result (λ holds. IsTrue holds ↔ Holds pool.now (signature names descriptors index)) }
+    ensures exact { IfOk result (λ holds. IsTrue holds ↔ UseHolds pool.now (signature names descriptors index)) }
     ensures known { AreKnown pool.now known.new }
 {
     match entry_at(pool, index) {
-        Some(PoolEntry::NameAndType(name, descriptor)) => are_in(
+        Some(PoolEntry::NameAndType { name, descriptor }) => are_in(
             pool,
             known,
             (names, descriptors),
@@ -208,7 +208,7 @@ pub(crate) fn either_signature_holds(
     descriptor: u16,
 ) -> Result<bool, AllocError>
     requires { AreKnown pool.now known.old }
-    ensures exact { IfOk result (λ holds. IsTrue holds ↔ Holds pool.now (either_signature name descriptor)) }
+    ensures exact { IfOk result (λ holds. IsTrue holds ↔ UseHolds pool.now (either_signature name descriptor)) }
     ensures known { AreKnown pool.now known.new }
 {
     let methods = (Grammar::MethodName, Grammar::MethodDescriptor);

@@ -7,8 +7,8 @@ use super::Operands::{
     Pool2AndCount, Pool2AndDimensions, Pool2AndZeros, TableOfOffsets, TypeCode, Value1, Value2,
     Widened,
 };
-use super::Origin::{Local, Made, Null, Popped, Primitive};
 use super::PoolTarget::{AnyClass, AnyMethod, ClassMethod, Field, Loadable, NoArray, WideNumber};
+use super::UnitSource::{Local, Made, Null, Popped, Primitive};
 use super::{Action, Flow, Raise, Row, UnitKind};
 
 /// What a row says where its line is silent.

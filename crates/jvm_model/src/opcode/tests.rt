@@ -241,7 +241,7 @@ const REFERENCES_AND_EXTENDED: [Line; 24] = [
     ("jsr_w", 201, 5, 0, 1),
 ];
 
-// Each opcode has its line.
+/// Each opcode has its line.
 const _: () = prove!(
     CONSTANTS.len()
         + LOADS.len()

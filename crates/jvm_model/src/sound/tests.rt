@@ -33,8 +33,14 @@ fn pool(alloc: Global) -> Result<Sequence<PoolEntry>, AllocError>
         PoolEntry::Utf8(bytes(alloc, b"()V")?),
         PoolEntry::Class(2),
         PoolEntry::Class(3),
-        PoolEntry::NameAndType(4, 5),
-        PoolEntry::Methodref(6, 8),
+        PoolEntry::NameAndType {
+            name: 4,
+            descriptor: 5
+        },
+        PoolEntry::Methodref {
+            class: 6,
+            member: 8
+        },
     ]?;
     Ok(Sequence::from_vec(entries))
 }

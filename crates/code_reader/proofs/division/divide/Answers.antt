@@ -1,6 +1,6 @@
 use Rattle.std.proofs.Common.{◌≡◌, ℕ, ◌+◌, ap, sym, ◌∙◌, subst, List, [], ◌∷◌, ◌++◌, set, get_or, true, false, Err, arith}
 use Rattle.std.proofs.lemmas.List.{length-set}
-use Rattle.jvm_model.specs.Instructions.{Instruction}
+use Rattle.jvm_model.specs.Instructions.{DecodedInstruction}
 use Rattle.code_reader.specs.declared.decode.Undecoded.{Undecoded}
 use Rattle.code_reader.specs.Decoding.{Gives}
 use Rattle.code_reader.specs.Division.{Spot, instruction_in, starts}
@@ -11,14 +11,14 @@ use Rattle.code_reader.proofs.division.divide.Goals as goal
 pub loop-offset-smaller : goal.loop-offset-smaller
 loop-offset-smaller c =
     let f = inside c.args.pool.now c.args.code.now c.loop-offset.offset c.in-Ok.decoded c.loop-offset-test.true c.in-Ok.ensures in
-    let same = ap (λ (i : Instruction). i.size) c.decoded.view_is in
+    let same = ap (λ (i : DecodedInstruction). i.size) c.decoded.view_is in
     omega (arith, f.0, f.1, same)
 
 pub loop-offset-preserved : goal.loop-offset-preserved
 loop-offset-preserved c =
-    let i : Instruction = c.in-Ok.decoded in
+    let i : DecodedInstruction = c.in-Ok.decoded in
     let f = inside c.args.pool.now c.args.code.now c.loop-offset.offset i c.loop-offset-test.true c.in-Ok.ensures in
-    let same = ap (λ (j : Instruction). j.size) c.decoded.view_is in
+    let same = ap (λ (j : DecodedInstruction). j.size) c.decoded.view_is in
     let pushed : c.push.new.self.items ≡ c.loop-offset.spots.items ++ record { offset = c.loop-offset.offset; instruction = i } ∷ [] =
     c.in_ok-push-in-Ok.ensures.items in
     let next : c.loop-offset.offset + i.size ≡ c.loop-offset.offset + c.decoded.inside.size = ap (λ n. c.loop-offset.offset + n) (sym same) in

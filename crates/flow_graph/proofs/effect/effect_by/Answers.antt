@@ -2,7 +2,7 @@ use Rattle.std.proofs.Common.{ℕ, List, Option, length, ap, ◌∙◌, arith}
 use Rattle.std.proofs.lemmas.List.{length-map}
 use Rattle.jvm_model.specs.declared.pool.PoolEntry.{PoolEntry}
 use Rattle.jvm_model.specs.Instructions.{kinds_of, member_at}
-use Rattle.jvm_model.specs.RowViews.{row_view, action_view, kind_view, origin_view}
+use Rattle.jvm_model.specs.RowViews.{row_view, action_view, kind_view, source_view}
 use Rattle.flow_graph.specs.declared.effect.Effect.{Effect}
 use Rattle.flow_graph.specs.Effects.{IsEffectBy}
 use Rattle.flow_graph.specs.Reading.{IsSoundInstruction, IsCallAt}
@@ -14,13 +14,13 @@ pub array_effect-requires-clause-pops : goal.array_effect-requires-clause-pops
 array_effect-requires-clause-pops c = omega (arith, few_pops c.args.instruction.now.opcode (row_view c.args.row.now) c.requires.row, length-map c.args.row.now.pops.now kind_view)
 
 pub array_effect-requires-clause-pushes : goal.array_effect-requires-clause-pushes
-array_effect-requires-clause-pushes c = omega (arith, few_pushes c.args.instruction.now.opcode (row_view c.args.row.now) c.requires.row, length-map c.args.row.now.pushes.now origin_view)
+array_effect-requires-clause-pushes c = omega (arith, few_pushes c.args.instruction.now.opcode (row_view c.args.row.now) c.requires.row, length-map c.args.row.now.pushes.now source_view)
 
 pub row_effect-requires-clause-pops : goal.row_effect-requires-clause-pops
 row_effect-requires-clause-pops c = omega (arith, few_pops c.args.instruction.now.opcode (row_view c.args.row.now) c.requires.row, length-map c.args.row.now.pops.now kind_view)
 
 pub row_effect-requires-clause-pushes : goal.row_effect-requires-clause-pushes
-row_effect-requires-clause-pushes c = omega (arith, few_pushes c.args.instruction.now.opcode (row_view c.args.row.now) c.requires.row, length-map c.args.row.now.pushes.now origin_view)
+row_effect-requires-clause-pushes c = omega (arith, few_pushes c.args.instruction.now.opcode (row_view c.args.row.now) c.requires.row, length-map c.args.row.now.pushes.now source_view)
 
 pub returns-in-LoadConstant-clause-effect : goal.returns-in-LoadConstant-clause-effect
 returns-in-LoadConstant-clause-effect c = loads_constant c.args.class.now c.args.instruction.now (row_view c.args.row.now) c.requires.row (ap action_view c.in-LoadConstant.is)

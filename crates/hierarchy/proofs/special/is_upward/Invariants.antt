@@ -1,5 +1,5 @@
 use Rattle.linked_program.specs.Numbers.{name_at}
-use Rattle.hierarchy.specs.Searches.{IsUpward}
+use Rattle.hierarchy.specs.Searches.{IsReachedUpward}
 use Rattle.hierarchy.proofs.Chains.{HasRoom}
 use Rattle.hierarchy.proofs.special.is_upward.Given as goal
 
@@ -7,6 +7,6 @@ use Rattle.hierarchy.proofs.special.is_upward.Given as goal
 abbrev pub invariant-upward : goal.invariant-upward
 invariant-upward l = record {
   room : HasRoom l.program l.current l._passed;
-  up : IsUpward l.program (name_at l.program l.current) (name_at l.program l.upper) → IsUpward l.program (name_at l.program l.class) (name_at l.program l.upper);
-  down : IsUpward l.program (name_at l.program l.class) (name_at l.program l.upper) → IsUpward l.program (name_at l.program l.current) (name_at l.program l.upper);
+  up : IsReachedUpward l.program (name_at l.program l.current) (name_at l.program l.upper) → IsReachedUpward l.program (name_at l.program l.class) (name_at l.program l.upper);
+  down : IsReachedUpward l.program (name_at l.program l.class) (name_at l.program l.upper) → IsReachedUpward l.program (name_at l.program l.current) (name_at l.program l.upper);
 }

@@ -6,7 +6,7 @@ use Rattle.jvm_model.specs.Linking.{claim, differs, this_class_offset}
 use Rattle.jvm_model.specs.Programs.{class_or_none}
 use Rattle.jvm_model.proofs.Lengths.{spell_length}
 use Rattle.linking.specs.Claims.{TellsClaims, file_name}
-use Rattle.linked_program.specs.LinkEnds.{IsRefusal}
+use Rattle.linked_program.specs.LinkEnds.{IsLinkRefusal}
 use Rattle.linking.proofs.ClaimSteps.{one_unmet}
 use Rattle.linking.proofs.ClassNames.{in_back, names_told}
 use Rattle.linking.proofs.KnownClasses.{nowhere_not}
@@ -21,7 +21,7 @@ returns-in-Some-clause-told c = λ p names has.
     let f = c.args.f.now in
     let name : c.class_text-name.result.now ≡ file_name f = c.class_text-name.ensures ∙ ap (λ (pool : List PoolEntry). class_or_none pool f.class.this_class) c.as_slice.ensures in
     let found = subst (λ (text : List ℕ). Contains names text) name (has.some c.class_text-name.result.now (contains_at c.args.others.now c.in-Some.field-0 c.class_text-name.result.now c.in-Some.ensures.found)) in
-    let told = subst (λ (n : ℕ). IsRefusal f.file (n + 2) DuplicateClass c.refused.result) c.flags_offset-offset.ensures c.refused.ensures in
+    let told = subst (λ (n : ℕ). IsLinkRefusal f.file (n + 2) DuplicateClass c.refused.result) c.flags_offset-offset.ensures c.refused.ensures in
     one_unmet p (claim f.file (this_class_offset f.class) (differs (c.args.earlier.now ++ names) (file_name f))) c.refused.result (λ meets. meets (in_back c.args.earlier.now names (file_name f) found)) told
 
 pub returns-in-None-clause-added : goal.returns-in-None-clause-added

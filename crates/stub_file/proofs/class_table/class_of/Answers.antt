@@ -2,7 +2,7 @@ use Rattle.std.proofs.Common.{◌≡◌, sym, subst, ◌∙◌}
 use Rattle.std.proofs.lemmas.Bool.{false≢true}
 use Rattle.toml.specs.View.{table_view}
 use Rattle.jvm_model.specs.declared.stub.StubClass.{StubClass}
-use Rattle.stub_file.specs.StubRules.{IsSoundStub}
+use Rattle.jvm_model.specs.StubRules.{IsSoundStub}
 use Rattle.stub_file.specs.StubSpelling.{SpellsClass}
 use Rattle.stub_file.proofs.Finding.{Finds-some}
 use Rattle.stub_file.proofs.Spelling.{SpellsClass-unique}

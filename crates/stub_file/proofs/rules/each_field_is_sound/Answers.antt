@@ -1,5 +1,5 @@
 use Rattle.std.proofs.Common.{arith, refl}
-use Rattle.stub_file.specs.StubRules.{IsSoundField}
+use Rattle.jvm_model.specs.StubRules.{IsSoundField}
 use Rattle.stub_file.proofs.Lists.{All-one_more, All-whole}
 use Rattle.stub_file.proofs.rules.each_field_is_sound.Goals as goal
 

@@ -1,5 +1,5 @@
 use Rattle.std.proofs.Common.{All, take}
-use Rattle.stub_file.specs.StubRules.{IsSoundField}
+use Rattle.jvm_model.specs.StubRules.{IsSoundField}
 use Rattle.stub_file.proofs.rules.each_field_is_sound.Given as goal
 
 -- each one so far keeps the rules

@@ -1,5 +1,5 @@
 use Rattle.std.proofs.Common.{arith, refl}
-use Rattle.stub_file.specs.StubRules.{IsSoundMethod}
+use Rattle.jvm_model.specs.StubRules.{IsSoundMethod}
 use Rattle.stub_file.proofs.Lists.{All-one_more, All-whole}
 use Rattle.stub_file.proofs.rules.each_method_is_sound.Goals as goal
 

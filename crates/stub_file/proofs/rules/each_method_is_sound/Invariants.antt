@@ -1,5 +1,5 @@
 use Rattle.std.proofs.Common.{All, take}
-use Rattle.stub_file.specs.StubRules.{IsSoundMethod}
+use Rattle.jvm_model.specs.StubRules.{IsSoundMethod}
 use Rattle.stub_file.proofs.rules.each_method_is_sound.Given as goal
 
 -- each one so far keeps the rules

@@ -1,6 +1,6 @@
 use Rattle.std.proofs.Common.{◌<◌, ◌∙◌, ℕ, List, Err, Global, map, string_bytes, ap, arith, subst}
 use Rattle.property_file.specs.PropertyFile.{IsPropertyFile}
-use Rattle.property_file.specs.Refusals.{IsRefusal}
+use Rattle.property_file.specs.Refusals.{IsPropertyRefusal}
 use Rattle.typestate_core.proofs.Judging.{no_property_told, refused_property_told, asked_told}
 use Rattle.typestate_core.proofs.verifier.judge.Goals as goal
 
@@ -15,7 +15,7 @@ returns-in-Err-clause-told g c =
     let request = c.in-Some.request in
     let past : 1048576 < 1048577 = omega arith in
     refused_property_told (g.T.Tree.files c.args.tree.now) (map (string_bytes {Z = Global}) c.args.words.now) request.property.now request.class.now request.method.now c.as_bytes-in-Err.result.now c.in-Ok.bytes.items 1048577 c.in-Err.refusal c.refuse_property.result
-    past c.in-Some.ensures.found c.in-Ok.ensures.bytes (subst (λ (bytes : List ℕ). IsRefusal bytes c.in-Err.refusal) c.deref.ensures.value c.in-Err.ensures.refused) c.as_bytes-in-Err.ensures.value c.refuse_property.ensures.ok
+    past c.in-Some.ensures.found c.in-Ok.ensures.bytes (subst (λ (bytes : List ℕ). IsPropertyRefusal bytes c.in-Err.refusal) c.deref.ensures.value c.in-Err.ensures.refused) c.as_bytes-in-Err.ensures.value c.refuse_property.ensures.ok
 
 pub returns-clause-told : goal.returns-clause-told
 returns-clause-told g c =

@@ -9,7 +9,7 @@ use Rattle.jvm_model.specs.declared.class_file.Member.{Member}
 use Rattle.jvm_model.specs.declared.class_file.Attribute.{Attribute}
 use Rattle.jvm_model.specs.Descriptors.{IsFieldDescriptor, IsMethodDescriptor, is_base_letter}
 use Rattle.jvm_model.specs.Names.{is_unqualified_name, IsClassName}
-use Rattle.jvm_model.specs.Soundness.{Place, Holds, IsIn, IsSoundClass, TextIsIn, is_array, leads_to, places_of, wants_code}
+use Rattle.jvm_model.specs.Soundness.{PlacedUse, UseHolds, IsIn, IsSoundClass, TextIsIn, is_array, leads_to, places_of, wants_code}
 use Rattle.code_reader.proofs.tests.class.class_of.Goals as goal
 
 abbrev entries_are : List PoolEntry
@@ -85,7 +85,7 @@ wants flags name descriptor body (inr e) = subst (λ (f : ℕ). wants_code (meth
 
 sound : (flags name descriptor : ℕ) (body : List ℕ) → (flags ≡ 0) ⊎ (flags ≡ 8) → (name ≡ 3) ⊎ (name ≡ 4) → (descriptor ≡ 5) ⊎ (descriptor ≡ 6)
     → IsSoundClass (class_of entries_are [] [] (method_of flags name descriptor body ∷ []) [])
-sound flags name descriptor body f n d = All-from_recursion (λ (p : Place). Holds entries_are p.use_) (places_of (class_of entries_are [] [] (method_of flags name descriptor body ∷ []) [])) (
+sound flags name descriptor body f n d = All-from_recursion (λ (p : PlacedUse). UseHolds entries_are p.use_) (places_of (class_of entries_are [] [] (method_of flags name descriptor body ∷ []) [])) (
   refl,
   (
     refl,

@@ -10,7 +10,7 @@ use Rattle.jvm_model.specs.declared.class_file.Attribute.{Attribute}
 use Rattle.jvm_model.specs.Descriptors.{IsFieldDescriptor, IsMethodDescriptor}
 use Rattle.jvm_model.specs.Lookups.{entry_at}
 use Rattle.jvm_model.specs.Names.{is_unqualified_name, IsClassName}
-use Rattle.jvm_model.specs.Soundness.{Place, Holds, IsIn, IsSoundClass, TextIsIn, is_array, leads_to, places_of}
+use Rattle.jvm_model.specs.Soundness.{PlacedUse, UseHolds, IsIn, IsSoundClass, TextIsIn, is_array, leads_to, places_of}
 use Rattle.jvm_model.proofs.sound.tests.class_of_one_method.Goals as goal
 
 abbrev entries_are : List PoolEntry
@@ -53,7 +53,7 @@ named name descriptor e =
     (subst (TextIsIn entries_are grammars.MethodName) name_is name_in, subst (TextIsIn entries_are grammars.MethodDescriptor) descriptor_is descriptor_in)
 
 sound : IsSoundClass (class_of entries_are [] [] (method_is ∷ []) [])
-sound = All-from_recursion (λ (p : Place). Holds entries_are p.use_) (places_of (class_of entries_are [] [] (method_is ∷ []) [])) (
+sound = All-from_recursion (λ (p : PlacedUse). UseHolds entries_are p.use_) (places_of (class_of entries_are [] [] (method_is ∷ []) [])) (
   refl,
   (
     refl,

@@ -1,6 +1,7 @@
 use Rattle.std.proofs.Common.{subst}
 use Rattle.jvm_model.specs.LinkedPrograms.{IsProgram}
-use Rattle.linked_program.specs.Ranks.{IsRanked, MembersDiffer}
+use Rattle.linked_program.specs.Ranks.{IsRanked}
+use Rattle.jvm_model.specs.LinkedPrograms.{MembersDiffer}
 use Rattle.linked_program.proofs.Accessing.{differ, same_size}
 use Rattle.linked_program.proofs.Ranking.{ranked}
 use Rattle.linked_program.proofs.SoundMembers.{members_differ}

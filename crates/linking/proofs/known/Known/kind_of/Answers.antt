@@ -2,7 +2,7 @@ use Rattle.std.proofs.Common.{◌<◌, length, refl, ℕ, arith, subst}
 use Rattle.std.proofs.lemmas.Option.{slice_get_within, slice_get_read}
 use Rattle.jvm_model.specs.Linking.{Meets, is_there}
 use Rattle.jvm_model.specs.Programs.{Program}
-use Rattle.linking.specs.Claims.{HasKind}
+use Rattle.linking.specs.Claims.{IsKnownAs}
 use Rattle.linking.proofs.KnownClasses.{no_kind, has_kind}
 use Rattle.linking.proofs.known.Known.kind_of.Goals as goal
 
@@ -27,4 +27,4 @@ returns-clause-found c =
     let found = c.in_ok-place.ensures.found in
     let within : place < length kinds = subst (λ (n : ℕ). place < n) c.self.invariant (slice_get_within names place name found) in
     let is = slice_get_read kinds (length kinds) place kind refl within c.index.ensures in
-    subst (λ (p : Program). HasKind p name kind) c.self.view_is (has_kind names kinds c.self.invariant name place kind found is c.in_ok-place.ensures.only)
+    subst (λ (p : Program). IsKnownAs p name kind) c.self.view_is (has_kind names kinds c.self.invariant name place kind found is c.in_ok-place.ensures.only)

@@ -2,8 +2,8 @@
 use Rattle.std.specs.Prelude.{codes, ◌≡◌, ℕ, List, [], ◌∷◌, None, Contains, false}
 use Rattle.jvm_model.specs.declared.site.Site.{Site}
 use Rattle.jvm_model.specs.declared.site.SiteKind.TheVariants.{Boot}
-use Rattle.jvm_model.specs.Machine.{Subject, Step}
-use Rattle.jvm_model.specs.States.{Object, Frame, State, runs_on, new_object, default_fields}
+use Rattle.bytecode_machine.specs.Machine.{Subject, Step}
+use Rattle.bytecode_machine.specs.States.{Object, Frame, State, runs_on, new_object, default_fields}
 
 -- An object that is there from the start: the one that stands for the string constants, or for the class constants.
 abbrev pub constant_object : Subject → List ℕ → Object

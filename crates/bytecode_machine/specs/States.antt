@@ -5,7 +5,7 @@ use Rattle.jvm_model.specs.declared.site.Site.{Site}
 use Rattle.jvm_model.specs.declared.site.SiteKind.{SiteKind}
 use Rattle.jvm_model.specs.Instructions.{kinds_of}
 use Rattle.jvm_model.specs.Programs.{Program, Field}
-use Rattle.jvm_model.specs.Table.{Kind, reference}
+use Rattle.jvm_model.specs.Table.{UnitKind, reference}
 
 -- One unit: of a primitive, whose value is left open; null; or a reference to the object at a place of the heap.
 pub data Value : Type 0 where
@@ -93,7 +93,7 @@ waiting f slots = record { method = f.method; offset = f.offset; slots = slots; 
 -- ---- new objects
 
 -- The value with which a variable of a type begins (JVMS 2.3, 2.4).
-abbrev pub default_value : List Kind → Value
+abbrev pub default_value : List UnitKind → Value
 default_value (reference ∷ rest) = null_value
 default_value _ = primitive_value
 

@@ -14,16 +14,16 @@ use Rattle.jvm_model.specs.declared.pool.PoolEntry.{PoolEntry}
 use Rattle.jvm_model.specs.declared.site.SiteKind.TheVariants.{New, Thrown}
 use Rattle.jvm_model.specs.Access.{has_flag}
 use Rattle.jvm_model.specs.declared.code.Handler.{Handler}
-use Rattle.jvm_model.specs.Code.{Code, HasCode}
-use Rattle.jvm_model.specs.Instructions.{Instruction, instruction_at, IsRowAt, member_at, HasUnits}
-use Rattle.jvm_model.specs.Lookups.{MethodName, Signature, class_name_at}
+use Rattle.jvm_model.specs.Code.{CodeBody, HasCode}
+use Rattle.jvm_model.specs.Instructions.{DecodedInstruction, instruction_at, IsRowAt, member_at, HasDescriptorUnits}
+use Rattle.jvm_model.specs.Lookups.{MemberReference, Signature, class_name_at}
 use Rattle.jvm_model.specs.Programs.{Program, Method, in_file, returns_at_once}
 use Rattle.jvm_model.specs.Resolution.{Resolves}
 use Rattle.jvm_model.specs.Selection.{IsInstance, Selects, SelectsSpecial}
 use Rattle.jvm_model.specs.Soundness.{plain_descriptor}
 use Rattle.jvm_model.specs.Subtypes.{IsSubtype}
-use Rattle.jvm_model.specs.States.{Value, primitive_value, null_value, reference_to, Object, Frame, running, throwing, World, State, with_object, with_automaton, with_kept, with_started, runs_on, throws_on, ends_with, moved_to, waiting, site_at, new_object, slot_at}
-use Rattle.jvm_model.specs.Table.{Row, Kind, any_kind, primitive, reference, Origin, popped, the_local, a_null, a_primitive, the_made, Flow, onward, jump, branch, branch_if_null, branch_if_object, branch_if_same, branch_if_other, Action, plain, make_object, invoke_virtual, invoke_special, invoke_static, throw_object, leave_method, Raise, null_pointer, array_index, array_store, arithmetic, class_cast, negative_size}
+use Rattle.bytecode_machine.specs.States.{Value, primitive_value, null_value, reference_to, Object, Frame, running, throwing, World, State, with_object, with_automaton, with_kept, with_started, runs_on, throws_on, ends_with, moved_to, waiting, site_at, new_object, slot_at}
+use Rattle.jvm_model.specs.Table.{Row, UnitKind, any_kind, primitive, reference, UnitSource, popped, the_local, a_null, a_primitive, the_made, Flow, onward, jump, branch, branch_if_null, branch_if_object, branch_if_same, branch_if_other, Action, plain, make_object, invoke_virtual, invoke_special, invoke_static, throw_object, leave_method, Raise, null_pointer, array_index, array_store, arithmetic, class_cast, negative_size}
 
 -- What is run: a program, the automaton of a property, and the number of the entry method.
 pub record Subject : Type 0 where
@@ -41,14 +41,15 @@ pub record InCode (p : Program) (f : Frame) : Type 0 where
   pub stands : slice_get p.methods number ≡ Some method
   pub file : ClassFile
   pub member : Member
-  pub of_file : method.body ≡ in_file file member
-  pub code : Code
+  pub place : ℕ
+  pub of_file : method.body ≡ in_file file place member
+  pub code : CodeBody
   pub has : HasCode file member code
 
 -- The frame stands at an instruction.
 pub record AtInstruction (p : Program) (f : Frame) : Type 0 where
   pub here : InCode p f
-  pub instruction : Instruction
+  pub instruction : DecodedInstruction
   pub is : instruction_at here.code.bytes f.offset ≡ Ok instruction
   pub row : Row
   pub of_row : IsRowAt here.file.pool instruction row
@@ -72,7 +73,7 @@ pub record AtStart (s : State) (offset : ℕ) : Type 0 where
 
 -- ---- operands and effects
 
-abbrev pub HasKind : Kind → Value → Type 0
+abbrev pub HasKind : UnitKind → Value → Type 0
 HasKind any_kind v = Unit {0}
 HasKind primitive primitive_value = Unit {0}
 HasKind primitive null_value = ⊥
@@ -87,7 +88,7 @@ pub record HasOperands (r : Row) (slots kept units : List Value) : Type 0 where
   pub kinds : AllZip HasKind r.pops units
 
 -- The value of a unit that is written.
-abbrev pub value_of : Value → Value → List Value → Origin → Value
+abbrev pub value_of : Value → Value → List Value → UnitSource → Value
 value_of made local units (popped unit) = slot_at units unit
 value_of made local units the_local = local
 value_of made local units a_null = null_value
@@ -161,7 +162,7 @@ pub record Advances (x : Subject) (s t : State) (at : At x.program s) : Type 0 w
 -- ---- calls
 
 -- The new frame of a method: the arguments are its first local variables (JVMS 2.6.1).
-abbrev pub entered : ℕ → Code → List Value → Frame
+abbrev pub entered : ℕ → CodeBody → List Value → Frame
 entered number code arguments =
     record { method = Some number; offset = 0; slots = arguments ++ replicate (code.max_locals - length arguments) primitive_value; waits = false }
 
@@ -171,8 +172,9 @@ pub record EntersCode (p : Program) (number : ℕ) (arguments kept : List Value)
   pub stands : slice_get p.methods number ≡ Some method
   pub file : ClassFile
   pub member : Member
-  pub of_file : method.body ≡ in_file file member
-  pub code : Code
+  pub place : ℕ
+  pub of_file : method.body ≡ in_file file place member
+  pub code : CodeBody
   pub has : HasCode file member code
   pub after : t ≡ runs_on (entered number code arguments ∷ waiting caller kept ∷ below) w
 
@@ -190,7 +192,7 @@ pub data Invokes (p : Program) (number : ℕ) (arguments kept : List Value) (cal
 
 -- The instruction names a method, which resolves.
 pub record NamesMethod (p : Program) (pool : List PoolEntry) (operand : ℕ) : Type 0 where
-  pub called : MethodName
+  pub called : MemberReference
   pub named : member_at pool operand ≡ Some called
   pub resolved : ℕ
   pub resolves : Resolves p called resolved
@@ -273,8 +275,8 @@ pub record Leaves (p : Program) (f : Frame) (now : AtInstruction p f) : Type 0 w
   pub kept : List Value
   pub units : List Value
   pub operands : HasOperands now.row f.slots kept units
-  pub parameters : List Kind
-  pub results : HasUnits now.here.method.signature.descriptor parameters now.row.pops
+  pub parameters : List UnitKind
+  pub results : HasDescriptorUnits now.here.method.signature.descriptor parameters now.row.pops
 
 -- The caller goes on after its call, with the result.
 pub record Returns (x : Subject) (s t : State) (at : At x.program s) : Type 0 where
@@ -415,8 +417,9 @@ pub record IsInitialiser (p : Program) (class : List ℕ) (number : ℕ) : Type 
   pub above : IsSubtype p method.class class
   pub file : ClassFile
   pub member : Member
-  pub of_file : method.body ≡ in_file file member
-  pub code : Code
+  pub place : ℕ
+  pub of_file : method.body ≡ in_file file place member
+  pub code : CodeBody
   pub has : HasCode file member code
 
 -- At a trigger an initialiser that was not started may be started. The frame waits at the same instruction.
