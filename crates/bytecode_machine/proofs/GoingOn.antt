@@ -1,0 +1,25 @@
+-- Executions with one more step.
+use Rattle.std.proofs.Common.{◌≡◌, List, [], ◌∷◌, ◌++◌, refl, sym, ap, ◌∙◌, subst}
+use Rattle.bytecode_machine.specs.Executions.{AreSteps, IsExecution, start}
+use Rattle.bytecode_machine.specs.Machine.{Step, Subject}
+use Rattle.bytecode_machine.specs.States.{State}
+
+-- steps from a state that reach another one, and one step more
+steps_more : (x : Subject) (first : State) (others : List State) (s t : State) → AreSteps x first (others ++ s ∷ []) → Step x s t → AreSteps x first (others ++ s ∷ t ∷ [])
+steps_more x first [] s t h more = (h.0, (more, tt))
+steps_more x first (o ∷ others) s t h more = (h.0, steps_more x o others s t h.1 more)
+
+pub goes_on : (x : Subject) (states : List State) (s t : State) → IsExecution x (states ++ s ∷ []) → Step x s t → IsExecution x (states ++ s ∷ t ∷ [])
+goes_on x [] s t run more =
+    let same : s ∷ [] ≡ start x ∷ run.others = run.begins in
+    let is : s ≡ start x = cc in
+    record { others = t ∷ []; begins = ap (λ (f : State). f ∷ t ∷ []) is; steps = (subst (λ (f : State). Step x f t) is more, tt) }
+goes_on x (first ∷ others) s t run more =
+    let same : first ∷ (others ++ s ∷ []) ≡ start x ∷ run.others = run.begins in
+    let is : first ≡ start x = cc in
+    let rest : run.others ≡ others ++ s ∷ [] = cc in
+    record {
+      others = others ++ s ∷ t ∷ [];
+      begins = ap (λ (f : State). f ∷ (others ++ s ∷ t ∷ [])) is;
+      steps = steps_more x (start x) others s t (subst (λ (ss : List State). AreSteps x (start x) ss) rest run.steps) more;
+    }
