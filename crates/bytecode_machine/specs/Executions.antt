@@ -1,3 +1,4 @@
+-- Public contracts rest on this module.
 -- Executions: from the first state, step by step, of any length; and the error.
 use Rattle.std.specs.Prelude.{codes, ◌≡◌, ℕ, List, [], ◌∷◌, None, Contains, false}
 use Rattle.jvm_model.specs.declared.site.Site.{Site}

@@ -1,3 +1,4 @@
+-- Public contracts rest on this module.
 -- The machine (JVMS 2.6, 2.10, 5.5, 6.5): its steps, one instruction each. Every choice that the model leaves
 -- open has a step of its own. The instructions that have no step yet are those on fields and arrays, ldc of a
 -- reference, checkcast, invokeinterface, and the refused ones of the table; nor has the call of a method that a stub

@@ -1,3 +1,4 @@
+-- Public contracts rest on this module.
 -- The states of the machine (JVMS 2.5, 2.6): values, objects, frames, and what is common to all frames.
 use Rattle.std.specs.Prelude.{ℕ, Bool, false, true, List, [], ◌∷◌, ◌++◌, Option, option_map, slice_get, slice_set, slice_index_or}
 use Rattle.std.specs.Option.{option_map_or}

@@ -1,3 +1,4 @@
+-- Public contracts rest on this module.
 -- Access flags (JVMS 4.1, 4.5, 4.6).
 use Rattle.std.specs.Prelude.{ℕ, Bool, not, ◌==◌, bit_and}
 use Rattle.jvm_model.specs.declared.access.AccessFlag.{AccessFlag}

@@ -1,3 +1,4 @@
+-- Public contracts rest on this module.
 -- What makes an automaton that of a property.
 use Rattle.std.specs.Prelude.{◌≡◌, ◌≢◌, ℕ, ◌<◌, ◌≤◌, Bool, true, ◌&&◌, ◌||◌, not, ◌==◌, nat_le, List, [], ◌∷◌, length, All, Some, slice_get, IsTrue}
 use Rattle.std.specs.List.{list_all, list_any}

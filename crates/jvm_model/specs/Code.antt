@@ -1,3 +1,4 @@
+-- Public contracts rest on this module.
 -- The body of a CodeBody attribute (JVMS 4.7.3).
 use Rattle.std.specs.Prelude.{◌≡◌, ℕ, ◌<◌, ◌^◌, List, [], ◌∷◌, ◌++◌, length, filter, All}
 use Rattle.jvm_model.specs.declared.class_file.ClassFile.{ClassFile}

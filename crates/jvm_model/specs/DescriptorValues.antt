@@ -1,3 +1,4 @@
+-- Public contracts rest on this module.
 -- The values that descriptors spell (JVMS 4.3): kinds of types, and the kinds of a method's parameters and result.
 use Rattle.std.specs.Prelude.{codes, ◌≡◌, ℕ, ◌≤◌, Bool, ◌||◌, List, [], ◌∷◌, ◌++◌, Option, Some, None, sum_by, replicate, if◌then◌else◌}
 use Rattle.std.specs.List.{AllZip, flat_map}

@@ -1,3 +1,4 @@
+-- Public contracts rest on this module.
 -- The descriptors of JVMS 4.3, as bytes.
 use Rattle.std.specs.Prelude.{codes, ◌≡◌, ℕ, zero, suc, ◌≤◌, Bool, ◌||◌, ◌==◌, ◌⊎◌, List, [], ◌∷◌, ◌++◌, All, sum_by, IsTrue, if◌then◌else◌}
 use Rattle.std.specs.List.{flat_map}

@@ -1,3 +1,4 @@
+-- Only the proofs of this crate rest on this module.
 -- What stands at the front of a text, where descriptors follow one another.
 use Rattle.std.specs.Prelude.{◌≡◌, ℕ, ◌≤◌, Option, Some, None, List, ◌∷◌, ◌++◌, length, All, sum_by, take}
 use Rattle.std.specs.List.{flat_map}

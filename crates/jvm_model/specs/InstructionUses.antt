@@ -1,3 +1,4 @@
+-- Public contracts rest on this module.
 -- What an instruction uses of the local variables of its method and of the constant pool (JVMS 4.9.1, 6.5).
 use Rattle.std.specs.Prelude.{ℕ, suc, ◌+◌, Bool, true, false, ◌&&◌, ◌||◌, not, ◌==◌, nat_le, nat_eq, List, [], ◌∷◌, length, Option, Some, None, if◌then◌else◌}
 use Rattle.std.specs.Option.{option_map_or}

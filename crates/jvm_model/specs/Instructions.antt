@@ -1,3 +1,4 @@
+-- Public contracts rest on this module.
 -- The instructions in the code of a method (JVMS 4.7.3, 6.5), why none is read at an offset, and the rows of instructions
 -- once the constant pool is known.
 use Rattle.std.specs.Prelude.{◌≡◌, ℕ, zero, suc, ◌+◌, ◌-◌, ◌*◌, ◌%◌, Bool, ◌||◌, ◌==◌, nat_eq, nat_lt, List, [], ◌∷◌, ◌++◌, length, map, replicate, drop, slice_index, option_map, option_and_then, Option, Some, None, Result, Ok, Err, if◌then◌else◌}

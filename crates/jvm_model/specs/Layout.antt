@@ -1,3 +1,4 @@
+-- Public contracts rest on this module.
 -- Where the code of a method stands in a class file (JVMS 4.7.3).
 use Rattle.std.specs.Prelude.{◌≡◌, ℕ, ◌+◌, true, false, List, ◌∷◌, ◌++◌, length, take, Some}
 use Rattle.std.specs.List.{flat_map, list_any, slice_get}

@@ -1,3 +1,4 @@
+-- Public contracts rest on this module.
 -- What holds of each program that linking gives, and what the layers above rest on.
 use Rattle.std.specs.Prelude.{◌≡◌, ◌≢◌, ℕ, List, AllPairs, map, All, Contains, IsSorted, IsTrue, Some, slice_get, false}
 use Rattle.std.specs.Ordering.{nat_cmp}

@@ -1,3 +1,4 @@
+-- Public contracts rest on this module.
 -- Linking: from the class files of a folder and from stubs to a program in which each name has its class (JVMS 5.3, 5.3.5);
 -- or the first thing that is wrong.
 use Rattle.std.specs.Prelude.{codes, ◌≡◌, ◌⊎◌, ℕ, ◌+◌, Bool, true, false, not, ◌&&◌, List, [], ◌∷◌, ◌++◌, map, filter, find, Result, Ok, Err, All, Contains, IsPermutation, IsSorted, if◌then◌else◌}

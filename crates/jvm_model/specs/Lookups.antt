@@ -1,3 +1,4 @@
+-- Public contracts rest on this module.
 -- What an index of the constant pool stands for.
 use Rattle.std.specs.Prelude.{ℕ, zero, suc, List, Option, Some, None, option_and_then, option_map, slice_get}
 use Rattle.jvm_model.specs.declared.lookup.MemberReference.{MemberReference as LentReference}

@@ -1,3 +1,4 @@
+-- Public contracts rest on this module.
 -- The names of JVMS 4.2, as bytes. Of all bytes only the ASCII characters that it forbids are forbidden.
 use Rattle.std.specs.Prelude.{codes, ◌≡◌, ℕ, ◌<◌, Bool, false, ◌||◌, ◌&&◌, not, ◌==◌, List, [], ◌∷◌, length, All, IsTrue}
 use Rattle.std.specs.List.{list_all, join_with_byte}

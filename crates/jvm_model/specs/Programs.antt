@@ -1,3 +1,4 @@
+-- Public contracts rest on this module.
 -- A program as the machine and the analysis see it: classes, methods and fields.
 use Rattle.std.specs.Prelude.{codes, ℕ, Bool, true, ◌&&◌, ◌||◌, List, [], map, Option, None, unwrap_or}
 use Rattle.std.specs.Str.{bytes_eq}

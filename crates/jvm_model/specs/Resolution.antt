@@ -1,3 +1,4 @@
+-- Public contracts rest on this module.
 -- Resolution of references to methods and fields (JVMS 5.4.3.2, 5.4.3.3, 5.4.3.4).
 use Rattle.std.specs.Prelude.{◌≡◌, ◌≢◌, ◌⊎◌, ℕ, ◌≤◌, Bool, false, List, [], ◌∷◌, ◌++◌, Option, Some, None, Result, Ok, Err, slice_get, MatchBool, IsTrue, if◌then◌else◌}
 use Rattle.std.specs.Option.{option_to_list}

@@ -1,3 +1,4 @@
+-- Public contracts rest on this module.
 -- The rows of the code's instruction table, as rows of the table of JVMS 6.5.
 use Rattle.std.specs.Prelude.{map}
 use Rattle.jvm_model.specs.declared.opcode.PoolTarget.{PoolTarget as CodePoolTarget}

@@ -1,3 +1,4 @@
+-- Public contracts rest on this module.
 -- The method that a call goes to: overriding and selection (JVMS 5.4.5, 6.5.invokevirtual, 6.5.invokeinterface), and the
 -- target of a special call (6.5.invokespecial).
 use Rattle.std.specs.Prelude.{codes, ◌≡◌, ◌≢◌, ◌⊎◌, ℕ, Bool, true, false, ◌&&◌, not, ◌==◌, List, [], ◌∷◌, Some, Result, Ok, Err, slice_get, Contains, MatchBool, IsTrue, if◌then◌else◌}

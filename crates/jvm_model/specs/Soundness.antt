@@ -1,3 +1,4 @@
+-- Public contracts rest on this module.
 -- What makes a class file sound beyond its spelling (JVMS 4.2 to 4.7): each place where it uses an index, a text or a
 -- name, in the order of the file, and what has to hold there.
 use Rattle.std.specs.Prelude.{codes, ◌≡◌, ◌⊎◌, ℕ, ◌+◌, ◌*◌, ◌<◌, ◌^◌, Bool, true, false, ◌&&◌, ◌||◌, not, ◌==◌, nat_lt, nat_le, List, [], ◌∷◌, ◌++◌, length, map, Some, All, Contains, IsTrue, if◌then◌else◌}

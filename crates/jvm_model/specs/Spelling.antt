@@ -1,3 +1,4 @@
+-- Public contracts rest on this module.
 -- The spelling of a class file as bytes, in the order of JVMS 4.1 to 4.7. It only writes.
 use Rattle.std.specs.Prelude.{◌≡◌, ℕ, Bool, true, false, ◌+◌, ◌<◌, ◌^◌, List, [], ◌∷◌, ◌++◌, length}
 use Rattle.std.specs.List.{flat_map, AllByRecursion}

@@ -1,3 +1,4 @@
+-- Public contracts rest on this module.
 -- The rules that a class of a stub file keeps, whatever file says it.
 use Rattle.std.specs.Prelude.{codes, ◌≡◌, ℕ, zero, suc, ◌⊎◌, Bool, true, false, not, ◌&&◌, ◌||◌, ◌==◌, if◌then◌else◌, List, [], length, All, Option, Some, None, slice_get, IsTrue}
 use Rattle.std.specs.Option.{option_map_or}

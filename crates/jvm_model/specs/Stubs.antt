@@ -1,3 +1,4 @@
+-- Public contracts rest on this module.
 -- What stubs say, as classes, methods and fields of a program; and the classes that they mention.
 use Rattle.std.specs.Prelude.{ℕ, ◌-◌, ◌+◌, Bool, true, false, not, ◌&&◌, ◌==◌, List, [], ◌∷◌, ◌++◌, length, take, Option, Some, None, if◌then◌else◌}
 use Rattle.std.specs.List.{flat_map}

@@ -1,3 +1,4 @@
+-- Public contracts rest on this module.
 -- Subtypes (JVMS 4.10.1.2, 5.5): the reflexive and transitive closure of the direct supertypes; chains of superclasses;
 -- superinterfaces; and what an object of a class or an array may be cast to.
 use Rattle.std.specs.Prelude.{codes, ◌≡◌, ◌≢◌, ◌⊎◌, ℕ, List, [], ◌∷◌, ◌++◌, find, Option, Some, None, Contains, IsTrue, if◌then◌else◌}

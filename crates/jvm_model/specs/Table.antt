@@ -1,3 +1,4 @@
+-- Public contracts rest on this module.
 -- The instruction table (JVMS 6.5): for each opcode its mnemonic, its operands, the units that it pops from
 -- the operand stack and those that it writes, where it goes on, what it does beside that, and what it may
 -- raise. A long or a double is two units (JVMS 2.6.1, 2.6.2).

@@ -1,3 +1,4 @@
+-- Public contracts rest on this module.
 -- The words that are printed for reasons.
 use Rattle.std.specs.Prelude.{codes, ℕ, List}
 use Rattle.jvm_model.specs.declared.reason.Reason.{Reason}

@@ -62,7 +62,7 @@ pub enum Descriptor {
 }
 
 /// The descriptor that the bytes spell (JVMS 4.3), or `None` where they are in neither grammar. It takes time
-/// linear in the bytes. An error says that memory ran out.
+/// linear in the bytes. An error means out of memory.
 pub fn descriptor_of(alloc: Global, bytes: &[u8]) -> Result<Option<Descriptor>, AllocError>
     ensures found { IfOk result (λ r. IfSome r (IsDescriptorOf bytes.now)) }
     ensures none { IfOk result (λ r. IfNone r

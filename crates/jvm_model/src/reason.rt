@@ -6,6 +6,7 @@ ghost use Rattle.jvm_model.specs.declared.reason.ReadRefusal.TheVariants.{Memory
 
 use crate::name::Name;
 use std::alloc::{AllocError, AllocFailed};
+use thiserror::Error;
 
 /// The reason of a refusal, in the order in which reasons at one offset are named; in code `BadIndex` comes last.
 #[derive(Clone, Copy, Debug, PartialEq, Eq, PartialOrd, Ord, Hash)]
@@ -135,11 +136,13 @@ pub struct Refusal {
 }
 
 /// Why a class file is not read.
-#[derive(Debug, Drop)]
+#[derive(Debug, Drop, Error)]
 pub enum ReadRefusal {
     /// The file is refused at this offset, counted from its first byte.
+    #[error("refused at offset {offset}: {reason:?}")]
     Refused { offset: u32, reason: Reason },
-    /// Memory ran out.
+    /// Out of memory.
+    #[error("out of memory")]
     Memory,
 }
 

@@ -23,7 +23,7 @@ fn main(rt: HostRuntime) -> ExitCode {
     }
 }
 
-//// Runs the verifier on the words of the program.
+/// Runs the verifier on the words of the program.
 fn verify(rt: HostRuntime) -> Result<Status, AllocError> {
     let alloc = rt.alloc();
     let words = words_of(&rt)?;
@@ -33,7 +33,7 @@ fn verify(rt: HostRuntime) -> Result<Status, AllocError> {
     Ok(run(alloc, &words, &mut tree, &mut out))
 }
 
-//// The words after the program's name. Words that are no text are as good as none: they ask for nothing.
+/// The words after the program's name. Words that are no text are as good as none: they ask for nothing.
 fn words_of(rt: &(impl Env + AllocGlobal)) -> Result<Vec<String>, AllocError> {
     let mut words = Vec::new(rt.alloc());
     match env::args(rt) {
@@ -48,7 +48,7 @@ fn words_of(rt: &(impl Env + AllocGlobal)) -> Result<Vec<String>, AllocError> {
     }
 }
 
-//// The folder of the class files: the word after the first `--classes`, or the rest of the first word that
+/// The folder of the class files: the word after the first `--classes`, or the rest of the first word that
 /// begins with `--classes=`, or else the current folder.
 fn folder_of(words: &[String]) -> &str
     ensures { result.now ≡ folder_in (map (λ word. string_bytes word) words.now) }
