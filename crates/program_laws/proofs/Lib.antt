@@ -1,0 +1,5 @@
+pub mod Chains
+pub mod Defaults
+pub mod FieldSearch
+pub mod Members
+pub mod Outcomes
