@@ -14,7 +14,8 @@ use Rattle.program_laws.proofs.Defaults.{FindsOne, one_resolved}
 use Rattle.program_laws.proofs.FieldSearch.{one_search}
 use Rattle.program_laws.proofs.Members.{alone_with, one_found_in}
 
-abbrev given : ℕ → Result ℕ Reason
+-- a member that is found
+abbrev pub given : ℕ → Result ℕ Reason
 given number = Ok number
 
 -- ---- fields

@@ -3,4 +3,5 @@
 #![tactic(auto)]
 
 pub mod resolution;
+pub mod selection;
 pub mod subtypes;
