@@ -1,11 +1,10 @@
 -- The search for a field finds one field, or none.
-use Rattle.std.proofs.Common.{◌≡◌, ℕ, List, [], ◌∷◌, ◌++◌, Option, Some, None, refl, sym, ap, subst}
+use Rattle.std.proofs.Common.{◌≡◌, ℕ, List, ◌++◌, Option, Some, None, refl, sym, ap, subst}
 use Rattle.std.specs.Option.{option_to_list}
 use Rattle.std.proofs.lemmas.Option.{none-some}
 use Rattle.jvm_model.specs.Lookups.{Signature}
 use Rattle.jvm_model.specs.Programs.{Class, Program}
-use Rattle.jvm_model.specs.Subtypes.{class_named}
-use Rattle.jvm_model.specs.Resolution.{DeclaresField, FindsField, FindsAmong, itself, above, nowhere, first, later}
+use Rattle.jvm_model.specs.Resolution.{FindsField, FindsAmong, itself, above, nowhere, first, later}
 use Rattle.jvm_model.specs.LinkedPrograms.{IsProgram}
 use Rattle.program_laws.proofs.Chains.{one_class}
 use Rattle.program_laws.proofs.Members.{one_field}

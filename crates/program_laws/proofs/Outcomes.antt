@@ -1,5 +1,5 @@
 -- A reference resolves to one member, or has one reason why to none.
-use Rattle.std.proofs.Common.{◌≡◌, ◌≢◌, ℕ, Bool, List, Option, Some, None, Result, Ok, Err, sym, ap, ◌∙◌, subst}
+use Rattle.std.proofs.Common.{◌≡◌, ◌≢◌, ℕ, Bool, List, Some, None, Result, Ok, sym, ap, ◌∙◌, subst}
 use Rattle.std.specs.List.{slice_get}
 use Rattle.std.proofs.lemmas.Option.{none-some, same_Some}
 use Rattle.jvm_model.specs.declared.access.AccessFlag.TheVariants.{Static}
@@ -10,7 +10,7 @@ use Rattle.jvm_model.specs.Programs.{Class, Field, Program}
 use Rattle.jvm_model.specs.Resolution.{HasSignature, IsFoundIn, ResolvesFrom, Resolves, MethodResolution, FindsField, FieldResolution, found, other_kind, not_found}
 use Rattle.jvm_model.specs.LinkedPrograms.{IsProgram}
 use Rattle.program_laws.proofs.Chains.{one_class}
-use Rattle.program_laws.proofs.Defaults.{FindsOne, one_resolved}
+use Rattle.program_laws.proofs.Defaults.{one_resolved}
 use Rattle.program_laws.proofs.FieldSearch.{one_search}
 use Rattle.program_laws.proofs.Members.{alone_with, one_found_in}
 

@@ -1,5 +1,5 @@
 -- A special call goes to one target, or has one reason why to none.
-use Rattle.std.proofs.Common.{◌≡◌, ℕ, List, Some, Option, Result, sym, ap, ◌∙◌, subst}
+use Rattle.std.proofs.Common.{◌≡◌, ℕ, List, Result, sym, ap, ◌∙◌, subst}
 use Rattle.std.proofs.lemmas.Option.{same_Some}
 use Rattle.jvm_model.specs.declared.reason.Reason.{Reason}
 use Rattle.jvm_model.specs.Lookups.{MemberReference}
@@ -10,7 +10,7 @@ use Rattle.jvm_model.specs.Subtypes.{class_named}
 use Rattle.jvm_model.specs.LinkedPrograms.{IsProgram}
 use Rattle.program_laws.proofs.Calls.{one_kind}
 use Rattle.program_laws.proofs.Chains.{one_class}
-use Rattle.program_laws.proofs.Defaults.{FindsOne, one_selected}
+use Rattle.program_laws.proofs.Defaults.{one_selected}
 use Rattle.program_laws.proofs.Members.{alone_instance, one_found_in}
 use Rattle.program_laws.proofs.Outcomes.{given}
 

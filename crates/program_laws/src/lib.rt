@@ -1,7 +1,9 @@
-//! Laws of whole programs: each question that the layers above ask of a program has one answer. A text "the answer is
-//! exactly this" in their contracts therefore names one value. Each law calls nothing, and holds of each program.
+//! Laws of whole programs: each question that the layers above ask of class files, of stubs and of a program has one
+//! answer. So a contract that says which answer is given leaves no choice. Each law calls nothing, and stands on the
+//! definitions alone.
 #![tactic(auto)]
 
+pub mod linking;
 pub mod resolution;
 pub mod selection;
 pub mod subtypes;

@@ -5,7 +5,7 @@ ghost use Rattle.jvm_model.specs.Programs.{Class, Program};
 ghost use Rattle.jvm_model.specs.Subtypes.{IsSubtype, IsChain};
 ghost use Rattle.jvm_model.specs.LinkedPrograms.{IsProgram, class_names};
 
-/// A name begins at most one chain of superclasses, in whatever classes.
+/// A name begins at most one chain of superclasses, whatever classes there are.
 pub fn some_chain_is_one()
     ensures { (p : Program) (start : Option (List ℕ)) (a b : List Class) → IsChain p start a → IsChain p start b → a ≡ b }
 {}
