@@ -1,0 +1,11 @@
+pub mod Calls
+pub mod Chains
+pub mod Defaults
+pub mod FieldSearch
+pub mod FirstUnmet
+pub mod Links
+pub mod Members
+pub mod NameClaims
+pub mod Orders
+pub mod Outcomes
+pub mod SpecialCalls

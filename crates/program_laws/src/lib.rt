@@ -1,0 +1,9 @@
+//! Laws of whole programs: each question that the layers above ask of class files, of stubs and of a program has one
+//! answer. So a contract that says which answer is given leaves no choice. Each law calls nothing, and stands on the
+//! definitions alone.
+#![tactic(auto)]
+
+pub mod linking;
+pub mod resolution;
+pub mod selection;
+pub mod subtypes;
