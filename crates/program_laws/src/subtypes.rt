@@ -10,8 +10,8 @@ pub fn some_chain_is_one()
     ensures { (p : Program) (start : Option (List ℕ)) (a b : List Class) → IsChain p start a → IsChain p start b → a ≡ b }
 {}
 
-/// Two classes of a program that are subtypes of each other are the same.
+/// Two classes that are subtypes of each other are the same, if one of them is in the program.
 pub fn subtypes_are_ordered()
     ensures { (p : Program) (x y : List ℕ) → IsProgram p → IsSubtype p x y → IsSubtype p y x
-        → Contains (class_names p) x → Contains (class_names p) y → x ≡ y }
+        → Contains (class_names p) y → x ≡ y }
 {}

@@ -2,4 +2,4 @@ use Rattle.program_laws.proofs.Outcomes.{one_method_outcome}
 use Rattle.program_laws.proofs.resolution.one_method_resolution.Goals as goal
 
 pub returns : goal.returns
-returns c = λ p class by_interface s a b program there. one_method_outcome p class by_interface s a b program
+returns c = one_method_outcome
