@@ -53,7 +53,10 @@ fn graph_or_fault(alloc: Global, class: &ClassFile, code: &Code) -> Result<Graph
 {
     let marks = marks_of(alloc, class, code)?;
     if let Some((offset, reason)) = first_fault(code.instructions.as_slice(), &marks) {
-        return Err(ReadRefusal::Refused { offset: code.at + offset, reason });
+        return Err(ReadRefusal::Refused {
+            offset: code.at + offset,
+            reason,
+        });
     }
     let index = HandlerIndex::new(alloc, code.handlers.as_slice())?;
     Ok(Graph {

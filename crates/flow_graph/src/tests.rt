@@ -48,17 +48,35 @@ fn pool(alloc: Global) -> Result<Vec<PoolEntry>, AllocError> {
         PoolEntry::Class(1),
         text(alloc, b"f")?,
         text(alloc, b"J")?,
-        PoolEntry::NameAndType { name: 3, descriptor: 4 },
-        PoolEntry::Fieldref { class: 2, member: 5 },
+        PoolEntry::NameAndType {
+            name: 3,
+            descriptor: 4
+        },
+        PoolEntry::Fieldref {
+            class: 2,
+            member: 5
+        },
         text(alloc, b"m")?,
         text(alloc, b"(JID)J")?,
-        PoolEntry::NameAndType { name: 7, descriptor: 8 },
-        PoolEntry::Methodref { class: 2, member: 9 },
+        PoolEntry::NameAndType {
+            name: 7,
+            descriptor: 8
+        },
+        PoolEntry::Methodref {
+            class: 2,
+            member: 9
+        },
         PoolEntry::Long(5),
         PoolEntry::Taken,
         PoolEntry::Integer(5),
-        PoolEntry::InvokeDynamic { bootstrap: 0, member: 9 },
-        PoolEntry::InterfaceMethodref { class: 2, member: 9 },
+        PoolEntry::InvokeDynamic {
+            bootstrap: 0,
+            member: 9
+        },
+        PoolEntry::InterfaceMethodref {
+            class: 2,
+            member: 9
+        },
         text(alloc, b"[[I")?,
         PoolEntry::Class(16),
     ]?)

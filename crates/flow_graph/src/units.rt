@@ -34,7 +34,12 @@ fn spelled_units(spelled: &Option<Descriptor>) -> MethodUnits
     ensures { result ≡ spelled_units spelled.now }
 {
     match spelled {
-        Some(Descriptor::Method { parameters: kinds, outcome }) => MethodUnits {
+        Some(
+            Descriptor::Method {
+                parameters: kinds,
+                outcome,
+            },
+        ) => MethodUnits {
             parameters: units_of(kinds.as_slice()),
             results: outcome_units(outcome),
         },
@@ -102,9 +107,18 @@ fn member_descriptor(pool: &[PoolEntry], index: u32) -> Option<&[u8]>
     ensures { option_map (λ d. d.now) result ≡ option_map (λ (m : MemberReference). m.signature.descriptor) (member_at pool.now index) }
 {
     match entry_at(pool, index)? {
-        PoolEntry::Fieldref { class, member: signature } => descriptor_in(pool, *class, *signature),
-        PoolEntry::Methodref { class, member: signature } => descriptor_in(pool, *class, *signature),
-        PoolEntry::InterfaceMethodref { class, member: signature } => descriptor_in(pool, *class, *signature),
+        PoolEntry::Fieldref {
+            class,
+            member: signature,
+        } => descriptor_in(pool, *class, *signature),
+        PoolEntry::Methodref {
+            class,
+            member: signature,
+        } => descriptor_in(pool, *class, *signature),
+        PoolEntry::InterfaceMethodref {
+            class,
+            member: signature,
+        } => descriptor_in(pool, *class, *signature),
         _ => None,
     }
 }
@@ -133,9 +147,18 @@ pub(crate) fn member_descriptor_at(pool: &[PoolEntry], index: u32) -> Option<u16
     ensures { result ≡ member_descriptor_at pool.now index }
 {
     match entry_at(pool, index)? {
-        PoolEntry::Fieldref { member: signature, .. } => signature_descriptor_at(pool, *signature),
-        PoolEntry::Methodref { member: signature, .. } => signature_descriptor_at(pool, *signature),
-        PoolEntry::InterfaceMethodref { member: signature, .. } => signature_descriptor_at(pool, *signature),
+        PoolEntry::Fieldref {
+            member: signature,
+            ..
+        } => signature_descriptor_at(pool, *signature),
+        PoolEntry::Methodref {
+            member: signature,
+            ..
+        } => signature_descriptor_at(pool, *signature),
+        PoolEntry::InterfaceMethodref {
+            member: signature,
+            ..
+        } => signature_descriptor_at(pool, *signature),
         _ => None,
     }
 }
@@ -145,7 +168,10 @@ pub(crate) fn site_descriptor_at(pool: &[PoolEntry], index: u32) -> Option<u16>
     ensures { result ≡ site_descriptor_at pool.now index }
 {
     match entry_at(pool, index)? {
-        PoolEntry::InvokeDynamic { member: signature, .. } => signature_descriptor_at(pool, *signature),
+        PoolEntry::InvokeDynamic {
+            member: signature,
+            ..
+        } => signature_descriptor_at(pool, *signature),
         _ => None,
     }
 }

@@ -26,8 +26,14 @@ fn wide_class(alloc: Global) -> Result<ClassFile, AllocError> {
         PoolEntry::Class(1),
         text(alloc, b"m")?,
         long_text(alloc, b"(", b'I', b")V")?,
-        PoolEntry::NameAndType { name: 3, descriptor: 4 },
-        PoolEntry::Methodref { class: 2, member: 5 },
+        PoolEntry::NameAndType {
+            name: 3,
+            descriptor: 4
+        },
+        PoolEntry::Methodref {
+            class: 2,
+            member: 5
+        },
         long_text(alloc, b"", b'[', b"I")?,
         PoolEntry::Class(7),
     ]?;
