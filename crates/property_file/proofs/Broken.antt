@@ -1,44 +1,22 @@
 -- A table breaks the rule of one key at most, and of none where it gives an automaton.
-use Rattle.std.proofs.Common.{codes, ◌≡◌, ◌≢◌, ℕ, true, List, [], All, Contains, Some, None, Result, Ok, Err, IfOk, IfErr, Ordering, Less, Equal, Greater, nat_cmp, ◌⊎◌, inl, inr, sym, ap, ◌∙◌, subst, refl, arith, IsTrue}
-use Rattle.std.specs.Cmp.Lexicographic.{slice_cmp}
-use Rattle.std.specs.Ordering.{is_le, is_eq, ordering_reverse}
-use Rattle.std.proofs.lemmas.Bool.{cases_Bool, false≢true}
-use Rattle.std.proofs.lemmas.Option.{same_Some, none-some}
-use Rattle.std.proofs.lemmas.Cmp.{nat_list_cmp_total}
-use Rattle.std.proofs.lemmas.Map.Text.{is_eq-slice_cmp}
-use Rattle.std.proofs.lemmas.Slice.Eq.{bytes_eq-Decides}
-use Rattle.std.proofs.lemmas.Str.{IsUtf8-from_is_utf8, is_utf8-from_IsUtf8}
-use Rattle.std.specs.Str.{IsUtf8, is_utf8}
+use Rattle.std.proofs.Common.{codes, ◌≡◌, ◌≢◌, ℕ, List, [], Contains, Result, Ok, Err, IfOk, IfErr, ◌⊎◌, inl, inr, sym, ap, ◌∙◌, subst, refl, arith}
 use Rattle.toml.specs.Data.{Members}
-use Rattle.toml.specs.Parse.{parse_document}
 use Rattle.jvm_model.specs.declared.automaton.Automaton.{Automaton}
 use Rattle.jvm_model.specs.declared.automaton.Event.{Event}
 use Rattle.jvm_model.specs.Automata.{IsAutomaton}
+use Rattle.toml_tables.specs.Documents.{IsDocument, IsNoDocument}
+use Rattle.toml_tables.specs.Tables.{other_keys, HasOnly, IsLeast}
+use Rattle.toml_tables.proofs.Keys.{IsLeast-same}
+use Rattle.toml_tables.proofs.OneDocument.{never_both, IsDocument-same}
+use Rattle.toml_tables.proofs.Values.{text_same}
 use Rattle.property_file.specs.declared.refusal.PropertyRefusal.{PropertyRefusal}
 use Rattle.property_file.specs.declared.refusal.PropertyRefusal.TheVariants.{BadToml, BadProperty, Memory}
-use Rattle.property_file.specs.Documents.{other_keys, IsDocument, IsLeast}
 use Rattle.property_file.specs.Rules.{GivesVersion, GivesClass, GivesStates, GivesInitial, GivesError, GivesEvents}
 use Rattle.property_file.specs.PropertyFile.{file_keys, GivesAutomaton, IsPropertyFile}
-use Rattle.property_file.specs.Refusals.{IsNoDocument, too_large, no_text, no_toml, IsBroken, version, class, states, initial, error, event, other, IsBrokenFile, IsPropertyRefusal}
+use Rattle.property_file.specs.Refusals.{IsBroken, version, class, states, initial, error, event, other, IsBrokenFile, IsPropertyRefusal}
 use Rattle.property_file.specs.Reading.{NamesKey, IsTableRefusal}
-use Rattle.property_file.proofs.Parts.{text_same, NamesState-unique, GivesStates-unique, GivesEvents-unique}
-use Rattle.property_file.proofs.Whole.{IsDocument-same, GivesParts-unique, GivesParts-sound}
-
--- the least of some keys is one
-both_le : (o : Ordering) → is_le o ≡ true → is_le (ordering_reverse o) ≡ true → is_eq o ≡ true
-both_le Less a b = absurd (false≢true b)
-both_le Equal a b = refl
-both_le Greater a b = absurd (false≢true a)
-
-at_contained : {X : Type 0} (P : X → Type 0) (xs : List X) (x : X) → Contains xs x → All P xs → P x
-at_contained P xs x c all = subst P c.2 (all c.0 x c.1)
-
-pub IsLeast-same : (keys : List (List ℕ)) (k l : List ℕ) → IsLeast keys k → IsLeast keys l → k ≡ l
-IsLeast-same keys k l a b =
-    let k_l : is_le (slice_cmp nat_cmp k l) ≡ true = at_contained (λ x. IsTrue (is_le (slice_cmp nat_cmp k x))) keys l b.among a.least in
-    let l_k : is_le (slice_cmp nat_cmp l k) ≡ true = at_contained (λ x. IsTrue (is_le (slice_cmp nat_cmp l x))) keys k a.among b.least in
-    let back : is_le (ordering_reverse (slice_cmp nat_cmp k l)) ≡ true = ap is_le (sym (nat_list_cmp_total.antisymm l k)) ∙ l_k in
-    (bytes_eq-Decides k l).0 (sym (is_eq-slice_cmp k l) ∙ both_le (slice_cmp nat_cmp k l) k_l back)
+use Rattle.property_file.proofs.Parts.{NamesState-unique, GivesStates-unique, GivesEvents-unique}
+use Rattle.property_file.proofs.Whole.{GivesParts-unique, GivesParts-sound}
 
 -- one key after another: its rule is broken; or it gives a value, and what follows is told of that value
 data Told {X : Type 0} (Gives : X → Type 0) (key : List ℕ) (After : X → List ℕ → Type 0) (found : List ℕ) : Type 0 where
@@ -126,7 +104,7 @@ module _ (ms : Members) where
   IsBroken-same k l a b =
       Told-same HasVersion (codes "version") AfterVersion one_version (λ u m n g. same_version m n) k l (told k a) (told l b)
 
-  nothing_least : (key : List ℕ) → other_keys file_keys ms ≡ [] → IsLeast (other_keys file_keys ms) key → ⊥
+  nothing_least : (key : List ℕ) → HasOnly file_keys ms → IsLeast (other_keys file_keys ms) key → ⊥
   nothing_least key none l = let among : Contains [] key = subst (λ (ks : List (List ℕ)). Contains ks key) none l.among in absurd (let h = among.1 in omega arith)
 
   -- none is named where an automaton is given
@@ -141,17 +119,11 @@ module _ (ms : Members) where
       (Told-not (GivesEvents a.states a.error ms) (codes "event") AfterEvents (one_events a.states a.error p.states) a.events key p.events
       (nothing_least key g.no_other)))))) (told key b)
 
--- bytes that are a document are no others
-not_both : (bytes : List ℕ) (ms : Members) → IsDocument bytes ms → IsNoDocument bytes → ⊥
-not_both bytes ms d (too_large past) = absurd (let h = d.limit in omega arith)
-not_both bytes ms d (no_text bad) = bad d.text
-not_both bytes ms d (no_toml e) = none-some ms (sym e ∙ d.document)
-
 pub IsNoDocument-not_broken : (bytes key : List ℕ) → IsNoDocument bytes → IsBrokenFile bytes key → ⊥
-IsNoDocument-not_broken bytes key a b = not_both bytes b.members b.document a
+IsNoDocument-not_broken bytes key a b = never_both bytes b.members b.document a
 
 pub IsNoDocument-not : (bytes : List ℕ) (a : Automaton) → IsNoDocument bytes → IsPropertyFile bytes a → ⊥
-IsNoDocument-not bytes a bad p = not_both bytes p.members p.document bad
+IsNoDocument-not bytes a bad p = never_both bytes p.members p.document bad
 
 pub IsBrokenFile-not : (bytes key : List ℕ) (a : Automaton) → IsBrokenFile bytes key → IsPropertyFile bytes a → ⊥
 IsBrokenFile-not bytes key a b p =
@@ -187,20 +159,12 @@ named ms key BadToml n b = absurd n
 named ms key (BadProperty name) n b = subst (IsBroken ms) (sym n) b
 named ms key Memory n b = tt
 
-pub only_read : (bytes : List ℕ) (ms : Members) (r : Result Automaton PropertyRefusal) → parse_document bytes ≡ Some ms → IfOk r (GivesAutomaton ms) → IfErr r (IsTableRefusal ms)
+pub only_read : (bytes : List ℕ) (ms : Members) (r : Result Automaton PropertyRefusal) → IsDocument bytes ms → IfOk r (GivesAutomaton ms) → IfErr r (IsTableRefusal ms)
     → (a : Automaton) → IsPropertyFile bytes a → (r ≡ Ok a) ⊎ (r ≡ Err Memory)
 only_read bytes ms r document found refused a p =
-    let members : p.members ≡ ms = same_Some p.members ms (sym p.document.document ∙ document) in
+    let members : p.members ≡ ms = IsDocument-same bytes p.members ms p.document document in
     only_that ms a r found refused (subst (λ (ns : Members). GivesAutomaton ns a) members p.gives)
 
 pub sound_read : (ms : Members) (r : Result Automaton PropertyRefusal) → IfOk r (GivesAutomaton ms) → IfOk r IsAutomaton
 sound_read ms (Ok a) g = GivesParts-sound ms a g.parts
 sound_read ms (Err e) g = tt
-
--- bytes that are UTF-8 only where they are no document
-pub no_document : (bytes : List ℕ) → (IsUtf8 bytes → parse_document bytes ≡ None) → IsNoDocument bytes
-no_document bytes h =
-    elim (cases_Bool (is_utf8 bytes)) [
-      | inl text ↦ no_toml (h (IsUtf8-from_is_utf8 bytes text))
-      | inr not_text ↦ no_text (λ u. false≢true (sym not_text ∙ is_utf8-from_IsUtf8 bytes u))
-    ]

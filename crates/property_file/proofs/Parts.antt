@@ -1,33 +1,21 @@
 -- The parts of a property file: each is one thing, and is what its values spell.
-use Rattle.std.proofs.Common.{codes, ◌≡◌, ℕ, ◌<◌, ◌≤◌, List, [], ◌∷◌, length, Option, Some, None, All, slice_get, sym, ap, ◌∙◌, subst, IsTrue}
+use Rattle.std.proofs.Common.{codes, ◌≡◌, ℕ, ◌<◌, ◌≤◌, List, [], ◌∷◌, length, Some, All, slice_get, sym, ap, ◌∙◌, subst, IsTrue}
 use Rattle.std.specs.List.{AllZip}
 use Rattle.std.specs.Str.{bytes_eq}
 use Rattle.std.proofs.lemmas.List.Elements.{All-cons, All-nil}
 use Rattle.std.proofs.lemmas.Option.{slice_get_within}
 use Rattle.toml.specs.declared.value.Value.{Value}
-use Rattle.toml.specs.Data.{Data, string, array, table, Items, Members, get_member}
+use Rattle.toml.specs.Data.{array, Members, get_member}
 use Rattle.toml.specs.View.{view, items_view}
 use Rattle.jvm_model.specs.declared.automaton.Event.{Event}
 use Rattle.jvm_model.specs.Automata.{all_differ, is_same_call, IsEvent}
-use Rattle.property_file.specs.Documents.{texts, tables}
+use Rattle.toml_tables.specs.Documents.{texts, tables}
+use Rattle.toml_tables.proofs.Lists.{AllZip-unique}
+use Rattle.toml_tables.proofs.Values.{array_same, members_same, tables-unique, text_same, texts-unique}
 use Rattle.property_file.specs.Rules.{NamesState, GivesStates, GivesNext, GivesEvent, GivesEvents}
-use Rattle.property_file.specs.Reading.{Finds, IsText, IsStateText, IsEventTable}
-use Rattle.property_file.proofs.Lists.{AllZip-unique, place-unique}
-use Rattle.property_file.proofs.Values.{Stands, texts-unique, texts-from_values, values_from_texts, tables-unique, NamesPlaces-from_values, values_from_names, GivesTables-from_values, values_from_tables}
-
--- an answer of which it is known what it is
-pub Finds-none : {X : Type 0} (P : X → Type 0) (o : Option X) → o ≡ None → Finds P o → (x : X) → P x → ⊥
-Finds-none P o e finds = let none : Finds P None = rw e at finds in none
-
-pub Finds-some : {X : Type 0} (P : X → Type 0) (o : Option X) (x : X) → o ≡ Some x → Finds P o → P x
-Finds-some P o x e finds = let some : Finds P (Some x) = rw e at finds in some
-
--- what a key holds is one thing
-pub array_same : (o : Option Data) (items others : Items) → o ≡ Some (array items) → o ≡ Some (array others) → items ≡ others
-array_same o items others e f = cc
-
-pub text_same : (o : Option Data) (text other : List ℕ) → o ≡ Some (string text) → o ≡ Some (string other) → text ≡ other
-text_same o text other e f = cc
+use Rattle.property_file.specs.Reading.{IsText, IsStateText, IsEventTable}
+use Rattle.property_file.proofs.Lists.{place-unique}
+use Rattle.property_file.proofs.Values.{Stands, texts-from_values, values_from_texts, NamesPlaces-from_values, values_from_names, GivesTables-from_values, values_from_tables}
 
 -- states
 pub GivesStates-values : (ms : Members) (vs : List Value) (states : List (List ℕ)) → get_member (codes "states") ms ≡ Some (array (items_view vs)) → GivesStates ms states → AllZip IsText vs states
@@ -113,9 +101,6 @@ GivesEvent-unique states error ms e f differ g h =
     (text_same _ e.descriptor f.descriptor g.descriptor h.descriptor)
     (AllZip-unique (Stands states) (λ name i j. place-unique name states i j differ) h.next.names e.next f.next
     (subst (λ ns. AllZip (Stands states) ns e.next) names g.next.stand) h.next.stand)
-
-members_same : (ms ns : Members) → table ms ≡ table ns → ms ≡ ns
-members_same ms ns e = cc
 
 pub IsEventTable-unique : (states : List (List ℕ)) (error : ℕ) → IsTrue (all_differ bytes_eq states) → (value : Value) (e f : Event) → IsEventTable states error value e → IsEventTable states error value f → e ≡ f
 IsEventTable-unique states error differ value e f p q =

@@ -1,13 +1,14 @@
 -- The whole of a property file: a table gives one automaton, which is that of a property.
-use Rattle.std.proofs.Common.{codes, ◌≡◌, ℕ, List, sym, ◌∙◌, subst}
-use Rattle.std.proofs.lemmas.Option.{same_Some, slice_get_within}
+use Rattle.std.proofs.Common.{codes, ◌≡◌, ℕ, List, subst}
+use Rattle.std.proofs.lemmas.Option.{slice_get_within}
 use Rattle.toml.specs.Data.{Members}
 use Rattle.jvm_model.specs.declared.automaton.Automaton.{Automaton}
 use Rattle.jvm_model.specs.Automata.{IsAutomaton}
-use Rattle.property_file.specs.Documents.{IsDocument}
+use Rattle.toml_tables.proofs.OneDocument.{IsDocument-same}
+use Rattle.toml_tables.proofs.Values.{text_same}
 use Rattle.property_file.specs.Rules.{GivesInitial, GivesError, GivesEvents}
 use Rattle.property_file.specs.PropertyFile.{GivesParts, IsPropertyFile}
-use Rattle.property_file.proofs.Parts.{text_same, NamesState-unique, GivesStates-unique, GivesEvents-unique, GivesEvents-sound}
+use Rattle.property_file.proofs.Parts.{NamesState-unique, GivesStates-unique, GivesEvents-unique, GivesEvents-sound}
 
 pub GivesParts-sound : (ms : Members) (a : Automaton) → GivesParts ms a → IsAutomaton a
 GivesParts-sound ms a g = record {
@@ -41,9 +42,6 @@ GivesParts-unique ms a b g h =
     let there = subst (λ (e : ℕ). GivesEvents b.states e ms a.events) error here in
     let events : a.events ≡ b.events = GivesEvents-unique b.states b.error ms a.events b.events differ there h.events in
     (λ i. record { class_name = class_name i; states = states i; initial = initial i; error = error i; events = events i })
-
-pub IsDocument-same : (bytes : List ℕ) (ms ns : Members) → IsDocument bytes ms → IsDocument bytes ns → ms ≡ ns
-IsDocument-same bytes ms ns d e = same_Some ms ns (sym d.document ∙ e.document)
 
 pub IsPropertyFile-same : (bytes : List ℕ) (a b : Automaton) → IsPropertyFile bytes a → IsPropertyFile bytes b → a ≡ b
 IsPropertyFile-same bytes a b p q =

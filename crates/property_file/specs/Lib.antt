@@ -1,4 +1,3 @@
-pub mod Documents
 pub mod PropertyFile
 pub mod Reading
 pub mod Refusals

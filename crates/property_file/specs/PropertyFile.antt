@@ -1,8 +1,10 @@
+-- Public contracts rest on this module.
 -- What a property file says: the automaton that its TOML table gives.
-use Rattle.std.specs.Prelude.{codes, ◌≡◌, ℕ, List, [], ◌∷◌}
+use Rattle.std.specs.Prelude.{codes, ℕ, List, [], ◌∷◌}
 use Rattle.toml.specs.Data.{Members}
 use Rattle.jvm_model.specs.declared.automaton.Automaton.{Automaton}
-use Rattle.property_file.specs.Documents.{IsDocument, other_keys}
+use Rattle.toml_tables.specs.Documents.{IsDocument}
+use Rattle.toml_tables.specs.Tables.{HasOnly}
 use Rattle.property_file.specs.Rules.{GivesVersion, GivesClass, GivesStates, GivesInitial, GivesError, GivesEvents}
 
 -- The keys of a property file, in the order in which their rules are told.
@@ -21,7 +23,7 @@ pub record GivesParts (members : Members) (a : Automaton) : Type 0 where
 -- The table gives the automaton, and has no other key.
 pub record GivesAutomaton (members : Members) (a : Automaton) : Type 0 where
   pub parts : GivesParts members a
-  pub no_other : other_keys file_keys members ≡ []
+  pub no_other : HasOnly file_keys members
 
 -- The bytes are a property file of the automaton: a TOML document, not too large, whose table gives it.
 pub record IsPropertyFile (bytes : List ℕ) (a : Automaton) : Type 0 where

@@ -1,18 +1,14 @@
+-- Public contracts rest on this module.
 -- What the reader's parts answer: for one value of a document, for one table, and for one key.
-use Rattle.std.specs.Prelude.{◌≡◌, ℕ, List, [], Option, MatchOption, Some, slice_get}
+use Rattle.std.specs.Prelude.{◌≡◌, ℕ, List, Some, slice_get}
 use Rattle.toml.specs.declared.value.Value.{Value}
 use Rattle.toml.specs.Data.{string, table, Members}
 use Rattle.toml.specs.View.{view}
 use Rattle.jvm_model.specs.declared.automaton.Event.{Event}
 use Rattle.property_file.specs.declared.refusal.PropertyRefusal.{PropertyRefusal}
 use Rattle.property_file.specs.declared.refusal.PropertyRefusal.TheVariants.{BadToml, BadProperty, Memory}
-use Rattle.property_file.specs.Documents.{other_keys, IsLeast}
 use Rattle.property_file.specs.Rules.{GivesEvent}
 use Rattle.property_file.specs.Refusals.{IsBroken}
-
--- The answer has the property, and None is answered only where nothing has it.
-abbrev pub Finds : {X : Type 0} → (X → Type 0) → Option X → Type 0
-Finds {X} P answer = MatchOption answer ((x : X) → P x → ⊥) P
 
 -- The value is this text.
 abbrev pub IsText : Value → List ℕ → Type 0
@@ -41,7 +37,3 @@ abbrev pub IsTableRefusal : Members → PropertyRefusal → Type 0
 IsTableRefusal ms BadToml = ⊥
 IsTableRefusal ms (BadProperty key) = IsBroken ms key
 IsTableRefusal ms Memory = Unit {0}
-
--- The answer is the least key of a table that is none of these keys, and None where there is no such key.
-abbrev pub FindsOtherKey : List (List ℕ) → Members → Option (List ℕ) → Type 0
-FindsOtherKey keys members answer = MatchOption answer (other_keys keys members ≡ []) (IsLeast (other_keys keys members))

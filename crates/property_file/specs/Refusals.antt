@@ -1,21 +1,15 @@
+-- Public contracts rest on this module.
 -- Why a property file is not read: it is no TOML document, or a rule of a key is broken.
-use Rattle.std.specs.Prelude.{codes, ◌≡◌, ℕ, ◌<◌, List, length, None}
-use Rattle.std.specs.Str.{IsUtf8}
+use Rattle.std.specs.Prelude.{codes, ◌≡◌, ℕ, List}
 use Rattle.toml.specs.Data.{Members}
-use Rattle.toml.specs.Parse.{parse_document}
 use Rattle.jvm_model.specs.declared.automaton.Automaton.{Automaton}
 use Rattle.jvm_model.specs.declared.automaton.Event.{Event}
 use Rattle.property_file.specs.declared.refusal.PropertyRefusal.{PropertyRefusal}
 use Rattle.property_file.specs.declared.refusal.PropertyRefusal.TheVariants.{BadToml, BadProperty, Memory}
-use Rattle.property_file.specs.Documents.{property_limit, IsDocument, other_keys, IsLeast}
+use Rattle.toml_tables.specs.Documents.{IsDocument, IsNoDocument}
+use Rattle.toml_tables.specs.Tables.{other_keys, IsLeast}
 use Rattle.property_file.specs.Rules.{GivesVersion, GivesClass, GivesStates, GivesInitial, GivesError, GivesEvents}
 use Rattle.property_file.specs.PropertyFile.{file_keys, GivesParts}
-
--- The bytes are no document of a property file: they are too many, or not UTF-8, or not in the grammar of TOML.
-pub data IsNoDocument (bytes : List ℕ) : Type 0 where
-  too_large : property_limit < length bytes → IsNoDocument bytes
-  no_text : (IsUtf8 bytes → ⊥) → IsNoDocument bytes
-  no_toml : parse_document bytes ≡ None → IsNoDocument bytes
 
 -- The first key, in the order of `file_keys`, of which a rule is broken. A rule that speaks of two keys counts for the
 -- later one. Where none of the six is broken it is the least of the other keys.

@@ -1,13 +1,15 @@
+-- Public contracts rest on this module.
 -- The rules of a property file, key by key. Each says that a table gives a value that may stand there.
 use Rattle.std.specs.Prelude.{codes, ◌≡◌, ◌≢◌, ℕ, pos, ◌≤◌, List, [], ◌∷◌, length, All, Some, slice_get, IsTrue}
 use Rattle.std.specs.List.{AllZip}
 use Rattle.std.specs.Str.{bytes_eq}
-use Rattle.toml.specs.Data.{string, integer, array, Members, get_member}
+use Rattle.toml.specs.Data.{integer, array, Members, get_member}
 use Rattle.jvm_model.specs.declared.automaton.Event.{Event}
 use Rattle.jvm_model.specs.Automata.{all_differ, is_same_call, is_state_name}
 use Rattle.jvm_model.specs.Descriptors.{IsMethodDescriptor}
 use Rattle.jvm_model.specs.Names.{is_method_name, IsClassName}
-use Rattle.property_file.specs.Documents.{other_keys, texts, tables}
+use Rattle.toml_tables.specs.Documents.{texts, tables}
+use Rattle.toml_tables.specs.Tables.{HasOnly, IsTextAt}
 
 -- `version`: the integer 1.
 pub record GivesVersion (members : Members) : Type 0 where
@@ -15,7 +17,7 @@ pub record GivesVersion (members : Members) : Type 0 where
 
 -- `class`: the name of a class.
 pub record GivesClass (members : Members) (name : List ℕ) : Type 0 where
-  pub value : get_member (codes "class") members ≡ Some (string name)
+  pub value : IsTextAt (codes "class") members name
   pub is_class_name : IsClassName name
 
 -- `states`: 2 to 32 different names of states.
@@ -29,7 +31,7 @@ pub record GivesStates (members : Members) (states : List (List ℕ)) : Type 0 w
 -- The text at a key is the name of the state with this number.
 pub record NamesState (states : List (List ℕ)) (key : List ℕ) (members : Members) (number : ℕ) : Type 0 where
   pub name : List ℕ
-  pub value : get_member key members ≡ Some (string name)
+  pub value : IsTextAt key members name
   pub stands : slice_get states number ≡ Some name
 
 -- `initial`: the name of a state.
@@ -55,12 +57,12 @@ event_keys = codes "name" ∷ codes "descriptor" ∷ codes "next" ∷ []
 
 -- The table of an event: the name and the descriptor of a method, and the next states; and no other key.
 pub record GivesEvent (states : List (List ℕ)) (error : ℕ) (members : Members) (event : Event) : Type 0 where
-  pub name : get_member (codes "name") members ≡ Some (string event.name)
+  pub name : IsTextAt (codes "name") members event.name
   pub is_method_name : IsTrue (is_method_name event.name)
-  pub descriptor : get_member (codes "descriptor") members ≡ Some (string event.descriptor)
+  pub descriptor : IsTextAt (codes "descriptor") members event.descriptor
   pub is_method_descriptor : IsMethodDescriptor event.descriptor
   pub next : GivesNext states error members event.next
-  pub no_other : other_keys event_keys members ≡ []
+  pub no_other : HasOnly event_keys members
 
 -- `event`: 1 to 32 tables of events, no two of which agree in name and descriptor.
 pub record GivesEvents (states : List (List ℕ)) (error : ℕ) (members : Members) (events : List Event) : Type 0 where

@@ -1,23 +1,22 @@
 //! The events of a property file.
 
-ghost use Rattle.std.specs.Prelude.{codes, ◌≡◌, ◌↔◌, ◌≤◌, [], length, Some, option_copied, slice_get, IfOk, IsTrue};
+ghost use Rattle.std.specs.Prelude.{codes, ◌≡◌, ◌↔◌, ◌≤◌, length, Some, option_copied, slice_get, IfOk, IsTrue};
 ghost use Rattle.std.specs.List.{AllZip, list_any};
 ghost use Rattle.std.specs.Str.{bytes_eq};
-ghost use Rattle.toml.specs.Data.{string, get_member};
 ghost use Rattle.toml.specs.View.{table_view};
 ghost use Rattle.jvm_model.specs.Automata.{all_differ, is_same_call};
 ghost use Rattle.jvm_model.specs.Descriptors.{IsMethodDescriptor};
 ghost use Rattle.jvm_model.specs.Names.{is_method_name};
-ghost use Rattle.property_file.specs.Documents.{other_keys};
-ghost use Rattle.property_file.specs.Reading.{Finds, FindsOtherKey, IsEventTable};
+ghost use Rattle.toml_tables.specs.Tables.{Finds, HasOnly, IsTextAt};
+ghost use Rattle.property_file.specs.Reading.{IsEventTable};
 ghost use Rattle.property_file.specs.Rules.{event_keys, GivesNext, GivesEvent, GivesEvents};
 
 use crate::state_list::state_numbers;
-use crate::table_access::{array_at, bytes_of, other_key, text_at};
 use jvm_model::grammar::{is_method_descriptor, is_method_name};
 use jvm_model::{Event, Name, Sequence};
 use std::alloc::{AllocError, Global};
 use toml::{Table, Value};
+use toml_tables::{array_at, bytes_of, has_only, text_at};
 
 /// The events that a table gives: 1 to 32, of different calls.
 pub(crate) fn events_at(
@@ -126,14 +125,14 @@ fn event_in(
 
 /// Whether the table has no key that is none of an event.
 fn has_event_keys(table: &Table) -> bool
-    ensures { IsTrue result ↔ (other_keys event_keys (table_view table.now) ≡ []) }
+    ensures { IsTrue result ↔ HasOnly event_keys (table_view table.now) }
 {
-    other_key(table, &["name", "descriptor", "next"]).is_none()
+    has_only(table, &["name", "descriptor", "next"])
 }
 
 /// The name of a method that the table of an event gives.
 fn method_name_at<'a>(table: &'a Table) -> Option<&'a str>
-    ensures { Finds (λ name. (get_member (codes "name") (table_view table.now) ≡ Some (string name)) × IsTrue (is_method_name name))
+    ensures { Finds (λ name. IsTextAt (codes "name") (table_view table.now) name × IsTrue (is_method_name name))
         (option_copied result) }
 {
     let name = text_at(table, "name")?;
@@ -146,7 +145,7 @@ fn method_name_at<'a>(table: &'a Table) -> Option<&'a str>
 
 /// The descriptor of a method that the table of an event gives.
 fn method_descriptor_at<'a>(table: &'a Table) -> Option<&'a str>
-    ensures { Finds (λ text. (get_member (codes "descriptor") (table_view table.now) ≡ Some (string text)) × IsMethodDescriptor text)
+    ensures { Finds (λ text. IsTextAt (codes "descriptor") (table_view table.now) text × IsMethodDescriptor text)
         (option_copied result) }
 {
     let descriptor = text_at(table, "descriptor")?;

@@ -8,7 +8,6 @@ mod laws;
 mod reading;
 mod refusal;
 mod state_list;
-mod table_access;
 
 pub use laws::{automaton_or_refusal, one_automaton, one_refusal, property_is_sound};
 pub use reading::read_property;

@@ -1,28 +1,26 @@
 //! The reading of a property file: its document, and then the keys of its table in their order.
 
-ghost use Rattle.std.specs.Prelude.{codes, ◌≡◌, ◌⊎◌, ◌↔◌, ◌<◌, ◌≤◌, length, Ok, Err, option_copied, IfOk, IfErr, IsTrue};
+ghost use Rattle.std.specs.Prelude.{◌≡◌, ◌⊎◌, ◌↔◌, ◌<◌, ◌≤◌, length, Ok, Err, option_copied, IfOk, IfErr, IsTrue};
 ghost use Rattle.std.specs.Str.{bytes_eq};
 ghost use Rattle.toml.specs.View.{table_view};
 ghost use Rattle.jvm_model.specs.declared.automaton.Automaton.{Automaton};
 ghost use Rattle.jvm_model.specs.Automata.{all_differ, IsAutomaton};
+ghost use Rattle.toml_tables.specs.Documents.{document_limit};
+ghost use Rattle.toml_tables.specs.Tables.{Finds, FindsOtherKey};
 ghost use Rattle.property_file.specs.declared.refusal.PropertyRefusal.TheVariants.{BadToml, Memory};
-ghost use Rattle.property_file.specs.Documents.{property_limit};
 ghost use Rattle.property_file.specs.PropertyFile.{file_keys, GivesAutomaton, IsPropertyFile};
-ghost use Rattle.property_file.specs.Reading.{Finds, FindsOtherKey, IsTableRefusal};
+ghost use Rattle.property_file.specs.Reading.{IsTableRefusal};
 ghost use Rattle.property_file.specs.Refusals.{IsPropertyRefusal};
 ghost use Rattle.property_file.specs.Rules.{GivesVersion, GivesClass, GivesError};
 
 use crate::event_list::events_at;
 use crate::refusal::{PropertyRefusal, refusal_of, required};
 use crate::state_list::{state_at, states_at};
-use crate::table_access::{bytes_of, integer_at, other_key, text_at};
 use jvm_model::grammar::is_class_name;
 use jvm_model::{Automaton, Bytes, Name};
 use std::alloc::{AllocError, Global};
 use toml::Table;
-
-/// The most bytes of a property file.
-const PROPERTY_LIMIT: usize = 1_048_576;
+use toml_tables::{TableFailure, bytes_of, integer_at, other_key, read_table, text_at};
 
 /// Reads the bytes of a property file: the automaton that its table gives.
 ///
@@ -35,15 +33,12 @@ pub fn read_property(alloc: Global, bytes: &[u8]) -> Result<Automaton, PropertyR
     ensures refused { IfErr result (IsPropertyRefusal bytes.now) }
 
     // Such bytes are not even read.
-    ensures large { property_limit < length bytes.now → result ≡ Err BadToml }
+    ensures large { document_limit < length bytes.now → result ≡ Err BadToml }
 {
-    if bytes.len() > PROPERTY_LIMIT {
-        return Err(PropertyRefusal::BadToml);
-    }
-    match toml::table_from_slice(alloc, bytes) {
+    match read_table(alloc, bytes) {
         Ok(table) => automaton_in(alloc, &table),
-        Err(error) if error.is_memory() => Err(PropertyRefusal::Memory),
-        Err(_) => Err(PropertyRefusal::BadToml),
+        Err(TableFailure::NoDocument) => Err(PropertyRefusal::BadToml),
+        Err(TableFailure::OutOfMemory) => Err(PropertyRefusal::Memory),
     }
 }
 

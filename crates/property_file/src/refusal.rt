@@ -6,16 +6,21 @@ ghost use Rattle.property_file.specs.declared.refusal.PropertyRefusal.TheVariant
 
 use jvm_model::Name;
 use std::alloc::{AllocError, Global};
+use thiserror::Error;
+use toml_tables::DOCUMENT_LIMIT;
 
 /// Why a property file is not read.
-#[derive(Debug, Drop)]
+#[derive(Debug, Drop, Error)]
 pub enum PropertyRefusal {
-    /// The file has more bytes than the limit, is not UTF-8, or is no TOML document.
+    /// The file has more bytes than `DOCUMENT_LIMIT`, is not UTF-8, or is no TOML document.
+    #[error("the property file is no TOML document of at most {DOCUMENT_LIMIT} bytes")]
     BadToml,
     /// A rule of this key is broken, and none of a key before it in the order of the format; or, where each
     /// key of the format is as it should be, this is the least of the other keys.
+    #[error("the key {} breaks a rule of property files", .0.as_str())]
     BadProperty(Name),
     /// Memory ran out.
+    #[error("out of memory")]
     Memory,
 }
 

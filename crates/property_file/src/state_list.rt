@@ -5,14 +5,15 @@ ghost use Rattle.std.specs.List.{AllZip, list_any};
 ghost use Rattle.std.specs.Str.{bytes_eq};
 ghost use Rattle.jvm_model.specs.Automata.{all_differ, is_state_name};
 ghost use Rattle.toml.specs.View.{table_view};
-ghost use Rattle.property_file.specs.Reading.{Finds, IsText, IsStateText};
+ghost use Rattle.toml_tables.specs.Tables.{Finds};
+ghost use Rattle.property_file.specs.Reading.{IsText, IsStateText};
 ghost use Rattle.property_file.specs.Rules.{NamesState, GivesStates};
 
-use crate::table_access::{array_at, text_at};
 use jvm_model::grammar::is_state_name;
 use jvm_model::{Name, Sequence};
 use std::alloc::{AllocError, Global};
 use toml::{Table, Value};
+use toml_tables::{array_at, text_at};
 
 /// The states that a table gives: 2 to 32 different names.
 pub(crate) fn states_at(alloc: Global, table: &Table) -> Result<Option<Sequence<Name>>, AllocError>

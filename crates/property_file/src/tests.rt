@@ -193,3 +193,21 @@ fn holds_to_the_number_of_bytes(rt: HostRuntime) -> Result<(), Fail> {
     check_bytes(&rt, rt.alloc(), blanks.as_bytes(), "BadToml")?;
     Ok(())
 }
+
+#[test]
+fn tells_a_refusal_in_words(rt: HostRuntime) -> Result<(), Fail> {
+    let refusal = read_property(rt.alloc(), b"version = 2")
+        .err()
+        .ok_or("read")?;
+    let text = format!(in rt.alloc(); "{refusal}")?;
+    assert_eq!(rt;
+        text.as_str(),
+        "the key version breaks a rule of property files"
+    );
+    let text = format!(in rt.alloc(); "{}", PropertyRefusal::BadToml)?;
+    assert_eq!(rt;
+        text.as_str(),
+        "the property file is no TOML document of at most 1048576 bytes"
+    );
+    Ok(())
+}

@@ -10,6 +10,7 @@ use Rattle.std.proofs.lemmas.Bool.{and_parts, and_from, false≢true, not-true}
 use Rattle.std.proofs.lemmas.List.{take_all, take_more, take-append-drop, drop_more}
 use Rattle.std.proofs.lemmas.Map.Text.{is_eq-slice_cmp}
 use Rattle.jvm_model.specs.Automata.{all_differ}
+use Rattle.toml_tables.proofs.Lists.{list_any-map}
 use Rattle.stub_file.specs.declared.signature.Signature.{Signature}
 use Rattle.stub_file.specs.Signatures.{is_same_texts, signature_cmp, signature_texts, Texts}
 
@@ -58,10 +59,6 @@ any_among p (x ∷ xs) y zs h = ap (λ b. p x || b) (any_among p xs y zs h) ∙ 
     or_true true = refl
     or_true false = refl
 
-any_map : {X Y : Type 0} (f : X → Y) (p : Y → Bool) (xs : List X) → list_any (λ x. p (f x)) xs ≡ list_any p (map f xs)
-any_map f p [] = refl
-any_map f p (x ∷ xs) = ap (λ b. p (f x) || b) (any_map f p xs)
-
 nothing_and : (b : Bool) → (b && false) ≡ false
 nothing_and true = refl
 nothing_and false = refl
@@ -100,7 +97,7 @@ pub seen_again : (seen : BTreeSet Signature) (ss : List Signature) (i : ℕ) (s 
 seen_again seen ss i s was h at known is repeated =
     let f = signature_texts in
     let found : list_any (λ (x : Texts). is_same_texts x (f s)) (map f (take i ss)) ≡ true =
-    sym (any_map f (λ (x : Texts). is_same_texts x (f s)) (take i ss)) ∙ sym (known.all s) ∙ sym is ∙ repeated in
+    sym (list_any-map (λ (x : Texts). is_same_texts x (f s)) f (take i ss)) ∙ sym (known.all s) ∙ sym is ∙ repeated in
     let split : ss ≡ take i ss ++ s ∷ drop (i + 1) ss =
     sym (take-append-drop i ss) ∙ ap (λ w. take i ss ++ w) (drop_more ss i s h ∙ ap (λ w. w ∷ drop (i + 1) ss) (sym at)) in
     ap (λ (l : List Signature). all_differ is_same_texts (map f l)) split
@@ -115,7 +112,7 @@ seen_more seen more ss i s was h at known is no_more after =
     let front = take i ss in
     let longer : take (i + 1) ss ≡ front ++ s ∷ [] = take_more ss i s h ∙ ap (λ w. front ++ w ∷ []) (sym at) in
     let none : list_any (λ (x : Texts). is_same_texts x (f s)) (map f front) ≡ false =
-    sym (any_map f (λ (x : Texts). is_same_texts x (f s)) front) ∙ sym (known.all s) ∙ sym is ∙ no_more in
+    sym (list_any-map (λ (x : Texts). is_same_texts x (f s)) f front) ∙ sym (known.all s) ∙ sym is ∙ no_more in
     record {
       all = λ t. after t ∙ ap (λ b. b || is_same_texts (f s) (f t)) (known.all t) ∙ sym (any_push (λ (x : Signature). is_same_texts (f x) (f t)) front s)
           ∙ ap (list_any (λ (x : Signature). is_same_texts (f x) (f t))) (sym longer);
@@ -130,7 +127,7 @@ seen_all seen ss i h known = ap (λ (l : List Signature). all_differ is_same_tex
 -- items differ where their images do
 all_differ-map : {X Y : Type 0} (f : X → Y) (same : Y → Y → Bool) (xs : List X) → all_differ (λ x y. same (f x) (f y)) xs ≡ all_differ same (map f xs)
 all_differ-map f same [] = refl
-all_differ-map f same (x ∷ xs) = λ i. not (any_map f (same (f x)) xs i) && all_differ-map f same xs i
+all_differ-map f same (x ∷ xs) = λ i. not (list_any-map (same (f x)) f xs i) && all_differ-map f same xs i
 
 -- what is known of the answer `differ`, for the items and for their images
 pub differ_told : {X Y : Type 0} (f : X → Y) (same : Y → Y → Bool) (xs : List X) (differ : Bool) → differ ≡ all_differ same (map f xs) → differ ≡ all_differ (λ x y. same (f x) (f y)) xs

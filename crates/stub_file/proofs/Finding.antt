@@ -1,12 +1,5 @@
 -- Answers of which it is known what they are.
 use Rattle.std.proofs.Common.{◌≡◌, Option, Some, None, IfSome, IfNone, Result, Ok, Err, IfOk, subst}
-use Rattle.stub_file.specs.StubReading.{Finds}
-
-pub Finds-none : {X : Type 0} (P : X → Type 0) (o : Option X) → o ≡ None → Finds P o → (x : X) → P x → ⊥
-Finds-none P o e finds = let none : Finds P None = rw e at finds in none
-
-pub Finds-some : {X : Type 0} (P : X → Type 0) (o : Option X) (x : X) → o ≡ Some x → Finds P o → P x
-Finds-some P o x e finds = let some : Finds P (Some x) = rw e at finds in some
 
 pub found_is : {X : Type 0} (P : X → Type 0) (r : Option X) (x : X) → r ≡ Some x → IfSome r P → P x
 found_is {X} P r x e h = subst (λ (o : Option X). IfSome o P) e h

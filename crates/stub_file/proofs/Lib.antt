@@ -5,7 +5,6 @@ pub mod Lists
 pub mod SoundParts
 pub mod Spelling
 pub mod SuperClass
-pub mod TableKeys
 pub mod Whole
 pub mod OneAnswer
 pub mod OneWord

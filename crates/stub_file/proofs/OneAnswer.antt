@@ -1,16 +1,17 @@
 -- Bytes are at most one stub file, are refused for at most one reason but for want of memory, and never both.
-use Rattle.std.proofs.Common.{◌≡◌, ◌⊎◌, inl, inr, ℕ, ◌<◌, ◌≤◌, List, [], ◌∷◌, ◌++◌, length, All, Option, Some, None, ⊎_elim, arith, refl, sym, ap, ◌∙◌, subst}
+use Rattle.std.proofs.Common.{◌≡◌, ◌⊎◌, inl, inr, ℕ, ◌<◌, List, [], ◌∷◌, ◌++◌, length, All, Option, Some, None, arith, refl, sym, ap, ◌∙◌, subst}
 use Rattle.std.proofs.lemmas.List.Elements.{All-head, All-tail}
 use Rattle.toml.specs.Data.{Members}
 use Rattle.jvm_model.specs.declared.stub.StubClass.{StubClass}
 use Rattle.stub_file.specs.declared.refusal.StubRefusal.{StubRefusal}
 use Rattle.stub_file.specs.declared.refusal.StubRefusal.TheVariants.{BadToml, BadStub, Memory}
-use Rattle.stub_file.specs.StubFile.{stub_limit, GivesClass, IsDocument, IsFirstBreach, IsStubRefusal, IsStubFile, IsTableRefusal, SpellsFile}
-use Rattle.stub_file.proofs.Whole.{for_memory, HasOuterKeys-unique, IsDocument-unique, SpellsFile-unique}
+use Rattle.toml_tables.proofs.OneDocument.{never_both, IsDocument-same}
+use Rattle.stub_file.specs.StubFile.{GivesClass, IsFirstBreach, IsStubRefusal, IsStubFile, IsTableRefusal, SpellsFile}
+use Rattle.stub_file.proofs.Whole.{for_memory, HasOuterKeys-unique, SpellsFile-unique}
 
 pub IsStubFile-unique : (file bytes : List ℕ) (cs es : List StubClass) → IsStubFile file bytes cs → IsStubFile file bytes es → cs ≡ es
 IsStubFile-unique file bytes cs es p q =
-    let same : p.members ≡ q.members = IsDocument-unique bytes p.members q.members p.document q.document in
+    let same : p.members ≡ q.members = IsDocument-same bytes p.members q.members p.document q.document in
     SpellsFile-unique file q.members cs es (subst (λ (ms : Members). SpellsFile file ms cs) same p.spells) q.spells
 
 -- an item at a place is among those before a later place
@@ -42,23 +43,20 @@ one_class file ms (Some n) (Some m) p q =
     let same : p.0 ≡ q.0 = HasOuterKeys-unique ms p.0 q.0 p.1 q.1 in
     ap Some (first_unique file q.0 n m (subst (λ (ts : List Members). IsFirstBreach file ts n) same p.2) q.2)
 
-not_a_document : (bytes : List ℕ) (ms : Members) → length bytes ≤ stub_limit → IsDocument bytes ms → (stub_limit < length bytes) ⊎ ((members : Members) → IsDocument bytes members → ⊥) → ⊥
-not_a_document bytes ms limit document = ⊎_elim (λ long. omega arith) (λ none. none ms document)
-
 pub one_reason : (file bytes : List ℕ) (r s : StubRefusal) → IsStubRefusal file bytes r → IsStubRefusal file bytes s → ((r ≡ Memory) ⊎ (s ≡ Memory)) ⊎ (r ≡ s)
 one_reason file bytes Memory s p q = inl (inl refl)
 one_reason file bytes BadToml BadToml p q = inr refl
-one_reason file bytes BadToml (BadStub b) p q = absurd (not_a_document bytes q.members q.limit q.document p)
+one_reason file bytes BadToml (BadStub b) p q = absurd (never_both bytes q.members q.document p)
 one_reason file bytes BadToml Memory p q = inl (inr refl)
-one_reason file bytes (BadStub a) BadToml p q = absurd (not_a_document bytes p.members p.limit p.document q)
+one_reason file bytes (BadStub a) BadToml p q = absurd (never_both bytes p.members p.document q)
 one_reason file bytes (BadStub a) (BadStub b) p q =
-    let same : p.members ≡ q.members = IsDocument-unique bytes p.members q.members p.document q.document in
+    let same : p.members ≡ q.members = IsDocument-same bytes p.members q.members p.document q.document in
     inr (ap BadStub (one_class file q.members a b (subst (λ (ms : Members). IsTableRefusal file ms (BadStub a)) same p.refused) q.refused))
 one_reason file bytes (BadStub a) Memory p q = inl (inr refl)
 
 pub not_both : (file bytes : List ℕ) (cs : List StubClass) (r : StubRefusal) → IsStubFile file bytes cs → IsStubRefusal file bytes r → r ≡ Memory
-not_both file bytes cs BadToml is refused = absurd (not_a_document bytes is.members is.limit is.document refused)
+not_both file bytes cs BadToml is refused = absurd (never_both bytes is.members is.document refused)
 not_both file bytes cs (BadStub a) is refused =
-    let same : is.members ≡ refused.members = IsDocument-unique bytes is.members refused.members is.document refused.document in
+    let same : is.members ≡ refused.members = IsDocument-same bytes is.members refused.members is.document refused.document in
     for_memory file refused.members cs (BadStub a) (subst (λ (ms : Members). SpellsFile file ms cs) same is.spells) refused.refused
 not_both file bytes cs Memory is refused = refl

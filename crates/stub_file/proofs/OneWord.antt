@@ -11,7 +11,8 @@ use Rattle.jvm_model.specs.declared.stub.StubArgument.{StubArgument}
 use Rattle.jvm_model.specs.declared.stub.StubArgument.TheVariants.{This, Argument}
 use Rattle.jvm_model.specs.declared.stub.StubResult.{StubResult}
 use Rattle.jvm_model.specs.declared.stub.StubResult.TheVariants.{Primitive, Void, Null, Given, New, Kept}
-use Rattle.stub_file.specs.StubReading.{Finds, IsPlainWord}
+use Rattle.toml_tables.specs.Tables.{Finds}
+use Rattle.stub_file.specs.StubReading.{IsPlainWord}
 use Rattle.stub_file.specs.StubSpelling.{SpellsArgument, SpellsResult}
 
 -- texts that differ at a place

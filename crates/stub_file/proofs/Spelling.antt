@@ -8,7 +8,9 @@ use Rattle.jvm_model.specs.declared.stub.StubMethod.{StubMethod}
 use Rattle.jvm_model.specs.declared.stub.StubField.{StubField}
 use Rattle.jvm_model.specs.declared.stub.StubClass.{StubClass}
 use Rattle.stub_file.specs.StubReading.{ValueSpells}
-use Rattle.stub_file.specs.StubSpelling.{value_or, AllSpell, ListsAt, SpellsArgument, SpellsClass, SpellsField, SpellsList, SpellsMethod, SpellsName, SpellsResult, SpellsSuper, SpellsTable, SpellsText}
+use Rattle.toml_tables.specs.Tables.{value_or}
+use Rattle.toml_tables.proofs.Values.{text_same}
+use Rattle.stub_file.specs.StubSpelling.{AllSpell, ListsAt, SpellsArgument, SpellsClass, SpellsField, SpellsList, SpellsMethod, SpellsName, SpellsResult, SpellsSuper, SpellsTable, SpellsText}
 use Rattle.stub_file.proofs.OneWord.{SpellsArgument-unique, SpellsResult-unique}
 
 -- items that spell a list, as values and as items
@@ -71,9 +73,6 @@ SpellsName-unique text x y p q = sym p ∙ q
 
 names_unique : (d : Data) (x y : List ℕ) → SpellsText SpellsName d x → SpellsText SpellsName d y → x ≡ y
 names_unique = SpellsText-unique SpellsName SpellsName-unique
-
-text_same : (o : Option Data) (text other : List ℕ) → o ≡ Some (string text) → o ≡ Some (string other) → text ≡ other
-text_same o text other e f = cc
 
 flag_same : (d : Data) (flag other : Bool) → d ≡ boolean flag → d ≡ boolean other → flag ≡ other
 flag_same d flag other e f = cc

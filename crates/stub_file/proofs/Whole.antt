@@ -1,23 +1,23 @@
 -- The tables of the classes of a file, the first that breaks a rule, and the whole file.
-use Rattle.std.proofs.Common.{◌≡◌, ℕ, zero, suc, ◌+◌, ◌<◌, List, [], ◌∷◌, ◌++◌, length, take, drop, get_or, All, Option, Some, None, Result, Ok, Err, Vec, Global, MatchResult, IfOk, IfErr, IsTrue, arith, refl, sym, ap, ◌∙◌, subst}
+use Rattle.std.proofs.Common.{◌≡◌, ℕ, zero, suc, ◌+◌, ◌<◌, List, [], ◌∷◌, ◌++◌, length, take, drop, get_or, All, Some, None, Result, Ok, Err, Vec, Global, MatchResult, IfOk, IfErr, IsTrue, arith, refl, sym, ap, ◌∙◌, subst}
 use Rattle.std.specs.List.{AllZip}
 use Rattle.std.specs.Option.{is_some}
 use Rattle.std.proofs.lemmas.List.{length-take-le, take-append-drop, drop_more}
 use Rattle.std.proofs.lemmas.List.Elements.{All-cons, All-head, All-nil, All-tail}
 use Rattle.toml.specs.declared.value.Value.{Value}
-use Rattle.toml.specs.Data.{Data, string, integer, float, boolean, datetime, array, table, as_table, Items, Members}
+use Rattle.toml.specs.Data.{Data, string, integer, float, boolean, datetime, array, table, as_table, Members}
 use Rattle.toml.specs.View.{view, items_view}
 use Rattle.jvm_model.specs.declared.stub.StubClass.{StubClass}
 use Rattle.stub_file.specs.declared.refusal.StubRefusal.{StubRefusal}
 use Rattle.stub_file.specs.declared.refusal.StubRefusal.TheVariants.{BadToml, BadStub, Memory}
-use Rattle.stub_file.specs.StubFile.{tables, GivesClass, HasOuterKeys, IsDocument, IsFirstBreach, IsStubFile, IsTableRefusal, SpellsFile}
+use Rattle.toml_tables.specs.Documents.{tables, IsDocument}
+use Rattle.toml_tables.proofs.Lists.{AllZip-more, AllZip-unique}
+use Rattle.toml_tables.proofs.OneDocument.{IsDocument-same}
+use Rattle.toml_tables.proofs.Values.{array_same, tables-unique}
+use Rattle.stub_file.specs.StubFile.{GivesClass, HasOuterKeys, IsFirstBreach, IsStubFile, IsTableRefusal, SpellsFile}
 use Rattle.stub_file.specs.StubReading.{AreTables, IsBreachAt, IsListRefusal}
 use Rattle.stub_file.specs.StubSpelling.{SpellsTable}
-use Rattle.stub_file.proofs.Lists.{AllZip-more, AllZip-unique}
 use Rattle.stub_file.proofs.Spelling.{SpellsClass-unique}
-
-members_same : (ms ns : Members) → table ms ≡ table ns → ms ≡ ns
-members_same ms ns e = cc
 
 -- the table that stands at a place of the list
 pub record TableAt (class_tables : List Members) (i : ℕ) (d : Data) : Type 0 where
@@ -102,36 +102,17 @@ each_is_table (v ∷ vs) (t ∷ ts) e =
     let head : view v ≡ table t = cc in
     All-cons (λ w. IsTrue (is_some (as_table (view w)))) v vs (ap (λ (d : Data). is_some (as_table d)) head) (each_is_table vs ts cc)
 
--- what a list of tables gives is one list
-pub tables_same : (ts us : List Members) → tables ts ≡ tables us → ts ≡ us
-tables_same [] [] e = refl
-tables_same [] (u ∷ us) e = cc
-tables_same (t ∷ ts) [] e = cc
-tables_same (t ∷ ts) (u ∷ us) e =
-    let heads : t ≡ u = cc in
-    let tails : ts ≡ us = tables_same ts us cc in
-    cc
-
 GivesClass-unique : (file : List ℕ) (ms : Members) (c e : StubClass) → GivesClass file ms c → GivesClass file ms e → c ≡ e
 GivesClass-unique file ms c e p q = SpellsClass-unique file ms c e p.spells q.spells
 
-pub same_items : (o : Option Data) (items others : Items) → o ≡ Some (array items) → o ≡ Some (array others) → items ≡ others
-same_items o items others e f = cc
-
 pub HasOuterKeys-unique : (ms : Members) (ts us : List Members) → HasOuterKeys ms ts → HasOuterKeys ms us → ts ≡ us
-HasOuterKeys-unique ms ts us p q = tables_same ts us (same_items _ (tables ts) (tables us) p.class q.class)
+HasOuterKeys-unique ms ts us p q = tables-unique ts us (array_same _ (tables ts) (tables us) p.class q.class)
 
 pub SpellsFile-unique : (file : List ℕ) (ms : Members) (cs es : List StubClass) → SpellsFile file ms cs → SpellsFile file ms es → cs ≡ es
 SpellsFile-unique file ms cs es p q =
     let same : p.class_tables ≡ q.class_tables = HasOuterKeys-unique ms p.class_tables q.class_tables p.outer q.outer in
     AllZip-unique (GivesClass file) (GivesClass-unique file) q.class_tables cs es
     (subst (λ (ts : List Members). AllZip (GivesClass file) ts cs) same p.each) q.each
-
-document_same : (o : Option Members) (ms ns : Members) → o ≡ Some ms → o ≡ Some ns → ms ≡ ns
-document_same o ms ns e f = cc
-
-pub IsDocument-unique : (bytes : List ℕ) (ms ns : Members) → IsDocument bytes ms → IsDocument bytes ns → ms ≡ ns
-IsDocument-unique bytes ms ns p q = document_same _ ms ns p.document q.document
 
 -- a table that breaks a rule is none of those that give the classes
 fault_gives : (file : List ℕ) (before after : List Members) (fault : Members) (cs : List StubClass) → AllZip (GivesClass file) (before ++ fault ∷ after) cs → (c : StubClass) × GivesClass file fault c
@@ -158,8 +139,8 @@ for_memory file ms cs Memory spells told = refl
 pub read_only : (file bytes : List ℕ) (ms : Members) (r : Result (Vec StubClass Global) StubRefusal) → IsDocument bytes ms → IfOk r (λ read. SpellsFile file ms read.items) → IfErr r (IsTableRefusal file ms)
     → (cs : List StubClass) → IsStubFile file bytes cs → MatchResult r (λ read. read.items ≡ cs) (λ refusal. refusal ≡ Memory)
 read_only file bytes ms (Ok read) document found refused cs is =
-    let same : is.members ≡ ms = IsDocument-unique bytes is.members ms is.document document in
+    let same : is.members ≡ ms = IsDocument-same bytes is.members ms is.document document in
     SpellsFile-unique file ms read.items cs found (subst (λ (ns : Members). SpellsFile file ns cs) same is.spells)
 read_only file bytes ms (Err refusal) document found refused cs is =
-    let same : is.members ≡ ms = IsDocument-unique bytes is.members ms is.document document in
+    let same : is.members ≡ ms = IsDocument-same bytes is.members ms is.document document in
     for_memory file ms cs refusal (subst (λ (ns : Members). SpellsFile file ns cs) same is.spells) refused

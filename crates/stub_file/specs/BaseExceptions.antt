@@ -1,3 +1,4 @@
+-- Public contracts rest on this module.
 -- The exceptions and errors of the base stubs, each with its superclass and its constructors.
 use Rattle.std.specs.Prelude.{codes, List, [], ◌∷◌}
 use Rattle.jvm_model.specs.declared.stub.StubClass.{StubClass}

@@ -1,3 +1,4 @@
+-- Public contracts rest on this module.
 -- The interfaces of the base stubs. All their methods are abstract.
 use Rattle.std.specs.Prelude.{codes, List, [], ◌∷◌}
 use Rattle.jvm_model.specs.declared.stub.StubClass.{StubClass}

@@ -1,3 +1,4 @@
+-- Public contracts rest on this module.
 -- The classes of java/lang among the base stubs, but for the exceptions.
 use Rattle.std.specs.Prelude.{codes, List, [], ◌∷◌}
 use Rattle.jvm_model.specs.declared.stub.StubArgument.TheVariants.{This, Argument}

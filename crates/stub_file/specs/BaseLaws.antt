@@ -1,3 +1,4 @@
+-- Public contracts rest on this module.
 -- What holds of the table of base stubs: each class keeps the rules of a stub file, and each class that one mentions is
 -- there.
 use Rattle.std.specs.Prelude.{ℕ, List, map, All, IsTrue}

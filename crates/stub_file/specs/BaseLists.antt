@@ -1,3 +1,4 @@
+-- Public contracts rest on this module.
 -- The list of java/util among the base stubs, and java/lang/Throwable.
 use Rattle.std.specs.Prelude.{codes, List, [], ◌∷◌}
 use Rattle.jvm_model.specs.declared.stub.StubArgument.TheVariants.{Argument}

@@ -1,3 +1,4 @@
+-- Public contracts rest on this module.
 -- What a row of the program's own table of base stubs says.
 use Rattle.std.specs.Prelude.{codes, ℕ, true, false, List, map, Some}
 use Rattle.std.specs.Borrow.{Bor}

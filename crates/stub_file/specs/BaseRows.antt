@@ -1,3 +1,4 @@
+-- Public contracts rest on this module.
 -- How the tables of the base stubs are written: methods, fields, classes and interfaces of the library.
 use Rattle.std.specs.Prelude.{codes, ℕ, true, false, List, [], ◌∷◌, Some}
 use Rattle.jvm_model.specs.declared.stub.StubArgument.{StubArgument}

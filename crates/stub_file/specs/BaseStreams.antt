@@ -1,3 +1,4 @@
+-- Public contracts rest on this module.
 -- The streams of java/io among the base stubs.
 use Rattle.std.specs.Prelude.{codes, List, [], ◌∷◌}
 use Rattle.jvm_model.specs.declared.stub.StubResult.TheVariants.{Primitive, Void}

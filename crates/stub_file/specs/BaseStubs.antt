@@ -1,3 +1,4 @@
+-- Public contracts rest on this module.
 -- The classes that are there without any stub file, as a table: interfaces, classes, and exceptions.
 use Rattle.std.specs.Prelude.{List, ◌++◌}
 use Rattle.jvm_model.specs.declared.stub.StubClass.{StubClass}

@@ -1,3 +1,4 @@
+-- Only the proofs of this crate rest on this module.
 -- Names and descriptors of members, and the order in which a set keeps them.
 use Rattle.std.specs.Prelude.{ℕ, Bool, ◌&&◌, List}
 use Rattle.std.specs.declared.cmp.Ordering.{Ordering}

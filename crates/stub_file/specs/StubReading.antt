@@ -1,5 +1,6 @@
+-- Only the proofs of this crate rest on this module.
 -- What the parts of a stub file's reader answer.
-use Rattle.std.specs.Prelude.{codes, ◌≡◌, ℕ, List, All, Option, Some, None, MatchOption, IsTrue}
+use Rattle.std.specs.Prelude.{codes, ◌≡◌, ℕ, List, All, Option, Some, None, IsTrue}
 use Rattle.toml.specs.declared.value.Value.{Value}
 use Rattle.toml.specs.Data.{Data, array, get_member, Members}
 use Rattle.toml.specs.View.{items_view, view}
@@ -11,16 +12,13 @@ use Rattle.jvm_model.specs.declared.stub.StubField.{StubField}
 use Rattle.jvm_model.specs.declared.stub.StubClass.{StubClass}
 use Rattle.jvm_model.specs.Automata.{all_differ}
 use Rattle.jvm_model.specs.Names.{is_method_name, IsClassName}
+use Rattle.toml_tables.specs.Documents.{tables}
 use Rattle.stub_file.specs.declared.refusal.StubRefusal.{StubRefusal}
 use Rattle.stub_file.specs.declared.refusal.StubRefusal.TheVariants.{BadToml, BadStub, Memory}
-use Rattle.stub_file.specs.StubFile.{tables, IsFirstBreach}
+use Rattle.stub_file.specs.StubFile.{IsFirstBreach}
 use Rattle.jvm_model.specs.Stubs.{is_same_field, is_same_method}
 use Rattle.jvm_model.specs.StubRules.{is_object_argument, lists_outcomes, patches_methods_alone, HasSuper, IsSoundField, IsSoundMethod, MayReturn}
 use Rattle.stub_file.specs.StubSpelling.{SpellsResult}
-
--- The answer has the property, and None is answered only where nothing has it.
-abbrev pub Finds : {X : Type 0} → (X → Type 0) → Option X → Type 0
-Finds {X} P answer = MatchOption answer ((x : X) → P x → ⊥) P
 
 -- The value spells this.
 abbrev pub ValueSpells : {X : Type 0} → (Data → X → Type 0) → Value → X → Type 0

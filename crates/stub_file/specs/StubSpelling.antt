@@ -1,10 +1,8 @@
+-- Public contracts rest on this module.
 -- How a table of TOML spells a class of a stub file: which keys it has, and what stands at each.
-use Rattle.std.specs.Prelude.{codes, ◌≡◌, ℕ, ◌≤◌, Bool, true, false, ◌&&◌, List, [], ◌∷◌, ◌++◌, Some, None, option_map, IsTrue}
+use Rattle.std.specs.Prelude.{codes, ◌≡◌, ℕ, ◌≤◌, Bool, true, false, List, [], ◌∷◌, ◌++◌, None, option_map}
 use Rattle.std.specs.Fmt.{decimal}
-use Rattle.std.specs.List.{list_any}
-use Rattle.std.specs.Option.{option_map_or}
-use Rattle.std.specs.Str.{bytes_eq}
-use Rattle.toml.specs.Data.{Data, string, boolean, array, table, Items, no_items, item, Members, no_members, member, get_member}
+use Rattle.toml.specs.Data.{Data, string, array, table, Items, no_items, item, Members, get_member}
 use Rattle.jvm_model.specs.declared.stub.StubArgument.{StubArgument}
 use Rattle.jvm_model.specs.declared.stub.StubArgument.TheVariants.{This, Argument}
 use Rattle.jvm_model.specs.declared.stub.StubResult.{StubResult}
@@ -13,15 +11,7 @@ use Rattle.jvm_model.specs.declared.stub.StubMethod.{StubMethod}
 use Rattle.jvm_model.specs.declared.stub.StubField.{StubField}
 use Rattle.jvm_model.specs.declared.stub.StubClass.{StubClass}
 use Rattle.jvm_model.specs.Names.{IsClassName}
-
--- Each key of a table is one of these.
-abbrev pub has_only : List (List ℕ) → Members → Bool
-has_only keys no_members = true
-has_only keys (member key value members) = list_any (bytes_eq key) keys && has_only keys members
-
--- The value at a key, or else this one.
-abbrev pub value_or : Data → List ℕ → Members → Data
-value_or default key members = option_map_or (λ value. value) (get_member key members) default
+use Rattle.toml_tables.specs.Tables.{value_or, HasOnly, IsFlagAt, IsTextAt}
 
 -- A value that is a text, a table, or a list, which spells this.
 abbrev pub SpellsText : {X : Type 0} → (List ℕ → X → Type 0) → Data → X → Type 0
@@ -47,14 +37,6 @@ SpellsList Spells _ xs = ⊥
 abbrev pub ListsAt : {X : Type 0} → List ℕ → (Data → X → Type 0) → Members → List X → Type 0
 ListsAt key Spells members = SpellsList Spells (value_or (array no_items) key members)
 
--- The flag at a key. Without the key it is false.
-abbrev pub IsFlagAt : List ℕ → Members → Bool → Type 0
-IsFlagAt key members flag = value_or (boolean false) key members ≡ boolean flag
-
--- The text at a key.
-abbrev pub IsTextAt : List ℕ → Members → List ℕ → Type 0
-IsTextAt key members text = get_member key members ≡ Some (string text)
-
 -- The words of a stub. A number is decimal, with no zero in front, and at most 255.
 abbrev pub SpellsName : List ℕ → List ℕ → Type 0
 SpellsName text name = text ≡ name
@@ -77,7 +59,7 @@ method_keys =
 
 -- The table of a method.
 pub record SpellsMethod (members : Members) (m : StubMethod) : Type 0 where
-  pub keys : IsTrue (has_only method_keys members)
+  pub keys : HasOnly method_keys members
   pub name : IsTextAt (codes "name") members m.name
   pub descriptor : IsTextAt (codes "descriptor") members m.descriptor
   pub is_static : IsFlagAt (codes "static") members m.is_static
@@ -91,7 +73,7 @@ field_keys = codes "name" ∷ codes "descriptor" ∷ codes "static" ∷ codes "h
 
 -- The table of a field.
 pub record SpellsField (members : Members) (f : StubField) : Type 0 where
-  pub keys : IsTrue (has_only field_keys members)
+  pub keys : HasOnly field_keys members
   pub name : IsTextAt (codes "name") members f.name
   pub descriptor : IsTextAt (codes "descriptor") members f.descriptor
   pub is_static : IsFlagAt (codes "static") members f.is_static
@@ -109,7 +91,7 @@ SpellsSuper members false super_class =
 
 -- The table of a class, in a file of this name.
 pub record SpellsClass (file : List ℕ) (members : Members) (c : StubClass) : Type 0 where
-  pub keys : IsTrue (has_only class_keys members)
+  pub keys : HasOnly class_keys members
   pub file_name : c.file ≡ file
   pub name : IsTextAt (codes "name") members c.name
   pub is_interface : IsFlagAt (codes "interface") members c.is_interface

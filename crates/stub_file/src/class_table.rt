@@ -1,18 +1,18 @@
 //! The table of a class.
 
-ghost use Rattle.std.specs.Prelude.{◌≡◌, IfOk};
+ghost use Rattle.std.specs.Prelude.{◌≡◌, ◌↔◌, IfOk, IsTrue};
 ghost use Rattle.toml.specs.View.{table_view};
+ghost use Rattle.toml_tables.specs.Tables.{Finds, HasOnly};
 ghost use Rattle.stub_file.specs.StubFile.{GivesClass};
-ghost use Rattle.stub_file.specs.StubReading.{Finds};
-ghost use Rattle.stub_file.specs.StubSpelling.{class_keys, has_only, SpellsClass, SpellsSuper};
+ghost use Rattle.stub_file.specs.StubSpelling.{class_keys, SpellsClass, SpellsSuper};
 
 use crate::rules::is_sound_class;
 use crate::spelled::list_at;
-use crate::table_access::{bytes_at, bytes_of, flag_at, has_only, optional_bytes_at};
 use jvm_model::grammar::is_class_name;
 use jvm_model::{Bytes, Name, StubClass};
 use std::alloc::{AllocError, Global};
 use toml::Table;
+use toml_tables::{bytes_at, bytes_of, flag_at, has_only, optional_bytes_at};
 
 /// The class that a table gives: it spells it, and the class keeps the rules.
 pub(crate) fn class_of(
@@ -74,7 +74,7 @@ fn class_in(alloc: Global, file: &str, table: &Table) -> Result<Option<StubClass
 
 /// Whether each key of the table is one of a class.
 fn has_class_keys(table: &Table) -> bool
-    ensures { result ≡ has_only class_keys (table_view table.now) }
+    ensures { IsTrue result ↔ HasOnly class_keys (table_view table.now) }
 {
     has_only(
         table,

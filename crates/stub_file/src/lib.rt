@@ -12,7 +12,6 @@ mod refusal;
 mod rules;
 mod signature;
 mod spelled;
-mod table_access;
 mod words;
 
 pub use base_table::base_stubs;

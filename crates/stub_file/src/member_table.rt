@@ -1,15 +1,15 @@
 //! The tables of methods and fields.
 
-ghost use Rattle.std.specs.Prelude.{◌≡◌, IfOk};
+ghost use Rattle.std.specs.Prelude.{◌↔◌, IfOk, IsTrue};
 ghost use Rattle.toml.specs.View.{table_view};
-ghost use Rattle.stub_file.specs.StubReading.{Finds};
-ghost use Rattle.stub_file.specs.StubSpelling.{field_keys, has_only, method_keys, SpellsField, SpellsMethod, SpellsTable};
+ghost use Rattle.toml_tables.specs.Tables.{Finds, HasOnly};
+ghost use Rattle.stub_file.specs.StubSpelling.{field_keys, method_keys, SpellsField, SpellsMethod, SpellsTable};
 
 use crate::spelled::{Spelled, list_at};
-use crate::table_access::{bytes_at, flag_at, has_only, optional_bytes_at};
 use jvm_model::{StubField, StubMethod};
 use std::alloc::{AllocError, Global};
 use toml::{Table, Value};
+use toml_tables::{bytes_at, flag_at, has_only, optional_bytes_at};
 
 /// The table of a method.
 impl Spelled for StubMethod {
@@ -76,7 +76,7 @@ fn method_in(alloc: Global, table: &Table) -> Result<Option<StubMethod>, AllocEr
 
 /// Whether each key of the table is one of a method.
 fn has_method_keys(table: &Table) -> bool
-    ensures { result ≡ has_only method_keys (table_view table.now) }
+    ensures { IsTrue result ↔ HasOnly method_keys (table_view table.now) }
 {
     has_only(
         table,
@@ -121,7 +121,7 @@ fn field_in(alloc: Global, table: &Table) -> Result<Option<StubField>, AllocErro
 
 /// Whether each key of the table is one of a field.
 fn has_field_keys(table: &Table) -> bool
-    ensures { result ≡ has_only field_keys (table_view table.now) }
+    ensures { IsTrue result ↔ HasOnly field_keys (table_view table.now) }
 {
     has_only(table, &["name", "descriptor", "static", "holds"])
 }

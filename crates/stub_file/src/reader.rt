@@ -6,20 +6,19 @@ ghost use Rattle.std.specs.Option.{is_some};
 ghost use Rattle.toml.specs.Data.{array, as_table, get_member, integer, Members};
 ghost use Rattle.toml.specs.View.{items_view, table_view, view};
 ghost use Rattle.jvm_model.specs.declared.stub.StubClass.{StubClass};
+ghost use Rattle.toml_tables.specs.Documents.{document_limit, tables};
+ghost use Rattle.toml_tables.specs.Tables.{Finds, HasOnly};
 ghost use Rattle.stub_file.specs.declared.refusal.StubRefusal.TheVariants.{BadToml, Memory};
-ghost use Rattle.stub_file.specs.StubFile.{file_keys, stub_limit, tables, GivesClass, IsStubRefusal, IsStubFile, IsTableRefusal, SpellsFile};
-ghost use Rattle.stub_file.specs.StubReading.{Finds, GivesTables, IsBreachAt, IsListRefusal};
-ghost use Rattle.stub_file.specs.StubSpelling.{has_only, SpellsTable};
+ghost use Rattle.stub_file.specs.StubFile.{file_keys, GivesClass, IsStubRefusal, IsStubFile, IsTableRefusal, SpellsFile};
+ghost use Rattle.stub_file.specs.StubReading.{GivesTables, IsBreachAt, IsListRefusal};
+ghost use Rattle.stub_file.specs.StubSpelling.{SpellsTable};
 
 use crate::class_table::class_of;
 use crate::refusal::StubRefusal;
-use crate::table_access::{array_at, has_only, integer_at};
 use jvm_model::StubClass;
 use std::alloc::{AllocError, Global};
 use toml::{Table, Value};
-
-/// The most bytes of a stub file.
-const STUB_LIMIT: usize = 1_048_576;
+use toml_tables::{TableFailure, array_at, has_only, integer_at, read_table};
 
 /// The classes that a stub file describes, in its order; each names the file. `BadToml` says that there are more bytes
 /// than 1,048,576, or that they are no TOML document; `BadStub` that a rule is broken, by a key outside the classes
@@ -33,15 +32,12 @@ pub fn read_stubs(alloc: Global, file: &str, bytes: &[u8]) -> Result<Vec<StubCla
     ensures refused { IfErr result (IsStubRefusal file.now bytes.now) }
 
     // Such bytes are not even read.
-    ensures large { stub_limit < length bytes.now → result ≡ Err BadToml }
+    ensures large { document_limit < length bytes.now → result ≡ Err BadToml }
 {
-    if bytes.len() > STUB_LIMIT {
-        return Err(StubRefusal::BadToml);
-    }
-    match toml::table_from_slice(alloc, bytes) {
+    match read_table(alloc, bytes) {
         Ok(table) => classes_in(alloc, file, &table),
-        Err(error) if error.is_memory() => Err(StubRefusal::Memory),
-        Err(_) => Err(StubRefusal::BadToml),
+        Err(TableFailure::NoDocument) => Err(StubRefusal::BadToml),
+        Err(TableFailure::OutOfMemory) => Err(StubRefusal::Memory),
     }
 }
 
@@ -61,7 +57,7 @@ fn classes_in(alloc: Global, file: &str, table: &Table) -> Result<Vec<StubClass>
 
 /// Whether each key of the table is one of a stub file.
 fn has_file_keys(table: &Table) -> bool
-    ensures { result ≡ has_only file_keys (table_view table.now) }
+    ensures { IsTrue result ↔ HasOnly file_keys (table_view table.now) }
 {
     has_only(table, &["version", "class"])
 }

@@ -1,9 +1,10 @@
 //! The rules that a class of a stub file keeps.
 
-ghost use Rattle.std.specs.Prelude.{codes, ◌≡◌, ◌↔◌, All, IfOk, IsTrue};
+ghost use Rattle.std.specs.Prelude.{◌≡◌, ◌↔◌, All, IfOk, IsTrue};
 ghost use Rattle.jvm_model.specs.DescriptorValues.{IsKind, IsMethodOf};
 ghost use Rattle.jvm_model.specs.Names.{IsClassName};
-ghost use Rattle.stub_file.specs.StubReading.{AreSoundFields, AreSoundMethods, AreSoundParts, Finds, HasSoundHead};
+ghost use Rattle.toml_tables.specs.Tables.{Finds};
+ghost use Rattle.stub_file.specs.StubReading.{AreSoundFields, AreSoundMethods, AreSoundParts, HasSoundHead};
 ghost use Rattle.jvm_model.specs.StubRules.{is_class, is_object_argument, is_reference, lists_outcomes, may_lack_super, patches_methods_alone, HasSuper, IsSoundField, IsSoundMethod, IsSoundStub, MayHold, MayReturn};
 
 use crate::signature::{fields_differ, methods_differ};
@@ -107,7 +108,12 @@ fn method_kinds(
 {
     let found = descriptor_of(alloc, text)?;
     match found {
-        Some(Descriptor::Method { parameters, outcome }) => Ok(Some((parameters, outcome))),
+        Some(
+            Descriptor::Method {
+                parameters,
+                outcome,
+            },
+        ) => Ok(Some((parameters, outcome))),
         Some(Descriptor::Field(_)) => Ok(None),
         None => Ok(None),
     }

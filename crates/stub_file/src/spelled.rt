@@ -1,15 +1,16 @@
 //! What a value of a table spells, and lists of such things.
 
-ghost use Rattle.std.specs.Prelude.{◌≡◌, IfOk};
+ghost use Rattle.std.specs.Prelude.{IfOk};
 ghost use Rattle.toml.specs.Data.{Data};
 ghost use Rattle.toml.specs.View.{items_view, table_view, view};
-ghost use Rattle.stub_file.specs.StubReading.{Finds, ValueSpells};
+ghost use Rattle.toml_tables.specs.Tables.{Finds};
+ghost use Rattle.stub_file.specs.StubReading.{ValueSpells};
 ghost use Rattle.stub_file.specs.StubSpelling.{AllSpell, ListsAt, SpellsList, SpellsName, SpellsText};
 
-use crate::table_access::{bytes_of, value_at};
 use jvm_model::{Bytes, Sequence};
 use std::alloc::{AllocError, Global};
 use toml::{Table, Value};
+use toml_tables::{bytes_of, value_at};
 
 /// What a value can spell.
 pub(crate) trait Spelled: Drop {

@@ -2,14 +2,15 @@
 
 ghost use Rattle.std.specs.Prelude.{◌≡◌, ◌≤◌, IfOk};
 ghost use Rattle.std.specs.Fmt.{decimal};
-ghost use Rattle.stub_file.specs.StubReading.{Finds, IsPlainWord};
+ghost use Rattle.toml_tables.specs.Tables.{Finds};
+ghost use Rattle.stub_file.specs.StubReading.{IsPlainWord};
 ghost use Rattle.stub_file.specs.StubSpelling.{SpellsArgument, SpellsResult, SpellsText};
 
 use crate::spelled::Spelled;
-use crate::table_access::bytes_of;
 use jvm_model::{StubArgument, StubResult};
 use std::alloc::{AllocError, Global};
 use toml::Value;
+use toml_tables::bytes_of;
 
 /// A word that names an argument.
 impl Spelled for StubArgument {

@@ -36,6 +36,7 @@ const METHODS: [(usize, usize, &str, &str); 6] = [
     (25, 2, "get", "(I)Ljava/lang/Object;"),
 ];
 
+/// The method at this place of the class at this one.
 fn method(classes: &[StubClass], class: usize, place: usize) -> Option<&StubMethod> {
     classes.get(class)?.methods.as_slice().get(place)
 }

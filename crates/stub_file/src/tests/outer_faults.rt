@@ -1,4 +1,4 @@
-//! Files that break a rule outside the classes, and files that are no TOML or too large.
+//! Files that break a rule outside the classes, files that are no TOML or too large, and the words of refusals.
 
 use super::{LIBRARY, refusal_after};
 use crate::{StubRefusal, read_stubs};
@@ -40,6 +40,23 @@ const WHOLE: [(&str, &str); 4] = [
         "a number among the classes",
         "version = 1\nclass = [{name = \"a.b\"}, 1]\n",
     ),
+];
+
+/// The refusals, and their words.
+const WORDS: [(StubRefusal, &str); 4] = [
+    (
+        StubRefusal::BadToml,
+        "the stub file is no TOML document of at most 1048576 bytes",
+    ),
+    (
+        StubRefusal::BadStub(None),
+        "a key outside the classes breaks a rule of stub files",
+    ),
+    (
+        StubRefusal::BadStub(Some(1)),
+        "class 1, counted from 0, breaks a rule of stub files",
+    ),
+    (StubRefusal::Memory, "out of memory"),
 ];
 
 #[test]
@@ -87,5 +104,14 @@ fn holds_to_the_limit(rt: HostRuntime) -> Result<(), Fail> {
     let longer = format!(in rt.alloc(); "{text} ")?;
     let refusal = read_stubs(rt.alloc(), "s.toml", longer.as_bytes()).err();
     assert_eq!(rt; refusal, Some(StubRefusal::BadToml));
+    Ok(())
+}
+
+#[test]
+fn tells_a_refusal_in_words(rt: HostRuntime) -> Result<(), Fail> {
+    for (refusal, words) in &WORDS {
+        let text = format!(in rt.alloc(); "{refusal}")?;
+        assert_eq!(rt; text.as_str(), *words);
+    }
     Ok(())
 }

@@ -1,6 +1,6 @@
 use Rattle.toml.specs.View.{table_view}
 use Rattle.property_file.specs.Rules.{GivesNext}
-use Rattle.property_file.proofs.Parts.{Finds-none, Finds-some}
+use Rattle.toml_tables.proofs.Finding.{Finds-none, Finds-some}
 use Rattle.property_file.proofs.event_list.event_in.Goals as goal
 
 pub returns-in_default-method_descriptor_at : goal.returns-in_default-method_descriptor_at

@@ -4,7 +4,8 @@ use Rattle.std.specs.List.{AllZip}
 use Rattle.std.proofs.lemmas.Slice.Zip.{AllZip-long}
 use Rattle.toml.specs.View.{table_view}
 use Rattle.property_file.specs.Reading.{IsEventTable}
-use Rattle.property_file.proofs.Parts.{Finds-none, Finds-some, GivesEvents-values, GivesEvents-made, events-unique}
+use Rattle.toml_tables.proofs.Finding.{Finds-none, Finds-some}
+use Rattle.property_file.proofs.Parts.{GivesEvents-values, GivesEvents-made, events-unique}
 use Rattle.property_file.proofs.event_list.events_at.Goals as goal
 
 pub returns-then-not-is_event_count : goal.returns-then-not-is_event_count

@@ -1,7 +1,7 @@
 use Rattle.std.proofs.Common.{arith}
 use Rattle.property_file.specs.Reading.{IsEventTable}
-use Rattle.property_file.proofs.Lists.{AllZip-more, AllZip-none}
-use Rattle.property_file.proofs.Parts.{Finds-none, Finds-some}
+use Rattle.toml_tables.proofs.Lists.{AllZip-more, AllZip-none}
+use Rattle.toml_tables.proofs.Finding.{Finds-none, Finds-some}
 use Rattle.property_file.proofs.event_list.events_of.Goals as goal
 
 pub returns-in-None : goal.returns-in-None

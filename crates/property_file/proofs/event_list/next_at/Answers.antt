@@ -4,7 +4,8 @@ use Rattle.std.specs.List.{AllZip}
 use Rattle.std.proofs.lemmas.Slice.Zip.{AllZip-long}
 use Rattle.toml.specs.View.{table_view}
 use Rattle.property_file.specs.Reading.{IsStateText}
-use Rattle.property_file.proofs.Parts.{Finds-none, Finds-some, GivesNext-values, GivesNext-made, next-unique}
+use Rattle.toml_tables.proofs.Finding.{Finds-none, Finds-some}
+use Rattle.property_file.proofs.Parts.{GivesNext-values, GivesNext-made, next-unique}
 use Rattle.property_file.proofs.event_list.next_at.Goals as goal
 
 pub returns-then-values-states : goal.returns-then-values-states

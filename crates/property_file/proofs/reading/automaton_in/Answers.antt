@@ -3,7 +3,7 @@ use Rattle.std.proofs.lemmas.Result.{err_from_is_err_and}
 use Rattle.toml.specs.View.{table_view}
 use Rattle.property_file.specs.Rules.{GivesClass, GivesStates, GivesInitial, GivesError, GivesEvents}
 use Rattle.property_file.specs.Refusals.{states, initial, error, event, other}
-use Rattle.property_file.proofs.Parts.{Finds-none, Finds-some}
+use Rattle.toml_tables.proofs.Finding.{Finds-none, Finds-some}
 use Rattle.property_file.proofs.Broken.{named}
 use Rattle.property_file.proofs.reading.automaton_in.Goals as goal
 

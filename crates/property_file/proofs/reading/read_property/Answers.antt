@@ -1,7 +1,5 @@
-use Rattle.std.proofs.Common.{sym, ◌∙◌}
-use Rattle.std.proofs.lemmas.Bool.{false≢true}
 use Rattle.toml.specs.View.{table_view}
-use Rattle.property_file.proofs.Broken.{only_read, sound_read, no_document}
+use Rattle.property_file.proofs.Broken.{only_read, sound_read}
 use Rattle.property_file.proofs.reading.read_property.Goals as goal
 
 pub returns-in-Ok-clause-sound : goal.returns-in-Ok-clause-sound
@@ -9,8 +7,4 @@ returns-in-Ok-clause-sound c = sound_read (table_view c.in-Ok.table) c.automaton
 
 pub returns-in-Ok-clause-only : goal.returns-in-Ok-clause-only
 returns-in-Ok-clause-only c =
-    only_read c.args.bytes.now (table_view c.in-Ok.table) c.automaton_in.result c.in-Ok.ensures.ok.1 c.automaton_in.ensures.found c.automaton_in.ensures.refused
-
-pub returns-in-Err-2-clause-refused : goal.returns-in-Err-2-clause-refused
-returns-in-Err-2-clause-refused c =
-    no_document c.args.bytes.now (c.in-Err.ensures.refused (λ memory. false≢true (sym c.if-is_memory.false ∙ c.is_memory.ensures.1 memory)))
+    only_read c.args.bytes.now (table_view c.in-Ok.table) c.automaton_in.result c.in-Ok.ensures.found c.automaton_in.ensures.found c.automaton_in.ensures.refused

@@ -1,6 +1,6 @@
 use Rattle.std.proofs.Common.{arith}
 use Rattle.property_file.specs.Reading.{IsStateText}
-use Rattle.property_file.proofs.Lists.{AllZip-more, AllZip-none}
+use Rattle.toml_tables.proofs.Lists.{AllZip-more, AllZip-none}
 use Rattle.property_file.proofs.state_list.state_numbers.Goals as goal
 
 pub returns-in-None : goal.returns-in-None

@@ -4,8 +4,9 @@ use Rattle.std.specs.List.{AllZip}
 use Rattle.std.proofs.lemmas.Slice.Zip.{AllZip-long}
 use Rattle.toml.specs.View.{table_view}
 use Rattle.property_file.specs.Reading.{IsText}
-use Rattle.property_file.proofs.Lists.{AllZip-unique}
-use Rattle.property_file.proofs.Parts.{IsText-unique, Finds-none, Finds-some, GivesStates-values, states_value}
+use Rattle.toml_tables.proofs.Lists.{AllZip-unique}
+use Rattle.toml_tables.proofs.Finding.{Finds-none, Finds-some}
+use Rattle.property_file.proofs.Parts.{IsText-unique, GivesStates-values, states_value}
 use Rattle.property_file.proofs.state_list.states_at.Goals as goal
 
 pub returns-then-not-is_state_count : goal.returns-then-not-is_state_count

@@ -1,8 +1,8 @@
 use Rattle.std.proofs.Common.{◌≡◌, arith, sym, ◌∙◌}
 use Rattle.toml.specs.View.{view}
 use Rattle.property_file.specs.Reading.{IsText}
-use Rattle.property_file.proofs.Lists.{AllZip-more, AllZip-none}
-use Rattle.property_file.proofs.Values.{as_str-none, as_str-some}
+use Rattle.toml_tables.proofs.Lists.{AllZip-more, AllZip-none}
+use Rattle.toml_tables.proofs.Values.{as_str-none, as_str-some}
 use Rattle.property_file.proofs.state_list.texts_of.Goals as goal
 
 pub returns-in-None : goal.returns-in-None

@@ -4,7 +4,7 @@ use Rattle.toml.specs.View.{table_view}
 use Rattle.jvm_model.specs.declared.stub.StubClass.{StubClass}
 use Rattle.jvm_model.specs.StubRules.{IsSoundStub}
 use Rattle.stub_file.specs.StubSpelling.{SpellsClass}
-use Rattle.stub_file.proofs.Finding.{Finds-some}
+use Rattle.toml_tables.proofs.Finding.{Finds-some}
 use Rattle.stub_file.proofs.Spelling.{SpellsClass-unique}
 use Rattle.stub_file.proofs.class_table.class_of.Goals as goal
 

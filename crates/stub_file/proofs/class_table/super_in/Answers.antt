@@ -1,7 +1,7 @@
 use Rattle.std.proofs.Common.{codes, ◌≡◌, ℕ, List, Option, Some, None, option_map, ap, ◌∙◌}
 use Rattle.toml.specs.Data.{string, get_member}
 use Rattle.toml.specs.View.{table_view}
-use Rattle.stub_file.proofs.Finding.{Finds-none, Finds-some}
+use Rattle.toml_tables.proofs.Finding.{Finds-none, Finds-some}
 use Rattle.stub_file.proofs.SuperClass.{no_super, SpellsSuper-by_default}
 use Rattle.stub_file.proofs.class_table.super_in.Goals as goal
 

@@ -1,7 +1,7 @@
 use Rattle.std.proofs.Common.{codes}
 use Rattle.toml.specs.View.{table_view}
 use Rattle.stub_file.specs.StubSpelling.{ListsAt, SpellsName, SpellsText}
-use Rattle.stub_file.proofs.Finding.{Finds-none}
+use Rattle.toml_tables.proofs.Finding.{Finds-none}
 use Rattle.stub_file.proofs.member_table.method_in.Goals as goal
 
 pub returns-in_default-4 : goal.returns-in_default-4

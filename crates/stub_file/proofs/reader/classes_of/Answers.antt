@@ -5,7 +5,7 @@ use Rattle.toml.specs.Data.{Members}
 use Rattle.toml.specs.View.{view}
 use Rattle.stub_file.specs.StubFile.{GivesClass}
 use Rattle.stub_file.specs.StubSpelling.{SpellsTable}
-use Rattle.stub_file.proofs.Finding.{Finds-none, Finds-some}
+use Rattle.toml_tables.proofs.Finding.{Finds-none, Finds-some}
 use Rattle.stub_file.proofs.Whole.{as_many, breach_told, classes_more, table_at, IsFirstBreach-at}
 use Rattle.stub_file.proofs.reader.classes_of.Goals as goal
 

@@ -2,7 +2,8 @@ use Rattle.std.proofs.Common.{◌≡◌, List, take}
 use Rattle.std.specs.List.{AllZip}
 use Rattle.toml.specs.Data.{Members}
 use Rattle.toml.specs.View.{items_view}
-use Rattle.stub_file.specs.StubFile.{tables, GivesClass}
+use Rattle.toml_tables.specs.Documents.{tables}
+use Rattle.stub_file.specs.StubFile.{GivesClass}
 use Rattle.stub_file.proofs.reader.classes_of.Given as goal
 
 -- the classes of the tables so far

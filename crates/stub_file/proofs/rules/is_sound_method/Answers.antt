@@ -3,7 +3,7 @@ use Rattle.std.proofs.lemmas.Bool.{false≢true}
 use Rattle.jvm_model.specs.declared.descriptor.Kind.{Kind}
 use Rattle.jvm_model.specs.DescriptorValues.{IsMethodOf}
 use Rattle.stub_file.specs.StubReading.{AreSoundParts}
-use Rattle.stub_file.proofs.Finding.{Finds-none, Finds-some}
+use Rattle.toml_tables.proofs.Finding.{Finds-none, Finds-some}
 use Rattle.stub_file.proofs.SoundParts.{AreSoundParts-from_method, IsSoundMethod-from_parts}
 use Rattle.stub_file.proofs.rules.is_sound_method.Goals as goal
 

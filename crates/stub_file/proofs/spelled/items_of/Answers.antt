@@ -3,8 +3,8 @@ use Rattle.std.specs.List.{AllZip}
 use Rattle.std.proofs.lemmas.List.{take_all}
 use Rattle.toml.specs.declared.value.Value.{Value}
 use Rattle.stub_file.specs.StubReading.{ValueSpells}
-use Rattle.stub_file.proofs.Finding.{Finds-none, Finds-some}
-use Rattle.stub_file.proofs.Lists.{AllZip-more, AllZip-none}
+use Rattle.toml_tables.proofs.Finding.{Finds-none, Finds-some}
+use Rattle.toml_tables.proofs.Lists.{AllZip-more, AllZip-none}
 use Rattle.stub_file.proofs.Spelling.{AllSpell-from_values, AllSpell-values}
 use Rattle.stub_file.proofs.spelled.items_of.Goals as goal
 

@@ -1,19 +1,22 @@
--- The keys of a table beside some: the first of them in the table's order is the least.
-use Rattle.std.proofs.Common.{◌≡◌, ℕ, zero, arith, Bool, true, false, not, List, [], ◌∷◌, All, cond, find, Option, Some, None, String, Global, Less, string_bytes, nat_cmp, refl, sym, ap, IsTrue}
+-- The keys of a table beside some: the first of them in the table's order is the least, and there is one least.
+use Rattle.std.proofs.Common.{◌≡◌, ℕ, zero, arith, Bool, true, false, not, List, [], ◌∷◌, All, Contains, cond, find, Option, Some, None, String, Global, Ordering, Less, Equal, Greater, string_bytes, nat_cmp, refl, sym, ap, ◌∙◌, subst, IsTrue}
 use Rattle.std.specs.List.{list_any, AllByRecursion}
 use Rattle.std.specs.List.Sorted.{IsStrictlySortedBy}
 use Rattle.std.specs.Map.{keys_of}
-use Rattle.std.specs.Ordering.{is_le}
+use Rattle.std.specs.Ordering.{is_le, is_eq, ordering_reverse}
 use Rattle.std.specs.String.{string_cmp}
 use Rattle.std.specs.Cmp.{tied_itself}
 use Rattle.std.specs.Cmp.Lexicographic.{slice_cmp}
 use Rattle.std.specs.Str.{bytes_eq}
 use Rattle.std.proofs.lemmas.Cmp.{nat_list_cmp_total}
+use Rattle.std.proofs.lemmas.Bool.{false≢true}
+use Rattle.std.proofs.lemmas.Map.Text.{is_eq-slice_cmp}
 use Rattle.std.proofs.lemmas.Option.{same_Some, none-some}
+use Rattle.std.proofs.lemmas.Slice.Eq.{bytes_eq-Decides}
 use Rattle.std.proofs.lemmas.List.Elements.{All-cons, All-nil}
 use Rattle.toml.specs.declared.value.Value.{Value}
 use Rattle.toml.specs.View.{members_view}
-use Rattle.property_file.specs.Documents.{other_keys, IsLeast}
+use Rattle.toml_tables.specs.Tables.{other_keys, IsLeast}
 
 abbrev Entry : Type 0
 Entry = String Global × Value
@@ -67,3 +70,19 @@ other_keys-least keys [] found sorted e = absurd (none-some found e)
 other_keys-least keys (x ∷ es) found sorted e =
     least_kept (list_any (bytes_eq (string_bytes x.0)) keys) x.0 found (find (is_other keys) (keys_of es)) _ e (below_others keys x.0 es sorted.0)
     (other_keys-least keys es found sorted.1)
+
+-- the least of some keys is one
+both_le : (o : Ordering) → is_le o ≡ true → is_le (ordering_reverse o) ≡ true → is_eq o ≡ true
+both_le Less a b = absurd (false≢true b)
+both_le Equal a b = refl
+both_le Greater a b = absurd (false≢true a)
+
+at_contained : {X : Type 0} (P : X → Type 0) (xs : List X) (x : X) → Contains xs x → All P xs → P x
+at_contained P xs x c all = subst P c.2 (all c.0 x c.1)
+
+pub IsLeast-same : (keys : List (List ℕ)) (k l : List ℕ) → IsLeast keys k → IsLeast keys l → k ≡ l
+IsLeast-same keys k l a b =
+    let k_l : is_le (slice_cmp nat_cmp k l) ≡ true = at_contained (λ x. IsTrue (is_le (slice_cmp nat_cmp k x))) keys l b.among a.least in
+    let l_k : is_le (slice_cmp nat_cmp l k) ≡ true = at_contained (λ x. IsTrue (is_le (slice_cmp nat_cmp l x))) keys k a.among b.least in
+    let back : is_le (ordering_reverse (slice_cmp nat_cmp k l)) ≡ true = ap is_le (sym (nat_list_cmp_total.antisymm l k)) ∙ l_k in
+    (bytes_eq-Decides k l).0 (sym (is_eq-slice_cmp k l) ∙ both_le (slice_cmp nat_cmp k l) k_l back)

@@ -1,22 +1,31 @@
-//! What a table has at a key, as one kind of value, and whether it has other keys.
+//! What a table has at a key, as one kind of value, the keys that it has beside some, and the bytes of a text.
 
-ghost use Rattle.std.specs.Prelude.{◌≡◌, map, option_copied, option_map, IfOk, Some};
+ghost use Rattle.std.specs.Prelude.{◌≡◌, ◌↔◌, map, option_copied, option_map, IfOk, IsTrue, Some};
 ghost use Rattle.std.specs.List.{list_any};
 ghost use Rattle.std.specs.Str.{bytes_eq};
 ghost use Rattle.toml.specs.Data.{array, integer, string, get_member};
 ghost use Rattle.toml.specs.View.{items_view, table_view, view};
-ghost use Rattle.stub_file.specs.StubReading.{Finds};
-ghost use Rattle.stub_file.specs.StubSpelling.{has_only, IsFlagAt, IsTextAt};
+ghost use Rattle.toml_tables.specs.Tables.{Finds, FindsOtherKey, HasOnly, IsFlagAt, IsTextAt};
 
 use jvm_model::Bytes;
 use std::alloc::{AllocError, Global};
 use toml::{Table, Value};
 
 /// Whether each key of the table is one of these.
-pub(crate) fn has_only(table: &Table, keys: &[&str]) -> bool
-    ensures { result ≡ has_only (map (λ key. key.now) keys.now) (table_view table.now) }
+pub fn has_only(table: &Table, keys: &[&str]) -> bool
+    ensures { IsTrue result ↔ HasOnly (map (λ key. key.now) keys.now) (table_view table.now) }
 {
-    table.keys().all(|found| is_among(found.as_str(), keys))
+    other_key(table, keys).is_none()
+}
+
+/// The first of the keys of a table that are none of these; it is the least.
+pub fn other_key<'a>(table: &'a Table, keys: &[&str]) -> Option<&'a str>
+    ensures { FindsOtherKey (map (λ key. key.now) keys.now) (table_view table.now) (option_copied result) }
+{
+    match table.keys().find(|found| !is_among(found.as_str(), keys)) {
+        Some(found) => Some(found.as_str()),
+        None => None,
+    }
 }
 
 /// Whether the text is one of these.
@@ -27,14 +36,14 @@ fn is_among(text: &str, keys: &[&str]) -> bool
 }
 
 /// The value at a key.
-pub(crate) fn value_at<'a>(table: &'a Table, key: &str) -> Option<&'a Value>
+pub fn value_at<'a>(table: &'a Table, key: &str) -> Option<&'a Value>
     ensures { option_map (λ value. view value.now) result ≡ get_member key.now (table_view table.now) }
 {
     table.get(key)
 }
 
 /// The text at a key, if a text stands there.
-fn text_at<'a>(table: &'a Table, key: &str) -> Option<&'a str>
+pub fn text_at<'a>(table: &'a Table, key: &str) -> Option<&'a str>
     ensures { Finds (IsTextAt key.now (table_view table.now)) (option_copied result) }
 {
     match value_at(table, key) {
@@ -44,7 +53,7 @@ fn text_at<'a>(table: &'a Table, key: &str) -> Option<&'a str>
 }
 
 /// The integer at a key, if an integer stands there.
-pub(crate) fn integer_at(table: &Table, key: &str) -> Option<i64>
+pub fn integer_at(table: &Table, key: &str) -> Option<i64>
     ensures { Finds (λ number. get_member key.now (table_view table.now) ≡ Some (integer number)) result }
 {
     match value_at(table, key) {
@@ -54,7 +63,7 @@ pub(crate) fn integer_at(table: &Table, key: &str) -> Option<i64>
 }
 
 /// The items of the list at a key, if a list stands there.
-pub(crate) fn array_at<'a>(table: &'a Table, key: &str) -> Option<&'a [Value]>
+pub fn array_at<'a>(table: &'a Table, key: &str) -> Option<&'a [Value]>
     ensures { Finds (λ items. get_member key.now (table_view table.now) ≡ Some (array items))
         (option_map (λ values. items_view values.now) result) }
 {
@@ -67,8 +76,18 @@ pub(crate) fn array_at<'a>(table: &'a Table, key: &str) -> Option<&'a [Value]>
     }
 }
 
-/// The bytes of the text at a key, if a text stands there.
-pub(crate) fn bytes_at(alloc: Global, table: &Table, key: &str) -> Result<Option<Bytes>, AllocError>
+/// The flag at a key, which is false without the key, or `None` if something else stands there.
+pub fn flag_at(table: &Table, key: &str) -> Option<bool>
+    ensures { Finds (IsFlagAt key.now (table_view table.now)) result }
+{
+    match value_at(table, key) {
+        Some(value) => value.as_bool(),
+        None => Some(false),
+    }
+}
+
+/// The bytes of the text at a key, if a text stands there. An error says that memory ran out.
+pub fn bytes_at(alloc: Global, table: &Table, key: &str) -> Result<Option<Bytes>, AllocError>
     ensures { IfOk result (Finds (IsTextAt key.now (table_view table.now))) }
 {
     match text_at(table, key) {
@@ -77,8 +96,9 @@ pub(crate) fn bytes_at(alloc: Global, table: &Table, key: &str) -> Result<Option
     }
 }
 
-/// The bytes of the text at a key, `Some(None)` without the key, and `None` if something else stands there.
-pub(crate) fn optional_bytes_at(
+/// The bytes of the text at a key, `Some(None)` without the key, and `None` if something else stands there. An error
+/// says that memory ran out.
+pub fn optional_bytes_at(
     alloc: Global,
     table: &Table,
     key: &str,
@@ -94,18 +114,8 @@ pub(crate) fn optional_bytes_at(
     }
 }
 
-/// The flag at a key, which is false without the key, or `None` if something else stands there.
-pub(crate) fn flag_at(table: &Table, key: &str) -> Option<bool>
-    ensures { Finds (IsFlagAt key.now (table_view table.now)) result }
-{
-    match value_at(table, key) {
-        Some(value) => value.as_bool(),
-        None => Some(false),
-    }
-}
-
-/// A copy of a text's bytes.
-pub(crate) fn bytes_of(alloc: Global, text: &str) -> Result<Bytes, AllocError>
+/// A copy of a text's bytes. An error says that memory ran out.
+pub fn bytes_of(alloc: Global, text: &str) -> Result<Bytes, AllocError>
     ensures { IfOk result (λ bytes. bytes ≡ text.now) }
 {
     Ok(Bytes::from_vec(Vec::from_slice(alloc, text.as_bytes())?))

@@ -4,9 +4,9 @@ use Rattle.std.specs.Map.{keys_of}
 use Rattle.std.specs.Str.{bytes_eq}
 use Rattle.std.proofs.lemmas.Iterator.Consumers.{YieldsList-from_rest}
 use Rattle.std.proofs.lemmas.Iterator.Search.{find_from_yields_List}
-use Rattle.property_file.proofs.Keys.{is_other, other_keys-none, other_keys-least}
-use Rattle.property_file.proofs.Lists.{list_any-map}
-use Rattle.property_file.proofs.table_access.other_key.Goals as goal
+use Rattle.toml_tables.proofs.Keys.{is_other, other_keys-none, other_keys-least}
+use Rattle.toml_tables.proofs.Lists.{list_any-map}
+use Rattle.toml_tables.proofs.table_access.other_key.Goals as goal
 
 -- the test that the search makes of a key
 abbrev tested : List (Bor (List ℕ)) → String Global → Bool

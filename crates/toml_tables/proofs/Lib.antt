@@ -1,0 +1,5 @@
+pub mod Lists
+pub mod Finding
+pub mod Values
+pub mod Keys
+pub mod OneDocument
