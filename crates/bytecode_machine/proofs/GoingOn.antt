@@ -1,5 +1,5 @@
 -- Executions with one more step.
-use Rattle.std.proofs.Common.{◌≡◌, List, [], ◌∷◌, ◌++◌, refl, sym, ap, ◌∙◌, subst}
+use Rattle.std.proofs.Common.{◌≡◌, List, [], ◌∷◌, ◌++◌, ap, subst}
 use Rattle.bytecode_machine.specs.Executions.{AreSteps, IsExecution, start}
 use Rattle.bytecode_machine.specs.Machine.{Step, Subject}
 use Rattle.bytecode_machine.specs.States.{State}

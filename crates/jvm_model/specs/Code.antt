@@ -1,5 +1,5 @@
 -- Public contracts rest on this module.
--- The body of a CodeBody attribute (JVMS 4.7.3).
+-- The body of a Code attribute (JVMS 4.7.3).
 use Rattle.std.specs.Prelude.{◌≡◌, ℕ, ◌<◌, ◌^◌, List, [], ◌∷◌, ◌++◌, length, filter, All}
 use Rattle.jvm_model.specs.declared.class_file.ClassFile.{ClassFile}
 use Rattle.jvm_model.specs.declared.class_file.Member.{Member}
@@ -39,7 +39,7 @@ pub record IsCode (bytes : List ℕ) (c : CodeBody) : Type 0 where
   pub attributes : All AttributeFits c.attributes
   pub spelled : bytes ≡ spell_code c
 
--- The method's only attribute named CodeBody has this body.
+-- The method's only attribute named Code has this body.
 pub record HasCode (c : ClassFile) (m : Member) (contents : CodeBody) : Type 0 where
   pub code : Attribute
   pub only : filter (is_code c.pool) m.attributes ≡ code ∷ []

@@ -1,3 +1,4 @@
+-- Only the proofs of this crate rest on this module.
 -- The folder that the words of the program name.
 use Rattle.std.specs.Prelude.{codes, ℕ, ◌&&◌, ◌==◌, List, [], ◌∷◌, Option, Some, None, length, nat_lt, slice_get, unwrap_or, if◌then◌else◌}
 use Rattle.std.specs.List.{before_first, after_first, position_or_len}

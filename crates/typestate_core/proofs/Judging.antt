@@ -1,5 +1,5 @@
 -- From what each check found to the outcome of the run.
-use Rattle.std.proofs.Common.{◌≡◌, ◌≢◌, ℕ, suc, ◌<◌, ◌≤◌, Bool, true, false, not, List, [], ◌∷◌, length, take, map, find, Option, Some, None, Result, Ok, Err, IfSome, IfNone, IfOk, option_map, Contains, String, Global, string_bytes, get_or, cond, zero, slice_get, ◌⊎◌, inl, inr, sym, ap, ◌∙◌, subst, refl, arith}
+use Rattle.std.proofs.Common.{◌≡◌, ◌≢◌, ℕ, suc, ◌<◌, ◌≤◌, Bool, true, false, not, List, [], ◌∷◌, length, take, map, find, Option, Some, None, Result, Ok, Err, IfSome, IfOk, option_map, Contains, String, Global, string_bytes, get_or, cond, zero, slice_get, ◌⊎◌, inl, inr, sym, ap, ◌∙◌, subst, refl, arith}
 use Rattle.std.specs.Bool.{OnTrue, OnFalse}
 use Rattle.std.specs.Str.{bytes_eq}
 use Rattle.std.proofs.lemmas.Slice.Eq.{bytes_eq-Decides}
@@ -7,7 +7,7 @@ use Rattle.std.proofs.lemmas.Bool.{cases_lt, false≢true}
 use Rattle.std.proofs.lemmas.List.{length-map, length-take, take_all}
 use Rattle.std.proofs.lemmas.List.Sorted.{Contains-permutation, IsPermutation-sym}
 use Rattle.std.proofs.lemmas.Option.{same_Some, none-some}
-use Rattle.typestate_core.proofs.Reach.{place_of, contains_at}
+use Rattle.prune_stage.proofs.Reach.{place_of, contains_at}
 use Rattle.ts_outside.specs.Files.{File, file_at, class_names, is_class_name, IsListing}
 use Rattle.jvm_model.specs.declared.automaton.Automaton.{Automaton}
 use Rattle.jvm_model.specs.declared.class_file.ClassFile.{ClassFile}
@@ -20,6 +20,7 @@ use Rattle.classfile_reader.specs.Faults.{IsClassFileRefusal, IsFaulty}
 use Rattle.classfile_reader.proofs.Refusals.{faulty_cut}
 use Rattle.classfile_reader.proofs.OneSpelling.{one_spelling}
 use Rattle.jvm_model.specs.Soundness.{IsSoundClass}
+use Rattle.one_class_form.proofs.Options.{at_some, if_some}
 use Rattle.typestate_core.specs.declared.status.Status.{Status}
 use Rattle.typestate_core.specs.declared.status.Status.TheVariants as statuses
 use Rattle.typestate_core.specs.Lines.{no_file, refused_line, missing_line, safe_line, unproved_line, summary_line}
@@ -28,21 +29,11 @@ use Rattle.typestate_core.specs.Requests.{AreWords}
 use Rattle.property_file.specs.declared.refusal.PropertyRefusal.{PropertyRefusal}
 use Rattle.property_file.specs.declared.refusal.PropertyRefusal.TheVariants as properties
 use Rattle.property_file.specs.PropertyFile.{IsPropertyFile}
-use Rattle.property_file.specs.Refusals.{IsNoDocument, too_large, IsBrokenFile, IsPropertyRefusal as IsPropertyRefusal}
+use Rattle.property_file.specs.Refusals.{IsBrokenFile, IsPropertyRefusal}
+use Rattle.toml_tables.specs.Documents.{IsNoDocument, too_large}
 use Rattle.typestate_core.specs.declared.verifier.Answer.{Answer}
 use Rattle.typestate_core.specs.Answers.{Says, SaysRefusal, IsReported, IsVerdict, AnswersRun, lines_of}
 use Rattle.typestate_core.specs.Output.{TakesAll, text_of}
-
--- What holds of each value that an option may have, holds of the option.
-pub if_some : {X : Type 0} (o : Option X) (P : X → Type 0) → ((x : X) → o ≡ Some x → P x) → IfSome o P
-if_some None P h = tt
-if_some (Some x) P h = h x refl
-
-pub at_some : {X : Type 0} (o : Option X) (P : X → Type 0) (x : X) → o ≡ Some x → IfSome o P → P x
-at_some o P x e h = let Q : Option _ → Type 0 = λ q. IfSome q P in subst Q e h
-
-pub at_none : {X : Type 0} (o : Option X) (P : Type 0) → o ≡ None → IfNone o P → P
-at_none o P e h = let Q : Option _ → Type 0 = λ q. IfNone q P in subst Q e h
 
 pub if_ok : {A E : Type 0} (r : Result A E) (P Q : A → Type 0) → IfOk r P → ((a : A) → P a → Q a) → IfOk r Q
 if_ok (Ok a) P Q p h = h a p
@@ -312,14 +303,3 @@ written_told (Some files) words status answer lines old new is lines_are reporte
 pub true_of_not : (b : Bool) → false ≡ not b → b ≡ true
 true_of_not true e = refl
 true_of_not false e = absurd (false≢true e)
-
--- what holds of what is found, and of nothing being found, goes over
-pub if_found : {A E : Type 0} (r : Result (Option A) E) (P Q : A → Type 0) → ((a : A) → P a → Q a) → IfOk r (λ found. IfSome found P) → IfOk r (λ found. IfSome found Q)
-if_found (Ok (Some a)) P Q h p = h a p
-if_found (Ok None) P Q h p = tt
-if_found (Err e) P Q h p = tt
-
-pub if_missing : {A E : Type 0} (r : Result (Option A) E) (P Q : Type 0) → (P → Q) → IfOk r (λ found. IfNone found P) → IfOk r (λ found. IfNone found Q)
-if_missing (Ok (Some a)) P Q h p = tt
-if_missing (Ok None) P Q h p = h p
-if_missing (Err e) P Q h p = tt

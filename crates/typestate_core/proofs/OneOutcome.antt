@@ -8,12 +8,13 @@ use Rattle.typestate_core.specs.declared.status.Status.{Status}
 use Rattle.typestate_core.specs.declared.status.Status.TheVariants as statuses
 use Rattle.typestate_core.specs.Lines.{no_file, refused_line, missing_line, safe_line, unproved_line, summary_line}
 use Rattle.typestate_core.specs.Requests.{AreWords}
-use Rattle.property_file.specs.Refusals.{IsNoDocument, IsBrokenFile}
+use Rattle.property_file.specs.Refusals.{IsBrokenFile}
+use Rattle.toml_tables.specs.Documents.{IsNoDocument}
 use Rattle.property_file.proofs.Broken.{IsNoDocument-not, IsBrokenFile-not}
-use Rattle.typestate_core.specs.StageOne.{IsSafe, events_of}
+use Rattle.prune_stage.specs.StageOne.{IsSafe, events_of}
 use Rattle.typestate_core.specs.Outcomes.{Outcome, Asks, HasOneClass, IsJudged, IsRefusedAs, entry_site, other_words, no_property, no_document, broken_property, other_count, refused_class, safe, unproved}
 use Rattle.typestate_core.proofs.OneRequest.{AreWords-same, IsListing-long, HasOneClass-same, Asks-same, not_held, not_spelled, not_refused_twice}
-use Rattle.typestate_core.proofs.OneForm.{IsJudged-same, IsJudged-moved, refused_or_judged, one_refusal}
+use Rattle.typestate_core.proofs.OneJudgement.{IsJudged-same, IsJudged-moved, refused_or_judged, one_refusal}
 
 -- two answers with one status and one list of lines
 agree : (s t x : Status) (l m y z : List (List ℕ)) → s ≡ x → l ≡ y → t ≡ x → m ≡ z → y ≡ z → (s ≡ t) × (l ≡ m)

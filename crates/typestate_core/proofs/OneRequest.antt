@@ -9,11 +9,12 @@ use Rattle.ts_outside.specs.Files.{File, file_at, class_names, IsListing}
 use Rattle.jvm_model.specs.declared.automaton.Automaton.{Automaton}
 use Rattle.typestate_core.specs.Requests.{NamesMethod, AreWords}
 use Rattle.property_file.specs.PropertyFile.{IsPropertyFile}
-use Rattle.property_file.specs.Refusals.{IsNoDocument, IsBrokenFile}
+use Rattle.property_file.specs.Refusals.{IsBrokenFile}
+use Rattle.toml_tables.specs.Documents.{IsNoDocument}
 use Rattle.property_file.proofs.Broken.{IsNoDocument-not_broken}
 use Rattle.property_file.proofs.Whole.{IsPropertyFile-same}
 use Rattle.typestate_core.specs.Outcomes.{Asks, HasOneClass}
-use Rattle.typestate_core.proofs.Reach.{place_of, contains_at}
+use Rattle.prune_stage.proofs.Reach.{place_of, contains_at}
 
 -- ---- the words
 

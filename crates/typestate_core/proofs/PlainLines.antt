@@ -1,12 +1,11 @@
 -- Lines of a text: as no line has a newline within, a line that stands in the text of some lines is one of them.
 use Rattle.std.proofs.Common.{◌≡◌, ◌≢◌, ◌⊎◌, inl, inr, ℕ, zero, suc, cond, ◌==◌, ◌+◌, ◌/◌, ◌%◌, ◌≤◌, Bool, true, false, not, nat_lt, if◌then◌else◌, eqb, eqb-true, eq-eqb, leb-true, List, [], ◌∷◌, ◌++◌, decimal, length, length-append, All, refl, sym, ap, ◌∙◌, append_assoc, arith}
 use Rattle.std.specs.List.{AllByRecursion, list_all}
-use Rattle.std.proofs.lemmas.Bool.{false≢true}
+use Rattle.std.proofs.lemmas.Bool.{and_parts, false≢true, not-true}
+use Rattle.std.proofs.lemmas.List.Elements.{All-head, All-tail}
 use Rattle.std.specs.Fmt.{digits, digits_onto, digit_glyph}
 use Rattle.typestate_core.specs.Output.{text_of}
 use Rattle.typestate_core.specs.Printed.{printed, printed_byte, is_printed_plainly, hex_digit}
-use Rattle.typestate_core.proofs.Named.{and_both, not_true}
-use Rattle.typestate_core.proofs.AllParts.{All-first, All-rest}
 
 -- A text without a newline.
 pub record IsPlain (text : List ℕ) : Type 0 where
@@ -40,13 +39,13 @@ IsPlain-rest b text plain = record { each = plain.each.1 }
 
 pub IsPlain-all : (text : List ℕ) → All (λ b. b ≢ 10) text → IsPlain text
 IsPlain-all [] h = IsPlain-nil
-IsPlain-all (b ∷ text) h = IsPlain-cons b text (All-first (λ x. x ≢ 10) b text h) (IsPlain-all text (All-rest (λ x. x ≢ 10) b text h))
+IsPlain-all (b ∷ text) h = IsPlain-cons b text (All-head (λ x. x ≢ 10) b text h) (IsPlain-all text (All-tail (λ x. x ≢ 10) b text h))
 
 pub IsPlain-test : (text : List ℕ) → list_all (λ b. not (eqb b 10)) text ≡ true → IsPlain text
 IsPlain-test [] e = IsPlain-nil
 IsPlain-test (b ∷ text) e =
-    let other : eqb b 10 ≡ false = not_true (eqb b 10) (and_both _ _ e).0 in
-    IsPlain-cons b text (λ is. false≢true (sym other ∙ eq-eqb b 10 is)) (IsPlain-test text (and_both _ _ e).1)
+    let other : eqb b 10 ≡ false = not-true (eqb b 10) (and_parts _ _ e).0 in
+    IsPlain-cons b text (λ is. false≢true (sym other ∙ eq-eqb b 10 is)) (IsPlain-test text (and_parts _ _ e).1)
 
 pub IsPlain-append : (xs ys : List ℕ) → IsPlain xs → IsPlain ys → IsPlain (xs ++ ys)
 IsPlain-append [] ys h k = k
@@ -67,7 +66,7 @@ printed_byte_plain b = by (is_printed_plainly b) refl
     by : (plainly : Bool) → is_printed_plainly b ≡ plainly
         → IsPlain (if plainly then b ∷ [] else 0x5C ∷ 120 ∷ hex_digit (b / 16) ∷ hex_digit (b % 16) ∷ [])
     by true e =
-        let least : 0x21 ≤ b = leb-true 0x21 b (and_both _ _ (and_both _ _ e).0).0 in
+        let least : 0x21 ≤ b = leb-true 0x21 b (and_parts _ _ (and_parts _ _ e).0).0 in
         record { each = ((λ is. absurd (omega arith)), tt) }
     by false e = record { each = ((λ is. absurd (omega arith)), ((λ is. absurd (omega arith)), (digit_plain (b / 16), (digit_plain (b % 16), tt)))) }
 

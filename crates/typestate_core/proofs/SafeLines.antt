@@ -15,7 +15,7 @@ use Rattle.typestate_core.specs.Claims.{safe_text, WroteLine}
 use Rattle.typestate_core.specs.Lines.{no_file, refused_line, missing_line, safe_line, unproved_line, summary_line}
 use Rattle.typestate_core.specs.Outcomes.{Outcome, Asks, HasOneClass, IsJudged, entry_site, other_words, no_property, no_document, broken_property, other_count, refused_class, safe, unproved}
 use Rattle.typestate_core.specs.Output.{TakesAll, TakesFront, text_of}
-use Rattle.typestate_core.specs.StageOne.{IsSafe, events_of}
+use Rattle.prune_stage.specs.StageOne.{IsSafe, events_of}
 use Rattle.typestate_core.proofs.PlainLines.{IsPlain, IsFront, IsLine, Among, IsPlain-all, IsPlain-test, IsPlain-append, word, number, name, ended, line_among}
 use Rattle.typestate_core.proofs.Written.{TakesAll-nil}
 

@@ -1,3 +1,4 @@
+-- Public contracts rest on this module.
 -- What a run answers, and what the sink has taken then.
 use Rattle.std.specs.Prelude.{◌≡◌, ◌↔◌, ℕ, Bool, List, [], ◌∷◌, map, Option, IsTrue}
 use Rattle.ts_outside.specs.Files.{File}
@@ -14,7 +15,7 @@ use Rattle.typestate_core.specs.declared.verifier.Judgement.TheVariants as judge
 use Rattle.typestate_core.specs.Lines.{refused_line}
 use Rattle.typestate_core.specs.Outcomes.{Outcome, IsOfForm, IsJudged, IsRefusedAs}
 use Rattle.typestate_core.specs.Output.{TakesAll, TakesFront, text_of}
-use Rattle.typestate_core.specs.StageOne.{IsSafe, events_of}
+use Rattle.prune_stage.specs.StageOne.{IsSafe, events_of}
 
 -- The lines of an answer.
 abbrev pub lines_of : Answer → List (List ℕ)

@@ -1,38 +1,18 @@
+-- Public contracts rest on this module.
 -- What a safe site means: no execution of the program that the class file spells, with the entry that the words
 -- name, has a state in which an object of the site is in the error state.
-use Rattle.std.specs.Prelude.{codes, ◌≡◌, ◌≢◌, ◌⊎◌, ℕ, List, [], ◌∷◌, ◌++◌, Option, Some, slice_get, All, IsTrue}
+use Rattle.std.specs.Prelude.{codes, ◌≡◌, ◌≢◌, ◌⊎◌, ℕ, List, [], ◌∷◌, ◌++◌, Option, Some, All}
 use Rattle.std.specs.Fmt.{decimal}
 use Rattle.ts_outside.specs.Files.{File}
-use Rattle.jvm_model.specs.declared.access.AccessFlag.TheVariants.{Static}
 use Rattle.jvm_model.specs.declared.automaton.Automaton.{Automaton}
 use Rattle.jvm_model.specs.declared.class_file.ClassFile.{ClassFile}
-use Rattle.jvm_model.specs.declared.site.Site.{Site}
-use Rattle.jvm_model.specs.declared.site.SiteKind.TheVariants.{New}
-use Rattle.jvm_model.specs.Access.{has_flag}
 use Rattle.bytecode_machine.specs.Executions.{Errs}
-use Rattle.bytecode_machine.specs.Machine.{Subject}
-use Rattle.jvm_model.specs.Programs.{Program, Method}
-use Rattle.typestate_core.specs.OneClassPrograms.{program_of}
+use Rattle.one_class_form.specs.Entries.{IsEntryOf, made_at, subject_of}
+use Rattle.one_class_form.specs.OneClassPrograms.{program_of}
 use Rattle.jvm_model.specs.Soundness.{plain_descriptor}
 use Rattle.jvm_model.specs.Spelling.{IsSpelling}
 use Rattle.typestate_core.specs.Lines.{site_text}
 use Rattle.typestate_core.specs.Outcomes.{Asks, HasOneClass}
-
--- The method of a number is the static one of the class and the name that has no parameters and no result.
-pub record IsEntryOf (p : Program) (class method : List ℕ) (entry : ℕ) : Type 0 where
-  pub found : Method
-  pub stands : slice_get p.methods entry ≡ Some found
-  pub of_class : found.class ≡ class
-  pub named : found.signature ≡ record { name = method; descriptor = plain_descriptor }
-  pub static : IsTrue (has_flag found.flags Static)
-
--- The program of a class file is run, from the entry, under a property.
-abbrev pub subject_of : ClassFile → Automaton → ℕ → Subject
-subject_of c a entry = record { program = program_of c; property = a; entry = entry }
-
--- The site of an instruction that makes an object of the class at an offset of a method.
-abbrev pub made_at : ℕ → ℕ → List ℕ → Site
-made_at number offset class = record { kind = New; method = Some (record { 0 = number }); offset = offset; class = class }
 
 -- The words and the files tell a property, a class file and an entry, of which the site is the one that is printed
 -- as this text: its objects never are in the error state.

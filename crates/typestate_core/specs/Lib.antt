@@ -1,17 +1,8 @@
 pub mod Answers
-pub mod Bodies
 pub mod Claims
-pub mod Examples
-pub mod FormParts
 pub mod Lines
-pub mod OneClassPrograms
 pub mod Outcomes
 pub mod Output
 pub mod Printed
-pub mod Reaching
 pub mod Requests
-pub mod SimpleCode
-pub mod SimpleParts
-pub mod StageOne
 pub mod Statuses
-pub mod StraightLine

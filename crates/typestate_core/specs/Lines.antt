@@ -1,3 +1,4 @@
+-- Public contracts rest on this module.
 -- The lines that a run writes. Each ends with a newline.
 use Rattle.std.specs.Prelude.{codes, ℕ, List, [], ◌∷◌, ◌++◌}
 use Rattle.std.specs.Fmt.{decimal}

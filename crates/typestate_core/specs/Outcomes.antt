@@ -1,3 +1,4 @@
+-- Public contracts rest on this module.
 -- What a run answers, from the words and the files of the tree: a status, and the lines that are
 -- written. The checks stand in their order, and each case has the premise that the earlier ones passed.
 use Rattle.std.specs.Prelude.{◌≡◌, ◌≢◌, ℕ, List, [], ◌∷◌, length, Some, None}
@@ -10,13 +11,14 @@ use Rattle.jvm_model.specs.Soundness.{plain_descriptor, IsSoundClass}
 use Rattle.classfile_reader.specs.ClassReading.{SpellsReadable}
 use Rattle.classfile_reader.specs.Faults.{IsFaulty}
 use Rattle.property_file.specs.PropertyFile.{IsPropertyFile}
-use Rattle.property_file.specs.Refusals.{IsNoDocument, IsBrokenFile}
+use Rattle.property_file.specs.Refusals.{IsBrokenFile}
+use Rattle.toml_tables.specs.Documents.{IsNoDocument}
 use Rattle.typestate_core.specs.declared.status.Status.{Status}
 use Rattle.typestate_core.specs.declared.status.Status.TheVariants as statuses
 use Rattle.typestate_core.specs.Lines.{no_file, refused_line, missing_line, site_text, safe_line, unproved_line, summary_line}
 use Rattle.typestate_core.specs.Requests.{AreWords}
-use Rattle.typestate_core.specs.StageOne.{IsSafe, events_of}
-use Rattle.typestate_core.specs.StraightLine.{IsStraightLine}
+use Rattle.prune_stage.specs.StageOne.{IsSafe, events_of}
+use Rattle.one_class_form.specs.StraightLine.{IsStraightLine}
 
 -- The words ask for an entry under the automaton of a property file that the tree holds.
 pub record Asks (words : List (List ℕ)) (files : List File) (class method : List ℕ) (a : Automaton) : Type 0 where

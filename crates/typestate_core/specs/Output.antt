@@ -1,3 +1,4 @@
+-- Public contracts rest on this module.
 -- What a sink has taken.
 use Rattle.std.specs.Prelude.{◌≡◌, ℕ, ◌≤◌, List, ◌++◌, length, take, Option, option_map}
 use Rattle.std.specs.List.{flat_map}

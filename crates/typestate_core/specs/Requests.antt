@@ -1,3 +1,4 @@
+-- Public contracts rest on this module.
 -- The words of a run.
 use Rattle.std.specs.Prelude.{codes, ◌≡◌, ℕ, ◌==◌, not, List, [], ◌∷◌, ◌++◌, Some, slice_get, IsTrue}
 use Rattle.std.specs.List.{list_all}

@@ -1,3 +1,4 @@
+-- Public contracts rest on this module.
 -- The codes of the statuses.
 use Rattle.std.specs.Prelude.{ℕ}
 use Rattle.typestate_core.specs.declared.status.Status.{Status}

@@ -7,14 +7,12 @@ mod lines;
 mod output;
 mod printed;
 mod request;
-mod simple;
-mod stage_one;
 mod status;
-mod straight_line;
 mod verifier;
 
-pub use laws::{
-    one_outcome, read_after_close_errs, safe_is_sound, second_read_errs, two_reads_is_spelled,
+pub use laws::one_outcome;
+pub use one_class_form::{
+    read_after_close_errs, safe_is_sound, second_read_errs, two_reads_is_spelled,
     two_reads_runs_to_its_end,
 };
 pub use status::Status;

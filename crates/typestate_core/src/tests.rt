@@ -2,10 +2,6 @@
 
 ghost use Rattle.std.specs.Prelude.{ℕ, Some};
 
-mod class_copies;
-mod code_copies;
-mod form;
-
 use super::*;
 use std::alloc::{AllocError, Global};
 use std::process::Abort;
@@ -121,14 +117,10 @@ fn strings(alloc: Global, words: &[&str]) -> Result<Vec<String>, AllocError> {
     Ok(strings)
 }
 
-/// The files of a case, with this class in place of its own.
-fn files(
-    alloc: Global,
-    case: &Case,
-    class: Option<&[u8]>,
-) -> Result<Vec<(String, Vec<u8>)>, AllocError> {
+/// The files of a case.
+fn files(alloc: Global, case: &Case) -> Result<Vec<(String, Vec<u8>)>, AllocError> {
     let mut held = Vec::new(alloc);
-    if let Some(class) = class {
+    if let Some(class) = case.class {
         held.push((
             String::from_str(alloc, "F.class")?,
             Vec::from_slice(alloc, class)?,
@@ -143,13 +135,8 @@ fn files(
     Ok(held)
 }
 
-fn check(
-    rt: &impl Abort,
-    alloc: Global,
-    case: &Case,
-    class: Option<&[u8]>,
-) -> Result<(), AllocError> {
-    let held = files(alloc, case, class)?;
+fn check(rt: &impl Abort, alloc: Global, case: &Case) -> Result<(), AllocError> {
+    let held = files(alloc, case)?;
     assert!(rt; names_differ(&held));
     let mut tree = MemoryTree::new(held, Vec::from_slice(alloc, case.failing_calls)?);
     let mut out = MemorySink::new(
@@ -167,7 +154,7 @@ fn check(
 #[test]
 fn worked_cases(rt: HostRuntime) -> Result<(), Fail> {
     for case in CASES {
-        check(&rt, rt.alloc(), case, case.class)?;
+        check(&rt, rt.alloc(), case)?;
     }
     Ok(())
 }
@@ -175,7 +162,7 @@ fn worked_cases(rt: HostRuntime) -> Result<(), Fail> {
 #[test]
 fn steady_run(rt: HostRuntime) -> Result<(), Fail> {
     let alloc = rt.alloc();
-    let held = files(alloc, &CASE, CASE.class)?;
+    let held = files(alloc, &CASE)?;
     assert!(rt; names_differ(&held));
     let mut out = SteadySink::new();
     let status = run(
@@ -210,7 +197,7 @@ impl Sink for OneByteSink {
 #[test]
 fn one_byte_at_a_time(rt: HostRuntime) -> Result<(), Fail> {
     let alloc = rt.alloc();
-    let held = files(alloc, &CASE, CASE.class)?;
+    let held = files(alloc, &CASE)?;
     assert!(rt; names_differ(&held));
     let sink = MemorySink::new(alloc, 100, Vec::new(alloc))?;
     let mut out = OneByteSink { sink };

@@ -17,12 +17,12 @@ use crate::lines::{
 };
 use crate::output::write_lines;
 use crate::request::Request;
-use crate::stage_one::is_safe;
 use crate::status::Status;
-use crate::straight_line::occurring_events;
 use classfile_reader::read_class;
 use jvm_model::{Automaton, ClassFile, ReadRefusal, Reason};
+use one_class_form::occurring_events;
 use property_file::{PropertyRefusal, read_property};
+use prune_stage::is_safe;
 use std::alloc::{AllocError, AllocFailed, Global};
 use ts_outside::{Sink, Tree, TreeEnd};
 
@@ -209,7 +209,8 @@ fn site_verdict(
     if automaton.class_name.as_slice() != request.class {
         return Ok(None);
     }
-    let Some(occurs) = occurring_events(alloc, class, automaton, request)? else {
+    let Some(occurs) = occurring_events(alloc, class, automaton, request.class, request.method)?
+    else {
         return Ok(None);
     };
     Ok(Some(is_safe(automaton, &occurs)))

@@ -1,10 +1,11 @@
 use Rattle.std.proofs.Common.{◌≡◌, ◌∙◌, ℕ, Bool, true, List, filter, ap, sym, subst}
 use Rattle.std.proofs.lemmas.Slice.Eq.{bytes_eq-Decides}
 use Rattle.jvm_model.specs.declared.automaton.Event.{Event}
-use Rattle.typestate_core.specs.StraightLine.{IsStraightLine, Occurs}
-use Rattle.typestate_core.specs.StageOne.{IsSafe, is_called, picked}
-use Rattle.typestate_core.proofs.Judging.{at_some, at_none, true_of_not}
-use Rattle.typestate_core.proofs.Reach.{picked-map}
+use Rattle.one_class_form.specs.StraightLine.{IsStraightLine, Occurs}
+use Rattle.prune_stage.specs.StageOne.{IsSafe, is_called, picked}
+use Rattle.one_class_form.proofs.Options.{at_none, at_some}
+use Rattle.typestate_core.proofs.Judging.{true_of_not}
+use Rattle.prune_stage.proofs.Reach.{picked-map}
 use Rattle.typestate_core.proofs.verifier.site_verdict.Goals as goal
 
 pub returns-in_default-clause-none : goal.returns-in_default-clause-none

@@ -1,6 +1,7 @@
 use Rattle.std.proofs.Common.{List, ℕ}
 use Rattle.typestate_core.specs.Outcomes.{IsOfForm}
-use Rattle.typestate_core.proofs.Judging.{at_none, refused_by_form, refused_by_fault}
+use Rattle.one_class_form.proofs.Options.{at_none}
+use Rattle.typestate_core.proofs.Judging.{refused_by_form, refused_by_fault}
 use Rattle.typestate_core.proofs.verifier.verdict.Goals as goal
 
 pub returns : goal.returns

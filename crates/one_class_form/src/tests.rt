@@ -1,0 +1,128 @@
+//! Copies of one class with a few bytes changed, and what is found of each: every rule of the form broken once, and some
+//! changes that keep it.
+
+mod class_copies;
+mod code_copies;
+
+use crate::occurring_events;
+use classfile_reader::read_class;
+use jvm_model::{Automaton, Bytes, Event, ReadRefusal, Reason, Sequence};
+use std::alloc::{AllocError, Global};
+use std::process::Abort;
+
+/// A class F whose `main` makes an F, calls `read` and then `close`, and returns.
+const READ_THEN_CLOSE: [u8; 260] = [
+    0xca, 0xfe, 0xba, 0xbe, 0x00, 0x00, 0x00, 0x34, 0x00, 0x12, 0x01, 0x00, 0x01, 0x46, 0x07, 0x00,
+    0x01, 0x01, 0x00, 0x10, 0x6a, 0x61, 0x76, 0x61, 0x2f, 0x6c, 0x61, 0x6e, 0x67, 0x2f, 0x4f, 0x62,
+    0x6a, 0x65, 0x63, 0x74, 0x07, 0x00, 0x03, 0x01, 0x00, 0x06, 0x3c, 0x69, 0x6e, 0x69, 0x74, 0x3e,
+    0x01, 0x00, 0x03, 0x28, 0x29, 0x56, 0x01, 0x00, 0x04, 0x43, 0x6f, 0x64, 0x65, 0x01, 0x00, 0x04,
+    0x6d, 0x61, 0x69, 0x6e, 0x01, 0x00, 0x04, 0x72, 0x65, 0x61, 0x64, 0x01, 0x00, 0x05, 0x63, 0x6c,
+    0x6f, 0x73, 0x65, 0x0c, 0x00, 0x05, 0x00, 0x06, 0x0a, 0x00, 0x04, 0x00, 0x0b, 0x0a, 0x00, 0x02,
+    0x00, 0x0b, 0x0c, 0x00, 0x09, 0x00, 0x06, 0x0a, 0x00, 0x02, 0x00, 0x0e, 0x0c, 0x00, 0x0a, 0x00,
+    0x06, 0x0a, 0x00, 0x02, 0x00, 0x10, 0x00, 0x21, 0x00, 0x02, 0x00, 0x04, 0x00, 0x00, 0x00, 0x00,
+    0x00, 0x04, 0x00, 0x09, 0x00, 0x08, 0x00, 0x06, 0x00, 0x01, 0x00, 0x07, 0x00, 0x00, 0x00, 0x1d,
+    0x00, 0x02, 0x00, 0x01, 0x00, 0x00, 0x00, 0x11, 0xbb, 0x00, 0x02, 0x59, 0xb7, 0x00, 0x0d, 0x4b,
+    0x2a, 0xb6, 0x00, 0x0f, 0x2a, 0xb6, 0x00, 0x11, 0xb1, 0x00, 0x00, 0x00, 0x00, 0x00, 0x01, 0x00,
+    0x05, 0x00, 0x06, 0x00, 0x01, 0x00, 0x07, 0x00, 0x00, 0x00, 0x11, 0x00, 0x01, 0x00, 0x01, 0x00,
+    0x00, 0x00, 0x05, 0x2a, 0xb7, 0x00, 0x0c, 0xb1, 0x00, 0x00, 0x00, 0x00, 0x00, 0x01, 0x00, 0x09,
+    0x00, 0x06, 0x00, 0x01, 0x00, 0x07, 0x00, 0x00, 0x00, 0x0d, 0x00, 0x00, 0x00, 0x01, 0x00, 0x00,
+    0x00, 0x01, 0xb1, 0x00, 0x00, 0x00, 0x00, 0x00, 0x01, 0x00, 0x0a, 0x00, 0x06, 0x00, 0x01, 0x00,
+    0x07, 0x00, 0x00, 0x00, 0x0d, 0x00, 0x00, 0x00, 0x01, 0x00, 0x00, 0x00, 0x01, 0xb1, 0x00, 0x00,
+    0x00, 0x00, 0x00, 0x00,
+];
+
+/// What is found of a class file.
+#[derive(Clone, Copy, Debug, PartialEq, Eq)]
+enum Found {
+    /// It has the form. Whether `read` and whether `close` occurs.
+    Form { read: bool, close: bool },
+    OtherForm,
+    /// It is refused at an offset.
+    Refused(u32, Reason),
+}
+
+const BOTH_OCCUR: Found = Found::Form {
+    read: true,
+    close: true,
+};
+
+/// Bytes of the class are cut out, and others stand in their place.
+#[derive(Drop)]
+struct Change {
+    at: usize,
+    cut: usize,
+    put: &'static [u8],
+}
+
+/// A changed copy, and what is found of it.
+#[derive(Drop)]
+struct ChangedCopy {
+    title: &'static str,
+    found: Found,
+    changes: &'static [Change],
+}
+
+/// The class with the changes, which stand in order of their places.
+fn changed(alloc: Global, changes: &[Change]) -> Result<Vec<u8>, AllocError> {
+    let class: &[u8] = &READ_THEN_CLOSE;
+    let mut bytes = Vec::new(alloc);
+    let mut done = 0;
+    for change in changes {
+        bytes.extend_from_slice(class.get(done..change.at).unwrap_or(&[]))?;
+        bytes.extend_from_slice(change.put)?;
+        done = change.at.saturating_add(change.cut);
+    }
+    bytes.extend_from_slice(class.get(done..).unwrap_or(&[]))?;
+    Ok(bytes)
+}
+
+fn bytes_of(alloc: Global, bytes: &[u8]) -> Result<Bytes, AllocError> {
+    Ok(Sequence::from_vec(Vec::from_slice(alloc, bytes)?))
+}
+
+fn event(alloc: Global, name: &[u8], next: [u8; 3]) -> Result<Event, AllocError> {
+    Ok(Event {
+        name: bytes_of(alloc, name)?,
+        descriptor: bytes_of(alloc, b"()V")?,
+        next: bytes_of(alloc, &next)?,
+    })
+}
+
+/// An automaton with the events `read` and `close`.
+fn automaton(alloc: Global) -> Result<Automaton, AllocError> {
+    let mut events = Vec::new(alloc);
+    events.push(event(alloc, b"read", [0, 2, 2])?)?;
+    events.push(event(alloc, b"close", [1, 1, 2])?)?;
+    Ok(Automaton {
+        class_name: bytes_of(alloc, b"F")?,
+        states: Sequence::from_vec(Vec::new(alloc)),
+        initial: 0,
+        error: 2,
+        events: Sequence::from_vec(events),
+    })
+}
+
+/// What is found of a class file, with its method `main` as the entry.
+fn find(alloc: Global, bytes: &[u8]) -> Result<Found, AllocError> {
+    let class = match read_class(alloc, bytes) {
+        Ok(class) => class,
+        Err(ReadRefusal::Refused { offset, reason }) => return Ok(Found::Refused(offset, reason)),
+        Err(ReadRefusal::Memory) => return Err(AllocError),
+    };
+    let automaton = automaton(alloc)?;
+    let Some(occurs) = occurring_events(alloc, &class, &automaton, b"F", b"main")? else {
+        return Ok(Found::OtherForm);
+    };
+    Ok(Found::Form {
+        read: occurs.first() == Some(&true),
+        close: occurs.last() == Some(&true),
+    })
+}
+
+fn check_all(rt: &impl Abort, alloc: Global, copies: &[ChangedCopy]) -> Result<(), AllocError> {
+    for copy in copies {
+        let class = changed(alloc, copy.changes)?;
+        assert_eq!(rt; find(alloc, &class)?, copy.found, "{}", copy.title);
+    }
+    Ok(())
+}

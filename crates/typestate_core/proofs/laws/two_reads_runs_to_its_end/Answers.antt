@@ -1,9 +1,0 @@
-use Rattle.std.proofs.Common.{refl}
-use Rattle.typestate_core.proofs.ExampleEnds.{two_reads_end}
-use Rattle.typestate_core.proofs.laws.two_reads_runs_to_its_end.Goals as goal
-
-pub returns-clause-entry : goal.returns-clause-entry
-returns-clause-entry c = record { found = _; stands = refl; of_class = refl; named = refl; static = refl }
-
-pub returns-clause-run : goal.returns-clause-run
-returns-clause-run c = two_reads_end
