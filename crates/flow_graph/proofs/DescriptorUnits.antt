@@ -12,7 +12,7 @@ use Rattle.jvm_model.specs.Descriptors.{is_base_letter, IsFieldDescriptor, IsMet
 use Rattle.jvm_model.specs.DescriptorValues.{is_wide, IsKind, IsOutcome, IsMethodOf, IsDescriptorOf}
 use Rattle.jvm_model.specs.Instructions.{kinds_of, kinds_by}
 use Rattle.jvm_model.proofs.FieldKinds.{field_of_kind, no_field}
-use Rattle.code_reader.specs.CodeReading.{kind_units}
+use Rattle.jvm_model.specs.DescriptorValues.{kind_units}
 use Rattle.code_reader.proofs.ParameterUnits.{has_few}
 use Rattle.flow_graph.specs.declared.units.MethodUnits.{MethodUnits}
 use Rattle.flow_graph.specs.Reading.{HasCounts, outcome_units, spelled_units}

@@ -1,9 +1,7 @@
 -- What a sound class file says of the fields, the methods and the call sites that its instructions name.
-use Rattle.std.proofs.Common.{◌≡◌, ℕ, zero, suc, ◌+◌, true, false, List, [], ◌∷◌, ◌++◌, length, take, drop, Option, Some, None, option_and_then, refl, sym, ap, ◌∙◌, subst}
-use Rattle.std.specs.List.{list_any, AllByRecursion}
+use Rattle.std.proofs.Common.{◌≡◌, ℕ, true, false, List, [], ◌∷◌, Option, Some, None, option_and_then, refl, ap, ◌∙◌}
+use Rattle.std.specs.List.{list_any}
 use Rattle.std.specs.Option.{option_map_or}
-use Rattle.std.proofs.lemmas.List.Elements.{recursion_from_All}
-use Rattle.std.proofs.lemmas.Option.{slice_get_within, get_or_from_slice_get}
 use Rattle.jvm_model.specs.declared.grammar.Grammar.{Grammar}
 use Rattle.jvm_model.specs.declared.grammar.Grammar.TheVariants as grammars
 use Rattle.jvm_model.specs.declared.pool.EntryKind.{EntryKind}
@@ -13,87 +11,15 @@ use Rattle.jvm_model.specs.declared.pool.PoolEntry.TheVariants.{Utf8, Integer, F
 use Rattle.jvm_model.specs.declared.class_file.ClassFile.{ClassFile}
 use Rattle.jvm_model.specs.Descriptors.{IsMethodDescriptor}
 use Rattle.jvm_model.specs.Instructions.{member_in, member_of, member_at}
-use Rattle.jvm_model.specs.Lookups.{Signature, MemberReference, entry_at, text_in, text_at, signature_in, signature_at}
-use Rattle.jvm_model.specs.Soundness.{PlacedUse, UseHolds, IsIn, IsSoundClass, is_of_kind, leads_to, at_offset, each_place, entry_uses, entry_places, header_places, body_places, places_of}
-use Rattle.jvm_model.specs.Spelling.{entry}
-use Rattle.jvm_model.proofs.CodePlaces.{cut_around}
-use Rattle.jvm_model.proofs.SoundUses.{NamesClass, class_there}
+use Rattle.jvm_model.specs.Lookups.{Signature, MemberReference, entry_at, text_at, signature_in, signature_at}
+use Rattle.jvm_model.specs.Soundness.{IsIn, IsSoundClass, is_of_kind, leads_to}
+use Rattle.jvm_model.proofs.SoundUses.{NamesClass, class_there, entry_holds, of_signature, text_there}
 use Rattle.flow_graph.specs.Effects.{site_in, site_at}
-
--- ---- the uses in an entry hold
-
-abbrev Hold : List PoolEntry → List PlacedUse → Type 0
-Hold pool places = AllByRecursion (λ (p : PlacedUse). UseHolds pool p.use_) places
-
-Hold-left : (pool : List PoolEntry) (xs ys : List PlacedUse) → Hold pool (xs ++ ys) → Hold pool xs
-Hold-left pool [] ys h = tt
-Hold-left pool (x ∷ xs) ys h = (h.0, Hold-left pool xs ys h.1)
-
-Hold-right : (pool : List PoolEntry) (xs ys : List PlacedUse) → Hold pool (xs ++ ys) → Hold pool ys
-Hold-right pool [] ys h = h
-Hold-right pool (x ∷ xs) ys h = Hold-right pool xs ys h.1
-
-abbrev entry_size : PoolEntry → ℕ
-entry_size e = length (entry e)
-
--- an entry that others stand before
-at_entry : (pool : List PoolEntry) (major offset : ℕ) (earlier before : List PoolEntry) (e : PoolEntry) (after : List PoolEntry)
-    → Hold pool (each_place (entry_places major) entry_size offset earlier (before ++ e ∷ after)) → (at : ℕ) × Hold pool (at_offset at (entry_uses major e))
-at_entry pool major offset earlier [] e after h = (offset, Hold-left pool (at_offset offset (entry_uses major e)) _ h)
-at_entry pool major offset earlier (y ∷ before) e after h =
-    at_entry pool major (offset + entry_size y) (earlier ++ y ∷ []) before e after (Hold-right pool (at_offset offset (entry_uses major y)) _ h)
-
-sound_pool : (c : ClassFile) → IsSoundClass c → Hold c.pool (each_place (entry_places c.major) entry_size 10 [] c.pool)
-sound_pool c sound = Hold-left c.pool _ (header_places c ++ body_places c) (recursion_from_All (λ (p : PlacedUse). UseHolds c.pool p.use_) (places_of c) sound)
-
-entry_holds : (c : ClassFile) (index : ℕ) (e : PoolEntry) → IsSoundClass c → entry_at c.pool index ≡ Some e → (at : ℕ) × Hold c.pool (at_offset at (entry_uses c.major e))
-entry_holds c zero e sound is = absurd cc
-entry_holds c (suc k) e sound is =
-    at_entry c.pool c.major 10 [] (take k c.pool) e (drop (k + 1) c.pool) (
-    subst (λ (pool : List PoolEntry). Hold c.pool (each_place (entry_places c.major) entry_size 10 [] pool))
-    (cut_around c.pool k e (slice_get_within c.pool k e is) (sym (get_or_from_slice_get c.pool k e e is))) (sound_pool c sound)
-    )
 
 -- ---- the entry that an index leads to
 
 abbrev LeadsTo : List EntryKind → Option PoolEntry → Type 0
 LeadsTo allowed o = option_map_or (λ (e : PoolEntry). list_any (λ (k : EntryKind). is_of_kind k e) allowed) o false ≡ true
-
-of_text : (o : Option PoolEntry) → LeadsTo (kinds.Text ∷ []) o → (bytes : List ℕ) × (o ≡ Some (Utf8 bytes))
-of_text None h = absurd cc
-of_text (Some (Utf8 bytes)) h = (bytes, refl)
-of_text (Some (Integer bits)) h = absurd cc
-of_text (Some (Float bits)) h = absurd cc
-of_text (Some (Long bits)) h = absurd cc
-of_text (Some (Double bits)) h = absurd cc
-of_text (Some (Class name)) h = absurd cc
-of_text (Some (Str text)) h = absurd cc
-of_text (Some (Fieldref class signature)) h = absurd cc
-of_text (Some (Methodref class signature)) h = absurd cc
-of_text (Some (InterfaceMethodref class signature)) h = absurd cc
-of_text (Some (NameAndType name descriptor)) h = absurd cc
-of_text (Some (MethodHandle kind reference)) h = absurd cc
-of_text (Some (MethodType descriptor)) h = absurd cc
-of_text (Some (InvokeDynamic bootstrap signature)) h = absurd cc
-of_text (Some Taken) h = absurd cc
-
-of_name : (o : Option PoolEntry) → LeadsTo (kinds.NameAndType ∷ []) o → (name : ℕ) × (descriptor : ℕ) × (o ≡ Some (NameAndType name descriptor))
-of_name None h = absurd cc
-of_name (Some (Utf8 bytes)) h = absurd cc
-of_name (Some (Integer bits)) h = absurd cc
-of_name (Some (Float bits)) h = absurd cc
-of_name (Some (Long bits)) h = absurd cc
-of_name (Some (Double bits)) h = absurd cc
-of_name (Some (Class name)) h = absurd cc
-of_name (Some (Str text)) h = absurd cc
-of_name (Some (Fieldref class signature)) h = absurd cc
-of_name (Some (Methodref class signature)) h = absurd cc
-of_name (Some (InterfaceMethodref class signature)) h = absurd cc
-of_name (Some (NameAndType name descriptor)) h = (name, descriptor, refl)
-of_name (Some (MethodHandle kind reference)) h = absurd cc
-of_name (Some (MethodType descriptor)) h = absurd cc
-of_name (Some (InvokeDynamic bootstrap signature)) h = absurd cc
-of_name (Some Taken) h = absurd cc
 
 of_field : (o : Option PoolEntry) → LeadsTo (kinds.Field ∷ []) o → (class : ℕ) × (signature : ℕ) × (o ≡ Some (Fieldref class signature))
 of_field None h = absurd cc
@@ -192,11 +118,6 @@ of_interface_method (Some Taken) h = absurd cc
 
 -- ---- what it names
 
-text_there : (pool : List PoolEntry) (index : ℕ) → leads_to pool (kinds.Text ∷ []) index ≡ true → (text : List ℕ) × (text_at pool index ≡ Some text)
-text_there pool index leads =
-    let e = of_text (entry_at pool index) leads in
-    (e.0, ap (option_and_then text_in) e.1)
-
 -- a name and a descriptor, of which the descriptor is in its grammar
 record HasSignature (pool : List PoolEntry) (index : ℕ) (grammar : Grammar) : Type 0 where
   pub signature : Signature
@@ -208,7 +129,7 @@ signature_there : (c : ClassFile) (index : ℕ) (names descriptors : Grammar) �
     → ((text : List ℕ) → text_at c.pool name ≡ Some text → IsIn names text) × ((text : List ℕ) → text_at c.pool descriptor ≡ Some text → IsIn descriptors text))
     → HasSignature c.pool index descriptors
 signature_there c index names descriptors sound leads grammar =
-    let e = of_name (entry_at c.pool index) leads in
+    let e = of_signature (entry_at c.pool index) leads in
     let h = entry_holds c index (NameAndType e.0 e.1) sound e.2 in
     let name = text_there c.pool e.0 h.1.0 in
     let descriptor = text_there c.pool e.1 h.1.1.0 in

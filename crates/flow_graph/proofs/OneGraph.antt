@@ -22,7 +22,7 @@ use Rattle.jvm_model.specs.Lookups.{MemberReference, Signature}
 use Rattle.jvm_model.specs.Table.{Row, UnitKind, UnitSource, Action, plain, load_constant, load_element, store_element, probe, get_static, put_static, get_field, put_field, invoke_virtual, invoke_special, invoke_static, invoke_interface, make_object, make_array, throw_object, cast, leave_method, refused}
 use Rattle.jvm_model.proofs.Fields.{field-component}
 use Rattle.jvm_model.proofs.MethodKinds.{one_value}
-use Rattle.code_reader.specs.CodeReading.{kind_units}
+use Rattle.jvm_model.specs.DescriptorValues.{kind_units}
 use Rattle.flow_graph.specs.declared.effect.Effect.{Effect}
 use Rattle.flow_graph.specs.declared.mark.Mark.{Mark}
 use Rattle.flow_graph.specs.declared.steps.Graph.{Graph}

@@ -18,7 +18,7 @@ use Rattle.jvm_model.specs.InstructionUses.{is_subroutine, leads_right}
 use Rattle.jvm_model.specs.Lookups.{entry_at, text_at}
 use Rattle.jvm_model.specs.Soundness.{IsSoundClass}
 use Rattle.jvm_model.specs.Table.{Row, row_of, UnitKind, Operands, widened}
-use Rattle.code_reader.specs.CodeReading.{kind_units}
+use Rattle.jvm_model.specs.DescriptorValues.{kind_units}
 use Rattle.flow_graph.specs.declared.effect.Effect.{Effect}
 use Rattle.flow_graph.specs.declared.mark.Mark.{Mark}
 use Rattle.flow_graph.specs.declared.units.MethodUnits.{MethodUnits}

@@ -1,13 +1,13 @@
 //! The units of the values that a descriptor is of (JVMS 2.6.2, 4.3): one for each, but two for a long or a double.
 
-ghost use Rattle.std.specs.Prelude.{◌≡◌, ◌≤◌, length, sum_by, IfOk, Some, option_map};
+ghost use Rattle.std.specs.Prelude.{◌≡◌, ◌≤◌, length, IfOk, Some, option_map};
 ghost use Rattle.jvm_model.specs.Descriptors.{IsMethodDescriptor};
 ghost use Rattle.jvm_model.specs.Instructions.{kinds_of, member_in, member_at};
 ghost use Rattle.jvm_model.specs.Lookups.{MemberReference, entry_at};
-ghost use Rattle.code_reader.specs.CodeReading.{kind_units};
 ghost use Rattle.code_reader.specs.Parameters.{HasFewUnits};
 ghost use Rattle.flow_graph.specs.Reading.{HasCounts, outcome_units, spelled_units, member_descriptor_at, site_descriptor_at, signature_descriptor_at};
 
+use jvm_model::descriptor::units_of;
 use jvm_model::lookup::{class_name_at, signature_at};
 use jvm_model::{Descriptor, Kind, PoolEntry, descriptor_of};
 use std::alloc::{AllocError, Global};
@@ -50,34 +50,12 @@ fn spelled_units(spelled: &Option<Descriptor>) -> MethodUnits
     }
 }
 
-/// How many units values of these kinds take.
-fn units_of(kinds: &[Kind]) -> u16
-    requires { sum_by kind_units kinds.now ≤ 255 }
-    ensures { result ≡ sum_by kind_units kinds.now }
-{
-    let mut units = 0;
-    for kind in kinds {
-        units += kind_units(kind);
-    }
-    units
-}
-
-/// How many units a value of a kind takes.
-fn kind_units(kind: &Kind) -> u16
-    ensures { result ≡ kind_units kind.now }
-{
-    match kind {
-        Kind::Prim { wide: true } => 2,
-        _ => 1,
-    }
-}
-
 /// How many units a result takes: none where it is void.
 fn outcome_units(outcome: &Option<Kind>) -> u16
     ensures { result ≡ outcome_units outcome.now }
 {
     match outcome {
-        Some(kind) => kind_units(kind),
+        Some(kind) => kind.units(),
         None => 0,
     }
 }
