@@ -1,4 +1,3 @@
--- Public contracts rest on this module.
 -- Reading from left to right: a value and the place after it, or the first fault.
 use Rattle.std.specs.Prelude.{◌≡◌, ℕ, zero, suc, ◌+◌, List, [], ◌∷◌, length, take, drop, slice_index, Result, Ok, Err, nat_lt, if◌then◌else◌}
 use Rattle.std.specs.Int.{Width, w16, byte_len, from_be_bytes}
@@ -31,6 +30,11 @@ fault_at place reason = Err (record { offset = place.offset; reason = reason })
 abbrev pub Fails : {Y : Type 0} → ReadRefusal → Result Y Fault → Type 0
 Fails refusals.Memory read = Unit {0}
 Fails (refusals.Refused offset reason) read = read ≡ Err (record { offset = offset; reason = reason })
+
+-- A failure that takes nothing: it is no want of memory, and the place after it is the one before it.
+abbrev pub FailsUnmoved : Place → Place → ReadRefusal → Type 0
+FailsUnmoved old new refusals.Memory = ⊥
+FailsUnmoved old new (refusals.Refused offset reason) = new ≡ old
 
 -- What a function returned, seen by view, and where it stopped, is what reading gives.
 abbrev pub Gives : {X Y : Type 0} → (X → Y) → Result X ReadRefusal → Place → Result (Y × Place) Fault → Type 0

@@ -1,14 +1,13 @@
 //! The bytes of a file from left to right, and the numbers that they spell (JVMS 4).
 
-ghost use Rattle.std.specs.Prelude.{◌≡◌, ◌↔◌, ◌+◌, ◌<◌, ◌^◌, length, IsTrue};
+ghost use Rattle.std.specs.Prelude.{◌≡◌, ◌↔◌, ◌+◌, ◌<◌, ◌^◌, length, IsTrue, IfErr};
 ghost use Rattle.std.specs.Int.{w16, w32, w64};
-ghost use Rattle.byte_reader.specs.Reading.{Place, Gives, Reads, number_at, byte_at, bytes_at};
+ghost use Rattle.byte_reader.specs.Reading.{Place, Gives, Reads, FailsUnmoved, number_at, byte_at, bytes_at};
 
 use jvm_model::reason::{ReadRefusal, Reason};
 use std::marker::Model;
 
-/// The bytes that are left, and how many were before them. After an error it stands inside the field
-/// that failed.
+/// The bytes that are left, and how many were before them. Where a field is cut off, none of its bytes is taken.
 #[derive(Drop)]
 pub struct Input<'a> {
     offset: u32,
@@ -64,7 +63,8 @@ impl<'a> Input<'a> {
 
     /// That many bytes, as one field: where fewer are left, none is taken.
     pub fn take(&mut self, count: usize) -> Result<&'a [u8], ReadRefusal>
-        ensures { Gives (λ bytes. bytes.now) result self.new (bytes_at count self.old) }
+        ensures reads { Gives (λ bytes. bytes.now) result self.new (bytes_at count self.old) }
+        ensures unmoved { IfErr result (FailsUnmoved self.old self.new) }
     {
         if self.rest.len() < count {
             return Err(ReadRefusal::Refused { offset: self.offset, reason: Reason::Truncated });
@@ -77,7 +77,8 @@ impl<'a> Input<'a> {
 
     /// A number of one byte.
     pub fn u1(&mut self) -> Result<u8, ReadRefusal>
-        ensures { Reads result self.new (byte_at self.old) }
+        ensures reads { Reads result self.new (byte_at self.old) }
+        ensures unmoved { IfErr result (FailsUnmoved self.old self.new) }
     {
         let front = self.take(1)?;
         Ok(front[0])
@@ -85,7 +86,8 @@ impl<'a> Input<'a> {
 
     /// A number of two bytes.
     pub fn u2(&mut self) -> Result<u16, ReadRefusal>
-        ensures { Reads result self.new (number_at w16 self.old) }
+        ensures reads { Reads result self.new (number_at w16 self.old) }
+        ensures unmoved { IfErr result (FailsUnmoved self.old self.new) }
     {
         let front = self.take(2)?;
         Ok(u16::from_be_bytes([front[0], front[1]]))
@@ -93,7 +95,8 @@ impl<'a> Input<'a> {
 
     /// A number of four bytes.
     pub fn u4(&mut self) -> Result<u32, ReadRefusal>
-        ensures { Reads result self.new (number_at w32 self.old) }
+        ensures reads { Reads result self.new (number_at w32 self.old) }
+        ensures unmoved { IfErr result (FailsUnmoved self.old self.new) }
     {
         let front = self.take(4)?;
         Ok(u32::from_be_bytes([front[0], front[1], front[2], front[3]]))
@@ -101,7 +104,8 @@ impl<'a> Input<'a> {
 
     /// A number of eight bytes.
     pub fn u8(&mut self) -> Result<u64, ReadRefusal>
-        ensures { Reads result self.new (number_at w64 self.old) }
+        ensures reads { Reads result self.new (number_at w64 self.old) }
+        ensures unmoved { IfErr result (FailsUnmoved self.old self.new) }
     {
         let front = self.take(8)?;
         Ok(u64::from_be_bytes([

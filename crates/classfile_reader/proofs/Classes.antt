@@ -1,5 +1,5 @@
 -- The class file: what is read is spelled so, and what is spelled so is read.
-use Rattle.std.proofs.Common.{◌≡◌, ℕ, ◌^◌, ◌<◌, ◌≤◌, Bool, true, false, cond, eqb, ltb, List, [], ◌++◌, ◌||◌, length, take, Result, Ok, Err, refl, sym, ap, subst, ◌∙◌, append_assoc, lit<, arith}
+use Rattle.std.proofs.Common.{◌≡◌, ℕ, ◌^◌, ◌<◌, ◌≤◌, Bool, true, false, eqb, ltb, List, [], ◌++◌, ◌||◌, length, take, Result, Ok, Err, refl, sym, ap, subst, ◌∙◌, append_assoc, lit<, arith}
 use Rattle.std.specs.Int.{w16, w32}
 use Rattle.std.proofs.lemmas.Bool.{eqb-true, ltb-true, ltb-false, lt-ltb, le-ltb}
 use Rattle.std.proofs.lemmas.List.{append-nil, nil_from_length, take_all, length-take}
@@ -15,15 +15,11 @@ use Rattle.byte_reader.specs.Reading.{Place, Fault, ◌>>=◌, Tells, number_at,
 use Rattle.classfile_reader.specs.PoolReading.{pool_at}
 use Rattle.classfile_reader.specs.ClassReading.{magic_at, major_at, class_at, class_of, SpellsReadable}
 use Rattle.byte_reader.specs.Structures.{attribute_at, member_at}
-use Rattle.classfile_reader.proofs.Fields.{IsBytes, bind_ok, ok_is, unless_ok, goes_on_with, Takes, Takes-then, IsSpelledBy, ListFits, wide16, wide32, number_takes, number_again, table_takes, table_again}
-use Rattle.classfile_reader.proofs.Members.{attribute_takes, attribute_again, member_takes, member_again}
+use Rattle.byte_reader.proofs.Fields.{IsBytes, bind_ok, ok_is, if_ok, unless_ok, goes_on_with, Takes, Takes-then, IsSpelledBy, ListFits, wide16, wide32, number_takes, number_again, table_takes, table_again}
+use Rattle.byte_reader.proofs.Members.{attribute_takes, attribute_again, member_takes, member_again}
 use Rattle.classfile_reader.proofs.Entries.{PoolFits, pool_takes, pool_again}
 
 -- ---- magic and version
-
-if_ok : {A : Type 0} (b : Bool) (d : Fault) (r : Result A Fault) (y : A) → cond b r (Err d) ≡ Ok y → (b ≡ true) × (r ≡ Ok y)
-if_ok true d r y e = (refl, e)
-if_ok false d r y e = absurd cc
 
 magic_takes : IsSpelledBy magic_at u4 (λ n. n ≡ 0xCAFEBABE)
 unfolding magic_at

@@ -1,9 +1,10 @@
 -- The first of some uses or places of which one does not hold: along lists, and along items that stand one after the
 -- other in a file.
-use Rattle.std.proofs.Common.{◌≡◌, inl, inr, ℕ, zero, suc, Bool, true, false, ◌||◌, ◌+◌, ◌<◌, ◌≤◌, List, [], ◌∷◌, ◌++◌, length, take, drop, get_or, All, IfOk, Option, Some, None, Result, Ok, Err, option_map, slice_get, refl, sym, ap, ◌∙◌, subst, append_assoc, arith, length-append}
+use Rattle.std.proofs.Common.{◌≡◌, inl, inr, ℕ, Bool, ◌||◌, ◌+◌, ◌<◌, ◌≤◌, List, [], ◌∷◌, ◌++◌, length, take, drop, get_or, IfOk, Option, Some, None, Result, Ok, Err, option_map, slice_get, refl, sym, ap, ◌∙◌, subst, append_assoc, arith, length-append}
 use Rattle.std.specs.List.{flat_map, list_any, AllByRecursion}
 use Rattle.std.proofs.lemmas.List.{take_all, take_more, take-append-drop, append-nil}
-use Rattle.std.proofs.lemmas.List.Folds.{list_any-append}
+use Rattle.std.proofs.lemmas.List.Elements.{All-from_recursion, recursion_from_All}
+use Rattle.std.proofs.lemmas.List.Folds.{list_any_more}
 use Rattle.jvm_model.specs.declared.class_file.Member.{Member}
 use Rattle.jvm_model.specs.declared.pool.PoolEntry.{PoolEntry}
 use Rattle.std.proofs.lemmas.Option.{slice_get-get_or}
@@ -120,13 +121,11 @@ module _ {X : Type 0} (pool : List PoolEntry) (places : ℕ → List X → X →
 
 -- a test of some items, and of one more
 pub any_more : {X : Type 0} (test : X → Bool) (xs : List X) (i : ℕ) (x : X) → i < length xs → x ≡ get_or xs i x → list_any test (take (i + 1) xs) ≡ (list_any test (take i xs) || test x)
-any_more {X} test xs i x lt is =
-    let more : take (i + 1) xs ≡ take i xs ++ x ∷ [] = subst (λ (y : X). take (i + 1) xs ≡ take i xs ++ y ∷ []) (sym is) (take_more xs i x lt) in
-    ap (list_any test) more ∙ list_any-append test (take i xs) (x ∷ []) ∙ ap (λ (b : Bool). list_any test (take i xs) || b) (or_false (test x))
-  where
-    or_false : (b : Bool) → (b || false) ≡ b
-    or_false true = refl
-    or_false false = refl
+any_more {X} test xs i x lt is = list_any_more test xs i x lt ∙ ap (λ (y : X). list_any test (take i xs) || test y) (sym is)
+
+-- an item that was read of a list which is this one
+pub item_read : {X : Type 0} (xs items : List X) (i : ℕ) (x : X) → items ≡ xs → i < length items → x ≡ get_or items i x → (i < length xs) × (x ≡ get_or xs i x)
+item_read {X} xs items i x same lt is = subst (λ (ys : List X). (i < length ys) × (x ≡ get_or ys i x)) same (lt, is)
 
 -- ---- the same at equal places
 
@@ -155,25 +154,7 @@ repeat_at pool members answers k m answer lt is said are =
       repeated = λ e. are.repeated k m here (there ∙ ap (λ (b : Bool). Some b) e);
     }
 
--- the value that stands at a place, whatever is given where there is none
-pub stands_there : (xs : List ℕ) (i d : ℕ) → i < length xs → get_or xs i d ≡ get_or xs i (get_or xs i d)
-stands_there [] i d lt = absurd (omega arith)
-stands_there (x ∷ xs) zero d lt = refl
-stands_there (x ∷ xs) (suc i) d lt = stands_there xs i d (omega arith)
-
 -- ---- all places
-
-All-cons : {X : Type 0} (P : X → Type 0) (x : X) (xs : List X) → P x → All P xs → All P (x ∷ xs)
-All-cons P x xs first rest zero d lt = first
-All-cons P x xs first rest (suc k) d lt = rest k d (omega arith)
-
-All-from_each : {X : Type 0} (P : X → Type 0) (xs : List X) → AllByRecursion P xs → All P xs
-All-from_each P [] h = λ k d lt. absurd (omega arith)
-All-from_each P (x ∷ xs) h = All-cons P x xs h.0 (All-from_each P xs h.1)
-
-each_from_All : {X : Type 0} (P : X → Type 0) (xs : List X) → All P xs → AllByRecursion P xs
-each_from_All P [] h = tt
-each_from_All P (x ∷ xs) h = (h 0 x (omega arith), each_from_All P xs (λ k d lt. h (suc k) d (omega arith)))
 
 pub goes_on_ok : {E : Type 0} (pool : List PoolEntry) (xs ys : List PlacedUse) (r : Result (Option (ℕ × Reason)) E) → IsFirstBreach pool xs None → IfOk r (IsFirstBreach pool ys) → IfOk r (IsFirstBreach pool (xs ++ ys))
 goes_on_ok pool xs ys (Ok answer) none first = goes_on pool xs ys answer none first
@@ -186,7 +167,7 @@ all_hold pool (p ∷ places) (inl (holds, none)) = (holds, all_hold pool places 
 all_hold pool (p ∷ places) (inr (breaks, e)) = absurd cc
 
 pub none_told : (c : ClassFile) → IsFirstBreach c.pool (places_of c) None → IsSoundClass c
-none_told c first = All-from_each (λ (p : PlacedUse). UseHolds c.pool p.use_) (places_of c) (all_hold c.pool (places_of c) first.is)
+none_told c first = All-from_recursion (λ (p : PlacedUse). UseHolds c.pool p.use_) (places_of c) (all_hold c.pool (places_of c) first.is)
 
 -- where one is told, some use does not hold
 some_breaks : (pool : List PoolEntry) (places : List PlacedUse) (fault : ℕ × Reason) → FirstBreach pool places (Some fault) → AllByRecursion (λ (p : PlacedUse). UseHolds pool p.use_) places → ⊥
@@ -195,7 +176,7 @@ some_breaks pool (p ∷ places) fault (inl (holds, first)) all = some_breaks poo
 some_breaks pool (p ∷ places) fault (inr (breaks, e)) all = breaks all.0
 
 pub one_told : (c : ClassFile) (fault : ℕ × Reason) → IsFirstBreach c.pool (places_of c) (Some fault) → IsSoundClass c → ⊥
-one_told c fault first sound = some_breaks c.pool (places_of c) fault first.is (each_from_All (λ (p : PlacedUse). UseHolds c.pool p.use_) (places_of c) sound)
+one_told c fault first sound = some_breaks c.pool (places_of c) fault first.is (recursion_from_All (λ (p : PlacedUse). UseHolds c.pool p.use_) (places_of c) sound)
 
 -- one place is told
 same_breach : (pool : List PoolEntry) (places : List PlacedUse) (a b : Option (ℕ × Reason)) → FirstBreach pool places a → FirstBreach pool places b → a ≡ b

@@ -1,6 +1,5 @@
 pub mod Loop
 pub mod Fields
-pub mod Members
 pub mod Entries
 pub mod Classes
 pub mod OneSpelling

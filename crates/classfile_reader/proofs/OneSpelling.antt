@@ -1,29 +1,19 @@
 -- Bytes spell one class file. Reading gives back the one that is spelled where its version is read; another one is
 -- moved to a version that is read.
-use Rattle.std.proofs.Common.{◌≡◌, ℕ, ◌^◌, ◌<◌, List, [], ◌++◌, take, drop, Result, Ok, refl, sym, ap, ◌∙◌, append_assoc, arith}
+use Rattle.std.proofs.Common.{◌≡◌, ℕ, ◌^◌, ◌<◌, List, [], ◌++◌, take, drop, refl, sym, ap, ◌∙◌, append_assoc, arith}
 use Rattle.std.specs.Int.{w16, from_be_bytes}
 use Rattle.std.proofs.lemmas.List.{take_at, drop_at}
 use Rattle.std.proofs.lemmas.Nat.{from_be_bytes-to_be_bytes_2}
 use Rattle.jvm_model.specs.declared.class_file.ClassFile.{ClassFile}
 use Rattle.jvm_model.specs.Spelling.{u2, u4, attribute, member, table, pool, spell, ClassFits, IsSpelling}
-use Rattle.byte_reader.specs.Reading.{Place, Fault}
+use Rattle.byte_reader.specs.Reading.{Place}
+use Rattle.byte_reader.proofs.Fields.{one_ok}
 use Rattle.classfile_reader.specs.ClassReading.{class_at}
 use Rattle.classfile_reader.proofs.Classes.{class_again}
 
 -- the same class file in another version
 abbrev in_version : ℕ → ClassFile → ClassFile
-in_version major c = record {
-  minor = c.minor;
-  major = major;
-  pool = c.pool;
-  flags = c.flags;
-  this_class = c.this_class;
-  super_class = c.super_class;
-  interfaces = c.interfaces;
-  fields = c.fields;
-  methods = c.methods;
-  attributes = c.attributes;
-}
+in_version major c = record c { major = major }
 
 -- what stands after the version
 abbrev after_version : ClassFile → List ℕ
@@ -63,12 +53,6 @@ moved_fits c fits = record {
   attributes = fits.attributes;
 }
 
-same_ok : (x y : ClassFile × Place) (r : Result (ClassFile × Place) Fault) → r ≡ Ok x → r ≡ Ok y → x ≡ y
-same_ok x y r e f = cc
-
-same_class : (c d : ClassFile) (p q : Place) (r : Result (ClassFile × Place) Fault) → r ≡ Ok (c, p) → r ≡ Ok (d, q) → c ≡ d
-same_class c d p q r e f = ap (λ (x : ClassFile × Place). x.0) (same_ok (c, p) (d, q) r e f)
-
 pub one_spelling : (bytes : List ℕ) (c d : ClassFile) → IsSpelling bytes c → IsSpelling bytes d → c ≡ d
 one_spelling bytes c d is_c is_d =
     let whole : u4 0xCAFEBABE ++ (u2 c.minor ++ (u2 c.major ++ after_version c)) ≡ u4 0xCAFEBABE ++ (u2 d.minor ++ (u2 d.major ++ after_version d)) = sym (parts c) ∙ sym is_c.spelled ∙ is_d.spelled ∙ parts d in
@@ -80,5 +64,6 @@ one_spelling bytes c d is_c is_d =
     let read_c = class_again (in_version 52 c) 0 [] (moved_fits c is_c.fits, (omega arith, omega arith)) in
     let read_d = class_again (in_version 52 d) 0 [] (moved_fits d is_d.fits, (omega arith, omega arith)) in
     let same : in_version 52 c ≡ in_version 52 d =
-    same_class (in_version 52 c) (in_version 52 d) _ _ _ (ap (λ (t : List ℕ). class_at (record { offset = 0; rest = t ++ [] })) (sym moved) ∙ read_c.1) read_d.1 in
+    ap (λ (x : ClassFile × Place). x.0) (one_ok _ (in_version 52 c, record { offset = read_c.0; rest = [] }) (in_version 52 d, record { offset = read_d.0; rest = [] })
+    (ap (λ (t : List ℕ). class_at (record { offset = 0; rest = t ++ [] })) (sym moved) ∙ read_c.1) read_d.1) in
     ap (in_version c.major) same ∙ ap (λ (n : ℕ). in_version n d) majors.0

@@ -1,10 +1,15 @@
+pub mod CodeParts
 pub mod Dimensions
 pub mod Divided
+pub mod EachCode
 pub mod Front
+pub mod MachineBodies
 pub mod MethodPlaces
 pub mod OneReading
 pub mod ParameterUnits
 pub mod Sizes
+pub mod SoundMethods
+pub mod SpelledBodies
 pub mod SwitchTables
 pub mod Taken
 pub mod ToldBodies

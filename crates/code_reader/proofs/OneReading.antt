@@ -1,6 +1,6 @@
 -- The code of a method reads as one value, or has one first fault.
-use Rattle.std.proofs.Common.{◌≡◌, ℕ, ◌+◌, Bool, true, false, List, [], ◌∷◌, ◌++◌, length, map, Option, Some, None, Result, Ok, Err, refl, sym, ap, ◌∙◌, subst, sum_by, arith}
-use Rattle.std.specs.List.{list_any, flat_map}
+use Rattle.std.proofs.Common.{◌≡◌, ℕ, ◌+◌, List, ◌∷◌, ◌++◌, length, map, Option, Some, None, Result, Ok, Err, sym, ap, ◌∙◌, subst, sum_by, arith}
+use Rattle.std.specs.List.{flat_map}
 use Rattle.std.proofs.lemmas.Option.{same_Some}
 use Rattle.jvm_model.specs.declared.class_file.Attribute.{Attribute}
 use Rattle.jvm_model.specs.declared.class_file.ClassFile.{ClassFile}
@@ -18,9 +18,10 @@ use Rattle.jvm_model.specs.Soundness.{is_code}
 use Rattle.jvm_model.specs.Spelling.{attribute}
 use Rattle.jvm_model.proofs.MethodKinds.{one_value}
 use Rattle.byte_reader.specs.Reading.{Place, Fault}
+use Rattle.byte_reader.proofs.Fields.{one_ok, one_err, not_both}
 use Rattle.code_reader.specs.CodeReading.{in_code, placed, TakesUnits, by_kinds, no_method, kind_units, receiver_units, TakesLocals, Head, head_at, tail_at, code_fault, ReadsBody, cut_before, wrong_code, wrong_after, reads, ReadsCode}
 use Rattle.code_reader.specs.Division.{Spot, instruction_in, Divides, at_end, stops, goes_on}
-use Rattle.code_reader.proofs.ToldCodes.{not_before, later, one_first}
+use Rattle.code_reader.proofs.ToldCodes.{one_front, one_first}
 
 -- ---- the division
 
@@ -30,21 +31,6 @@ Divided = List Spot × Option (ℕ × Reason)
 
 abbrev divided : List Spot → Option (ℕ × Reason) → Divided
 divided spots stop = (spots, stop)
-
-abbrev found : DecodedInstruction → Result DecodedInstruction Reason
-found i = Ok i
-
-abbrev refused : Reason → Result DecodedInstruction Reason
-refused r = Err r
-
-not_both : (r : Result DecodedInstruction Reason) (i : DecodedInstruction) (reason : Reason) → r ≡ found i → r ≡ refused reason → ⊥
-not_both r i reason x y = let e : found i ≡ refused reason = sym x ∙ y in absurd cc
-
-same_reason : (r : Result DecodedInstruction Reason) (a b : Reason) → r ≡ refused a → r ≡ refused b → a ≡ b
-same_reason r a b x y = let e : refused a ≡ refused b = sym x ∙ y in cc
-
-same_instruction : (r : Result DecodedInstruction Reason) (i j : DecodedInstruction) → r ≡ found i → r ≡ found j → i ≡ j
-same_instruction r i j x y = let e : found i ≡ found j = sym x ∙ y in cc
 
 abbrev spot_at : ℕ → DecodedInstruction → Spot
 spot_at offset i = record { offset = offset; instruction = i }
@@ -61,33 +47,18 @@ one_division pool code s t offset xs ys (at_end o zs end none is) (stops o2 zs2 
 one_division pool code s t offset xs ys (at_end o zs end none is) (goes_on o2 zs2 j others2 lt2 read2 is2 rest2) = absurd (omega (arith, end, lt2))
 one_division pool code s t offset xs ys (stops o zs why lt wrong early is) (at_end o2 zs2 end2 none2 is2) = absurd (omega (arith, end2, lt))
 one_division pool code s t offset xs ys (stops o zs why lt wrong early is) (stops o2 zs2 why2 lt2 wrong2 early2 is2) =
-    let same = same_reason (instruction_in pool code offset) why why2 wrong wrong2 in
+    let same = one_err (instruction_in pool code offset) why why2 wrong wrong2 in
     cc (is, is2, early, early2, same)
 one_division pool code s t offset xs ys (stops o zs why lt wrong early is) (goes_on o2 zs2 j others2 lt2 read2 is2 rest2) = absurd (not_both (instruction_in pool code offset) j why read2 wrong)
 one_division pool code s t offset xs ys (goes_on o zs i others lt read is rest) (at_end o2 zs2 end2 none2 is2) = absurd (omega (arith, end2, lt))
 one_division pool code s t offset xs ys (goes_on o zs i others lt read is rest) (stops o2 zs2 why2 lt2 wrong2 early2 is2) = absurd (not_both (instruction_in pool code offset) i why2 read wrong2)
 one_division pool code s t offset xs ys (goes_on o zs i others lt read is rest) (goes_on o2 zs2 j others2 lt2 read2 is2 rest2) =
-    let same : j ≡ i = same_instruction (instruction_in pool code offset) j i read2 read in
+    let same : j ≡ i = one_ok (instruction_in pool code offset) j i read2 read in
     let rest_of : Divides pool code t (offset + i.size) others2 = subst (λ (k : DecodedInstruction). Divides pool code t (offset + k.size) others2) same rest2 in
     let more = one_division pool code s t (offset + i.size) others others2 rest rest_of in
     join xs ys others others2 offset i j s t is is2 same more
 
 -- ---- the body
-
-abbrev head_told : Fault → Result (Head × Place) Fault
-head_told f = Err f
-
-abbrev head_read : Head × Place → Result (Head × Place) Fault
-head_read h = Ok h
-
-head_faults : (r : Result (Head × Place) Fault) (f g : Fault) → r ≡ head_told f → r ≡ head_told g → f ≡ g
-head_faults r f g x y = let e : head_told f ≡ head_told g = sym x ∙ y in cc
-
-head_not_both : (r : Result (Head × Place) Fault) (f : Fault) (h : Head × Place) → r ≡ head_told f → r ≡ head_read h → ⊥
-head_not_both r f h x y = let e : head_told f ≡ head_read h = sym x ∙ y in absurd cc
-
-head_reads : (r : Result (Head × Place) Fault) (g h : Head × Place) → r ≡ head_read g → r ≡ head_read h → g ≡ h
-head_reads r g h x y = let e : head_read g ≡ head_read h = sym x ∙ y in cc
 
 abbrev refused_as : Fault → Result Code Fault
 refused_as f = Err f
@@ -103,11 +74,11 @@ abbrev given_by : List PoolEntry → ℕ → Head × Place → Divided → Resul
 given_by pool parameters begun d = by_parts (code_fault pool parameters begun.0 d.0 d.1) (tail_at pool (length begun.0.bytes) d.0 begun.1) begun.0 d.0
 
 -- a body is cut before its code's end, or gives what its parts give
-data Gives (pool : List PoolEntry) (parameters : ℕ) (place : Place) (outcome : Result Code Fault) : Type 0 where
-  cut : (f : Fault) → head_at place ≡ head_told f → outcome ≡ Err (in_code f) → Gives pool parameters place outcome
-  begun : (h : Head × Place) (d : Divided) → head_at place ≡ head_read h → Divides pool h.0.bytes d.1 0 d.0 → outcome ≡ given_by pool parameters h d → Gives pool parameters place outcome
+data GivesByParts (pool : List PoolEntry) (parameters : ℕ) (place : Place) (outcome : Result Code Fault) : Type 0 where
+  cut : (f : Fault) → head_at place ≡ Err f → outcome ≡ Err (in_code f) → GivesByParts pool parameters place outcome
+  begun : (h : Head × Place) (d : Divided) → head_at place ≡ Ok h → Divides pool h.0.bytes d.1 0 d.0 → outcome ≡ given_by pool parameters h d → GivesByParts pool parameters place outcome
 
-gives : (pool : List PoolEntry) (parameters : ℕ) (place : Place) (outcome : Result Code Fault) → ReadsBody pool parameters place outcome → Gives pool parameters place outcome
+gives : (pool : List PoolEntry) (parameters : ℕ) (place : Place) (outcome : Result Code Fault) → ReadsBody pool parameters place outcome → GivesByParts pool parameters place outcome
 gives pool parameters place outcome (cut_before f e is) = cut f e is
 gives pool parameters place outcome (wrong_code head after spots stop offset reason b told is) =
     begun (head, after) (spots, stop) b.begins b.divided (is ∙ sym (ap (λ (f : Option (ℕ × Reason)). by_parts f (tail_at pool (length head.bytes) spots after) head spots) told))
@@ -118,12 +89,12 @@ gives pool parameters place outcome (reads head after spots stop handlers b none
     begun (head, after) (spots, stop) b.begins b.divided
     (is ∙ sym (ap (λ (g : Option (ℕ × Reason)). by_parts g (tail_at pool (length head.bytes) spots after) head spots) none ∙ ap (λ (r : Result (List Handler) Fault). by_parts None r head spots) told))
 
-same_given : (pool : List PoolEntry) (parameters : ℕ) (place : Place) (a b : Result Code Fault) → Gives pool parameters place a → Gives pool parameters place b → a ≡ b
-same_given pool parameters place a b (cut f e is) (cut g e2 is2) = is ∙ ap (λ (h : Fault). refused_as (in_code h)) (head_faults (head_at place) f g e e2) ∙ sym is2
-same_given pool parameters place a b (cut f e is) (begun h d e2 divides is2) = absurd (head_not_both (head_at place) f h e e2)
-same_given pool parameters place a b (begun h d e divides is) (cut g e2 is2) = absurd (head_not_both (head_at place) g h e2 e)
+same_given : (pool : List PoolEntry) (parameters : ℕ) (place : Place) (a b : Result Code Fault) → GivesByParts pool parameters place a → GivesByParts pool parameters place b → a ≡ b
+same_given pool parameters place a b (cut f e is) (cut g e2 is2) = is ∙ ap (λ (h : Fault). refused_as (in_code h)) (one_err (head_at place) f g e e2) ∙ sym is2
+same_given pool parameters place a b (cut f e is) (begun h d e2 divides is2) = absurd (not_both (head_at place) h f e2 e)
+same_given pool parameters place a b (begun h d e divides is) (cut g e2 is2) = absurd (not_both (head_at place) h g e e2)
 same_given pool parameters place a b (begun h d e divides is) (begun h2 d2 e2 divides2 is2) =
-    let same : h2 ≡ h = head_reads (head_at place) h2 h e2 e in
+    let same : h2 ≡ h = one_ok (head_at place) h2 h e2 e in
     let other : Divides pool h.0.bytes d2.1 0 d2.0 = subst (λ (x : Head × Place). Divides pool x.0.bytes d2.1 0 d2.0) same divides2 in
     let parts : d ≡ d2 = one_division pool h.0.bytes d.1 d2.1 0 d.0 d2.0 divides other in
     is ∙ ap (λ (x : Divided). given_by pool parameters h x) parts ∙ sym (ap (λ (x : Head × Place). given_by pool parameters x d2) same) ∙ sym is2
@@ -152,24 +123,12 @@ one_locals pool m a b x y =
 
 -- ---- the method
 
-one_before : {X : Type 0} (p : X → Bool) (front other : List X) (x y : X) (after behind : List X) → front ++ x ∷ after ≡ other ++ y ∷ behind
-    → list_any p front ≡ false → list_any p other ≡ false → p x ≡ true → p y ≡ true → front ≡ other
-one_before p [] [] x y after behind e none_x none_y is_x is_y = refl
-one_before p [] (z ∷ other) x y after behind e none_x none_y is_x is_y =
-    let same : x ≡ z = cc e in absurd (not_before p z other none_y (ap p (sym same) ∙ is_x))
-one_before p (z ∷ front) [] x y after behind e none_x none_y is_x is_y =
-    let same : z ≡ y = cc e in absurd (not_before p z front none_x (ap p same ∙ is_y))
-one_before p (z ∷ front) (w ∷ other) x y after behind e none_x none_y is_x is_y =
-    let same : z ≡ w = cc e in
-    let rest = one_before p front other x y after behind (cc e) (later p z front none_x) (later p w other none_y) is_x is_y in
-    cc (same, rest)
-
-one_place : (c : ClassFile) (method m n : ℕ) → IsCodePlace c method m → IsCodePlace c method n → m ≡ n
+pub one_place : (c : ClassFile) (method m n : ℕ) → IsCodePlace c method m → IsCodePlace c method n → m ≡ n
 one_place c method m n x y =
     let owners : x.owner ≡ y.owner = same_Some _ _ (sym x.there ∙ y.there) in
     let whole : x.before ++ x.code ∷ x.after ≡ y.before ++ y.code ∷ y.after = sym x.first.parts ∙ ap (λ (o : Member). o.attributes) owners ∙ y.first.parts in
     let fronts : x.before ≡ y.before =
-    one_before (is_code c.pool) x.before y.before x.code y.code x.after y.after whole x.first.none_before y.first.none_before x.first.named_code y.first.named_code in
+    (one_front (is_code c.pool) x.before y.before x.code y.code x.after y.after whole x.first.none_before y.first.none_before x.first.named_code y.first.named_code).0 in
     omega (arith, x.offset, y.offset, ap (λ (all : List Attribute). length (flat_map attribute all)) fronts)
 
 pub one_reading : (c : ClassFile) (method : ℕ) (a b : Result Code Fault) → ReadsCode c method a → ReadsCode c method b → a ≡ b

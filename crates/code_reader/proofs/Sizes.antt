@@ -1,5 +1,5 @@
 -- An instruction that is read takes its opcode, and no more bytes than there are.
-use Rattle.std.proofs.Common.{◌≡◌, ℕ, suc, ◌+◌, ◌*◌, ◌-◌, ◌<◌, ◌≤◌, Bool, true, false, cond, ltb, List, [], ◌∷◌, length, drop, Option, Some, None, Result, Ok, Err, refl, subst, arith}
+use Rattle.std.proofs.Common.{◌≡◌, ℕ, suc, ◌+◌, ◌*◌, ◌-◌, ◌<◌, ◌≤◌, Bool, cond, ltb, List, [], ◌∷◌, length, drop, Option, Some, None, Result, Ok, Err, refl, subst, arith}
 use Rattle.std.proofs.lemmas.Bool.{ltb-false}
 use Rattle.std.proofs.lemmas.List.{length-drop}
 use Rattle.jvm_model.specs.declared.pool.PoolEntry.{PoolEntry}
@@ -8,6 +8,7 @@ use Rattle.jvm_model.specs.declared.reason.Reason.TheVariants.{BadOpcode, CodeCu
 use Rattle.jvm_model.specs.Instructions.{DecodedInstruction, word, above_least, padding, switch, table_switch, pairs_switch, needs, needs_right, widened_by, widened_row, widened_first, with_operands, with_row, first_instruction, instruction_at}
 use Rattle.jvm_model.specs.InstructionUses.{within_dimensions}
 use Rattle.jvm_model.specs.Table.{Row, row_of, Operands, nothing, implied, value_1, value_2, type_code, local_1, pool_1, pool_2, offset_2, offset_4, local_and_value, pool_2_and_count, pool_2_and_zeros, pool_2_and_dimensions, table_of_offsets, pairs_with_offsets, widened}
+use Rattle.byte_reader.proofs.Fields.{ok_is, if_ok, unless_ok}
 use Rattle.code_reader.specs.Division.{within, instruction_in}
 
 -- the instruction takes its opcode, and no more bytes than there are after it
@@ -18,35 +19,24 @@ pub record Fits (bytes : ℕ) (i : DecodedInstruction) : Type 0 where
 abbrev read_as : DecodedInstruction → Result DecodedInstruction Reason
 read_as i = Ok i
 
-abbrev refused : Reason → Result DecodedInstruction Reason
-refused reason = Err reason
-
-ok_is : (i j : DecodedInstruction) → read_as i ≡ Ok j → i ≡ j
-ok_is i j e = cc
-
--- a test that did not refuse
-passed : (t : Bool) (reason : Reason) (r : Result DecodedInstruction Reason) (i : DecodedInstruction) → cond t (refused reason) r ≡ Ok i → (t ≡ false) × (r ≡ Ok i)
-passed true reason r i e = absurd cc
-passed false reason r i e = (refl, e)
-
 of_size : (bytes size : ℕ) (j i : DecodedInstruction) → read_as j ≡ Ok i → j.size ≡ size → 1 ≤ size → size ≤ 1 + bytes → Fits bytes i
 of_size bytes size j i e is least most = subst (Fits bytes) (ok_is j i e) (record { opcode = omega (arith, is, least); operands = omega (arith, is, most) })
 
 by_needs : (count size : ℕ) (bytes : List ℕ) (j i : DecodedInstruction) → needs count bytes j ≡ Ok i → j.size ≡ size → 1 ≤ size → size ≤ count + 1 → Fits (length bytes) i
 by_needs count size bytes j i e is least most =
-    let p = passed (ltb (length bytes) count) CodeCut (read_as j) i e in
+    let p = unless_ok (ltb (length bytes) count) CodeCut (read_as j) i e in
     of_size (length bytes) size j i p.1 is least (omega (arith, ltb-false (length bytes) count p.0, most))
 
 by_needs_right : (count size : ℕ) (bytes : List ℕ) (wrong : Bool) (j i : DecodedInstruction) → needs_right count bytes wrong j ≡ Ok i → j.size ≡ size → 1 ≤ size → size ≤ count + 1 → Fits (length bytes) i
 by_needs_right count size bytes wrong j i e is least most =
-    let p = passed (ltb (length bytes) count) CodeCut (cond wrong (refused BadOpcode) (read_as j)) i e in
-    let q = passed wrong BadOpcode (read_as j) i p.1 in
+    let p = unless_ok (ltb (length bytes) count) CodeCut (cond wrong (Err BadOpcode) (read_as j)) i e in
+    let q = unless_ok wrong BadOpcode (read_as j) i p.1 in
     of_size (length bytes) size j i q.1 is least (omega (arith, ltb-false (length bytes) count p.0, most))
 
 by_switch : (opcode : ℕ) (r : Row) (offset long entry count : ℕ) (bytes : List ℕ) (i : DecodedInstruction) → 1 ≤ long
     → switch opcode r offset long entry count (drop (padding offset) bytes) ≡ Ok i → Fits (length bytes) i
 by_switch opcode r offset long entry count bytes i least e =
-    let p = passed (ltb (length (drop (padding offset) bytes)) long) CodeCut _ i e in
+    let p = unless_ok (ltb (length (drop (padding offset) bytes)) long) CodeCut _ i e in
     let there = ltb-false (length (drop (padding offset) bytes)) long p.0 in
     let left = length-drop (padding offset) bytes in
     of_size (length bytes) (1 + padding offset + long) _ i p.1 refl (omega arith) (omega (arith, there, left, least))
@@ -56,30 +46,26 @@ by_table opcode r offset bytes i e =
     let rest = drop (padding offset) bytes in
     let low = above_least (word (drop 4 rest)) in
     let high = above_least (word (drop 8 rest)) in
-    let p = passed (ltb (length rest) 12) CodeCut _ i e in
-    let q = passed (ltb high low) BadOpcode _ i p.1 in
+    let p = unless_ok (ltb (length rest) 12) CodeCut _ i e in
+    let q = unless_ok (ltb high low) BadOpcode _ i p.1 in
     by_switch opcode r offset (12 + 4 * (high - low + 1)) 4 (high - low + 1) bytes i (omega arith) q.1
-
-taken : (t : Bool) (r : Result DecodedInstruction Reason) (reason : Reason) (i : DecodedInstruction) → cond t r (refused reason) ≡ Ok i → r ≡ Ok i
-taken true r reason i e = e
-taken false r reason i e = absurd cc
 
 by_pairs : (opcode : ℕ) (r : Row) (offset : ℕ) (bytes : List ℕ) (i : DecodedInstruction) → pairs_switch opcode r offset (drop (padding offset) bytes) ≡ Ok i → Fits (length bytes) i
 by_pairs opcode r offset bytes i e =
     let rest = drop (padding offset) bytes in
     let count = word (drop 4 rest) in
-    let p = passed (ltb (length rest) 8) CodeCut _ i e in
-    by_switch opcode r offset (8 + 8 * count) 8 count bytes i (omega arith) (taken (ltb count 0x80000000) _ BadOpcode i p.1)
+    let p = unless_ok (ltb (length rest) 8) CodeCut _ i e in
+    by_switch opcode r offset (8 + 8 * count) 8 count bytes i (omega arith) (if_ok (ltb count 0x80000000) BadOpcode _ i p.1).1
 
 wider : (bytes : ℕ) (i : DecodedInstruction) (j : DecodedInstruction) → i ≡ j → 1 ≤ i.size → i.size ≤ 2 + bytes → Fits (suc bytes) j
 wider bytes i j e least most = subst (Fits (suc bytes)) e (record { opcode = least; operands = omega (arith, most) })
 
 by_widened : (opcode : ℕ) (r : Row) (o : Operands) (bytes : List ℕ) (i : DecodedInstruction) → widened_by opcode r o bytes ≡ Ok i → Fits (suc (length bytes)) i
 by_widened opcode r local_1 bytes i e =
-    let p = passed (ltb (length bytes) 2) CodeCut _ i e in
+    let p = unless_ok (ltb (length bytes) 2) CodeCut _ i e in
     wider (length bytes) _ i (ok_is _ i p.1) (omega arith) (omega (arith, ltb-false (length bytes) 2 p.0))
 by_widened opcode r local_and_value bytes i e =
-    let p = passed (ltb (length bytes) 4) CodeCut _ i e in
+    let p = unless_ok (ltb (length bytes) 4) CodeCut _ i e in
     wider (length bytes) _ i (ok_is _ i p.1) (omega arith) (omega (arith, ltb-false (length bytes) 4 p.0))
 by_widened opcode r nothing bytes i e = absurd cc
 by_widened opcode r (implied local) bytes i e = absurd cc
@@ -135,10 +121,14 @@ by_first offset (opcode ∷ bytes) i e =
     (f.opcode, omega (arith, f.operands))
 
 within_is : (pool : List PoolEntry) (r : Result DecodedInstruction Reason) (i : DecodedInstruction) → within pool r ≡ Ok i → r ≡ Ok i
-within_is pool (Ok j) i e = taken (within_dimensions pool j) (read_as j) BadOpcode i e
+within_is pool (Ok j) i e = (if_ok (within_dimensions pool j) BadOpcode (read_as j) i e).1
 within_is pool (Err reason) i e = absurd cc
+
+-- what is read at an offset, whatever the constant pool has, is what the machine reads there
+pub read_there : (pool : List PoolEntry) (code : List ℕ) (offset : ℕ) (i : DecodedInstruction) → instruction_in pool code offset ≡ Ok i → instruction_at code offset ≡ Ok i
+read_there pool code offset i e = within_is pool (instruction_at code offset) i e
 
 pub inside : (pool : List PoolEntry) (code : List ℕ) (offset : ℕ) (i : DecodedInstruction) → offset < length code → instruction_in pool code offset ≡ Ok i → (1 ≤ i.size) × (offset + i.size ≤ length code)
 inside pool code offset i lt e =
-    let f = by_first offset (drop offset code) i (within_is pool (instruction_at code offset) i e) in
+    let f = by_first offset (drop offset code) i (read_there pool code offset i e) in
     (f.0, omega (arith, f.1, length-drop offset code, lt))

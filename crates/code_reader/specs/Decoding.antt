@@ -6,7 +6,7 @@ use Rattle.code_reader.specs.declared.decode.Undecoded.{Undecoded}
 use Rattle.code_reader.specs.declared.decode.Undecoded.TheVariants as undecoded
 
 -- The answer is what the standard says, unless memory ran out.
-abbrev pub Gives : Result DecodedInstruction Undecoded → Result DecodedInstruction Reason → Type 0
-Gives (Ok i) read = read ≡ Ok i
-Gives (Err undecoded.Memory) read = Unit {0}
-Gives (Err (undecoded.Refused reason)) read = read ≡ Err reason
+abbrev pub GivesInstruction : Result DecodedInstruction Undecoded → Result DecodedInstruction Reason → Type 0
+GivesInstruction (Ok i) read = read ≡ Ok i
+GivesInstruction (Err undecoded.Memory) read = Unit {0}
+GivesInstruction (Err (undecoded.Refused reason)) read = read ≡ Err reason

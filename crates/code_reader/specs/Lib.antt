@@ -5,3 +5,4 @@ pub mod Divided
 pub mod Bodies
 pub mod Parameters
 pub mod Places
+pub mod MachineCode

@@ -5,7 +5,7 @@ ghost use Rattle.jvm_model.specs.Instructions.{DecodedInstruction, instruction, 
 ghost use Rattle.jvm_model.specs.RowViews.{row_view, operands_view};
 ghost use Rattle.jvm_model.specs.declared.reason.Reason.TheVariants.{BadOpcode};
 ghost use Rattle.jvm_model.specs.Table.{row_of, type_code, offset_2, offset_4, pool_2_and_dimensions};
-ghost use Rattle.code_reader.specs.Decoding.{Gives};
+ghost use Rattle.code_reader.specs.Decoding.{GivesInstruction};
 ghost use Rattle.code_reader.specs.declared.decode.Undecoded.TheVariants.{Memory};
 
 use crate::number::{after, far_target, near_target, padding, short, word};
@@ -81,7 +81,7 @@ impl Operation {
 
     /// Its instruction with a target.
     fn branch(self, alloc: Global, target: Option<u32>, size: u32) -> Result<Decoded, Undecoded>
-        ensures { Gives result (Ok (instruction self.opcode (row_view self.row.now) 0 0 (target ∷ []) size)) }
+        ensures { GivesInstruction result (Ok (instruction self.opcode (row_view self.row.now) 0 0 (target ∷ []) size)) }
     {
         let mut targets = Vec::new(alloc);
         targets.push(target)?;
@@ -103,7 +103,7 @@ impl Operation {
         count: usize,
         size: u32,
     ) -> Result<Decoded, Undecoded>
-        ensures { Gives result (needs count bytes.now (instruction self.opcode (row_view self.row.now) 0 0 [] size)) }
+        ensures { GivesInstruction result (needs count bytes.now (instruction self.opcode (row_view self.row.now) 0 0 [] size)) }
     {
         if bytes.len() < count {
             return Err(CUT);
@@ -120,7 +120,7 @@ impl Operation {
         size: u32,
     ) -> Result<Decoded, Undecoded>
         requires { 1 ≤ count }
-        ensures { Gives result (needs count bytes.now (instruction self.opcode (row_view self.row.now) (byte bytes.now) 0 [] size)) }
+        ensures { GivesInstruction result (needs count bytes.now (instruction self.opcode (row_view self.row.now) (byte bytes.now) 0 [] size)) }
     {
         if bytes.len() < count {
             return Err(CUT);
@@ -137,7 +137,7 @@ impl Operation {
         size: u32,
     ) -> Result<Decoded, Undecoded>
         requires { 2 ≤ count }
-        ensures { Gives result (needs count bytes.now (instruction self.opcode (row_view self.row.now) (short bytes.now) 0 [] size)) }
+        ensures { GivesInstruction result (needs count bytes.now (instruction self.opcode (row_view self.row.now) (short bytes.now) 0 [] size)) }
     {
         if bytes.len() < count {
             return Err(CUT);
@@ -147,7 +147,7 @@ impl Operation {
 
     /// `newarray`, with the code of a primitive type, 4 to 11.
     fn with_type_code(self, alloc: Global, bytes: &[u8]) -> Result<Decoded, Undecoded>
-        ensures { Gives result (with_operands self.opcode (row_view self.row.now) 0 type_code bytes.now) }
+        ensures { GivesInstruction result (with_operands self.opcode (row_view self.row.now) 0 type_code bytes.now) }
     {
         if bytes.is_empty() {
             return Err(CUT);
@@ -161,7 +161,7 @@ impl Operation {
 
     /// `multianewarray`, with at least one dimension.
     fn with_dimensions(self, alloc: Global, bytes: &[u8]) -> Result<Decoded, Undecoded>
-        ensures { Gives result (with_operands self.opcode (row_view self.row.now) 0 pool_2_and_dimensions bytes.now) }
+        ensures { GivesInstruction result (with_operands self.opcode (row_view self.row.now) 0 pool_2_and_dimensions bytes.now) }
     {
         if bytes.len() < 3 {
             return Err(CUT);
@@ -176,7 +176,7 @@ impl Operation {
     /// A branch of two bytes from an offset.
     fn near_branch(self, alloc: Global, bytes: &[u8], offset: u32) -> Result<Decoded, Undecoded>
         requires { offset < 2 ^ 16 }
-        ensures { Gives result (with_operands self.opcode (row_view self.row.now) offset offset_2 bytes.now) }
+        ensures { GivesInstruction result (with_operands self.opcode (row_view self.row.now) offset offset_2 bytes.now) }
     {
         if bytes.len() < 2 {
             return Err(CUT);
@@ -187,7 +187,7 @@ impl Operation {
     /// A branch of four bytes from an offset.
     fn far_branch(self, alloc: Global, bytes: &[u8], offset: u32) -> Result<Decoded, Undecoded>
         requires { offset < 2 ^ 16 }
-        ensures { Gives result (with_operands self.opcode (row_view self.row.now) offset offset_4 bytes.now) }
+        ensures { GivesInstruction result (with_operands self.opcode (row_view self.row.now) offset offset_4 bytes.now) }
     {
         if bytes.len() < 4 {
             return Err(CUT);
@@ -197,7 +197,7 @@ impl Operation {
 
     /// What the prefix `wide` stands before.
     fn widened(self, alloc: Global, bytes: &[u8]) -> Result<Decoded, Undecoded>
-        ensures { Gives result (widened_by self.opcode (row_view self.row.now) (operands_view self.row.now.operands) bytes.now) }
+        ensures { GivesInstruction result (widened_by self.opcode (row_view self.row.now) (operands_view self.row.now.operands) bytes.now) }
     {
         match self.row.operands {
             Operands::Local1 => self.with_short(alloc, bytes, 2, 4),
@@ -210,7 +210,7 @@ impl Operation {
     fn with_operands(self, alloc: Global, offset: u32, bytes: &[u8]) -> Result<Decoded, Undecoded>
         requires offset { offset < 2 ^ 16 }
         requires bytes { length bytes.now < 2 ^ 16 }
-        ensures { Gives result (with_operands self.opcode (row_view self.row.now) offset (operands_view self.row.now.operands) bytes.now) }
+        ensures { GivesInstruction result (with_operands self.opcode (row_view self.row.now) offset (operands_view self.row.now.operands) bytes.now) }
     {
         match self.row.operands {
             Operands::Nothing => self.without_number(alloc, bytes, 0, 1),
@@ -263,7 +263,7 @@ fn operation_of(opcode: u8) -> Result<Operation, Undecoded>
 
 /// The instruction that the bytes after the prefix `wide` begin with (JVMS 6.5.wide).
 fn widened_first(alloc: Global, bytes: &[u8]) -> Result<Decoded, Undecoded>
-    ensures { Gives result (widened_first bytes.now) }
+    ensures { GivesInstruction result (widened_first bytes.now) }
 {
     match bytes {
         [opcode, operands @ ..] => operation_of(*opcode)?.widened(alloc, operands),
@@ -279,7 +279,7 @@ pub(crate) fn first_instruction(
 ) -> Result<Decoded, Undecoded>
     requires offset { offset < 2 ^ 16 }
     requires bytes { length bytes.now < 2 ^ 16 }
-    ensures { Gives result (first_instruction offset bytes.now) }
+    ensures { GivesInstruction result (first_instruction offset bytes.now) }
 {
     match bytes {
         [opcode, operands @ ..] => operation_of(*opcode)?.with_operands(alloc, offset, operands),

@@ -2,7 +2,7 @@
 
 ghost use Rattle.std.specs.Prelude.{◌≡◌, ◌<◌, ◌≤◌, ◌^◌, length, IfOk};
 ghost use Rattle.jvm_model.specs.InstructionUses.{brackets, within_dimensions};
-ghost use Rattle.code_reader.specs.Decoding.{Gives};
+ghost use Rattle.code_reader.specs.Decoding.{GivesInstruction};
 ghost use Rattle.code_reader.specs.Division.{instruction_in, starts, is_behind, is_target};
 ghost use Rattle.code_reader.specs.Divided.{IsDivision, KnowsStarts};
 
@@ -111,7 +111,7 @@ fn instruction_in(
 ) -> Result<Decoded, Undecoded>
     requires offset { offset ≤ length code.now }
     requires code { length code.now < 2 ^ 16 }
-    ensures { Gives result (instruction_in pool.now code.now offset) }
+    ensures { GivesInstruction result (instruction_in pool.now code.now offset) }
 {
     let decoded = first_instruction(alloc, offset as u32, &code[offset..])?;
     if !within_dimensions(pool, &decoded) {

@@ -3,7 +3,7 @@
 ghost use Rattle.std.specs.Prelude.{◌≡◌, ◌≤◌, ◌<◌, ◌+◌, ◌*◌, ◌^◌, ◌∷◌, length, drop, IfOk};
 ghost use Rattle.jvm_model.specs.Instructions.{switch, table_switch, pairs_switch, table_targets, far_target, word};
 ghost use Rattle.jvm_model.specs.RowViews.{row_view};
-ghost use Rattle.code_reader.specs.Decoding.{Gives};
+ghost use Rattle.code_reader.specs.Decoding.{GivesInstruction};
 
 use crate::decode::{Decoded, Operation, Undecoded};
 use crate::number::{above_least, after, far_target, padding, word};
@@ -19,7 +19,7 @@ pub(crate) fn table_switch(
 ) -> Result<Decoded, Undecoded>
     requires offset { offset < 2 ^ 16 }
     requires bytes { length bytes.now < 2 ^ 16 }
-    ensures { Gives result (table_switch operation.opcode (row_view operation.row.now) offset bytes.now) }
+    ensures { GivesInstruction result (table_switch operation.opcode (row_view operation.row.now) offset bytes.now) }
 {
     if bytes.len() < 12 {
         return Err(Undecoded::Refused(Reason::CodeCut));
@@ -52,7 +52,7 @@ pub(crate) fn pairs_switch(
 ) -> Result<Decoded, Undecoded>
     requires offset { offset < 2 ^ 16 }
     requires bytes { length bytes.now < 2 ^ 16 }
-    ensures { Gives result (pairs_switch operation.opcode (row_view operation.row.now) offset bytes.now) }
+    ensures { GivesInstruction result (pairs_switch operation.opcode (row_view operation.row.now) offset bytes.now) }
 {
     if bytes.len() < 8 {
         return Err(Undecoded::Refused(Reason::CodeCut));
@@ -97,7 +97,7 @@ fn switch(
     requires least { 8 ≤ table.long }
     requires entry { 4 ≤ table.entry }
     requires long { table.entry * table.count + 16 ≤ table.long + table.entry }
-    ensures { Gives result (switch operation.opcode (row_view operation.row.now) offset table.long table.entry table.count bytes.now) }
+    ensures { GivesInstruction result (switch operation.opcode (row_view operation.row.now) offset table.long table.entry table.count bytes.now) }
 {
     if bytes.len() < table.long {
         return Err(Undecoded::Refused(Reason::CodeCut));

@@ -1,13 +1,35 @@
-use Rattle.std.proofs.Common.{List, [], ◌++◌, length, None, Some, ap, subst, arith}
+use Rattle.std.proofs.Common.{◌≡◌, ℕ, List, [], ◌++◌, length, Option, None, Some, ap, subst, arith}
 use Rattle.std.specs.List.{flat_map}
 use Rattle.jvm_model.specs.declared.class_file.Attribute.{Attribute}
+use Rattle.jvm_model.specs.declared.class_file.ClassFile.{ClassFile}
 use Rattle.jvm_model.specs.declared.class_file.Member.{Member}
-use Rattle.jvm_model.specs.Soundness.{each_place, field_places, method_places, attribute_places, fields_offset, methods_offset, attributes_offset}
+use Rattle.jvm_model.specs.declared.pool.PoolEntry.{PoolEntry}
+use Rattle.jvm_model.specs.declared.reason.Reason.{Reason}
+use Rattle.jvm_model.specs.Soundness.{PlacedUse, each_place, field_places, method_places, attribute_places, fields_offset, methods_offset, attributes_offset}
 use Rattle.jvm_model.specs.Spelling as spelling
 use Rattle.jvm_model.proofs.Lengths.{spell_length}
 use Rattle.classfile_reader.specs.FirstPlace.{IsFirstBreach}
 use Rattle.classfile_reader.proofs.FirstPlaces.{goes_on, stops, moved_items}
 use Rattle.classfile_reader.proofs.soundness.body_fault.Goals as goal
+
+-- the places of the fields, of the methods and of the attributes
+abbrev each_member : (ℕ → List Member → Member → List PlacedUse) → ℕ → List Member → List PlacedUse
+each_member places offset members = each_place places (λ m. length (spelling.member m)) offset [] members
+
+abbrev of_fields : ClassFile → List PlacedUse
+of_fields class = each_member field_places (fields_offset class) class.fields
+
+abbrev of_methods : ClassFile → List PlacedUse
+of_methods class = each_member method_places (methods_offset class) class.methods
+
+abbrev of_attributes : ClassFile → List PlacedUse
+of_attributes class = each_place attribute_places (λ a. length (spelling.attribute a)) (attributes_offset class) [] class.attributes
+
+-- what was told of members, where the pool, the offset and the members were read
+told_of : (places : ℕ → List Member → Member → List PlacedUse) (pool other : List PoolEntry) (start there : ℕ) (members others : List Member) (read answer : Option (ℕ × Reason))
+    → pool ≡ other → start ≡ there → members ≡ others → read ≡ answer → IsFirstBreach pool (each_member places start members) read → IsFirstBreach other (each_member places there others) answer
+told_of places pool other start there members others read answer same_pool same_start same_members is first =
+    moved_items places (λ m. length (spelling.member m)) pool other start there members others answer same_pool same_start same_members (subst (IsFirstBreach pool (each_member places start members)) is first)
 
 pub members_fault-requires-clause-size : goal.members_fault-requires-clause-size
 members_fault-requires-clause-size c =
@@ -16,12 +38,8 @@ members_fault-requires-clause-size c =
 pub returns-in-Some : goal.returns-in-Some
 returns-in-Some c =
     let class = c.args.class.now in
-    let size = λ (m : Member). length (spelling.member m) in
-    let found = subst (IsFirstBreach c.as_slice-pool.result.now (each_place field_places size c.fields_offset-start.result [] c.as_slice-fields.result.now)) c.in-Some.is c.in_ok-fault.ensures.exact in
-    let first = moved_items field_places size c.as_slice-pool.result.now class.pool c.fields_offset-start.result (fields_offset class) c.as_slice-fields.result.now class.fields (Some c.in-Some.fault)
-    c.as_slice-pool.ensures c.fields_offset-start.ensures c.as_slice-fields.ensures found in
-    stops class.pool (each_place field_places size (fields_offset class) [] class.fields)
-    (each_place method_places size (methods_offset class) [] class.methods ++ each_place attribute_places (λ a. length (spelling.attribute a)) (attributes_offset class) [] class.attributes) c.in-Some.fault first
+    let first = told_of field_places _ _ _ _ _ _ _ (Some c.in-Some.fault) c.as_slice-pool.ensures c.fields_offset-start.ensures c.as_slice-fields.ensures c.in-Some.is c.in_ok-fault.ensures.exact in
+    stops class.pool (of_fields class) (of_methods class ++ of_attributes class) c.in-Some.fault first
 
 pub members_fault-requires-2-clause-size : goal.members_fault-requires-2-clause-size
 members_fault-requires-2-clause-size c =
@@ -30,17 +48,9 @@ members_fault-requires-2-clause-size c =
 pub returns-in-Some-2 : goal.returns-in-Some-2
 returns-in-Some-2 c =
     let class = c.args.class.now in
-    let pool = c.as_slice-pool.result.now in
-    let size = λ (m : Member). length (spelling.member m) in
-    let fields = each_place field_places size (fields_offset class) [] class.fields in
-    let methods = each_place method_places size (methods_offset class) [] class.methods in
-    let attributes = each_place attribute_places (λ a. length (spelling.attribute a)) (attributes_offset class) [] class.attributes in
-    let no_field = subst (IsFirstBreach pool (each_place field_places size c.fields_offset-start.result [] c.as_slice-fields.result.now)) c.in_default.is c.in_ok-fault.ensures.exact in
-    let none = moved_items field_places size pool class.pool c.fields_offset-start.result (fields_offset class) c.as_slice-fields.result.now class.fields None c.as_slice-pool.ensures c.fields_offset-start.ensures c.as_slice-fields.ensures no_field in
-    let found = subst (IsFirstBreach pool (each_place method_places size c.methods_offset-start.result [] c.as_slice-methods.result.now)) c.in-Some-2.is c.in_ok-fault-2.ensures.exact in
-    let first = moved_items method_places size pool class.pool c.methods_offset-start.result (methods_offset class) c.as_slice-methods.result.now class.methods (Some c.in-Some-2.fault)
-    c.as_slice-pool.ensures c.methods_offset-start.ensures c.as_slice-methods.ensures found in
-    goes_on class.pool fields (methods ++ attributes) (Some c.in-Some-2.fault) none (stops class.pool methods attributes c.in-Some-2.fault first)
+    let none = told_of field_places _ _ _ _ _ _ _ None c.as_slice-pool.ensures c.fields_offset-start.ensures c.as_slice-fields.ensures c.in_default.is c.in_ok-fault.ensures.exact in
+    let first = told_of method_places _ _ _ _ _ _ _ (Some c.in-Some-2.fault) c.as_slice-pool.ensures c.methods_offset-start.ensures c.as_slice-methods.ensures c.in-Some-2.is c.in_ok-fault-2.ensures.exact in
+    goes_on class.pool (of_fields class) (of_methods class ++ of_attributes class) (Some c.in-Some-2.fault) none (stops class.pool (of_methods class) (of_attributes class) c.in-Some-2.fault first)
 
 pub attributes_fault-requires : goal.attributes_fault-requires
 attributes_fault-requires c =
@@ -49,16 +59,8 @@ attributes_fault-requires c =
 pub returns : goal.returns
 returns c =
     let class = c.args.class.now in
-    let pool = c.as_slice-pool.result.now in
-    let size = λ (m : Member). length (spelling.member m) in
-    let fields = each_place field_places size (fields_offset class) [] class.fields in
-    let methods = each_place method_places size (methods_offset class) [] class.methods in
-    let attributes = each_place attribute_places (λ a. length (spelling.attribute a)) (attributes_offset class) [] class.attributes in
-    let no_field = subst (IsFirstBreach pool (each_place field_places size c.fields_offset-start.result [] c.as_slice-fields.result.now)) c.in_default.is c.in_ok-fault.ensures.exact in
-    let none = moved_items field_places size pool class.pool c.fields_offset-start.result (fields_offset class) c.as_slice-fields.result.now class.fields None c.as_slice-pool.ensures c.fields_offset-start.ensures c.as_slice-fields.ensures no_field in
-    let no_method = subst (IsFirstBreach pool (each_place method_places size c.methods_offset-start.result [] c.as_slice-methods.result.now)) c.in_default-2.is c.in_ok-fault-2.ensures.exact in
-    let none_either = moved_items method_places size pool class.pool c.methods_offset-start.result (methods_offset class) c.as_slice-methods.result.now class.methods None
-    c.as_slice-pool.ensures c.methods_offset-start.ensures c.as_slice-methods.ensures no_method in
-    let last = moved_items attribute_places (λ a. length (spelling.attribute a)) pool class.pool c.attributes_offset.result (attributes_offset class) c.as_slice-attributes.result.now class.attributes c.attributes_fault.result
-    c.as_slice-pool.ensures c.attributes_offset.ensures c.as_slice-attributes.ensures c.attributes_fault.ensures in
-    goes_on class.pool fields (methods ++ attributes) c.attributes_fault.result none (goes_on class.pool methods attributes c.attributes_fault.result none_either last)
+    let answer = c.attributes_fault.result in
+    let none = told_of field_places _ _ _ _ _ _ _ None c.as_slice-pool.ensures c.fields_offset-start.ensures c.as_slice-fields.ensures c.in_default.is c.in_ok-fault.ensures.exact in
+    let none_either = told_of method_places _ _ _ _ _ _ _ None c.as_slice-pool.ensures c.methods_offset-start.ensures c.as_slice-methods.ensures c.in_default-2.is c.in_ok-fault-2.ensures.exact in
+    let last = moved_items attribute_places (λ a. length (spelling.attribute a)) _ _ _ _ _ _ answer c.as_slice-pool.ensures c.attributes_offset.ensures c.as_slice-attributes.ensures c.attributes_fault.ensures in
+    goes_on class.pool (of_fields class) (of_methods class ++ of_attributes class) answer none (goes_on class.pool (of_methods class) (of_attributes class) answer none_either last)

@@ -1,6 +1,6 @@
 use Rattle.std.proofs.Common.{◌≡◌, ℕ, ◌+◌, true, List, length, sym, ap, ◌∙◌, subst, arith}
 use Rattle.std.specs.List.{flat_map, list_any}
-use Rattle.std.proofs.lemmas.Option.{same_Some, slice_get_within, get_or_from_slice_get}
+use Rattle.std.proofs.lemmas.Option.{same_Some}
 use Rattle.jvm_model.specs.declared.class_file.Attribute.{Attribute}
 use Rattle.jvm_model.specs.declared.class_file.Member.{Member}
 use Rattle.jvm_model.specs.declared.pool.PoolEntry.{PoolEntry}
@@ -8,7 +8,7 @@ use Rattle.jvm_model.specs.Soundness.{is_code}
 use Rattle.jvm_model.specs.Spelling.{attribute}
 use Rattle.jvm_model.proofs.CodePlaces.{before_fits, place_fits}
 use Rattle.code_reader.specs.Bodies.{TellsBody}
-use Rattle.code_reader.proofs.ToldCodes.{stands_there, found_there, first_of_found, place_of_found, body_fits, tells}
+use Rattle.code_reader.proofs.ToldCodes.{Contains-from_slice_get, stands_there, found_at, body_fits, tells}
 use Rattle.code_reader.proofs.read.read_code_at.Goals as goal
 
 pub found_code-found-requires-clause-size : goal.found_code-found-requires-clause-size
@@ -32,44 +32,39 @@ overflow_add-place c =
     let class = c.args.class.now in
     let owner = c.index-as_slice-method.result in
     let there = stands_there class c.args.method c.requires.code.owner _ owner c.as_slice.result.now c.requires.code.there c.as_slice.ensures c.index-as_slice-method.is in
-    let found = found_there class.pool c.as_slice-pool.result.now owner.attributes c.as_slice-2.result.now c.found_code-found.result.before c.found_code-found.result.code.now c.as_slice-pool.ensures c.as_slice-2.ensures c.found_code-found.ensures in
-    let place = place_of_found class c.args.method c.args.offset c.found_code-found.result.before owner c.found_code-found.result.code.now there found c.requires.offset in
-    omega (arith, place_fits _ _ _ place, c.requires.size)
+    let f = found_at class c.args.method c.args.offset c.found_code-found.result.before owner c.found_code-found.result.code.now _ _ there c.as_slice-pool.ensures c.as_slice-2.ensures c.found_code-found.ensures c.requires.offset in
+    omega (arith, place_fits _ _ _ f.is_place, c.requires.size)
 
 pub overflow_add-place-2 : goal.overflow_add-place-2
 overflow_add-place-2 c =
     let class = c.args.class.now in
     let owner = c.index-as_slice-method.result in
     let there = stands_there class c.args.method c.requires.code.owner _ owner c.as_slice.result.now c.requires.code.there c.as_slice.ensures c.index-as_slice-method.is in
-    let found = found_there class.pool c.as_slice-pool.result.now owner.attributes c.as_slice-2.result.now c.found_code-found.result.before c.found_code-found.result.code.now c.as_slice-pool.ensures c.as_slice-2.ensures c.found_code-found.ensures in
-    let place = place_of_found class c.args.method c.args.offset c.found_code-found.result.before owner c.found_code-found.result.code.now there found c.requires.offset in
-    omega (arith, place_fits _ _ _ place, c.requires.size)
+    let f = found_at class c.args.method c.args.offset c.found_code-found.result.before owner c.found_code-found.result.code.now _ _ there c.as_slice-pool.ensures c.as_slice-2.ensures c.found_code-found.ensures c.requires.offset in
+    omega (arith, place_fits _ _ _ f.is_place, c.requires.size)
 
 pub overflow_add-place-3 : goal.overflow_add-place-3
 overflow_add-place-3 c =
     let class = c.args.class.now in
     let owner = c.index-as_slice-method.result in
     let there = stands_there class c.args.method c.requires.code.owner _ owner c.as_slice.result.now c.requires.code.there c.as_slice.ensures c.index-as_slice-method.is in
-    let found = found_there class.pool c.as_slice-pool.result.now owner.attributes c.as_slice-2.result.now c.found_code-found.result.before c.found_code-found.result.code.now c.as_slice-pool.ensures c.as_slice-2.ensures c.found_code-found.ensures in
-    let place = place_of_found class c.args.method c.args.offset c.found_code-found.result.before owner c.found_code-found.result.code.now there found c.requires.offset in
-    omega (arith, place_fits _ _ _ place, c.requires.size)
+    let f = found_at class c.args.method c.args.offset c.found_code-found.result.before owner c.found_code-found.result.code.now _ _ there c.as_slice-pool.ensures c.as_slice-2.ensures c.found_code-found.ensures c.requires.offset in
+    omega (arith, place_fits _ _ _ f.is_place, c.requires.size)
 
 pub locals_taken-requires-clause-there : goal.locals_taken-requires-clause-there
 locals_taken-requires-clause-there c =
     let class = c.args.class.now in
     let owner = c.index-as_slice-method.result in
     let there = stands_there class c.args.method c.requires.code.owner _ owner c.as_slice.result.now c.requires.code.there c.as_slice.ensures c.index-as_slice-method.is in
-    (c.args.method, slice_get_within class.methods c.args.method owner there, get_or_from_slice_get class.methods c.args.method owner owner there)
+    Contains-from_slice_get class.methods c.args.method owner there
 
 pub read_body-requires : goal.read_body-requires
 read_body-requires c =
     let class = c.args.class.now in
     let owner = c.index-as_slice-method.result in
     let there = stands_there class c.args.method c.requires.code.owner _ owner c.as_slice.result.now c.requires.code.there c.as_slice.ensures c.index-as_slice-method.is in
-    let found = found_there class.pool c.as_slice-pool.result.now owner.attributes c.as_slice-2.result.now c.found_code-found.result.before c.found_code-found.result.code.now c.as_slice-pool.ensures c.as_slice-2.ensures c.found_code-found.ensures in
-    let place = place_of_found class c.args.method c.args.offset c.found_code-found.result.before owner c.found_code-found.result.code.now there found c.requires.offset in
-    let first = first_of_found class.pool owner.attributes c.found_code-found.result.before c.found_code-found.result.code.now found in
-    let fits = body_fits class c.args.method _ owner c.found_code-found.result.code.now there first place in
+    let f = found_at class c.args.method c.args.offset c.found_code-found.result.before owner c.found_code-found.result.code.now _ _ there c.as_slice-pool.ensures c.as_slice-2.ensures c.found_code-found.ensures c.requires.offset in
+    let fits = body_fits class c.args.method _ owner c.found_code-found.result.code.now there f.first f.is_place in
     omega (arith, fits, ap length c.as_slice-3.ensures, c.requires.size)
 
 pub returns : goal.returns
@@ -77,10 +72,8 @@ returns c =
     let class = c.args.class.now in
     let owner = c.index-as_slice-method.result in
     let there = stands_there class c.args.method c.requires.code.owner _ owner c.as_slice.result.now c.requires.code.there c.as_slice.ensures c.index-as_slice-method.is in
-    let found = found_there class.pool c.as_slice-pool.result.now owner.attributes c.as_slice-2.result.now c.found_code-found.result.before c.found_code-found.result.code.now c.as_slice-pool.ensures c.as_slice-2.ensures c.found_code-found.ensures in
-    let place = place_of_found class c.args.method c.args.offset c.found_code-found.result.before owner c.found_code-found.result.code.now there found c.requires.offset in
-    let first = first_of_found class.pool owner.attributes c.found_code-found.result.before c.found_code-found.result.code.now found in
+    let f = found_at class c.args.method c.args.offset c.found_code-found.result.before owner c.found_code-found.result.code.now _ _ there c.as_slice-pool.ensures c.as_slice-2.ensures c.found_code-found.ensures c.requires.offset in
     let at : ℕ = c.args.offset + 8 + c.found_code-found.result.before + 6 in
     let body = subst (λ (bytes : List ℕ). TellsBody class.pool c.in_ok-parameters.parameters (record { offset = at; rest = bytes }) c.read_body.result) c.as_slice-3.ensures
     (subst (λ (pool : List PoolEntry). TellsBody pool c.in_ok-parameters.parameters (record { offset = at; rest = c.as_slice-3.result.now }) c.read_body.result) c.as_slice-pool.ensures c.read_body.ensures) in
-    tells class c.args.method at c.in_ok-parameters.parameters owner c.found_code-found.result.code.now c.read_body.result there first place c.in_ok-parameters.ensures body
+    tells class c.args.method at c.in_ok-parameters.parameters owner c.found_code-found.result.code.now c.read_body.result there f.first f.is_place c.in_ok-parameters.ensures body

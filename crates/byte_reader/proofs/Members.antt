@@ -6,7 +6,7 @@ use Rattle.jvm_model.specs.declared.class_file.Attribute.{Attribute}
 use Rattle.jvm_model.specs.Spelling.{u2, u4, attribute, member, table, AttributeFits, MemberFits}
 use Rattle.byte_reader.specs.Reading.{Place}
 use Rattle.byte_reader.specs.Structures.{attribute_at, member_at}
-use Rattle.classfile_reader.proofs.Fields.{bind_ok, ok_is, goes_on_with, Takes, Takes-then, IsSpelledBy, IsReadBack, wide16, wide32, number_takes, number_again, bytes_take, bytes_again, table_takes, table_again}
+use Rattle.byte_reader.proofs.Fields.{bind_ok, ok_is, goes_on_with, Takes, Takes-then, IsSpelledBy, IsReadBack, wide16, wide32, number_takes, number_again, bytes_take, bytes_again, table_takes, table_again}
 
 pub attribute_takes : IsSpelledBy attribute_at attribute AttributeFits
 unfolding attribute_at
