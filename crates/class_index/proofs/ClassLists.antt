@@ -1,5 +1,5 @@
 -- Lists of classes: what is in them, and what one more class or several more leave.
-use Rattle.std.proofs.Common.{◌≡◌, ℕ, ◌<◌, ◌≤◌, true, false, List, [], ◌∷◌, ◌++◌, length, take, get_or, Some, refl, sym, ◌∙◌, ap, subst, arith, inl, inr, ◌⊎◌, length-append}
+use Rattle.std.proofs.Common.{◌≡◌, ℕ, ◌+◌, ◌<◌, ◌≤◌, true, false, List, [], ◌∷◌, ◌++◌, length, take, get_or, Some, refl, sym, ◌∙◌, ap, subst, arith, inl, inr, ◌⊎◌, length-append}
 use Rattle.std.specs.Prelude.{nat_eq}
 use Rattle.std.specs.List.{slice_get, Contains, All, IsDistinct}
 use Rattle.std.proofs.lemmas.Cmp.{nat_eq_equiv}
@@ -8,10 +8,10 @@ use Rattle.std.proofs.lemmas.Option.{slice_get_within, get_or_from_slice_get}
 use Rattle.std.proofs.lemmas.Map.Views.{list_any-from_Contains, Contains-from_any}
 use Rattle.std.proofs.lemmas.Map.Keys.{IsDistinct-from_apart, apart_from_distinct}
 use Rattle.std.proofs.lemmas.Map.Steps.{length-le_from_distinct_below}
-use Rattle.std.proofs.lemmas.List.{take-append-le, take_all, get_or_append_left, get_or_push}
+use Rattle.std.proofs.lemmas.List.{take-append-le, take_all, take_more, get_or_append_left, get_or_push}
 use Rattle.std.proofs.lemmas.List.Folds.{list_any-append}
 use Rattle.std.proofs.lemmas.List.Elements.{All-push, All-take, All-head, All-tail, All-contains}
-use Rattle.class_index.specs.ClassSets.{has, with_class, with_classes}
+use Rattle.class_index.specs.ClassSets.{Classes, has, with_class, with_classes}
 use Rattle.class_index.proofs.ListPlaces.{in_longer}
 use Rattle.class_index.proofs.OrderPlaces.{contains_first, place_of}
 
@@ -112,6 +112,15 @@ with_classes_longer xs (y ∷ ys) = let a = with_class_longer xs y in let b = wi
 pub with_classes-append : (xs ys zs : List ℕ) → with_classes xs (ys ++ zs) ≡ with_classes (with_classes xs ys) zs
 with_classes-append xs [] zs = refl
 with_classes-append xs (y ∷ ys) zs = with_classes-append (with_class xs y) ys zs
+
+-- one class more of a list is added
+pub front_added : (old now new : Classes) (xs : List ℕ) (i : ℕ) → now ≡ record { size = old.size; items = with_classes old.items (take i xs) }
+    → new ≡ record { size = now.size; items = with_class now.items (get_or xs i 0) } → i < length xs → new ≡ record { size = old.size; items = with_classes old.items (take (i + 1) xs) }
+front_added old now new xs i first second lt =
+    let x = get_or xs i 0 in
+    let one_more = take_more xs i 0 lt in
+    rw (second, first) (ap (λ (zs : List ℕ). let s : Classes = record { size = old.size; items = zs } in s)
+    (sym (with_classes-append old.items (take i xs) (x ∷ [])) ∙ ap (with_classes old.items) (sym one_more)))
 
 -- classes below a number, none twice, are at most that many
 pub at_most_size : (xs : List ℕ) (n : ℕ) → All (λ (x : ℕ). x < n) xs → IsDistinct nat_eq xs → length xs ≤ n

@@ -3,7 +3,6 @@ use Rattle.std.proofs.Common.{◌≡◌, ◌≢◌, ℕ, zero, suc, ◌<◌, ◌
 use Rattle.std.specs.List.{slice_get, prefix_len, list_any}
 use Rattle.std.specs.Option.{option_map}
 use Rattle.std.proofs.lemmas.List.{length-map}
-use Rattle.std.proofs.lemmas.Bool.{cases_lt}
 use Rattle.std.proofs.lemmas.Option.{slice_get_within, slice_get-get_or, slice_get-map, same_Some, none-some}
 use Rattle.class_index.specs.FirstPlaces.{IsFirstPlace, StandsNowhere}
 
@@ -70,13 +69,3 @@ first_when_new xs x none = record {
   stands = pushed_at xs x;
   before = λ i lt e. elim (push_cases xs x i x e) [ inl old ↦ none.nowhere i old | inr last ↦ absurd (omega (arith, last.0)) ];
 }
-
--- there is one first place
-pub one_first_place : {X : Type 0} (xs : List X) (x : X) (i j : ℕ) → IsFirstPlace xs x i → IsFirstPlace xs x j → i ≡ j
-one_first_place xs x i j first second = elim (cases_lt i j) [
-  | inl lt ↦ absurd (second.before i lt first.stands)
-  | inr le ↦ elim (cases_lt j i) [
-    | inl lt ↦ absurd (first.before j lt second.stands)
-    | inr ge ↦ omega arith
-  ]
-]

@@ -20,16 +20,16 @@ eq = (key_block.ghosts).eq
 -- `==` on keys tells each two apart
 pub exact_keys : (a b : NumberedKey) → eq a b ≡ true → a ≡ b
 exact_keys a b h =
-    let parts = and_parts (eqb a.class b.class) (eqb a.name b.name && eqb a.descriptor b.descriptor) h in
+    let parts = and_parts (eqb a.class.0 b.class.0) (eqb a.name b.name && eqb a.descriptor b.descriptor) h in
     let texts = and_parts (eqb a.name b.name) (eqb a.descriptor b.descriptor) parts.1 in
-    let class = exact_unsigned_eq a.class b.class parts.0 in
+    let class = exact_unsigned_eq a.class.0 b.class.0 parts.0 in
     let name = exact_unsigned_eq a.name b.name texts.0 in
     let descriptor = exact_unsigned_eq a.descriptor b.descriptor texts.1 in
-    (λ i. record { class = class i; name = name i; descriptor = descriptor i })
+    (λ i. record { class = record { 0 = class i }; name = name i; descriptor = descriptor i })
 
 pub same_key : (a : NumberedKey) → eq a a ≡ true
 same_key a =
-    ap (λ (b : Bool). b && (eqb a.name a.name && eqb a.descriptor a.descriptor)) (nat_eq_equiv.refl a.class)
+    ap (λ (b : Bool). b && (eqb a.name a.name && eqb a.descriptor a.descriptor)) (nat_eq_equiv.refl a.class.0)
     ∙ ap (λ (b : Bool). b && eqb a.descriptor a.descriptor) (nat_eq_equiv.refl a.name)
     ∙ nat_eq_equiv.refl a.descriptor
 

@@ -1,6 +1,6 @@
--- The list without doubles, each at its first place: it has the same members, and the first that passes a test is the same.
+-- The list without doubles, each at its first place: it has the same members.
 use Rattle.std.proofs.Common.{◌≡◌, ℕ, Bool, true, false, List, [], ◌∷◌, ◌++◌, refl, sym, ◌∙◌, ap, subst, inl, inr}
-use Rattle.std.specs.Prelude.{nat_eq, not, filter, find, ◌||◌, ◌&&◌}
+use Rattle.std.specs.Prelude.{nat_eq, not, filter, ◌||◌, ◌&&◌}
 use Rattle.std.specs.List.{Contains}
 use Rattle.std.proofs.lemmas.Bool.{cases_Bool, cond-true, cond-false, eqb-true, eq-eqb, ne_eqb, false≢true}
 use Rattle.std.proofs.lemmas.Map.Views.{any-filter_same}
@@ -37,23 +37,6 @@ firsts_contains xs y c = contains_from_has (firsts xs) y (firsts_has xs y ∙ ha
 
 pub contains_firsts : (xs : List ℕ) (y : ℕ) → Contains (firsts xs) y → Contains xs y
 contains_firsts xs y c = contains_from_has xs y (sym (firsts_has xs y) ∙ has_from_contains (firsts xs) y c)
-
--- the first that passes a test is the same
-find_off : (p : ℕ → Bool) (x : ℕ) (zs : List ℕ) → p x ≡ false → find p (off x zs) ≡ find p zs
-find_off p x [] fails = refl
-find_off p x (z ∷ zs) fails =
-    elim (cases_Bool (nat_eq x z)) [
-      | inl e ↦ (let f : p z ≡ false = subst (λ (w : ℕ). p w ≡ false) (eqb-true x z e) fails in rw (e, f) (find_off p x zs fails))
-      | inr e ↦ rw e (rw (find_off p x zs fails) refl)
-    ]
-
-pub find_firsts : (p : ℕ → Bool) (xs : List ℕ) → find p (firsts xs) ≡ find p xs
-find_firsts p [] = refl
-find_firsts p (x ∷ xs) =
-    elim (cases_Bool (p x)) [
-      | inl e ↦ rw e refl
-      | inr e ↦ rw e (find_off p x (firsts xs) e ∙ find_firsts p xs)
-    ]
 
 -- adding what is there already adds nothing
 with_class_there : (zs : List ℕ) (x : ℕ) → has zs x ≡ true → with_class zs x ≡ zs

@@ -1,17 +1,15 @@
--- What is searched from classes on: there is one such list, what is in it, and how it goes over to the list without doubles.
-use Rattle.std.proofs.Common.{◌≡◌, ℕ, zero, suc, ◌+◌, ◌<◌, Bool, List, [], ◌∷◌, ◌++◌, length, take, Some, refl, sym, ◌∙◌, ap, subst, arith, inl, inr}
-use Rattle.std.specs.Prelude.{find}
+-- What is searched from classes on: what is in it, and in the list without doubles.
+use Rattle.std.proofs.Common.{◌≡◌, ℕ, List, [], ◌∷◌, ◌++◌, Some, refl, sym, ◌∙◌, ap, subst, inl, inr}
 use Rattle.std.specs.List.{slice_get, Contains}
 use Rattle.std.proofs.lemmas.Option.{same_Some}
 use Rattle.std.proofs.lemmas.List.{append_assoc}
 use Rattle.std.proofs.lemmas.List.Elements.{Contains-append_left, Contains-append_right, Contains-append_cases}
 use Rattle.class_index.specs.declared.parents.Parents.{Parents}
 use Rattle.class_index.specs.Supertypes.{IsDirect, IsInterfaceOf, one_step, more_steps, IsAtOrAbove, at, above, direct_of}
-use Rattle.class_index.specs.UpwardOrder.{IsUpward}
-use Rattle.class_index.specs.SearchOrder.{ExpandsAll, none_left, first_then, Expands}
+use Rattle.class_index.specs.SearchOrder.{ExpandsAll, none_left, first_then}
 use Rattle.class_index.specs.AboveLists.{IsSearched}
-use Rattle.class_index.proofs.OrderPlaces.{stands_below, place_of, all_at, in_front, contains_first, contains_later, contains_cases, contains_none}
-use Rattle.class_index.proofs.SearchedPlaces.{firsts_contains, contains_firsts, find_firsts}
+use Rattle.class_index.proofs.OrderPlaces.{contains_first, contains_later, contains_cases, contains_none}
+use Rattle.class_index.proofs.SearchedPlaces.{firsts_contains, contains_firsts}
 use Rattle.class_index.proofs.UpwardSteps.{at_or_above_step}
 
 -- classes searched one after another, and then others
@@ -20,15 +18,6 @@ expands_append g [] ys all more (none_left _ e) b = subst (λ (zs : List ℕ). E
 expands_append g (x ∷ xs) ys all more (first_then _ _ _ p inner others stands i o e) b =
     first_then x (xs ++ ys) (all ++ more) p inner (others ++ more) stands i (expands_append g xs ys others more o b)
     (ap (λ (zs : List ℕ). zs ++ more) e ∙ ap (λ (zs : List ℕ). x ∷ zs) (append_assoc inner others more))
-
--- There is at most one list that is searched.
-pub expands_once : (g : List Parents) (xs all more : List ℕ) → ExpandsAll g xs all → ExpandsAll g xs more → all ≡ more
-expands_once g [] all more (none_left _ e) (none_left _ f) = e ∙ sym f
-expands_once g (x ∷ xs) all more (first_then _ _ _ p inner others stands i o e) (first_then _ _ _ q inner' others' stands' i' o' e') =
-    let same : q ≡ p = same_Some q p (sym stands' ∙ stands) in
-    let inside : inner ≡ inner' = expands_once g (direct_of p) inner inner' i (subst (λ (r : Parents). ExpandsAll g (direct_of r) inner') same i') in
-    let after : others ≡ others' = expands_once g xs others others' o o' in
-    e ∙ ap (λ (zs : List ℕ). x ∷ (zs ++ others)) inside ∙ ap (λ (zs : List ℕ). x ∷ (inner' ++ zs)) after ∙ sym e'
 
 -- What is searched is a class that the search began with, or above one.
 pub from_searched : (g : List Parents) (xs all : List ℕ) → ExpandsAll g xs all → (y : ℕ) → Contains all y → (i : ℕ) × Contains xs i × IsAtOrAbove g i y
@@ -65,32 +54,6 @@ to_searched g (x ∷ xs) all (first_then _ _ _ p inner others stands ie oe e) i 
       | inr later ↦ contains_later x (inner ++ others) y (Contains-append_right inner others y (to_searched g xs others oe i y later a))
     ])
 
--- In an upward order there is one for each class.
-all_searched : (g : List Parents) (xs : List ℕ) → ((x : ℕ) → Contains xs x → (all : List ℕ) × Expands g x all) → (all : List ℕ) × ExpandsAll g xs all
-all_searched g [] each = ([], none_left [] refl)
-all_searched g (x ∷ xs) each =
-    let first = each x (contains_first x xs) in
-    let others = all_searched g xs (λ y c. each y (contains_later x xs y c)) in
-    (first.0 ++ others.0, expands_append g (x ∷ []) xs first.0 others.0 first.1 others.1)
-
-from_entry : (g : List Parents) (x : ℕ) (p : Parents) → slice_get g x ≡ Some p → (inner : List ℕ) → ExpandsAll g (direct_of p) inner → (all : List ℕ) × Expands g x all
-from_entry g x p stands inner i = (x ∷ (inner ++ []), first_then x [] (x ∷ (inner ++ [])) p inner [] stands i (none_left [] refl) refl)
-
-searched_before : (g : List Parents) (order : List ℕ) → IsUpward g order → (n k x : ℕ) → k < n → slice_get order k ≡ Some x → (all : List ℕ) × Expands g x all
-searched_before g order upward zero k x l e = absurd (omega arith)
-searched_before g order upward (suc n) k x l e =
-    let below = all_at (λ (c : ℕ). c < length g) order k x upward.below e in
-    let entry = stands_below g x below in
-    let inner = all_searched g (direct_of entry.0) (λ y c.
-    let place = place_of (take k order) y (upward.after k x y e (record { parents = entry.0; stands = entry.1; among = c })) in
-    let before = in_front order k place.0 y place.1 in
-    searched_before g order upward n place.0 y (omega (arith, before.0)) before.1) in
-    from_entry g x entry.0 entry.1 inner.0 inner.1
-
-pub each_is_searched : (g : List Parents) (order : List ℕ) → IsUpward g order → (x : ℕ) → x < length g → (all : List ℕ) × Expands g x all
-each_is_searched g order upward x l =
-    let place = place_of order x (upward.each x l) in searched_before g order upward (place.0 + 1) place.0 x (omega arith) place.1
-
 -- The list of a class has what is at or above one of its superinterfaces.
 pub listed_from_interface : (g : List Parents) (c : ℕ) (list : List ℕ) → IsSearched g c list → (x : ℕ) → Contains list x → (i : ℕ) × IsInterfaceOf g c i × IsAtOrAbove g i x
 listed_from_interface g c list searched x has =
@@ -104,7 +67,3 @@ interface_is_listed g c list searched i x interface a =
     let among = subst (λ (p : Parents). Contains p.interfaces.items i) same interface.among in
     subst (λ (zs : List ℕ). Contains zs x) (sym searched.is)
     (firsts_contains searched.all x (to_searched g searched.parents.interfaces.items searched.all searched.expands i x among a))
-
--- The first in it that passes a test is the first that is searched.
-pub found_in_list : (g : List Parents) (c : ℕ) (list : List ℕ) (searched : IsSearched g c list) → (test : ℕ → Bool) → find test list ≡ find test searched.all
-found_in_list g c list searched test = ap (find test) searched.is ∙ find_firsts test searched.all

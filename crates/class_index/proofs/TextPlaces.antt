@@ -1,18 +1,20 @@
 -- Where a text stands among texts that are distinct, and when more texts are added.
-use Rattle.std.proofs.Common.{◌≡◌, ℕ, zero, suc, ◌<◌, ◌≤◌, ◌+◌, Bool, true, false, cond, not, ◌||◌, List, [], ◌∷◌, ◌++◌, length, get_or, position, Some, None, ◌^◌, refl, sym, ◌∙◌, ap, arith, append_assoc, inl, inr}
+use Rattle.std.proofs.Common.{◌≡◌, ℕ, zero, suc, ◌<◌, ◌≤◌, ◌+◌, Bool, true, false, cond, not, ◌||◌, List, [], ◌∷◌, ◌++◌, length, take, get_or, position, Some, None, ◌^◌, refl, sym, ◌∙◌, ap, arith, append_assoc, inl, inr}
 use Rattle.std.specs.List.{slice_get, list_any, position_or_len}
 use Rattle.std.specs.Str.{bytes_eq}
 use Rattle.std.proofs.lemmas.Bool.{ltb-false}
-use Rattle.std.proofs.lemmas.List.{map-append, length-append}
+use Rattle.std.proofs.lemmas.List.{append-nil, map-append, length-append, length-take}
 use Rattle.std.proofs.lemmas.List.Quantifiers.{position-Some}
 use Rattle.std.proofs.lemmas.Option.{slice_get_within, slice_get-get_or, same_Some, none-some}
 use Rattle.std.proofs.lemmas.Slice.Eq.{bytes_eq-Decides}
 use Rattle.class_index.specs.FirstPlaces.{StandsNowhere}
-use Rattle.class_index.specs.TextNumbers.{AreDistinct, with_text, Extends}
+use Rattle.class_index.specs.Limits.{AreTooMany}
+use Rattle.class_index.specs.TextNumbers.{AreDistinct, with_text, with_texts, Extends}
 use Rattle.std.specs.Global.{Vec}
 use Rattle.indexmap.specs.IndexSet.{insert_key}
 use Rattle.class_index.specs.OwnedTexts.{owned_texts, AreNumbered}
 use Rattle.class_index.proofs.ListPlaces.{in_longer, push_cases, position-map, list_any-map}
+use Rattle.class_index.proofs.OrderPlaces.{in_front}
 
 -- whether a text is among texts
 pub among : (texts : List (List ℕ)) (text : List ℕ) (k : ℕ) → slice_get texts k ≡ Some text → list_any (bytes_eq text) texts ≡ true
@@ -96,6 +98,27 @@ Extends-trans a b c first second = record {
 pub stands_longer : (old new : List (List ℕ)) → Extends old new → (n : ℕ) (text : List ℕ) → slice_get old n ≡ Some text → slice_get new n ≡ Some text
 stands_longer old new longer n text e = ap (λ (xs : List (List ℕ)). slice_get xs n) longer.is ∙ in_longer old longer.added n text e
 
+-- one text more extends the list, and so do several
+with_text_extends : (texts : List (List ℕ)) (text : List ℕ) → Extends texts (with_text texts text)
+unfolding with_text
+with_text_extends texts text = by (list_any (bytes_eq text) texts)
+  where
+    by : (b : Bool) → Extends texts (cond b texts (texts ++ text ∷ []))
+    by true = record { added = []; is = sym (append-nil texts) }
+    by false = record { added = text ∷ []; is = refl }
+
+pub with_texts_extends : (texts more : List (List ℕ)) → Extends texts (with_texts texts more)
+with_texts_extends texts [] = record { added = []; is = sym (append-nil texts) }
+with_texts_extends texts (text ∷ more) = Extends-trans texts (with_text texts text) (with_texts texts (text ∷ more)) (with_text_extends texts text) (with_texts_extends (with_text texts text) more)
+
+pub with_texts-append : (texts more others : List (List ℕ)) → with_texts texts (more ++ others) ≡ with_texts (with_texts texts more) others
+with_texts-append texts [] others = refl
+with_texts-append texts (text ∷ more) others = with_texts-append (with_text texts text) more others
+
+-- a longer list is too long if its front is
+pub too_many_longer : (old new : List (List ℕ)) → Extends old new → AreTooMany old → AreTooMany new
+too_many_longer old new longer many = omega (arith, ap (length {A = List ℕ}) longer.is, length-append old longer.added, many)
+
 -- ---- texts that vectors own
 
 module _ (keys : List (Vec ℕ)) (text : List ℕ) where
@@ -119,4 +142,11 @@ pub numbered_push : (texts : List (List ℕ)) (text : List ℕ) → AreNumbered 
 numbered_push texts text numbered none room = record {
   distinct = distinct_push texts text numbered.distinct none;
   small = simp length-append (omega arith);
+}
+
+-- the first ones too
+pub numbered_front : (texts : List (List ℕ)) (n : ℕ) → AreNumbered texts → AreNumbered (take n texts)
+numbered_front texts n numbered = record {
+  distinct = record { one_place = λ i j text at_i at_j. numbered.distinct.one_place i j text (in_front texts n i text at_i).1 (in_front texts n j text at_j).1 };
+  small = let front = length-take n texts in omega (arith, front, numbered.small);
 }

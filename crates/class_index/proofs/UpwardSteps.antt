@@ -40,10 +40,6 @@ pub at_or_above_step : (g : List Parents) (x y z : ℕ) → IsDirect g x y → I
 at_or_above_step g x y z d (at e) = subst (λ (w : ℕ). IsAbove g x w) e (one_step _ _ d)
 at_or_above_step g x y z d (above a) = more_steps x y z d a
 
-pub above_at_or : (g : List Parents) (x y z : ℕ) → IsAbove g x y → IsAtOrAbove g y z → IsAbove g x z
-above_at_or g x y z a (at e) = subst (λ (w : ℕ). IsAbove g x w) e a
-above_at_or g x y z a (above b) = above_trans g x y z a b
-
 -- in a front, what is above a class stands before it
 pub above_before : (g : List Parents) (order : List ℕ) → IsFront g order → (x y : ℕ) → IsAbove g x y → (k : ℕ) → slice_get order k ≡ Some x
     → (j : ℕ) × (j < k) × (slice_get order j ≡ Some y)

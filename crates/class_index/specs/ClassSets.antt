@@ -1,5 +1,5 @@
 -- Sets of classes that keep the order in which the classes came.
-use Rattle.std.specs.Prelude.{ℕ, ◌<◌, ◌≡◌, Bool, false, List, [], ◌∷◌, ◌++◌, nat_eq, length, All, if◌then◌else◌}
+use Rattle.std.specs.Prelude.{ℕ, ◌<◌, ◌≡◌, Bool, false, List, [], ◌∷◌, ◌++◌, nat_eq, length, take, All, if◌then◌else◌}
 use Rattle.std.specs.List.{list_any, slice_index_or, IsDistinct}
 
 -- Some of the classes with numbers below the size.
@@ -19,6 +19,11 @@ with_class xs x = if has xs x then xs else xs ++ x ∷ []
 abbrev pub with_classes : List ℕ → List ℕ → List ℕ
 with_classes xs [] = xs
 with_classes xs (y ∷ ys) = with_classes (with_class xs y) ys
+
+-- The set has, beside what it had, the first ones of these classes.
+pub record HasFrontOf (old : Classes) (classes : List ℕ) (new : Classes) : Type 0 where
+  pub count : ℕ
+  pub is : new ≡ record { size = old.size; items = with_classes old.items (take count classes) }
 
 -- The marks tell which classes are in the list, in which none stands twice.
 pub record AreMarked (marks : List Bool) (items : List ℕ) : Type 0 where

@@ -1,10 +1,11 @@
 -- Keys whose texts have numbers, and a map from each to its first place.
-use Rattle.std.specs.Prelude.{◌≡◌, ℕ, ◌<◌, ◌^◌, List, length, Some, None, slice_index_or, []}
+use Rattle.std.specs.Prelude.{◌≡◌, ℕ, ◌<◌, ◌^◌, List, ◌∷◌, ◌++◌, length, map, All, Some, None, slice_index_or, []}
 use Rattle.indexmap.specs.IndexMap.{IndexMap, get}
 use Rattle.class_index.specs.declared.numbered_key.NumberedKey.{NumberedKey}
 use Rattle.class_index.specs.contracts.numbered_key.NumberedKeyPartialEq.TheImpl as key_block
 use Rattle.class_index.specs.FirstPlaces.{IsFirstPlace, StandsNowhere}
-use Rattle.class_index.specs.MemberKeys.{Key}
+use Rattle.class_index.specs.MemberKeys.{Key, key_texts}
+use Rattle.class_index.specs.TextNumbers.{different}
 
 -- the map has the first place of each key, and no other key
 pub record ArePlaces {S : Type 0} (keys : List NumberedKey) (places : IndexMap NumberedKey ℕ S) : Type 0 where
@@ -14,9 +15,21 @@ pub record ArePlaces {S : Type 0} (keys : List NumberedKey) (places : IndexMap N
 
 -- the key with its texts in place of their numbers
 abbrev pub spelled : List (List ℕ) → NumberedKey → Key
-spelled texts key = record { class = key.class; name = slice_index_or texts key.name []; descriptor = slice_index_or texts key.descriptor [] }
+spelled texts key = record { class = key.class.0; signature = record { name = slice_index_or texts key.name []; descriptor = slice_index_or texts key.descriptor [] } }
 
 -- both numbers of the key are numbers of texts
 pub record HasTexts (texts : List (List ℕ)) (key : NumberedKey) : Type 0 where
   pub name : key.name < length texts
   pub descriptor : key.descriptor < length texts
+
+-- one key more than before stands last, with its texts in place of their numbers
+pub record IsSpelledLast (texts : List (List ℕ)) (old new : List NumberedKey) (key : Key) : Type 0 where
+  pub last : NumberedKey
+  pub is : new ≡ old ++ last ∷ []
+  pub has : HasTexts texts last
+  pub spells : spelled texts last ≡ key
+
+-- the texts are those of the keys, each once
+pub record AreSpelled (texts : List (List ℕ)) (keys : List NumberedKey) : Type 0 where
+  pub has : All (HasTexts texts) keys
+  pub each : texts ≡ different (key_texts (map (spelled texts) keys))

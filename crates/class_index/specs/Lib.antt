@@ -1,4 +1,5 @@
 pub mod OwnedTexts
+pub mod Limits
 pub mod TextNumbers
 pub mod FirstPlaces
 pub mod MemberKeys

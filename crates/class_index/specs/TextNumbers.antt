@@ -11,6 +11,15 @@ pub record AreDistinct (texts : List (List ℕ)) : Type 0 where
 unfoldable pub with_text : List (List ℕ) → List ℕ → List (List ℕ)
 with_text texts text = if list_any (bytes_eq text) texts then texts else texts ++ text ∷ []
 
+-- the texts when these, one after another, are among them
+abbrev pub with_texts : List (List ℕ) → List (List ℕ) → List (List ℕ)
+with_texts texts [] = texts
+with_texts texts (text ∷ more) = with_texts (with_text texts text) more
+
+-- each of the texts once
+abbrev pub different : List (List ℕ) → List (List ℕ)
+different texts = with_texts [] texts
+
 -- the old list is the front of the new one, so what has a place keeps it
 pub record Extends {X : Type 0} (old new : List X) : Type 0 where
   pub added : List X

@@ -1,9 +1,9 @@
 //! Sets of classes that keep the order in which the classes came.
 
-ghost use Rattle.std.specs.Prelude.{◌≡◌, ℕ, ◌<◌, ◌≤◌, [], ◌++◌, Some, length, slice_get, All, OnOk, IfOk, IfNone, nat_eq};
+ghost use Rattle.std.specs.Prelude.{◌≡◌, ℕ, ◌<◌, ◌≤◌, [], ◌++◌, Some, length, slice_get, All, OnOk, OnErr, IfOk, IfNone, nat_eq};
 ghost use Rattle.std.specs.List.{IsDistinct};
 ghost use Rattle.std.specs.Option.{option_to_list};
-ghost use Rattle.class_index.specs.ClassSets.{Classes, AreMarked, has, with_class, with_classes};
+ghost use Rattle.class_index.specs.ClassSets.{Classes, AreMarked, HasFrontOf, has, with_class, with_classes};
 
 use std::alloc::{AllocError, Global};
 use std::marker::Model;
@@ -76,10 +76,11 @@ impl ClassSet {
         items
     }
 
-    /// Adds the class at the end, if the set does not have it.
+    /// Adds the class at the end, if the set does not have it. If memory runs out, the set stays as it was.
     pub fn add(&mut self, class: u32) -> Result<(), AllocError>
         requires { class < self.old.size }
-        ensures { OnOk result (self.new ≡ record { size = self.old.size; items = with_class self.old.items class }) }
+        ensures ok { OnOk result (self.new ≡ record { size = self.old.size; items = with_class self.old.items class }) }
+        ensures err { OnErr result (self.new ≡ self.old) }
     {
         if !self.marks[class as usize] {
             self.items.push(class)?;
@@ -88,10 +89,12 @@ impl ClassSet {
         Ok(())
     }
 
-    /// Adds each of the classes at the end, in their order, if the set does not have it.
+    /// Adds each of the classes at the end, in their order, if the set does not have it. If memory runs out, some first ones
+    /// are added.
     pub fn add_all(&mut self, classes: &[u32]) -> Result<(), AllocError>
         requires { All (λ (x : ℕ). x < self.old.size) classes.now }
-        ensures { OnOk result (self.new ≡ record { size = self.old.size; items = with_classes self.old.items classes.now }) }
+        ensures ok { OnOk result (self.new ≡ record { size = self.old.size; items = with_classes self.old.items classes.now }) }
+        ensures err { OnErr result (HasFrontOf self.old classes.now self.new) }
     {
         for class in classes {
             self.add(*class)?;

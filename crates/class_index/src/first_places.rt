@@ -1,12 +1,15 @@
 //! A list of keys that may have one more than once, in which the first place of a key is found by hashing.
 
-ghost use Rattle.std.specs.Prelude.{◌≡◌, ℕ, ◌<◌, ◌^◌, [], ◌∷◌, ◌++◌, length, Some, slice_get, IfSome, IfNone, OnOk, OnErr};
+ghost use Rattle.std.specs.Prelude.{◌≡◌, ℕ, ◌<◌, ◌^◌, ◌↔◌, [], ◌∷◌, ◌++◌, length, Err, Some, slice_get, IfSome, IfNone, OnOk, OnErr};
+ghost use Rattle.class_index.specs.declared.index_error.IndexError.TheVariants.{TooMany};
 ghost use Rattle.class_index.specs.FirstPlaces.{IsFirstPlace, StandsNowhere};
+ghost use Rattle.class_index.specs.Limits.{AreTooMany};
 
+use crate::index_error::IndexError;
 use crate::numbered_key::NumberedKey;
 use crate::text_index::next_number;
 use indexmap::IndexMap;
-use std::alloc::{AllocError, Global};
+use std::alloc::Global;
 use std::marker::Model;
 
 /// Keys in the order of their insertion. Contracts see the list.
@@ -47,10 +50,11 @@ impl FirstPlaces {
         self.keys.len()
     }
 
-    /// Adds a key last. The error is want of memory, or of a number for the place.
-    pub fn push(&mut self, key: NumberedKey) -> Result<(), AllocError>
+    /// Adds a key last. The error is `TooMany` where there are 2^32 - 1 keys; and else it is `Memory`.
+    pub fn push(&mut self, key: NumberedKey) -> Result<(), IndexError>
         ensures ok { OnOk result (self.new ≡ self.old ++ key ∷ []) }
         ensures err { OnErr result (self.new ≡ self.old) }
+        ensures too_many { (result ≡ Err TooMany) ↔ AreTooMany self.old }
     {
         let place = next_number(self.keys.len())?;
         self.keys.push(key)?;
@@ -59,7 +63,7 @@ impl FirstPlaces {
         }
         if let Err(full) = self.places.insert(key, place) {
             self.keys.pop();
-            return Err(AllocError::from(full));
+            return Err(IndexError::from(full));
         }
         Ok(())
     }

@@ -1,14 +1,19 @@
 //! Members by class, name and descriptor: from the key of a member to its place in a list.
 
-ghost use Rattle.std.specs.Prelude.{◌≡◌, ℕ, ◌<◌, ◌^◌, ◌↔◌, [], ◌∷◌, ◌++◌, length, Some, slice_get, IsTrue, IfSome, IfNone, OnOk, OnErr};
+ghost use Rattle.std.specs.Prelude.{◌≡◌, ◌⊎◌, ℕ, ◌<◌, ◌^◌, ◌↔◌, [], ◌∷◌, ◌++◌, length, All, Err, Some, slice_get, IsTrue, IfSome, IfNone, OnOk, OnErr};
+ghost use Rattle.class_index.specs.declared.index_error.IndexError.TheVariants.{TooMany};
 ghost use Rattle.class_index.specs.FirstPlaces.{IsFirstPlace, StandsNowhere};
-ghost use Rattle.class_index.specs.MemberKeys.{key_of};
+ghost use Rattle.class_index.specs.KeyPlaces.{HasTexts, IsSpelledLast};
+ghost use Rattle.class_index.specs.MemberKeys.{key_of, key_texts};
+ghost use Rattle.class_index.specs.Limits.{AreTooMany};
+ghost use Rattle.class_index.specs.TextNumbers.{different, with_texts, Extends};
 
 use crate::first_places::FirstPlaces;
+use crate::index_error::IndexError;
 use crate::member_key::MemberKey;
 use crate::numbered_key::NumberedKey;
 use crate::text_index::TextIndex;
-use std::alloc::{AllocError, Global};
+use std::alloc::Global;
 use std::marker::Model;
 
 /// Members in the order of their insertion, which may have a key more than once. Contracts see the list of the keys.
@@ -19,15 +24,15 @@ pub struct MemberIndex {
 }
 
 impl Model for MemberIndex {
-    ghost use Rattle.std.specs.Prelude.{List, map, All};
+    ghost use Rattle.std.specs.Prelude.{List, map};
     ghost use Rattle.class_index.specs.MemberKeys.{Key};
-    ghost use Rattle.class_index.specs.KeyPlaces.{spelled, HasTexts};
+    ghost use Rattle.class_index.specs.KeyPlaces.{spelled, AreSpelled};
 
     ghost Value = { List Key };
 
     ghost view = { λ s. map (spelled s.texts) s.places };
 
-    ghost invariant = { λ s. All (HasTexts s.texts) s.places };
+    ghost invariant = { λ s. AreSpelled s.texts s.places };
 }
 
 impl MemberIndex {
@@ -58,18 +63,19 @@ impl MemberIndex {
 
     /// Adds a member last, whose place is the number of members before. Its texts are copied, if no member before has them.
     ///
-    /// The error is want of memory, or of numbers: there are at most 2^32 - 1 members, and as many texts.
-    pub fn push(&mut self, key: MemberKey<'_>) -> Result<(), AllocError>
+    /// The error is `TooMany` where there are 2^32 - 1 members, or as many texts; and else it is `Memory`.
+    pub fn push(&mut self, key: MemberKey<'_>) -> Result<(), IndexError>
         ensures ok { OnOk result (self.new ≡ self.old ++ key_of key.entry ∷ []) }
         ensures err { OnErr result (self.new ≡ self.old) }
+        ensures too_many { result ≡ Err TooMany
+            → AreTooMany self.old ⊎ AreTooMany (different (key_texts (self.old ++ key_of key.entry ∷ []))) }
     {
-        let name = self.texts.intern(key.name)?;
-        let descriptor = self.texts.intern(key.descriptor)?;
-        self.places.push(NumberedKey {
-            class: key.class,
-            name,
-            descriptor,
-        })
+        let count = self.texts.len();
+        if let Err(error) = add_spelled(&mut self.texts, &mut self.places, key) {
+            self.texts.truncate(count);
+            return Err(error);
+        }
+        Ok(())
     }
 
     /// The first place at which a key stands. It takes no memory, and time linear in the key's texts.
@@ -77,8 +83,8 @@ impl MemberIndex {
         ensures found { IfSome result (IsFirstPlace self.now (key_of key.entry)) }
         ensures none { IfNone result (StandsNowhere self.now (key_of key.entry)) }
     {
-        let name = self.texts.find(key.name)?;
-        let descriptor = self.texts.find(key.descriptor)?;
+        let name = self.texts.find(key.signature.name)?;
+        let descriptor = self.texts.find(key.signature.descriptor)?;
         self.places.first(&NumberedKey {
             class: key.class,
             name,
@@ -87,20 +93,47 @@ impl MemberIndex {
     }
 }
 
+/// Adds a key last, and its texts, if they are not there. An error may leave texts.
+fn add_spelled(
+    texts: &mut TextIndex,
+    places: &mut FirstPlaces,
+    key: MemberKey<'_>,
+) -> Result<(), IndexError>
+    requires { All (HasTexts texts.old) places.old }
+    ensures texts { OnOk result (texts.new ≡ with_texts texts.old (key.entry.signature.name.now ∷ key.entry.signature.descriptor.now ∷ [])) }
+    ensures places { OnOk result (IsSpelledLast texts.new places.old places.new (key_of key.entry)) }
+    ensures extends { Extends texts.old texts.new }
+    ensures err { OnErr result (places.new ≡ places.old) }
+    ensures too_many { result ≡ Err TooMany → AreTooMany places.old
+        ⊎ AreTooMany (with_texts texts.old (key.entry.signature.name.now ∷ key.entry.signature.descriptor.now ∷ [])) }
+{
+    let name = texts.intern(key.signature.name)?;
+    let descriptor = texts.intern(key.signature.descriptor)?;
+    places.push(NumberedKey {
+        class: key.class,
+        name,
+        descriptor,
+    })
+}
+
 #[cfg(test)]
 mod tests {
     use super::*;
+    use jvm_model::ClassNo;
+    use jvm_model::lookup::Signature;
     use std::test::Fail;
 
     fn key<'a>(class: u32, name: &'a [u8]) -> MemberKey<'a> {
         MemberKey {
-            class,
-            name,
-            descriptor: b"()V",
+            class: ClassNo(class),
+            signature: Signature {
+                name,
+                descriptor: b"()V",
+            },
         }
     }
 
-    fn of_two_classes(alloc: Global) -> Result<MemberIndex, AllocError> {
+    fn of_two_classes(alloc: Global) -> Result<MemberIndex, IndexError> {
         let mut index = MemberIndex::new(alloc);
         index.push(key(0, b"run"))?;
         index.push(key(1, b"run"))?;

@@ -1,11 +1,14 @@
 //! Texts by number. A text is found by its bytes, and its number is its place in the order of insertion.
 
-ghost use Rattle.std.specs.Prelude.{◌≡◌, ℕ, ◌+◌, ◌<◌, ◌^◌, ◌↔◌, [], length, Some, slice_get, option_copied, IsTrue, IfOk, IfSome, IfNone, OnOk, OnErr};
+ghost use Rattle.std.specs.Prelude.{◌≡◌, ℕ, ◌+◌, ◌<◌, ◌≤◌, ◌^◌, ◌↔◌, [], length, take, Err, Some, slice_get, option_copied, IsErr, IsTrue, IfErr, IfOk, IfSome, IfNone, OnOk, OnErr};
+ghost use Rattle.class_index.specs.declared.index_error.IndexError.TheVariants.{TooMany};
+ghost use Rattle.class_index.specs.Limits.{AreTooMany};
 ghost use Rattle.class_index.specs.TextNumbers.{AreDistinct, with_text, Extends};
 ghost use Rattle.class_index.specs.FirstPlaces.{StandsNowhere};
 
+use crate::index_error::IndexError;
 use indexmap::IndexSet;
-use std::alloc::{AllocError, Global};
+use std::alloc::Global;
 use std::marker::Model;
 
 /// Texts, each of which has a number. Contracts see the list of the texts, in the order of their first insertion.
@@ -55,12 +58,13 @@ impl TextIndex {
 
     /// The number of a text, which goes last if it is not there yet. Its bytes are copied then.
     ///
-    /// The error is want of memory, or of numbers: there are at most 2^32 - 1 texts.
-    pub fn intern(&mut self, text: &[u8]) -> Result<u32, AllocError>
+    /// The error is `TooMany` where the text is new and there are 2^32 - 1 texts; and else it is `Memory`.
+    pub fn intern(&mut self, text: &[u8]) -> Result<u32, IndexError>
         ensures stands { IfOk result (λ number. slice_get self.new number ≡ Some text.now) }
         ensures ok { OnOk result (self.new ≡ with_text self.old text.now) }
         ensures extends { Extends self.old self.new }
         ensures err { OnErr result (self.new ≡ self.old) }
+        ensures too_many { (result ≡ Err TooMany) ↔ (StandsNowhere self.old text.now × AreTooMany self.old) }
     {
         if let Some(number) = self.find(text) {
             return Ok(number);
@@ -81,6 +85,13 @@ impl TextIndex {
         Some(place as u32)
     }
 
+    /// Keeps the first texts, so many of them, and takes the others out.
+    pub fn truncate(&mut self, len: usize)
+        ensures { self.new ≡ take len self.old }
+    {
+        self.texts.truncate(len);
+    }
+
     /// The text of a number.
     pub fn text(&self, number: u32) -> Option<&[u8]>
         ensures { option_copied result ≡ slice_get self.now number }
@@ -90,16 +101,17 @@ impl TextIndex {
     }
 }
 
-/// The number of the next item after so many, if there is one below 2^32 - 1: an item without a number is as much as one
-/// without memory.
-pub fn next_number(count: usize) -> Result<u32, AllocError>
+/// The number of the next item after so many. The error is `TooMany`, and comes exactly where there are 2^32 - 1 or more.
+pub fn next_number(count: usize) -> Result<u32, IndexError>
     ensures number { IfOk result (λ number. number ≡ count) }
     ensures room { IfOk result (λ number. number + 1 < 2 ^ 32) }
+    ensures err { IsErr result ↔ (2 ^ 32 ≤ count + 1) }
+    ensures too_many { IfErr result (λ e. e ≡ TooMany) }
 {
     if count < u32::MAX as usize {
         Ok(count as u32)
     } else {
-        Err(AllocError)
+        Err(IndexError::TooMany)
     }
 }
 

@@ -1,5 +1,4 @@
 pub mod Loop
-pub mod Fields
 pub mod Entries
 pub mod Classes
 pub mod OneSpelling

@@ -28,7 +28,10 @@ fn magic(input: &mut Input) -> Result<u32, ReadRefusal>
     let start = input.offset();
     let magic = input.u4()?;
     if magic != MAGIC {
-        return Err(ReadRefusal::Refused { offset: start, reason: Reason::BadMagic });
+        return Err(ReadRefusal::Refused {
+            offset: start,
+            reason: Reason::BadMagic,
+        });
     }
     Ok(magic)
 }
@@ -41,7 +44,10 @@ fn major(input: &mut Input) -> Result<u16, ReadRefusal>
     let start = input.offset();
     let major = input.u2()?;
     if major < OLDEST_MAJOR || major > NEWEST_MAJOR {
-        return Err(ReadRefusal::Refused { offset: start, reason: Reason::BadVersion });
+        return Err(ReadRefusal::Refused {
+            offset: start,
+            reason: Reason::BadVersion,
+        });
     }
     Ok(major)
 }
@@ -82,12 +88,18 @@ fn whole(alloc: Global, bytes: &[u8]) -> Result<ClassFile, ReadRefusal>
     ensures { Tells result (class_of bytes.now) }
 {
     if bytes.len() > CLASS_FILE_LIMIT as usize {
-        return Err(ReadRefusal::Refused { offset: CLASS_FILE_LIMIT, reason: Reason::ClassTooLarge });
+        return Err(ReadRefusal::Refused {
+            offset: CLASS_FILE_LIMIT,
+            reason: Reason::ClassTooLarge,
+        });
     }
     let mut input = Input::new(bytes);
     let class = class(&mut input, alloc)?;
     if !input.is_empty() {
-        return Err(ReadRefusal::Refused { offset: input.offset(), reason: Reason::TrailingBytes });
+        return Err(ReadRefusal::Refused {
+            offset: input.offset(),
+            reason: Reason::TrailingBytes,
+        });
     }
     Ok(class)
 }

@@ -78,7 +78,10 @@ fn contents(input: &mut Input, alloc: Global, tag: u8) -> Result<PoolEntry, Read
             let (bootstrap, member) = pair(input)?;
             Ok(PoolEntry::InvokeDynamic { bootstrap, member })
         }
-        _ => Err(ReadRefusal::Refused { offset: input.offset(), reason: Reason::BadTag }),
+        _ => Err(ReadRefusal::Refused {
+            offset: input.offset(),
+            reason: Reason::BadTag,
+        }),
     }
 }
 
@@ -99,7 +102,10 @@ fn entry(input: &mut Input, alloc: Global) -> Result<PoolEntry, ReadRefusal>
     let start = input.offset();
     match tagged(input, alloc) {
         Ok(entry) => Ok(entry),
-        Err(ReadRefusal::Refused { reason, .. }) => Err(ReadRefusal::Refused { offset: start, reason }),
+        Err(ReadRefusal::Refused { reason, .. }) => Err(ReadRefusal::Refused {
+            offset: start,
+            reason,
+        }),
         Err(ReadRefusal::Memory) => Err(ReadRefusal::Memory),
     }
 }
@@ -143,7 +149,10 @@ fn indices(input: &mut Input, alloc: Global, count: u16) -> Result<Sequence<Pool
     }
     match wide {
         None => Ok(Sequence::from_vec(entries)),
-        Some(tag) => Err(ReadRefusal::Refused { offset: tag, reason: Reason::BadIndex }),
+        Some(tag) => Err(ReadRefusal::Refused {
+            offset: tag,
+            reason: Reason::BadIndex,
+        }),
     }
 }
 
@@ -155,7 +164,10 @@ pub(crate) fn pool(input: &mut Input, alloc: Global) -> Result<Sequence<PoolEntr
     let start = input.offset();
     let count = input.u2()?;
     if count == 0 {
-        return Err(ReadRefusal::Refused { offset: start, reason: Reason::BadIndex });
+        return Err(ReadRefusal::Refused {
+            offset: start,
+            reason: Reason::BadIndex,
+        });
     }
     indices(input, alloc, count - 1)
 }

@@ -16,7 +16,8 @@ use Rattle.jvm_model.specs.Spelling.{attribute, member}
 use Rattle.jvm_model.proofs.CodePlaces.{place_is}
 use Rattle.jvm_model.proofs.SoundUses.{member_leads}
 use Rattle.byte_reader.specs.Reading.{Place, Fault}
-use Rattle.code_reader.specs.CodeReading.{Head, head_at, tail_at, code_fault, kind_units, receiver_units, by_kinds, TakesLocals, BeginsWith, ReadsBody, cut_before, wrong_code, wrong_after, reads, ReadsCode}
+use Rattle.code_reader.specs.CodeReading.{Head, head_at, tail_at, code_fault, receiver_units, by_kinds, TakesLocals, BeginsWith, ReadsBody, cut_before, wrong_code, wrong_after, reads, ReadsCode}
+use Rattle.jvm_model.specs.DescriptorValues.{kind_units}
 use Rattle.code_reader.specs.Division.{Spot, instruction_in, Divides, at_end, stops, goes_on}
 use Rattle.code_reader.proofs.Sizes.{inside}
 use Rattle.code_reader.proofs.SoundMethods.{text_there, is_method_descriptor, method_of}
@@ -100,7 +101,7 @@ locals_taken c m sound there =
     let name = text_there c.pool m.name leads.0 in
     let descriptor = text_there c.pool m.descriptor leads.1 in
     let method = method_of descriptor.0 (is_method_descriptor c m descriptor.0 sound there descriptor.1) in (
-      receiver_units m name.0 descriptor.0 + sum_by kind_units method.0,
+      receiver_units m (record { name = name.0; descriptor = descriptor.0 }) + sum_by kind_units method.0,
       record {
         name = name.0;
         descriptor = descriptor.0;

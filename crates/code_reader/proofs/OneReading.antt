@@ -19,7 +19,8 @@ use Rattle.jvm_model.specs.Spelling.{attribute}
 use Rattle.jvm_model.proofs.MethodKinds.{one_value}
 use Rattle.byte_reader.specs.Reading.{Place, Fault}
 use Rattle.byte_reader.proofs.Fields.{one_ok, one_err, not_both}
-use Rattle.code_reader.specs.CodeReading.{in_code, placed, TakesUnits, by_kinds, no_method, kind_units, receiver_units, TakesLocals, Head, head_at, tail_at, code_fault, ReadsBody, cut_before, wrong_code, wrong_after, reads, ReadsCode}
+use Rattle.code_reader.specs.CodeReading.{in_code, placed, TakesUnits, by_kinds, no_method, receiver_units, TakesLocals, Head, head_at, tail_at, code_fault, ReadsBody, cut_before, wrong_code, wrong_after, reads, ReadsCode}
+use Rattle.jvm_model.specs.DescriptorValues.{kind_units}
 use Rattle.code_reader.specs.Division.{Spot, instruction_in, Divides, at_end, stops, goes_on}
 use Rattle.code_reader.proofs.ToldCodes.{one_front, one_first}
 
@@ -117,8 +118,8 @@ one_locals pool m a b x y =
     let name : x.name ≡ y.name = same_Some _ _ (sym x.named ∙ y.named) in
     let descriptor : x.descriptor ≡ y.descriptor = same_Some _ _ (sym x.described ∙ y.described) in
     let count : x.parameters ≡ y.parameters = one_count y.descriptor x.parameters y.parameters (subst (λ (t : List ℕ). TakesUnits t x.parameters) descriptor x.taken) y.taken in
-    let receiver : receiver_units m x.name x.descriptor ≡ receiver_units m y.name y.descriptor =
-    ap (λ (t : List ℕ). receiver_units m t x.descriptor) name ∙ ap (λ (t : List ℕ). receiver_units m y.name t) descriptor in
+    let receiver : receiver_units m (record { name = x.name; descriptor = x.descriptor }) ≡ receiver_units m (record { name = y.name; descriptor = y.descriptor }) =
+    ap (λ (t : List ℕ). receiver_units m (record { name = t; descriptor = x.descriptor })) name ∙ ap (λ (t : List ℕ). receiver_units m (record { name = y.name; descriptor = t })) descriptor in
     omega (arith, x.units_are, y.units_are, count, receiver)
 
 -- ---- the method

@@ -9,7 +9,8 @@ use Rattle.jvm_model.specs.declared.descriptor.Kind.TheVariants.{Prim, Class, Ar
 use Rattle.jvm_model.specs.Descriptors.{units_of, IsFieldDescriptor, IsMethodDescriptor}
 use Rattle.jvm_model.specs.DescriptorValues.{IsKind, IsMethodOf, IsDescriptorOf}
 use Rattle.jvm_model.proofs.MethodKinds.{method_in_grammar, one_value}
-use Rattle.code_reader.specs.CodeReading.{kind_units, TakesUnits, by_kinds, no_method}
+use Rattle.code_reader.specs.CodeReading.{TakesUnits, by_kinds, no_method}
+use Rattle.jvm_model.specs.DescriptorValues.{kind_units}
 use Rattle.code_reader.specs.Parameters.{HasUnits, HasFewUnits}
 
 units_of_kind : (text : List ℕ) (k : Kind) → IsKind text k → kind_units k ≡ units_of text

@@ -1,7 +1,6 @@
 -- Reading the code of a method (JVMS 4.7.3): the code, or its first fault.
 use Rattle.std.specs.Prelude.{codes, ◌≡◌, ℕ, ◌+◌, ◌&&◌, ◌||◌, ◌==◌, nat_lt, List, [], ◌∷◌, length, map, sum_by, slice_get, Option, Some, None, Result, Ok, Err, if◌then◌else◌}
 use Rattle.std.specs.Int.{w16, w32}
-use Rattle.std.specs.Str.{bytes_eq}
 use Rattle.jvm_model.specs.declared.access.AccessFlag.TheVariants.{Static}
 use Rattle.jvm_model.specs.declared.class_file.Attribute.{Attribute}
 use Rattle.jvm_model.specs.declared.class_file.ClassFile.{ClassFile}
@@ -11,28 +10,22 @@ use Rattle.jvm_model.specs.declared.code.Handler.{Handler}
 use Rattle.jvm_model.specs.declared.code.Instruction.{Instruction as Given}
 use Rattle.jvm_model.specs.declared.code.PlacedInstruction.{PlacedInstruction}
 use Rattle.jvm_model.specs.declared.descriptor.Kind.{Kind}
-use Rattle.jvm_model.specs.declared.descriptor.Kind.TheVariants.{Prim}
 use Rattle.jvm_model.specs.declared.pool.PoolEntry.{PoolEntry}
 use Rattle.jvm_model.specs.declared.reason.ReadRefusal.{ReadRefusal}
 use Rattle.jvm_model.specs.declared.reason.ReadRefusal.TheVariants as refusals
 use Rattle.jvm_model.specs.declared.reason.Reason.{Reason}
 use Rattle.jvm_model.specs.declared.reason.Reason.TheVariants.{Truncated, CodeCut, BadHandler}
 use Rattle.jvm_model.specs.Access.{has_flag}
-use Rattle.jvm_model.specs.DescriptorValues.{IsMethodOf}
+use Rattle.jvm_model.specs.DescriptorValues.{kind_units, IsMethodOf}
 use Rattle.jvm_model.specs.Instructions.{DecodedInstruction}
 use Rattle.jvm_model.specs.Layout.{HasFirstCode, IsCodePlace}
-use Rattle.jvm_model.specs.Lookups.{text_at}
-use Rattle.jvm_model.specs.Soundness.{plain_descriptor}
+use Rattle.jvm_model.specs.Lookups.{Signature, text_at}
+use Rattle.jvm_model.specs.Programs.{is_class_initialiser}
 use Rattle.byte_reader.specs.Reading.{Place, Fault, ◌>>=◌, fault_at, number_at, bytes_at, table_at}
 use Rattle.byte_reader.specs.Structures.{attribute_at}
 use Rattle.code_reader.specs.Division.{Spot, Divides, fault_of, first_fault, is_handler}
 
 -- ---- the parameters
-
--- The units of a parameter: two for a long or a double (JVMS 4.3.3).
-abbrev pub kind_units : Kind → ℕ
-kind_units (Prim wide) = if wide then 2 else 1
-kind_units _ = 1
 
 -- The parameters of a method descriptor take so many units; what is none takes none.
 pub data TakesUnits (text : List ℕ) (units : ℕ) : Type 0 where
@@ -40,8 +33,8 @@ pub data TakesUnits (text : List ℕ) (units : ℕ) : Type 0 where
   no_method : ((kinds : List Kind) (outcome : Option Kind) → IsMethodOf text kinds outcome → ⊥) → units ≡ 0 → TakesUnits text units
 
 -- The receiver takes one unit: in each method that is not static, but for a class's initialiser (JVMS 2.9, 4.6).
-abbrev pub receiver_units : Member → List ℕ → List ℕ → ℕ
-receiver_units m name descriptor = if has_flag m.flags Static || (bytes_eq name (codes "<clinit>") && bytes_eq descriptor plain_descriptor) then 0 else 1
+abbrev pub receiver_units : Member → Signature → ℕ
+receiver_units m s = if has_flag m.flags Static || is_class_initialiser s then 0 else 1
 
 -- The receiver and the parameters of a method take so many local variables.
 pub record TakesLocals (pool : List PoolEntry) (m : Member) (units : ℕ) : Type 0 where
@@ -51,7 +44,7 @@ pub record TakesLocals (pool : List PoolEntry) (m : Member) (units : ℕ) : Type
   pub described : text_at pool m.descriptor ≡ Some descriptor
   pub parameters : ℕ
   pub taken : TakesUnits descriptor parameters
-  pub units_are : units ≡ receiver_units m name descriptor + parameters
+  pub units_are : units ≡ receiver_units m (record { name = name; descriptor = descriptor }) + parameters
 
 -- ---- the parts of the body
 

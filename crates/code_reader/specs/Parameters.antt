@@ -2,7 +2,7 @@
 use Rattle.std.specs.Prelude.{◌≡◌, ℕ, ◌≤◌, Option, Some, None, sum_by}
 use Rattle.jvm_model.specs.declared.descriptor.Descriptor.{Descriptor}
 use Rattle.jvm_model.specs.declared.descriptor.Descriptor.TheVariants.{Field, Method}
-use Rattle.code_reader.specs.CodeReading.{kind_units}
+use Rattle.jvm_model.specs.DescriptorValues.{kind_units}
 
 -- The parameters of a method take so many; without a method there are none.
 abbrev pub HasUnits : Option Descriptor → ℕ → Type 0

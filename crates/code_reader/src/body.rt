@@ -35,7 +35,10 @@ fn code_length(input: &mut Input) -> Result<u32, ReadRefusal>
     let offset = input.offset();
     let long = input.u4()?;
     if long == 0 || 65_535 < long {
-        return Err(ReadRefusal::Refused { offset, reason: Reason::CodeCut });
+        return Err(ReadRefusal::Refused {
+            offset,
+            reason: Reason::CodeCut,
+        });
     }
     Ok(long)
 }
@@ -76,7 +79,10 @@ fn tail(
     let handlers = handlers(input, alloc, pool, long, division)?;
     let _attributes: Sequence<Attribute> = table(input, alloc)?;
     if !input.is_empty() {
-        return Err(ReadRefusal::Refused { offset: input.offset(), reason: Reason::CodeCut });
+        return Err(ReadRefusal::Refused {
+            offset: input.offset(),
+            reason: Reason::CodeCut,
+        });
     }
     Ok(handlers)
 }
@@ -86,8 +92,14 @@ fn in_code(refusal: ReadRefusal) -> ReadRefusal
     ensures { IsInCode refusal result }
 {
     match refusal {
-        ReadRefusal::Refused { offset, reason: Reason::Truncated } => {
-            ReadRefusal::Refused { offset, reason: Reason::CodeCut }
+        ReadRefusal::Refused {
+            offset,
+            reason: Reason::Truncated,
+        } => {
+            ReadRefusal::Refused {
+                offset,
+                reason: Reason::CodeCut,
+            }
         }
         other => other,
     }
@@ -165,7 +177,10 @@ pub(crate) fn read_body(
         parameters,
     };
     match first_fault(pool, locals, &division) {
-        Some((offset, reason)) => return Err(ReadRefusal::Refused { offset: head.at + offset, reason }),
+        Some((offset, reason)) => return Err(ReadRefusal::Refused {
+            offset: head.at + offset,
+            reason,
+        }),
         None => {}
     }
     let handlers = match tail(&mut input, alloc, pool, head.bytes.len() as u32, &division) {

@@ -5,8 +5,6 @@ ghost use Rattle.std.specs.Prelude.{◌≡◌, option_map, Some};
 ghost use Rattle.std.specs.List.{list_all, list_any};
 ghost use Rattle.jvm_model.specs.InstructionUses.{names_local, local_units, locals_fit, is_subroutine, pool_target, target_kinds, has_shape, leads_there, leads_right};
 ghost use Rattle.jvm_model.specs.RowViews.{row_view, operands_view, target_view, flow_view};
-ghost use Rattle.jvm_model.specs.Soundness.{is_of_kind, leads_to};
-ghost use Rattle.jvm_model.specs.declared.pool.EntryKind.{EntryKind};
 ghost use Rattle.code_reader.specs.Division.{is_target, has_locals, fault_of, first_fault};
 ghost use Rattle.code_reader.specs.Divided.{KnowsStarts};
 
@@ -14,7 +12,7 @@ use crate::decode::Decoded;
 use crate::division::Division;
 use crate::spot::Spot;
 use jvm_model::grammar::is_array;
-use jvm_model::lookup::{class_name_at, entry_at};
+use jvm_model::lookup::{class_name_at, leads_to};
 use jvm_model::opcode::{Flow, Operands, PoolTarget, Row};
 use jvm_model::{EntryKind, PoolEntry, Reason};
 
@@ -156,23 +154,6 @@ fn leads_there(pool: &[PoolEntry], index: u16, target: PoolTarget) -> bool
         Some(name) => has_shape(name, target),
         None => true,
     }
-}
-
-/// Whether an index leads to an entry of one of these kinds.
-pub(crate) fn leads_to(pool: &[PoolEntry], allowed: &[EntryKind], index: u16) -> bool
-    ensures { result ≡ leads_to pool.now allowed.now index }
-{
-    match entry_at(pool, index) {
-        Some(entry) => is_of_any(entry, allowed),
-        None => false,
-    }
-}
-
-/// Whether an entry is of one of these kinds.
-fn is_of_any(entry: &PoolEntry, allowed: &[EntryKind]) -> bool
-    ensures { result ≡ list_any (λ (k : EntryKind). is_of_kind k entry.now) allowed.now }
-{
-    allowed.iter().any(|kind| kind.is_of(entry))
 }
 
 /// The kinds of entries that an index of an instruction may lead to.

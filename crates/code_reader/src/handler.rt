@@ -7,8 +7,8 @@ ghost use Rattle.code_reader.specs.Divided.{KnowsStarts};
 ghost use Rattle.code_reader.specs.Division.{is_handler};
 
 use crate::division::Division;
-use crate::fault::leads_to;
 use byte_reader::Input;
+use jvm_model::lookup::leads_to;
 use jvm_model::{EntryKind, Handler, PoolEntry, ReadRefusal, Reason, Sequence};
 use std::alloc::Global;
 
@@ -47,7 +47,10 @@ fn next_handler(
         catch_type,
     };
     if !is_handler(pool, long, division, handler) {
-        return Err(ReadRefusal::Refused { offset, reason: Reason::BadHandler });
+        return Err(ReadRefusal::Refused {
+            offset,
+            reason: Reason::BadHandler,
+        });
     }
     Ok(handler)
 }

@@ -1,18 +1,20 @@
 //! The code of a method of a class file, as the layers above see it.
 
-ghost use Rattle.std.specs.Prelude.{◌≡◌, ◌<◌, ◌≤◌, ◌^◌, length, sum_by, IfOk, Contains};
+ghost use Rattle.std.specs.Prelude.{◌≡◌, ◌<◌, ◌≤◌, ◌^◌, length, IfOk, Contains};
 ghost use Rattle.jvm_model.specs.Layout.{HasCodeAttribute};
+ghost use Rattle.jvm_model.specs.Lookups.{lent_signature};
 ghost use Rattle.jvm_model.specs.Soundness.{IsSoundClass};
 ghost use Rattle.jvm_model.specs.Spelling.{spell};
-ghost use Rattle.code_reader.specs.CodeReading.{kind_units, receiver_units, TakesUnits, TakesLocals, TellsCode};
+ghost use Rattle.code_reader.specs.CodeReading.{receiver_units, TakesUnits, TakesLocals, TellsCode};
 ghost use Rattle.code_reader.specs.Parameters.{HasUnits, HasFewUnits};
 ghost use Rattle.code_reader.specs.Places.{method_offset};
 
 use crate::body::read_body;
 use crate::place::{found_code, method_offset};
+use jvm_model::descriptor::units_of;
 use jvm_model::sound::member_signature;
 use jvm_model::{
-    AccessFlag, ClassFile, Code, Descriptor, Kind, Member, ReadRefusal, descriptor_of,
+    AccessFlag, ClassFile, Code, Descriptor, Member, ReadRefusal, Signature, descriptor_of,
 };
 use std::alloc::{AllocError, Global};
 
@@ -79,16 +81,15 @@ fn locals_taken(alloc: Global, class: &ClassFile, method: &Member) -> Result<u16
 {
     let signature = member_signature(class, method);
     let parameters = units_taken(alloc, signature.descriptor)?;
-    Ok(receiver_units(method, signature.name, signature.descriptor) + parameters)
+    Ok(receiver_units(method, signature) + parameters)
 }
 
 /// How many units the receiver of a method takes: one, but none of a static method and of the initialiser of a class
 /// (JVMS 2.9, 4.6).
-fn receiver_units(method: &Member, name: &[u8], descriptor: &[u8]) -> u16
-    ensures { result ≡ receiver_units method.now name.now descriptor.now }
+fn receiver_units(method: &Member, signature: Signature<'_>) -> u16
+    ensures { result ≡ receiver_units method.now (lent_signature signature.entry) }
 {
-    let initialises_class = name == b"<clinit>".as_slice() && descriptor == b"()V".as_slice();
-    if AccessFlag::Static.is_set_in(method.flags) || initialises_class {
+    if AccessFlag::Static.is_set_in(method.flags) || signature.is_class_initialiser() {
         return 0;
     }
     1
@@ -110,29 +111,12 @@ fn units_spelled(spelled: &Option<Descriptor>) -> u16
     ensures most { result ≤ 255 }
 {
     match spelled {
-        Some(Descriptor::Method { parameters: kinds, .. }) => units_of(kinds.as_slice()),
+        Some(
+            Descriptor::Method {
+                parameters: kinds,
+                ..
+            },
+        ) => units_of(kinds.as_slice()),
         _ => 0,
-    }
-}
-
-/// How many units parameters of these kinds take.
-fn units_of(kinds: &[Kind]) -> u16
-    requires { sum_by kind_units kinds.now ≤ 255 }
-    ensures { result ≡ sum_by kind_units kinds.now }
-{
-    let mut units = 0;
-    for kind in kinds {
-        units += kind_units(kind);
-    }
-    units
-}
-
-/// How many units a parameter of a kind takes: two for a long or a double (JVMS 4.3.3).
-fn kind_units(kind: &Kind) -> u16
-    ensures { result ≡ kind_units kind.now }
-{
-    match kind {
-        Kind::Prim { wide: true } => 2,
-        _ => 1,
     }
 }

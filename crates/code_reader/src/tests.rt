@@ -42,13 +42,31 @@ fn pool(alloc: Global) -> Result<Vec<PoolEntry>, AllocError> {
         PoolEntry::Taken,
         PoolEntry::Double(7),
         PoolEntry::Taken,
-        PoolEntry::Fieldref { class: 2, member: 15 },
-        PoolEntry::Methodref { class: 2, member: 15 },
-        PoolEntry::InterfaceMethodref { class: 2, member: 15 },
-        PoolEntry::NameAndType { name: 1, descriptor: 1 },
-        PoolEntry::MethodHandle { kind: 1, reference: 12 },
+        PoolEntry::Fieldref {
+            class: 2,
+            member: 15
+        },
+        PoolEntry::Methodref {
+            class: 2,
+            member: 15
+        },
+        PoolEntry::InterfaceMethodref {
+            class: 2,
+            member: 15
+        },
+        PoolEntry::NameAndType {
+            name: 1,
+            descriptor: 1
+        },
+        PoolEntry::MethodHandle {
+            kind: 1,
+            reference: 12
+        },
         PoolEntry::MethodType(1),
-        PoolEntry::InvokeDynamic { bootstrap: 0, member: 15 },
+        PoolEntry::InvokeDynamic {
+            bootstrap: 0,
+            member: 15
+        },
     ]?)
 }
 

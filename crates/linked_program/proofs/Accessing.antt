@@ -5,29 +5,48 @@ use Rattle.std.specs.Option.{option_to_list}
 use Rattle.std.specs.declared.alloc.Global.{Global}
 use Rattle.std.proofs.lemmas.List.{length-map}
 use Rattle.std.proofs.lemmas.List.Elements.{All-contains, Contains-append_left, Contains-append_right}
-use Rattle.std.proofs.lemmas.Option.{same_Some, slice_get_within}
+use Rattle.std.proofs.lemmas.Option.{same_Some, none-some, slice_get_within}
+use Rattle.jvm_model.specs.declared.number.ClassNo.{ClassNo}
 use Rattle.jvm_model.specs.declared.program.Origin.{Origin}
 use Rattle.jvm_model.specs.Linking.{class_from, names, program_from}
 use Rattle.jvm_model.specs.LinkedPrograms.{class_names}
 use Rattle.jvm_model.specs.Programs.{Class, Program}
 use Rattle.jvm_model.specs.Subtypes.{IsSubtype}
 use Rattle.class_index.specs.declared.parents.Parents.{Parents}
-use Rattle.linked_program.specs.declared.program.MemberPlace.{MemberPlace}
+use Rattle.linked_program.specs.declared.program.Program.TheInside.{Inside}
 use Rattle.class_index.specs.AboveLists.{IsListed}
 use Rattle.linked_program.specs.FieldSearches.{IsSearchOrder}
-use Rattle.class_index.specs.MemberKeys.{Key}
 use Rattle.linked_program.specs.Numbering.{name_in, IsParents}
 use Rattle.linked_program.specs.Numbers.{name_at, IsClassNumber, IsNumber}
 use Rattle.class_index.specs.Supertypes.{direct_of, IsAtOrAbove}
-use Rattle.linked_program.specs.Whole.{IsThroughInterface, IsWhole}
+use Rattle.linked_program.specs.Indexes.{IsWhole}
+use Rattle.linked_program.specs.Whole.{IsThroughInterface}
 use Rattle.linked_program.proofs.Bridges.{names_are, zip_length, map_from, map_to, name_at_in, at_number, numbered, to_numbers, to_names, IsNumbered}
 use Rattle.class_index.proofs.Gathering.{listed_in_range}
 use Rattle.class_index.proofs.OrderPlaces.{stands_below, contains_first}
 use Rattle.linked_program.proofs.SearchOrders.{search_order}
 use Rattle.class_index.proofs.Searching.{listed_from_interface, interface_is_listed}
 
-module _ (order : List Origin) (texts : List (List ℕ)) (parents : List Parents) (lists sorted : List (Vec ℕ Global)) (method_keys : List Key) (method_places : List MemberPlace) (field_keys : List Key)
-    (field_places : List MemberPlace) (w : IsWhole order texts parents lists sorted method_keys method_places field_keys field_places) where
+abbrev pub class_no : ℕ → ClassNo
+class_no n = record { 0 = n }
+
+of_class_no : (o : Option ℕ) (n : ClassNo) → option_map class_no o ≡ Some n → o ≡ Some n.0
+of_class_no None n e = absurd (none-some n e)
+of_class_no (Some k) n e = ap (λ (m : ClassNo). Some m.0) (same_Some (class_no k) n e)
+
+module _ (inside : Inside) (w : IsWhole inside) where
+  abbrev order : List Origin
+  order = inside.origins.items
+
+  abbrev texts : List (List ℕ)
+  texts = inside.names.items
+
+  abbrev parents : List Parents
+  parents = inside.parents.items
+
+  abbrev lists : List (Vec ℕ Global)
+  lists = inside.above.items
+
   abbrev p : Program
   p = program_from order
 
@@ -58,19 +77,19 @@ module _ (order : List Origin) (texts : List (List ℕ)) (parents : List Parents
   is_numbered : (k : ℕ) (c : Class) → slice_get p.classes k ≡ Some c → (par : Parents) × IsNumbered order parents differ w.parents_are k c par
   is_numbered k c e = numbered order parents differ w.parents_are k c (at_number order k c e)
 
-  names_of_option : (o : Option ℕ) → option_map (name_at p) o ≡ option_map (name_in (names order)) o
+  names_of_option : (o : Option ℕ) → option_map (λ (n : ClassNo). name_at p n.0) (option_map class_no o) ≡ option_map (name_in (names order)) o
   names_of_option None = refl
   names_of_option (Some k) = ap Some (name_at_in order k)
 
-  pub super_number : (k : ℕ) (c : Class) (par : Parents) → IsClassNumber p k → slice_get p.classes k ≡ Some c → slice_get parents k ≡ Some par → IsNumber p c.super_class par.super_class
+  pub super_number : (k : ℕ) (c : Class) (par : Parents) → IsClassNumber p k → slice_get p.classes k ≡ Some c → slice_get parents k ≡ Some par → IsNumber p c.super_class (option_map class_no par.super_class)
   super_number k c par h e f =
       let is = is_numbered k c e in
       let same : is.0 ≡ par = same_Some is.0 par (sym is.1.stands ∙ f) in
       let are : IsParents (names order) c par = subst (IsParents (names order) c) same is.1.are_supers in
       record {
         below = λ n g.
-            let among : Contains (direct_of par) n = in_supers par n g in
-            from_names n (All-contains (λ (z : ℕ). z < length (names order)) (direct_of par) n are.below among);
+            let among : Contains (direct_of par) n.0 = in_supers par n.0 (of_class_no par.super_class n g) in
+            from_names n.0 (All-contains (λ (z : ℕ). z < length (names order)) (direct_of par) n.0 are.below among);
         named = names_of_option par.super_class ∙ are.super_class;
       }
     where
@@ -150,9 +169,9 @@ module _ (order : List Origin) (texts : List (List ℕ)) (parents : List Parents
     pub below_lists_in : (k : ℕ) → IsClassNumber q k → k < length lists
     below_lists_in = subst (λ (r : Program). (k : ℕ) → IsClassNumber r k → k < length lists) view below_lists
 
-    pub super_number_in : (k : ℕ) (c : Class) (par : Parents) → IsClassNumber q k → slice_get q.classes k ≡ Some c → slice_get parents k ≡ Some par → IsNumber q c.super_class par.super_class
+    pub super_number_in : (k : ℕ) (c : Class) (par : Parents) → IsClassNumber q k → slice_get q.classes k ≡ Some c → slice_get parents k ≡ Some par → IsNumber q c.super_class (option_map class_no par.super_class)
     super_number_in =
-        subst (λ (r : Program). (k : ℕ) (c : Class) (par : Parents) → IsClassNumber r k → slice_get r.classes k ≡ Some c → slice_get parents k ≡ Some par → IsNumber r c.super_class par.super_class) view super_number
+        subst (λ (r : Program). (k : ℕ) (c : Class) (par : Parents) → IsClassNumber r k → slice_get r.classes k ≡ Some c → slice_get parents k ≡ Some par → IsNumber r c.super_class (option_map class_no par.super_class)) view super_number
 
     pub subtype_in : (l u : ℕ) → IsClassNumber q l → IsClassNumber q u → IsAtOrAbove parents l u ↔ IsSubtype q (name_at q u) (name_at q l)
     subtype_in =

@@ -23,7 +23,7 @@ use Rattle.jvm_model.specs.LinkedPrograms.{class_names, HasSupers, IsProgram}
 use Rattle.jvm_model.specs.Programs.{Class, Program}
 use Rattle.jvm_model.specs.Subtypes.{class_named, IsCyclic}
 use Rattle.linked_program.specs.declared.link_end.LinkEnd.{LinkEnd}
-use Rattle.linked_program.specs.declared.link_end.LinkEnd.TheVariants.{Refused, Memory}
+use Rattle.linked_program.specs.declared.link_end.LinkEnd.TheVariants.{Refused, TooMany, Memory}
 use Rattle.class_index.specs.declared.parents.Parents.{Parents}
 use Rattle.linked_program.specs.Assembling.{Assembles, IsCycleEnd}
 use Rattle.linked_program.specs.ByteOrder.{IsAscending}
@@ -36,7 +36,8 @@ use Rattle.linked_program.proofs.Bridges.{names_are, named_number, cyclic_to_nam
 use Rattle.class_index.proofs.ListPlaces.{at_map, map_at}
 use Rattle.class_index.proofs.OrderPlaces.{place_of, contains_at, stands_below}
 use Rattle.linked_program.proofs.Ordered.{ascending_by_neighbours}
-use Rattle.linked_program.proofs.SoundMembers.{methods_there, fields_there}
+use Rattle.linked_program.proofs.SoundBodies.{names_sound, bodies_sound, entries_sound}
+use Rattle.linked_program.proofs.SoundMembers.{members_differ, methods_there, fields_there}
 
 cmp : List ℕ → List ℕ → Ordering
 cmp = slice_cmp nat_cmp
@@ -146,14 +147,21 @@ module _ (order : List Origin) (parents : List Parents) (differ : AllPairs (λ x
       let here : name_in (names order) place.0 ≡ name = ap (λ (x : Option (List ℕ)). unwrap_or x []) place.1 in
       none.none place.0 (cyclic_to_numbers order parents differ are place.0 (slice_get_within (names order) place.0 name place.1) (subst (IsCyclic p) (sym here) c))
 
-  pub is_program : IsLinkable order → HasNoCycle parents → IsProgram p
-  is_program l none = record {
+  names_differ : AllPairs (λ x y. x ≢ y) (class_names p)
+  names_differ = subst (λ (ns : List (List ℕ)). AllPairs (λ x y. x ≢ y) ns) (sym (names_are order)) differ
+
+  pub is_program : All IsSoundOrigin order → IsLinkable order → HasNoCycle parents → IsProgram p
+  is_program sound l none = record {
     sorted = subst (IsSorted (slice_cmp nat_cmp)) (sym (names_are order)) l.sorted;
-    differ = subst (λ (ns : List (List ℕ)). AllPairs (λ x y. x ≢ y) ns) (sym (names_are order)) l.differ;
+    named = names_sound order sound;
+    differ = names_differ;
     supers = l.supers;
     acyclic = acyclic none;
     methods = methods_there order;
     fields = fields_there order;
+    members = members_differ order sound names_differ;
+    bodies = bodies_sound order sound;
+    entries = entries_sound order sound;
     mentioned = l.mentioned;
     holds = l.holds;
   }
@@ -161,6 +169,7 @@ module _ (order : List Origin) (parents : List Parents) (differ : AllPairs (λ x
   -- the refusal of the least class on a cycle is the first
   pub cycle_told : (k : ℕ) (o : Origin) → slice_get order k ≡ Some o → IsLeastOnCycle parents k → (end : LinkEnd) → IsCycleEnd o end → Assembles order (Err end)
   cycle_told k o e least (Refused refusal) is = first_cycle k o e least refusal is
+  cycle_told k o e least TooMany is = absurd is
   cycle_told k o e least Memory is = tt
 
 pub supers_all : (order : List Origin) → IsLinkable order → All (λ (o : Origin). HasNames (names order) (class_from o)) order

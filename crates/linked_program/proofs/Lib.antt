@@ -3,7 +3,11 @@ pub mod Bridges
 pub mod Accessing
 pub mod Ranking
 pub mod Pieces
+pub mod Declared
+pub mod DeclaredMembers
 pub mod MembersTold
+pub mod MemberUses
 pub mod SoundMembers
+pub mod SoundBodies
 pub mod Assembled
 pub mod SearchOrders

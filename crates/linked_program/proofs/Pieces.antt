@@ -1,13 +1,14 @@
 -- Lists of lists, end to end; and lists that tell of what stands in another, item by item.
-use Rattle.std.proofs.Common.{◌≡◌, inl, inr, ℕ, zero, suc, ◌+◌, ◌-◌, ◌<◌, List, [], ◌∷◌, ◌++◌, length, map, take, Contains, Some, refl, sym, ap, ◌∙◌, subst, arith, length-append}
-use Rattle.std.specs.List.{flat_map, range_with_len, slice_get}
+use Rattle.std.proofs.Common.{◌≡◌, inl, inr, ℕ, zero, suc, ◌+◌, ◌-◌, ◌<◌, List, [], ◌∷◌, ◌++◌, length, map, take, get_or, All, Contains, Some, refl, sym, ap, ◌∙◌, subst, arith, length-append, add-zero}
+use Rattle.std.specs.List.{enumerate_from, flat_map, range_with_len, slice_get}
 use Rattle.std.proofs.lemmas.Bool.{cases_lt}
 use Rattle.std.proofs.lemmas.Grind.{flat_map-append}
 use Rattle.std.proofs.lemmas.List.{append-nil, length-map, take_more, map_more}
 use Rattle.std.proofs.lemmas.List.FromFn.{length-map-range_with_len, get_or-map-range_with_len}
-use Rattle.std.proofs.lemmas.Option.{slice_get_within, slice_get_read, get_or_from_slice_get, same_Some, none-some}
+use Rattle.std.proofs.lemmas.Option.{slice_get_within, slice_get_read, slice_get-get_or, get_or_from_slice_get, same_Some, none-some}
 use Rattle.linked_program.specs.MemberLists.{TellEach}
 use Rattle.class_index.proofs.ListPlaces.{at_map}
+use Rattle.class_index.proofs.OrderPlaces.{all_at}
 
 -- ---- what stands at a place
 
@@ -37,6 +38,16 @@ at_right : {X : Type 0} (xs ys : List X) (n k : ℕ) → n ≡ length xs + k →
 at_right [] ys n k e = let same : n ≡ k = omega arith in ap (slice_get ys) same
 at_right (x ∷ xs) ys zero k e = absurd (omega arith)
 at_right (x ∷ xs) ys (suc n) k e = at_right xs ys n k (omega arith)
+
+-- what stands at a place of a list with its places
+pub enumerated_at : {X : Type 0} (n : ℕ) (xs : List X) (k : ℕ) (p : ℕ × X) → slice_get (enumerate_from n xs) k ≡ Some p → (p.0 ≡ n + k) × (slice_get xs k ≡ Some p.1)
+enumerated_at n [] k p e = absurd (none-some p e)
+enumerated_at {X} n (x ∷ xs) zero p e =
+    let same = same_Some (n, x) p e in
+    (sym (ap (λ (q : ℕ × X). q.0) same) ∙ sym (add-zero n), ap (λ (q : ℕ × X). Some q.1) same)
+enumerated_at n (x ∷ xs) (suc k) p e =
+    let rest = enumerated_at (n + 1) xs k p e in
+    (omega (arith, rest.0), rest.1)
 
 -- ---- the piece in which an item stands
 
@@ -75,6 +86,13 @@ in_piece f (x ∷ xs) n m e = elim (cases_lt n (length (f x))) [
 
 pub one_more_piece : {X M : Type 0} (f : X → List M) (xs : List X) (x : X) → flat_map f (xs ++ x ∷ []) ≡ flat_map f xs ++ f x
 one_more_piece f xs x = flat_map-append f xs (x ∷ []) ∙ ap (λ ms. flat_map f xs ++ ms) (append-nil (f x))
+
+-- what holds of the items of each piece holds of all
+pub each_piece : {X M : Type 0} (P : M → Type 0) (f : X → List M) (xs : List X) → All (λ x. All P (f x)) xs → All P (flat_map f xs)
+each_piece P f xs each = λ k d lt.
+    let all = flat_map f xs in
+    let at = in_piece f xs k (get_or all k d) (slice_get-get_or all k d lt) in
+    all_at P (f at.of) at.place (get_or all k d) (all_at (λ x. All P (f x)) xs at.piece at.of each at.there) at.stands
 
 -- ---- items that tell
 

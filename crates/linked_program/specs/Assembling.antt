@@ -1,17 +1,28 @@
 -- What putting a program together tells.
 use Rattle.std.specs.Prelude.{◌≡◌, List, map, Result, Ok, Err}
+use Rattle.std.specs.List.{flat_map}
 use Rattle.jvm_model.specs.declared.program.Origin.{Origin}
 use Rattle.jvm_model.specs.declared.reason.Reason.TheVariants.{Cycle}
 use Rattle.jvm_model.specs.Linking.{AreMet, IsFirstUnmet, cycle_claim, program_from}
 use Rattle.jvm_model.specs.Programs.{Program}
+use Rattle.class_index.specs.Limits.{AreTooMany}
+use Rattle.linked_program.specs.Declarations.{method_declarations, field_declarations}
 use Rattle.linked_program.specs.LinkEnds.{IsLinkRefusal}
+use Rattle.linked_program.specs.MemberLists.{AreTooManyMembers}
 use Rattle.linked_program.specs.declared.link_end.LinkEnd.{LinkEnd}
-use Rattle.linked_program.specs.declared.link_end.LinkEnd.TheVariants.{Refused, Memory}
+use Rattle.linked_program.specs.declared.link_end.LinkEnd.TheVariants.{Refused, TooMany, Memory}
 
--- The program of the classes, of which none is above itself; or the first one that is.
+-- There are 2^32 - 1 classes or more; or so many methods, or different texts of methods; or so it is of fields.
+pub data IsTooLarge (order : List Origin) : Type 0 where
+  in_classes : AreTooMany order → IsTooLarge order
+  in_methods : AreTooManyMembers (flat_map method_declarations order) → IsTooLarge order
+  in_fields : AreTooManyMembers (flat_map field_declarations order) → IsTooLarge order
+
+-- The program of the classes, of which none is above itself; or the first one that is; or there is too much to number.
 abbrev pub Assembles : List Origin → Result Program LinkEnd → Type 0
 Assembles order (Ok p) = (p ≡ program_from order) × AreMet (program_from order) (map cycle_claim order)
 Assembles order (Err (Refused refusal)) = IsFirstUnmet (program_from order) refusal (map cycle_claim order)
+Assembles order (Err TooMany) = IsTooLarge order
 Assembles order (Err Memory) = Unit {0}
 
 -- The class is told to be above itself.

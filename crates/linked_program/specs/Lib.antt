@@ -2,9 +2,12 @@ pub mod ByteOrder
 pub mod Numbers
 pub mod Numbering
 pub mod Origins
+pub mod Declarations
+pub mod DeclaredClasses
 pub mod MemberLists
 pub mod Ranks
 pub mod Whole
+pub mod Indexes
 pub mod Assembling
 pub mod FieldSearches
 pub mod LinkEnds

@@ -3,11 +3,11 @@
 #![tactic(auto)]
 
 pub mod link_end;
+pub mod member_kind;
+pub mod member_table;
 pub mod member_view;
-pub mod members;
 pub mod numbering;
 pub mod origin;
-pub mod origin_members;
 pub mod program;
 pub mod sorted;
 

@@ -1,18 +1,26 @@
 //! How linking ends without a program.
 
 ghost use Rattle.std.specs.Prelude.{◌≡◌};
-ghost use Rattle.linked_program.specs.LinkEnds.{IsLinkRefusal};
+ghost use Rattle.linked_program.specs.LinkEnds.{IsLinkRefusal, end_of};
 ghost use Rattle.linked_program.specs.declared.link_end.LinkEnd.TheVariants.{Memory};
 
+use class_index::index_error::IndexError;
+use jvm_model::reason::reason_word;
 use jvm_model::{Name, Reason, Refusal};
 use std::alloc::{AllocError, AllocFailed, Global};
+use thiserror::Error;
 
 /// Why a program is not linked.
-#[derive(Debug, Drop)]
+#[derive(Debug, Drop, Error)]
 pub enum LinkEnd {
     /// A demand of linking is not met (JVMS 5.3).
+    #[error("{} is refused at byte {}: {}", .0.file.as_str(), .0.offset, reason_word(.0.reason))]
     Refused(Refusal),
+    /// There are 2^32 - 1 classes, methods, fields or texts, or more.
+    #[error("the classes have too many members to number")]
+    TooMany,
     /// Memory ran out.
+    #[error("out of memory")]
     Memory,
 }
 
@@ -29,6 +37,17 @@ impl<T: Drop> From<AllocFailed<T>> for LinkEnd {
 
     fn from(_error: AllocFailed<T>) -> LinkEnd {
         LinkEnd::Memory
+    }
+}
+
+impl From<IndexError> for LinkEnd {
+    ghost from_gives = { λ e end. end ≡ end_of e };
+
+    fn from(error: IndexError) -> LinkEnd {
+        match error {
+            IndexError::TooMany => LinkEnd::TooMany,
+            IndexError::Memory => LinkEnd::Memory,
+        }
     }
 }
 

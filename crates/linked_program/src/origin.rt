@@ -3,6 +3,7 @@
 ghost use Rattle.std.specs.Prelude.{◌≡◌, ◌<◌, length, option_map, slice_index_or, []};
 ghost use Rattle.jvm_model.specs.Linking.{class_from};
 
+use class_index::texts::class_text;
 use jvm_model::lookup::class_name_at;
 use jvm_model::{AccessFlag, Origin};
 
@@ -12,7 +13,7 @@ pub fn name(origin: &Origin) -> &[u8]
 {
     match origin {
         Origin::Folder { file, .. } => {
-            class_name_at(file.class.pool.as_slice(), file.class.this_class).unwrap_or(b"")
+            class_text(file.class.pool.as_slice(), file.class.this_class)
         }
         Origin::Stub(stub) => stub.name.as_slice(),
     }
@@ -69,7 +70,7 @@ pub fn interface_name(origin: &Origin, place: usize) -> &[u8]
     match origin {
         Origin::Folder { file, .. } => {
             let index = file.class.interfaces.as_slice()[place];
-            class_name_at(file.class.pool.as_slice(), index).unwrap_or(b"")
+            class_text(file.class.pool.as_slice(), index)
         }
         Origin::Stub(stub) => stub.interfaces.as_slice()[place].as_slice(),
     }

@@ -1,41 +1,33 @@
 //! The linked program, and what the searches read of it.
 
-ghost use Rattle.std.specs.Prelude.{◌≡◌, ◌↔◌, ℕ, ◌<◌, length, Some, option_map, slice_get, All, Contains, IsTrue, IfSome, IfNone};
+ghost use Rattle.std.specs.Prelude.{◌≡◌, ◌↔◌, ℕ, ◌<◌, length, Some, slice_get, All, Contains, IsTrue, IfSome, IfNone};
 ghost use Rattle.jvm_model.specs.LinkedPrograms.{IsProgram};
+ghost use Rattle.jvm_model.specs.Lookups.{lent_signature};
 ghost use Rattle.jvm_model.specs.Programs.{Class, Method, Field};
 ghost use Rattle.jvm_model.specs.Resolution.{Declares, DeclaresField, HasSignature};
 ghost use Rattle.jvm_model.specs.Subtypes.{IsSubtype};
 ghost use Rattle.linked_program.specs.FieldSearches.{IsSearchOrder};
-ghost use Rattle.linked_program.specs.Numbers.{name_at, IsClassNumber, IsMethodNumber, AreNumbers, IsNumber};
+ghost use Rattle.linked_program.specs.Numbers.{name_at, IsClassNumber, IsFieldNumber, IsMethodNumber, IsNumber};
 ghost use Rattle.linked_program.specs.Ranks.{IsRanked};
-ghost use Rattle.jvm_model.specs.LinkedPrograms.{MembersDiffer};
 ghost use Rattle.linked_program.specs.Assembling.{Assembles, IsCycleEnd};
 ghost use Rattle.linked_program.specs.Origins.{IsSoundOrigin};
 ghost use Rattle.linked_program.specs.Whole.{IsLinkable, IsThroughInterface, IsMethodView, IsFieldView};
 
 use crate::link_end::{LinkEnd, refused};
+use crate::member_kind::{Fields, Methods};
+use crate::member_table::MemberTable;
 use crate::member_view::MemberView;
-use crate::members::{
-    field_view, first_field, first_method, index_fields, index_methods, method_view,
-};
 use crate::numbering::{names_of, parents_of_all};
 use crate::origin::{is_folder, is_interface};
 use crate::sorted::find_in_order;
 use class_index::above::{above_lists, is_at_or_above, sorted_lists};
-use class_index::member_index::MemberIndex;
 use class_index::order::upward_order;
 use class_index::parents::Parents;
-use jvm_model::layout::flags_offset;
-use jvm_model::{Bytes, Origin, Reason};
+use jvm_model::layout::this_class_offset;
+use jvm_model::lookup::Signature;
+use jvm_model::{Bytes, ClassNo, FieldNo, MethodNo, Origin, Reason};
 use std::alloc::Global;
 use std::marker::Model;
-
-/// Where a member stands: the number of its class, and its place among the members of the class.
-#[derive(Clone, Copy, Debug)]
-pub struct MemberPlace {
-    pub class: u32,
-    pub place: u32,
-}
 
 /// A program in which each name has its class.
 #[derive(Drop)]
@@ -45,27 +37,27 @@ pub struct Program {
     parents: Vec<Parents>,
     above: Vec<Vec<u32>>,
     sorted: Vec<Vec<u32>>,
-    methods: MemberIndex,
-    method_places: Vec<MemberPlace>,
-    fields: MemberIndex,
-    field_places: Vec<MemberPlace>,
+    methods: MemberTable,
+    fields: MemberTable,
 }
 
 impl Model for Program {
     ghost use Rattle.jvm_model.specs.Programs.{Program as LinkedProgram};
     ghost use Rattle.jvm_model.specs.Linking.{program_from};
-    ghost use Rattle.linked_program.specs.Whole.{IsWhole};
 
     ghost Value = { LinkedProgram };
 
     ghost view = { λ p. program_from p.origins.items };
 
-    ghost invariant = { λ p. IsWhole p.origins.items p.names.items p.parents.items p.above.items p.sorted.items p.methods p.method_places.items p.fields p.field_places.items };
+    ghost use Rattle.linked_program.specs.Indexes.{IsWhole};
+
+    ghost invariant = { IsWhole };
 }
 
 impl Program {
-    /// The program of classes in byte order of their names; or `Cycle` at the first of them that is above itself (JVMS 5.3.5). Want of
-    /// a number for a class is want of memory.
+    /// The program of classes in byte order of their names; or `Cycle` at the first of them that is above itself (JVMS 5.3.5).
+    ///
+    /// The error is `TooMany` where there are 2^32 - 1 classes, methods, fields or texts of them, or more.
     pub fn assemble(alloc: Global, order: Vec<Origin>) -> Result<Program, LinkEnd>
         requires sound { All IsSoundOrigin order.items }
         requires linkable { IsLinkable order.items }
@@ -73,7 +65,7 @@ impl Program {
     {
         let names = names_of(alloc, &order)?;
         if names.len() >= u32::MAX as usize {
-            return Err(LinkEnd::Memory);
+            return Err(LinkEnd::TooMany);
         }
         let parents = parents_of_all(alloc, &names, &order)?;
         let upward = match upward_order(alloc, &parents)? {
@@ -82,8 +74,8 @@ impl Program {
         };
         let above = above_lists(alloc, &parents, &upward)?;
         let sorted = sorted_lists(alloc, &above)?;
-        let (methods, method_places) = index_methods(alloc, &order)?;
-        let (fields, field_places) = index_fields(alloc, &order)?;
+        let methods = MemberTable::of::<Methods>(alloc, &order)?;
+        let fields = MemberTable::of::<Fields>(alloc, &order)?;
         Ok(Program {
             origins: order,
             names,
@@ -91,18 +83,15 @@ impl Program {
             above,
             sorted,
             methods,
-            method_places,
             fields,
-            field_places,
         })
     }
 
-    /// What holds of each linked program: no class is above itself, all supertypes are there, and of the right kind. It does
-    /// nothing.
+    /// What holds of each linked program: no class is above itself, all supertypes are there, and of the right kind; members
+    /// differ, and each method has a body that was checked. It does nothing.
     pub fn well_formed(&self)
         ensures program { IsProgram self.now }
         ensures ranked { IsRanked self.now }
-        ensures members { MembersDiffer self.now }
     {
         let _classes = self.origins.len();
     }
@@ -115,98 +104,113 @@ impl Program {
     }
 
     /// The name of the class (JVMS 4.2.1).
-    pub fn class_name(&self, class: u32) -> &[u8]
-        requires { IsClassNumber self.now class }
-        ensures { result.now ≡ name_at self.now class }
+    pub fn class_name(&self, class: ClassNo) -> &[u8]
+        requires { IsClassNumber self.now class.0 }
+        ensures { result.now ≡ name_at self.now class.0 }
     {
-        self.names[class as usize].as_slice()
+        self.names[class.0 as usize].as_slice()
     }
 
     /// Whether the class is an interface (JVMS 4.1).
-    pub fn is_interface(&self, class: u32) -> bool
-        requires { IsClassNumber self.now class }
-        ensures { (c : Class) → slice_get self.now.classes class ≡ Some c → result ≡ c.is_interface }
+    pub fn is_interface(&self, class: ClassNo) -> bool
+        requires { IsClassNumber self.now class.0 }
+        ensures { (c : Class) → slice_get self.now.classes class.0 ≡ Some c → result ≡ c.is_interface }
     {
-        is_interface(&self.origins[class as usize])
+        is_interface(&self.origins[class.0 as usize])
     }
 
     /// Whether the class is one of the folder.
-    pub fn is_folder(&self, class: u32) -> bool
-        requires { IsClassNumber self.now class }
-        ensures { (c : Class) → slice_get self.now.classes class ≡ Some c → result ≡ c.is_folder }
+    pub fn is_folder(&self, class: ClassNo) -> bool
+        requires { IsClassNumber self.now class.0 }
+        ensures { (c : Class) → slice_get self.now.classes class.0 ≡ Some c → result ≡ c.is_folder }
     {
-        is_folder(&self.origins[class as usize])
+        is_folder(&self.origins[class.0 as usize])
     }
 
     /// The number of the superclass, if there is one.
-    pub fn super_class(&self, class: u32) -> Option<u32>
-        requires { IsClassNumber self.now class }
-        ensures { (c : Class) → slice_get self.now.classes class ≡ Some c → IsNumber self.now c.super_class result }
+    pub fn super_class(&self, class: ClassNo) -> Option<ClassNo>
+        requires { IsClassNumber self.now class.0 }
+        ensures { (c : Class) → slice_get self.now.classes class.0 ≡ Some c → IsNumber self.now c.super_class result }
     {
-        self.parents[class as usize].super_class
+        match self.parents[class.0 as usize].super_class {
+            Some(number) => Some(ClassNo(number)),
+            None => None,
+        }
     }
 
-    /// All supertypes of the class through one of its own superinterfaces, in the order in which resolution searches them, each
-    /// once (JVMS 5.4.3.2).
-    pub fn through_interfaces(&self, class: u32) -> &[u32]
-        requires { IsClassNumber self.now class }
+    /// The numbers of all supertypes of the class through one of its own superinterfaces, in the order in which resolution
+    /// searches them, each once (JVMS 5.4.3.2).
+    pub fn through_interfaces(&self, class: ClassNo) -> &[u32]
+        requires { IsClassNumber self.now class.0 }
         ensures below { All (IsClassNumber self.now) result.now }
-        ensures exact { (c : Class) → slice_get self.now.classes class ≡ Some c
+        ensures exact { (c : Class) → slice_get self.now.classes class.0 ≡ Some c
             → (n : ℕ) → IsClassNumber self.now n → Contains result.now n ↔ IsThroughInterface self.now c n }
-        ensures order { (c : Class) → slice_get self.now.classes class ≡ Some c → IsSearchOrder self.now c result.now }
+        ensures order { (c : Class) → slice_get self.now.classes class.0 ≡ Some c → IsSearchOrder self.now c result.now }
     {
-        &self.above[class as usize]
+        &self.above[class.0 as usize]
     }
 
     /// The number of the class of a name.
-    pub fn find(&self, name: &[u8]) -> Option<u32>
-        ensures found { IfSome result (λ n. IsClassNumber self.now n × (name_at self.now n ≡ name.now)) }
+    pub fn find(&self, name: &[u8]) -> Option<ClassNo>
+        ensures found { IfSome result (λ c. IsClassNumber self.now c.0 × (name_at self.now c.0 ≡ name.now)) }
         ensures none { IfNone result ((n : ℕ) → IsClassNumber self.now n → name_at self.now n ≡ name.now → ⊥) }
     {
-        find_in_order(&self.names, name)
+        match find_in_order(&self.names, name) {
+            Some(number) => Some(ClassNo(number)),
+            None => None,
+        }
     }
 
     /// Whether the upper class is the lower one or above it (JVMS 4.10.1.2).
-    pub fn is_at_or_above(&self, lower: u32, upper: u32) -> bool
-        requires lower { IsClassNumber self.now lower }
-        requires upper { IsClassNumber self.now upper }
-        ensures { IsTrue result ↔ IsSubtype self.now (name_at self.now upper) (name_at self.now lower) }
+    pub fn is_at_or_above(&self, lower: ClassNo, upper: ClassNo) -> bool
+        requires lower { IsClassNumber self.now lower.0 }
+        requires upper { IsClassNumber self.now upper.0 }
+        ensures { IsTrue result ↔ IsSubtype self.now (name_at self.now upper.0) (name_at self.now lower.0) }
     {
-        is_at_or_above(&self.parents, &self.sorted, lower, upper)
+        is_at_or_above(&self.parents, &self.sorted, lower.0, upper.0)
     }
 
     /// The number of the method of a name and a descriptor that the class declares.
-    pub fn declared_method(&self, class: u32, name: &[u8], descriptor: &[u8]) -> Option<u32>
-        requires { IsClassNumber self.now class }
-        ensures found { IfSome result (λ n. Declares self.now (HasSignature (record { name = name.now; descriptor = descriptor.now })) (name_at self.now class) n) }
-        ensures none { IfNone result ((n : ℕ) → Declares self.now (HasSignature (record { name = name.now; descriptor = descriptor.now })) (name_at self.now class) n → ⊥) }
+    pub fn declared_method(&self, class: ClassNo, signature: Signature<'_>) -> Option<MethodNo>
+        requires { IsClassNumber self.now class.0 }
+        ensures found { IfSome result (λ m. Declares self.now (HasSignature (lent_signature signature.entry)) (name_at self.now class.0) m.0) }
+        ensures none { IfNone result ((n : ℕ) → Declares self.now (HasSignature (lent_signature signature.entry)) (name_at self.now class.0) n → ⊥) }
     {
-        first_method(&self.origins, &self.methods, class, name, descriptor)
+        match self
+            .methods
+            .first::<Methods>(&self.origins, class, signature)
+        {
+            Some(number) => Some(MethodNo(number)),
+            None => None,
+        }
     }
 
     /// The number of the field of a name and a descriptor that the class declares.
-    pub fn declared_field(&self, class: u32, name: &[u8], descriptor: &[u8]) -> Option<u32>
-        requires { IsClassNumber self.now class }
-        ensures found { IfSome result (λ n. DeclaresField self.now (record { name = name.now; descriptor = descriptor.now }) (name_at self.now class) n) }
-        ensures none { IfNone result ((n : ℕ) → DeclaresField self.now (record { name = name.now; descriptor = descriptor.now }) (name_at self.now class) n → ⊥) }
+    pub fn declared_field(&self, class: ClassNo, signature: Signature<'_>) -> Option<FieldNo>
+        requires { IsClassNumber self.now class.0 }
+        ensures found { IfSome result (λ f. DeclaresField self.now (lent_signature signature.entry) (name_at self.now class.0) f.0) }
+        ensures none { IfNone result ((n : ℕ) → DeclaresField self.now (lent_signature signature.entry) (name_at self.now class.0) n → ⊥) }
     {
-        first_field(&self.origins, &self.fields, class, name, descriptor)
+        match self.fields.first::<Fields>(&self.origins, class, signature) {
+            Some(number) => Some(FieldNo(number)),
+            None => None,
+        }
     }
 
     /// A method.
-    pub fn method(&self, number: u32) -> MemberView<'_>
-        requires { IsMethodNumber self.now number }
-        ensures { (m : Method) → slice_get self.now.methods number ≡ Some m → IsMethodView self.now m result }
+    pub fn method(&self, number: MethodNo) -> MemberView<'_>
+        requires { IsMethodNumber self.now number.0 }
+        ensures { (m : Method) → slice_get self.now.methods number.0 ≡ Some m → IsMethodView self.now m result }
     {
-        method_view(&self.origins, &self.method_places, number)
+        self.methods.view::<Methods>(&self.origins, number.0)
     }
 
     /// A field.
-    pub fn field(&self, number: u32) -> MemberView<'_>
-        requires { number < length self.now.fields }
-        ensures { (f : Field) → slice_get self.now.fields number ≡ Some f → IsFieldView self.now f result }
+    pub fn field(&self, number: FieldNo) -> MemberView<'_>
+        requires { IsFieldNumber self.now number.0 }
+        ensures { (f : Field) → slice_get self.now.fields number.0 ≡ Some f → IsFieldView self.now f result }
     {
-        field_view(&self.origins, &self.field_places, number)
+        self.fields.view::<Fields>(&self.origins, number.0)
     }
 }
 
@@ -217,7 +221,7 @@ fn cycle_at(alloc: Global, class: &Origin) -> LinkEnd
 {
     match class {
         Origin::Folder { file, .. } => {
-            let offset = flags_offset(&file.class) + 2;
+            let offset = this_class_offset(&file.class);
             refused(alloc, &file.file, offset, Reason::Cycle)
         }
         Origin::Stub(stub) => refused(alloc, &stub.file, 0, Reason::Cycle),

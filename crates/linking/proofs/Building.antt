@@ -19,22 +19,8 @@ use Rattle.class_index.specs.MemberKeys.{Key}
 use Rattle.linking.specs.Patching.{method_key, patch_for, patches_for, member_key, native_key, native_keys, described_key, is_native_in, with_native}
 use Rattle.linking.proofs.ClaimSteps.{from_item}
 
--- ---- a list that is built from the front of another
+-- ---- a list that is built from the front of another, after a list that was there
 
-module _ {X Y : Type 0} (f : List X → List Y) where
-  pub build_step : (one : X → List Y) → ((x : X) (xs : List X) → f (x ∷ xs) ≡ one x ++ f xs) → (xs : List X) (i : ℕ) (x : X) → i < length xs → x ≡ get_or xs i x
-      → (acc new : List Y) → new ≡ acc ++ one x → acc ++ f (drop i xs) ≡ f xs → new ++ f (drop (i + 1) xs) ≡ f xs
-  build_step one split xs i x lt is acc new more so_far =
-      ap (λ (ys : List Y). ys ++ f (drop (i + 1) xs)) more
-      ∙ append_assoc acc (one x) (f (drop (i + 1) xs))
-      ∙ ap (λ (ys : List Y). acc ++ ys) (sym (split x (drop (i + 1) xs)) ∙ ap f (sym (from_item xs i x lt is)))
-      ∙ so_far
-
-  pub build_end : f [] ≡ [] → (xs : List X) (i : ℕ) → length xs ≤ i → (acc : List Y) → acc ++ f (drop i xs) ≡ f xs → acc ≡ f xs
-  build_end none xs i past acc so_far =
-      sym (append-nil acc) ∙ ap (λ (ys : List Y). acc ++ ys) (sym (ap f (drop_all i xs past) ∙ none)) ∙ so_far
-
--- the same after a list that was there
 module _ {X Y : Type 0} (f : List X → List Y) (whole : List Y) where
   pub build_on : (one : X → List Y) → ((x : X) (xs : List X) → f (x ∷ xs) ≡ one x ++ f xs) → (xs : List X) (i : ℕ) (x : X) → i < length xs → x ≡ get_or xs i x
       → (acc new : List Y) → new ≡ acc ++ one x → acc ++ f (drop i xs) ≡ whole → new ++ f (drop (i + 1) xs) ≡ whole
@@ -64,7 +50,7 @@ natives_split pool m ms = by (has_flag m.flags Native)
 
 -- ---- truth values
 
-and_true : (a b : Bool) → (a && b) ≡ true → (a ≡ true) × (b ≡ true)
+pub and_true : (a b : Bool) → (a && b) ≡ true → (a ≡ true) × (b ≡ true)
 and_true true b e = (refl, e)
 and_true false b e = absurd cc
 
@@ -138,14 +124,6 @@ module _ {X : Type 0} (f : List X → List Description) (first : List Descriptio
   pub with_end : f [] ≡ [] → (xs : List X) (i : ℕ) → length xs ≤ i → (held : List Description) → with_descriptions held (f (drop i xs)) ≡ with_descriptions first (f xs)
       → held ≡ with_descriptions first (f xs)
   with_end none xs i past held so_far = sym (ap (with_descriptions held) (ap f (drop_all i xs past) ∙ none)) ∙ so_far
-
-pub filter_more : {X : Type 0} (p : X → Bool) (xs ys : List X) → filter p (xs ++ ys) ≡ filter p xs ++ filter p ys
-filter_more p [] ys = refl
-filter_more {X} p (x ∷ xs) ys = by (p x) (filter_more p xs ys)
-  where
-    by : (b : Bool) → filter p (xs ++ ys) ≡ filter p xs ++ filter p ys → cond b (x ∷ filter p (xs ++ ys)) (filter p (xs ++ ys)) ≡ cond b (x ∷ filter p xs) (filter p xs) ++ filter p ys
-    by true e = ap (λ (zs : List X). x ∷ zs) e
-    by false e = e
 
 -- one that is added if it passes
 pub native_one : (c : ClassFile) (held : List Description) (d : Description) → with_native c held d ≡ with_descriptions held (filter (is_native_in c) (d ∷ []))

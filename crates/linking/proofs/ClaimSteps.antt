@@ -30,15 +30,34 @@ unmet_back p r (c ∷ xs) ys met h = inr (All-head (IsMet p) c xs met, unmet_bac
 
 pub end_front : (p : Program) (xs ys : List Claim) (e : LinkEnd) → TellsEnd p xs e → TellsEnd p (xs ++ ys) e
 end_front p xs ys (Refused r) h = unmet_front p r xs ys h
-end_front p xs ys Memory h = tt
+end_front p xs ys _ h = h
 
 pub end_back : (p : Program) (xs ys : List Claim) (e : LinkEnd) → AreMet p xs → TellsEnd p ys e → TellsEnd p (xs ++ ys) e
 end_back p xs ys (Refused r) met h = unmet_back p r xs ys met h
-end_back p xs ys Memory met h = tt
+end_back p xs ys _ met h = h
 
 pub tells_back : {X : Type 0} (p : Program) (xs ys : List Claim) (r : Result X LinkEnd) → AreMet p xs → TellsClaims p ys r → TellsClaims p (xs ++ ys) r
 tells_back p xs ys (Ok x) met h = All-append (IsMet p) xs ys met h
 tells_back p xs ys (Err e) met h = end_back p xs ys e met h
+
+-- ---- claims that are met
+
+pub met_append : (p : Program) (xs ys : List Claim) → AreMet p xs → AreMet p ys → AreMet p (xs ++ ys)
+met_append p xs ys met also = All-append (IsMet p) xs ys met also
+
+pub met_first : (p : Program) (c : Claim) (others : List Claim) → AreMet p (c ∷ others) → Meets p c.demand
+met_first p c others met = All-head (IsMet p) c others met
+
+pub met_rest : (p : Program) (c : Claim) (others : List Claim) → AreMet p (c ∷ others) → AreMet p others
+met_rest p c others met = All-tail (IsMet p) c others met
+
+pub met_front : (p : Program) (xs ys : List Claim) → AreMet p (xs ++ ys) → AreMet p xs
+met_front p [] ys met = All-nil (IsMet p)
+met_front p (c ∷ xs) ys met = All-cons (IsMet p) c xs (met_first p c (xs ++ ys) met) (met_front p xs ys (met_rest p c (xs ++ ys) met))
+
+pub met_back : (p : Program) (xs ys : List Claim) → AreMet p (xs ++ ys) → AreMet p ys
+met_back p [] ys met = met
+met_back p (c ∷ xs) ys met = met_back p xs ys (met_rest p c (xs ++ ys) met)
 
 -- ---- one claim
 
@@ -47,7 +66,7 @@ one_met p c h = All-cons (IsMet p) c [] h (All-nil (IsMet p))
 
 pub one_unmet : (p : Program) (c : Claim) (e : LinkEnd) → (Meets p c.demand → ⊥) → IsLinkRefusal c.file c.offset (reason_of c.demand) e → TellsEnd p (c ∷ []) e
 one_unmet p c (Refused r) h is = inl (h, is)
-one_unmet p c Memory h is = tt
+one_unmet p c _ h is = is
 
 -- ---- a walk: what is left of the claims, where all before are met
 
@@ -138,11 +157,7 @@ module _ (p : Program) (rule : SuperRule) (file : List ℕ) (pool : List PoolEnt
       (ap (λ (ys : List ℕ). map (super_claim rule) (interface_places file pool offset ys)) (drop_more xs i 0 lt)
       ∙ ap (λ (text : List ℕ). named text ++ after) (sym is)) left
 
--- claims that are met, one list after the other
-pub met_append : (p : Program) (xs ys : List Claim) → AreMet p xs → AreMet p ys → AreMet p (xs ++ ys)
-met_append p xs ys met also = All-append (IsMet p) xs ys met also
-
--- a claim that is met, where only want of memory is told
+-- a claim that is met, where only that memory ran out is told
 pub met_or_memory : {X : Type 0} (p : Program) (c : Claim) (r : Result X LinkEnd) → Meets p c.demand → IfErr r (λ e. e ≡ Memory) → TellsClaims p (c ∷ []) r
 met_or_memory p c (Ok x) h is = one_met p c h
 met_or_memory p c (Err e) h is = subst (TellsEnd p (c ∷ [])) (sym is) tt

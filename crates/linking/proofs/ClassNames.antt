@@ -1,54 +1,39 @@
 -- Names of classes that differ, told one after the other.
-use Rattle.std.proofs.Common.{◌≡◌, ℕ, zero, suc, ◌+◌, ◌<◌, Bool, true, false, cond, not, ◌||◌, List, [], ◌∷◌, ◌++◌, length, map, get_or, drop, Result, Ok, Err, Contains, Some, refl, sym, ◌∙◌, ap, subst, arith, inl, inr, ◌⊎◌}
-use Rattle.std.specs.List.{slice_get, list_any}
+use Rattle.std.proofs.Common.{◌≡◌, ℕ, suc, ◌+◌, ◌<◌, Bool, true, false, cond, not, ◌&&◌, ◌||◌, List, [], ◌∷◌, ◌++◌, length, map, filter, get_or, drop, Result, Ok, Err, Contains, Some, refl, sym, ◌∙◌, ap, subst, arith, append_assoc, inl, inr, ◌⊎◌}
+use Rattle.std.specs.List.{list_any}
 use Rattle.std.specs.Str.{bytes_eq}
+use Rattle.std.proofs.lemmas.List.{append-nil, map-append}
+use Rattle.std.proofs.lemmas.List.Elements.{Contains-append_left, Contains-append_right, Contains-append_cases}
+use Rattle.std.proofs.lemmas.Slice.Eq.{bytes_eq-Decides}
 use Rattle.jvm_model.specs.declared.program.NamedClass.{NamedClass}
 use Rattle.jvm_model.specs.declared.stub.StubClass.{StubClass}
-use Rattle.jvm_model.specs.Linking.{claim, differs, AreMet, own_classes, file_claims, stub_claims, this_class_offset}
+use Rattle.jvm_model.specs.Linking.{base_first, Claim, claim, differs, AreMet, own_classes, file_claims, stub_claims}
 use Rattle.jvm_model.specs.Programs.{Program}
-use Rattle.linked_program.specs.declared.link_end.LinkEnd.{LinkEnd}
-use Rattle.linked_program.specs.declared.link_end.LinkEnd.TheVariants.{Refused, Memory}
-use Rattle.linking.specs.Claims.{TellsEnd, TellsClaims, HasTextsOf, with_own_names, file_name, stub_name, own_name, own_claim}
+use Rattle.jvm_model.specs.Soundness.{this_class_offset}
 use Rattle.class_index.specs.TextNumbers.{with_text}
-use Rattle.std.proofs.lemmas.List.{append-nil}
-use Rattle.std.proofs.lemmas.Slice.Eq.{bytes_eq-Decides}
+use Rattle.class_index.proofs.ListPlaces.{pushed_at}
+use Rattle.class_index.proofs.OrderPlaces.{contains_at, contains_cases, contains_none, place_of}
+use Rattle.linked_program.specs.declared.link_end.LinkEnd.{LinkEnd}
+use Rattle.linked_program.specs.declared.link_end.LinkEnd.TheVariants.{Refused}
+use Rattle.linking.specs.declared.class_names.StubSource.{StubSource}
+use Rattle.linking.specs.declared.class_names.StubSource.TheVariants.{Base, User}
+use Rattle.linking.specs.Claims.{TellsEnd, TellsClaims, HasTextsOf, with_own_names, file_name, stub_name}
+use Rattle.linking.specs.StubSources.{is_from, one_from, own_from}
+use Rattle.linking.proofs.ClaimSteps.{Left, end_front, from_item, left_as, left_step, left_stop, one_met, tells_back}
 use Rattle.linking.proofs.NewNames.{own_names_split}
-use Rattle.class_index.proofs.ListPlaces.{in_longer, pushed_at}
-use Rattle.class_index.proofs.OrderPlaces.{contains_at, place_of}
-use Rattle.linking.proofs.ClaimSteps.{Left, left_as, left_step, left_stop, one_met, from_item}
-
--- ---- members of two lists
-
-pub in_front : (xs ys : List (List ℕ)) (x : List ℕ) → Contains xs x → Contains (xs ++ ys) x
-in_front xs ys x has = let at = place_of xs x has in contains_at (xs ++ ys) at.0 x (in_longer xs ys at.0 x at.1)
-
-pub in_either : (xs ys : List (List ℕ)) (x : List ℕ) → Contains (xs ++ ys) x → Contains xs x ⊎ Contains ys x
-in_either [] ys x has = inr has
-in_either (y ∷ xs) ys x has = by (place_of (y ∷ (xs ++ ys)) x has) (in_either xs ys x)
-  where
-    by : (k : ℕ) × (slice_get (y ∷ (xs ++ ys)) k ≡ Some x) → (Contains (xs ++ ys) x → Contains xs x ⊎ Contains ys x) → Contains (y ∷ xs) x ⊎ Contains ys x
-    by (zero, e) rest = inl (contains_at (y ∷ xs) 0 x e)
-    by (suc k, e) rest = elim (rest (contains_at (xs ++ ys) k x e)) [
-      | inl h ↦ let at = place_of xs x h in inl (contains_at (y ∷ xs) (suc at.0) x at.1)
-      | inr h ↦ inr h
-    ]
-
-pub in_back : (xs ys : List (List ℕ)) (x : List ℕ) → Contains ys x → Contains (xs ++ ys) x
-in_back [] ys x has = has
-in_back (y ∷ xs) ys x has = let at = place_of (xs ++ ys) x (in_back xs ys x has) in contains_at (y ∷ (xs ++ ys)) (suc at.0) x at.1
 
 -- ---- one name
 
 pub name_taken : (p : Program) (file : List ℕ) (offset : ℕ) (earlier names : List (List ℕ)) (name : List ℕ) (e : LinkEnd)
     → TellsEnd p (claim file offset (differs earlier name) ∷ []) e → TellsEnd p (claim file offset (differs (earlier ++ names) name) ∷ []) e
-name_taken p file offset earlier names name Memory h = tt
-name_taken p file offset earlier names name (Refused r) (inl h) = inl ((λ meets. h.0 (λ has. meets (in_front earlier names name has))), h.1)
+name_taken p file offset earlier names name (Refused r) (inl h) = inl ((λ meets. h.0 (λ has. meets (Contains-append_left earlier names name has))), h.1)
 name_taken p file offset earlier names name (Refused r) (inr h) = absurd h.1
+name_taken p file offset earlier names name _ h = h
 
 pub name_new : (p : Program) (file : List ℕ) (offset : ℕ) (earlier names : List (List ℕ)) (name : List ℕ) → (Contains names name → ⊥)
     → AreMet p (claim file offset (differs earlier name) ∷ []) → AreMet p (claim file offset (differs (earlier ++ names) name) ∷ [])
 name_new p file offset earlier names name none met =
-    one_met p (claim file offset (differs (earlier ++ names) name)) (λ has. elim (in_either earlier names name has) [
+    one_met p (claim file offset (differs (earlier ++ names) name)) (λ has. elim (Contains-append_cases earlier names name has) [
       | inl h ↦ met 0 (claim file offset (differs earlier name)) (omega arith) h
       | inr h ↦ none h
     ])
@@ -61,14 +46,7 @@ names_told p file offset earlier names name (Err e) none told = name_taken p fil
 -- ---- the names of stubs, which may stand twice
 
 only_one : (x n : List ℕ) → Contains (x ∷ []) n → x ≡ n
-only_one x n has = by has.0 has.1 has.2
-  where
-    by : (k : ℕ) → k < 1 → get_or (x ∷ []) k n ≡ n → x ≡ n
-    by zero lt e = e
-    by (suc k) lt e = absurd (omega (arith, lt))
-
-none_there : (n : List ℕ) → Contains [] n → ⊥
-none_there n has = let lt = has.1 in omega (arith, lt)
+only_one x n has = elim (contains_cases x [] n has) [ inl e ↦ e | inr later ↦ absurd (contains_none n later) ]
 
 any_has : (texts : List (List ℕ)) (t : List ℕ) → list_any (bytes_eq t) texts ≡ true → Contains texts t
 any_has [] t e = cc
@@ -92,7 +70,7 @@ text_keeps texts t n has = by (list_any (bytes_eq t) texts)
   where
     by : (b : Bool) → Contains (cond b texts (texts ++ t ∷ [])) n
     by true = has
-    by false = in_front texts (t ∷ []) n has
+    by false = Contains-append_left texts (t ∷ []) n has
 
 text_only : (texts : List (List ℕ)) (t n : List ℕ) → Contains (with_text texts t) n → Contains texts n ⊎ (t ≡ n)
 unfolding with_text
@@ -100,11 +78,11 @@ text_only texts t n has = by (list_any (bytes_eq t) texts) has
   where
     by : (b : Bool) → Contains (cond b texts (texts ++ t ∷ [])) n → Contains texts n ⊎ (t ≡ n)
     by true h = inl h
-    by false h = elim (in_either texts (t ∷ []) n h) [ inl old ↦ inl old | inr last ↦ inr (only_one t n last) ]
+    by false h = elim (Contains-append_cases texts (t ∷ []) n h) [ inl old ↦ inl old | inr last ↦ inr (only_one t n last) ]
 
 all_there : (stubs : List StubClass) (acc : List (List ℕ)) (n : List ℕ) → Contains acc n ⊎ Contains (map stub_name (own_classes stubs)) n → Contains (with_own_names acc stubs) n
 all_there [] acc n (inl h) = h
-all_there [] acc n (inr h) = absurd (none_there n h)
+all_there [] acc n (inr h) = absurd (contains_none n h)
 all_there (c ∷ stubs) acc n h =
     by c.is_patch (elim h [ inl old ↦ inl old | inr new ↦ inr (subst (λ (ns : List (List ℕ)). Contains ns n) (own_names_split c stubs) new) ]) (λ more. all_there stubs more n)
   where
@@ -113,7 +91,7 @@ all_there (c ∷ stubs) acc n h =
         → Contains (with_own_names (cond b acc (with_text acc c.name)) stubs) n
     by true k ih = ih acc k
     by false (inl k) ih = ih (with_text acc c.name) (inl (text_keeps acc c.name n k))
-    by false (inr k) ih = elim (in_either (c.name ∷ []) (map stub_name (own_classes stubs)) n k) [
+    by false (inr k) ih = elim (Contains-append_cases (c.name ∷ []) (map stub_name (own_classes stubs)) n k) [
       | inl one ↦ ih (with_text acc c.name) (inl (subst (Contains (with_text acc c.name)) (only_one c.name n one) (text_has acc c.name)))
       | inr other ↦ ih (with_text acc c.name) (inr other)
     ]
@@ -130,27 +108,18 @@ only_those (c ∷ stubs) acc n h =
     by false k ih = elim (ih (with_text acc c.name) k) [
       | inl t ↦ elim (text_only acc c.name n t) [
         | inl old ↦ inl old
-        | inr is ↦ inr (in_front (c.name ∷ []) (map stub_name (own_classes stubs)) n (contains_at (c.name ∷ []) 0 n (ap Some is)))
+        | inr is ↦ inr (Contains-append_left (c.name ∷ []) (map stub_name (own_classes stubs)) n (contains_at (c.name ∷ []) 0 n (ap Some is)))
       ]
-      | inr other ↦ inr (in_back (c.name ∷ []) (map stub_name (own_classes stubs)) n other)
+      | inr other ↦ inr (Contains-append_right (c.name ∷ []) (map stub_name (own_classes stubs)) n other)
     ]
 
 pub texts_of_stubs : (texts : List (List ℕ)) (stubs : List StubClass) → texts ≡ with_own_names [] stubs → HasTextsOf texts (map stub_name (own_classes stubs))
 texts_of_stubs texts stubs is = record {
   none = λ n absent has. absent (subst (λ (ts : List (List ℕ)). Contains ts n) (sym is) (all_there stubs [] n (inr has)));
-  some = λ n has. elim (only_those stubs [] n (subst (λ (ts : List (List ℕ)). Contains ts n) is has)) [ inl h ↦ absurd (none_there n h) | inr h ↦ h ];
+  some = λ n has. elim (only_those stubs [] n (subst (λ (ts : List (List ℕ)). Contains ts n) is has)) [ inl h ↦ absurd (contains_none n h) | inr h ↦ h ];
 }
 
--- ---- the claims on names, one after the other
-
-pub stub_claims_split : (earlier : List (List ℕ)) (c : StubClass) (stubs : List StubClass)
-    → stub_claims earlier (own_classes (c ∷ stubs)) ≡ own_claim earlier c ++ stub_claims (earlier ++ own_name c) (own_classes stubs)
-stub_claims_split earlier c stubs = by c.is_patch
-  where
-    by : (b : Bool) → stub_claims earlier (cond (not b) (c ∷ own_classes stubs) (own_classes stubs))
-        ≡ cond b [] (claim c.file 0 (differs earlier c.name) ∷ []) ++ stub_claims (earlier ++ cond b [] (c.name ∷ [])) (own_classes stubs)
-    by true = ap (λ (ns : List (List ℕ)). stub_claims ns (own_classes stubs)) (sym (append-nil earlier))
-    by false = refl
+-- ---- the claims on names of class files, one after the other
 
 module _ (p : Program) (names earlier new : List (List ℕ)) (files : List NamedClass) (i : ℕ) (f : NamedClass) (lt : i < length files) (is : f ≡ get_or files i f)
     (left : Left p (file_claims names [] files) (file_claims names earlier (drop i files))) where
@@ -165,14 +134,64 @@ module _ (p : Program) (names earlier new : List (List ℕ)) (files : List Named
   pub stop_file : (e : LinkEnd) → TellsEnd p (claim f.file (this_class_offset f.class) (differs (earlier ++ names) (file_name f)) ∷ []) e → TellsEnd p (file_claims names [] files) e
   stop_file e h = left_stop p _ (claim f.file (this_class_offset f.class) (differs (earlier ++ names) (file_name f)) ∷ []) _ e at_file h
 
-module _ (p : Program) (earlier new : List (List ℕ)) (stubs : List StubClass) (i : ℕ) (c : StubClass) (lt : i < length stubs) (is : c ≡ get_or stubs i c)
-    (left : Left p (stub_claims [] (own_classes stubs)) (stub_claims earlier (own_classes (drop i stubs)))) where
-  at_stub : Left p (stub_claims [] (own_classes stubs)) (own_claim earlier c ++ stub_claims (earlier ++ own_name c) (own_classes (drop (i + 1) stubs)))
-  at_stub = left_as p _ _ _ (ap (λ (cs : List StubClass). stub_claims earlier (own_classes cs)) (from_item stubs i c lt is) ∙ stub_claims_split earlier c (drop (i + 1) stubs)) left
+-- ---- the claims on names of stubs, one after the other
 
-  pub next_stub : new ≡ earlier ++ own_name c → AreMet p (own_claim earlier c) → Left p (stub_claims [] (own_classes stubs)) (stub_claims new (own_classes (drop (i + 1) stubs)))
-  next_stub more met =
-      left_as p _ _ _ (ap (λ (ns : List (List ℕ)). stub_claims ns (own_classes (drop (i + 1) stubs))) (sym more)) (left_step p _ (own_claim earlier c) _ at_stub met)
+stub_claims-append : (earlier : List (List ℕ)) (xs ys : List StubClass) → stub_claims earlier (xs ++ ys) ≡ stub_claims earlier xs ++ stub_claims (earlier ++ map stub_name xs) ys
+stub_claims-append earlier [] ys = ap (λ (ns : List (List ℕ)). stub_claims ns ys) (sym (append-nil earlier))
+stub_claims-append earlier (x ∷ xs) ys =
+    ap (λ (cs : List Claim). claim x.file 0 (differs earlier x.name) ∷ cs)
+    (stub_claims-append (earlier ++ x.name ∷ []) xs ys
+    ∙ ap (λ (ns : List (List ℕ)). stub_claims (earlier ++ x.name ∷ []) xs ++ stub_claims ns ys) (append_assoc earlier (x.name ∷ []) (map stub_name xs)))
 
-  pub stop_stub : (e : LinkEnd) → TellsEnd p (own_claim earlier c) e → TellsEnd p (stub_claims [] (own_classes stubs)) e
-  stop_stub e h = left_stop p _ (own_claim earlier c) _ e at_stub h
+own_from_split : (source : StubSource) (c : StubClass) (stubs : List StubClass) → own_from source (c ∷ stubs) ≡ one_from source c ++ own_from source stubs
+own_from_split source c stubs = by c.is_patch
+  where
+    kept : (b : Bool) → cond b (c ∷ own_from source stubs) (own_from source stubs) ≡ cond b (c ∷ []) [] ++ own_from source stubs
+    kept true = refl
+    kept false = refl
+
+    by : (b : Bool) → filter (is_from source) (cond (not b) (c ∷ own_classes stubs) (own_classes stubs)) ≡ cond (not b && is_from source c) (c ∷ []) [] ++ own_from source stubs
+    by true = refl
+    by false = kept (is_from source c)
+
+pub own_names_from_split : (source : StubSource) (c : StubClass) (stubs : List StubClass) → map stub_name (own_from source (c ∷ stubs)) ≡ map stub_name (one_from source c) ++ map stub_name (own_from source stubs)
+own_names_from_split source c stubs = ap (map stub_name) (own_from_split source c stubs) ∙ map-append stub_name (one_from source c) (own_from source stubs)
+
+module _ (p : Program) (source : StubSource) (first earlier new : List (List ℕ)) (stubs : List StubClass) (i : ℕ) (c : StubClass) (lt : i < length stubs) (is : c ≡ get_or stubs i c)
+    (left : Left p (stub_claims first (own_from source stubs)) (stub_claims earlier (own_from source (drop i stubs)))) where
+  abbrev rest : List StubClass
+  rest = own_from source (drop (i + 1) stubs)
+
+  at_stub : Left p (stub_claims first (own_from source stubs)) (stub_claims earlier (one_from source c) ++ stub_claims (earlier ++ map stub_name (one_from source c)) rest)
+  at_stub =
+      left_as p _ _ _
+      (ap (λ (cs : List StubClass). stub_claims earlier (own_from source cs)) (from_item stubs i c lt is)
+      ∙ ap (stub_claims earlier) (own_from_split source c (drop (i + 1) stubs))
+      ∙ stub_claims-append earlier (one_from source c) rest) left
+
+  pub next_stub : new ≡ earlier ++ map stub_name (one_from source c) → AreMet p (stub_claims earlier (one_from source c)) → Left p (stub_claims first (own_from source stubs)) (stub_claims new rest)
+  next_stub more met = left_as p _ _ _ (ap (λ (ns : List (List ℕ)). stub_claims ns rest) (sym more)) (left_step p _ (stub_claims earlier (one_from source c)) _ at_stub met)
+
+  pub stop_stub : (e : LinkEnd) → TellsEnd p (stub_claims earlier (one_from source c)) e → TellsEnd p (stub_claims first (own_from source stubs)) e
+  stop_stub e h = left_stop p _ (stub_claims earlier (one_from source c)) _ e at_stub h
+
+-- ---- first those that are there from the start, and then those of the user's files
+
+module _ (p : Program) (stubs : List StubClass) (none : List (List ℕ)) (empty : none ≡ []) where
+  abbrev base : List StubClass
+  base = own_from Base stubs
+
+  abbrev user : List StubClass
+  user = own_from User stubs
+
+  both : stub_claims none base ++ stub_claims (none ++ map stub_name base) user ≡ stub_claims [] (base_first (own_classes stubs))
+  both = ap (λ (ns : List (List ℕ)). stub_claims ns base ++ stub_claims (ns ++ map stub_name base) user) empty ∙ sym (stub_claims-append [] base user)
+
+  pub base_stop : (e : LinkEnd) → TellsEnd p (stub_claims none base) e → TellsEnd p (stub_claims [] (base_first (own_classes stubs))) e
+  base_stop e h = subst (λ (cs : List Claim). TellsEnd p cs e) both (end_front p (stub_claims none base) (stub_claims (none ++ map stub_name base) user) e h)
+
+  pub user_told : {X : Type 0} (earlier : List (List ℕ)) (r : Result X LinkEnd) → earlier ≡ none ++ map stub_name base → AreMet p (stub_claims none base) → TellsClaims p (stub_claims earlier user) r
+      → TellsClaims p (stub_claims [] (base_first (own_classes stubs))) r
+  user_told earlier r is met h =
+      subst (λ (cs : List Claim). TellsClaims p cs r) both
+      (tells_back p (stub_claims none base) (stub_claims (none ++ map stub_name base) user) r met (subst (λ (ns : List (List ℕ)). TellsClaims p (stub_claims ns user) r) is h))

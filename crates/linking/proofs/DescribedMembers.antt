@@ -1,6 +1,6 @@
 -- Where the descriptions of a program's methods come from, and the objects that its fields hold.
-use Rattle.std.proofs.Common.{◌≡◌, ℕ, zero, suc, Bool, true, false, cond, List, [], ◌∷◌, get_or, All, Contains, Option, Some, None, find, refl, ap, ◌∙◌}
-use Rattle.std.specs.List.{flat_map, slice_get}
+use Rattle.std.proofs.Common.{◌≡◌, ℕ, Bool, List, get_or, All, Contains, Option, Some, None, find, refl, ap, ◌∙◌}
+use Rattle.std.specs.List.{enumerate_from, flat_map, slice_get}
 use Rattle.std.specs.Option.{option_map_or}
 use Rattle.std.proofs.lemmas.List.Elements.{Contains-get_or}
 use Rattle.jvm_model.specs.declared.class_file.ClassFile.{ClassFile}
@@ -15,6 +15,7 @@ use Rattle.jvm_model.specs.Linking.{methods_from, fields_from, folder_method, bo
 use Rattle.jvm_model.specs.Programs.{Method, Field, in_file, described, field_of}
 use Rattle.jvm_model.specs.Stubs.{method_of_stub, field_of_stub, method_names}
 use Rattle.class_index.proofs.ListPlaces.{map_at}
+use Rattle.linked_program.proofs.Bridges.{found_first}
 use Rattle.linked_program.proofs.Pieces.{among_at, place_among, in_piece}
 
 -- ---- what stubs say
@@ -40,29 +41,23 @@ pub record IsHeld (order : List Origin) (name : List ℕ) : Type 0 where
 
 -- ---- methods
 
-find_at : {X : Type 0} (test : X → Bool) (xs : List X) (x : X) → find test xs ≡ Some x → (k : ℕ) × (slice_get xs k ≡ Some x)
-find_at test [] x e = absurd cc
-find_at {X} test (y ∷ xs) x e =
-    by (test y) e (find_at test xs x)
-  where
-    by : (b : Bool) → cond b (Some y) (find test xs) ≡ Some x → (find test xs ≡ Some x → (k : ℕ) × (slice_get xs k ≡ Some x)) → (k : ℕ) × (slice_get (y ∷ xs) k ≡ Some x)
-    by true found later = (zero, found)
-    by false found later = let at = later found in (suc at.0, at.1)
-
 -- a method of a class file with a description
-described_native : (natives : List StubMethod) (c : ClassFile) (m : Member) (d : StubMethod) → body_from natives c m ≡ described d → Contains natives d
-described_native natives c m d e = by (find (λ (s : StubMethod). describes c.pool s m) natives) refl e
+described_native : (natives : List StubMethod) (c : ClassFile) (m : ℕ × Member) (d : StubMethod) → body_from natives c m ≡ described d → Contains natives d
+described_native natives c m d e = by (find test natives) refl e
   where
-    by : (found : Option StubMethod) → find (λ (s : StubMethod). describes c.pool s m) natives ≡ found → option_map_or described found (in_file c m) ≡ described d → Contains natives d
+    test : StubMethod → Bool
+    test s = describes c.pool s m.1
+
+    by : (found : Option StubMethod) → find test natives ≡ found → option_map_or described found (in_file c m.0 m.1) ≡ described d → Contains natives d
     by None is e = absurd cc
     by (Some s) is e =
         let same : s ≡ d = cc in
-        let at = find_at (λ (s : StubMethod). describes c.pool s m) natives d (is ∙ ap (λ (s : StubMethod). Some s) same) in
+        let at = found_first test natives d (is ∙ ap (λ (s : StubMethod). Some s) same) in
         among_at natives at.0 d at.1
 
 described_of : (o : Origin) (k : ℕ) (m : Method) (d : StubMethod) → slice_get (methods_from o) k ≡ Some m → m.body ≡ described d → DescribesMethod d o
 described_of (Folder f natives) k m d there e =
-    let found = map_at (folder_method natives f.class) f.class.methods k m there in
+    let found = map_at (folder_method natives f.class) (enumerate_from 0 f.class.methods) k m there in
     described_native natives f.class found.0 d (ap (λ (m : Method). m.body) found.2 ∙ e)
 described_of (Stub c) k m d there e =
     let found = map_at (method_of_stub c.name) c.methods k m there in

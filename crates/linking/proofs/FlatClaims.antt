@@ -4,9 +4,10 @@ use Rattle.std.specs.List.{flat_map}
 use Rattle.std.proofs.lemmas.List.Elements.{All-nil, All-cons, All-append}
 use Rattle.jvm_model.specs.declared.program.NamedClass.{NamedClass}
 use Rattle.jvm_model.specs.declared.stub.StubClass.{StubClass}
-use Rattle.jvm_model.specs.Linking.{Description, there_claim, kind_claim, supers_of_file, supers_of_stub, own_classes, mention_claim, description_claims, stub_descriptions, native_descriptions, stub_there_claims, native_claims, there_claims, kind_claims, file_claims, stub_claims, name_claims}
+use Rattle.jvm_model.specs.Linking.{base_first, Description, there_claim, kind_claim, supers_of_file, supers_of_stub, own_classes, mention_claim, description_claims, stub_descriptions, native_descriptions, stub_there_claims, native_claims, there_claims, kind_claims, file_claims, stub_claims, name_claims}
 use Rattle.jvm_model.specs.Programs.{name_of}
 use Rattle.jvm_model.specs.Stubs.{method_names, field_names}
+use Rattle.linking.specs.Claims.{stub_name}
 use Rattle.linking.proofs.KnownClasses.{IsFlatClaim, flat_map_flat, map_flat}
 
 descriptions_flat : (ds : List Description) → All IsFlatClaim (description_claims ds)
@@ -41,4 +42,5 @@ stubs_flat earlier (c ∷ classes) = All-cons IsFlatClaim _ _ tt (stubs_flat (ea
 
 pub names_flat : (files : List NamedClass) (classes : List StubClass) → All IsFlatClaim (name_claims files classes)
 names_flat files classes =
-    All-append IsFlatClaim (file_claims (map (λ (c : StubClass). c.name) classes) [] files) (stub_claims [] classes) (files_flat (map (λ (c : StubClass). c.name) classes) [] files) (stubs_flat [] classes)
+    let others = map stub_name classes in
+    All-append IsFlatClaim (file_claims others [] files) (stub_claims [] (base_first classes)) (files_flat others [] files) (stubs_flat [] (base_first classes))

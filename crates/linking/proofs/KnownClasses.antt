@@ -1,5 +1,5 @@
 -- What is known of classes by name, and that demands speak of no more.
-use Rattle.std.proofs.Common.{◌≡◌, ℕ, zero, suc, Bool, true, false, List, [], ◌∷◌, ◌++◌, length, map, Some, All, Contains, Result, Ok, Err, refl, sym, ◌∙◌, ap, subst, arith, inl, inr}
+use Rattle.std.proofs.Common.{◌≡◌, ℕ, zero, suc, Bool, true, false, List, [], ◌∷◌, length, map, Some, All, Contains, Result, Ok, Err, refl, sym, ◌∙◌, ap, subst, arith, inl, inr}
 use mathlib.Core.Bool.{beq}
 use Rattle.std.specs.List.{slice_get, flat_map}
 use Rattle.std.proofs.lemmas.List.Elements.{All-nil, All-cons, All-head, All-tail, All-append}
@@ -8,7 +8,7 @@ use Rattle.jvm_model.specs.declared.reason.Refusal.{Refusal}
 use Rattle.jvm_model.specs.Linking.{Claim, Demand, differs, is_there, of_kind, no_cycle, AreMet, IsFirstUnmet, Meets}
 use Rattle.jvm_model.specs.Programs.{Class, Program}
 use Rattle.linked_program.specs.declared.link_end.LinkEnd.{LinkEnd}
-use Rattle.linked_program.specs.declared.link_end.LinkEnd.TheVariants.{Refused, Memory}
+use Rattle.linked_program.specs.declared.link_end.LinkEnd.TheVariants.{Refused}
 use Rattle.linking.specs.Claims.{TellsEnd, TellsClaims, known_class, known_classes, known_program, known_part, Knows, IsKnownAs, IsFlat}
 use Rattle.class_index.specs.FirstPlaces.{StandsNowhere}
 use Rattle.class_index.proofs.OrderPlaces.{contains_at, place_of}
@@ -19,13 +19,7 @@ use Rattle.class_index.proofs.ListPlaces.{map_at, at_map}
 pub nowhere_not : {X : Type 0} (xs : List X) (x : X) → StandsNowhere xs x → Contains xs x → ⊥
 nowhere_not xs x none has = let at = place_of xs x has in none.nowhere at.0 at.1
 
-pub not_nowhere : {X : Type 0} (xs : List X) (x : X) → (Contains xs x → ⊥) → StandsNowhere xs x
-not_nowhere xs x none = record { nowhere = λ i e. none (contains_at xs i x e) }
-
 -- ---- names and kinds side by side
-
-name_in : Class → List ℕ
-name_in c = c.name
 
 pub known_names : (names : List (List ℕ)) (kinds : List Bool) → length names ≡ length kinds → map (λ (c : Class). c.name) (known_classes names kinds) ≡ names
 known_names [] [] e = refl
@@ -39,13 +33,6 @@ known_place [] kinds j c e = absurd (none-some c e)
 known_place (n ∷ names) [] j c e = absurd (none-some c e)
 known_place (n ∷ names) (k ∷ kinds) zero c e = let is = same_Some _ _ e in (ap (λ (d : Class). Some d.name) is, ap (λ (d : Class). Some d.is_interface) is)
 known_place (n ∷ names) (k ∷ kinds) (suc j) c e = known_place names kinds j c e
-
-pub known_push : (names : List (List ℕ)) (kinds : List Bool) (name : List ℕ) (kind : Bool) → length names ≡ length kinds
-    → known_classes (names ++ name ∷ []) (kinds ++ kind ∷ []) ≡ known_classes names kinds ++ known_class name kind ∷ []
-known_push [] [] name kind e = refl
-known_push [] (k ∷ kinds) name kind e = absurd (omega (arith, e))
-known_push (n ∷ names) [] name kind e = absurd (omega (arith, e))
-known_push (n ∷ names) (k ∷ kinds) name kind e = ap (λ (cs : List Class). known_class n k ∷ cs) (known_push names kinds name kind (omega (arith, e)))
 
 module _ (names : List (List ℕ)) (kinds : List Bool) (long : length names ≡ length kinds) where
   pub no_kind : (name : List ℕ) → StandsNowhere names name → Meets (known_program names kinds) (is_there name) → ⊥
@@ -70,11 +57,6 @@ other_kind p name kind wanted has differs' meets =
     let in' = contains_at p.classes at.0 c.0 c.1 in
     differs' (sym (has.only c.0 in' c.2) ∙ meets c.0 in' c.2)
 
-pub no_class : (p : Program) (name : List ℕ) (kind : Bool) → (Meets p (is_there name) → ⊥) → Meets p (of_kind kind name)
-no_class p name kind none = λ c has named.
-    let at = place_of p.classes c has in
-    absurd (none (contains_at _ at.0 name (at_map (λ (d : Class). d.name) p.classes at.0 c at.1 ∙ ap Some named)))
-
 -- ---- programs that meet the same demands
 
 pub record SameDemands (p q : Program) : Type 0 where
@@ -98,7 +80,7 @@ unmet_same p q r (c ∷ claims) same flat (inr h) =
 
 pub end_same : (p q : Program) (claims : List Claim) (e : LinkEnd) → SameDemands p q → All IsFlatClaim claims → TellsEnd p claims e → TellsEnd q claims e
 end_same p q claims (Refused r) same flat h = unmet_same p q r claims same flat h
-end_same p q claims Memory same flat h = tt
+end_same p q claims _ same flat h = h
 
 pub tells_same : {X : Type 0} (p q : Program) (claims : List Claim) (r : Result X LinkEnd) → SameDemands p q → All IsFlatClaim claims → TellsClaims p claims r → TellsClaims q claims r
 tells_same p q claims (Ok x) same flat h = all_met_same p q claims same flat h

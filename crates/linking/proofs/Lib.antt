@@ -5,6 +5,7 @@ pub mod KnownClasses
 pub mod Building
 pub mod NewNames
 pub mod ClassNames
+pub mod DistinctNames
 pub mod FlatClaims
 pub mod OrderedPrograms
 pub mod PatchesAlone

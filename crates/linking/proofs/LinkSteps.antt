@@ -1,27 +1,30 @@
 -- From the checks and the program that is put together to what linking gives.
-use Rattle.std.proofs.Common.{◌+◌, ◌<◌, List, [], ◌∷◌, ◌++◌, length, map, All, Ok, Err, Result, refl, ap, arith}
+use Rattle.std.proofs.Common.{◌+◌, ◌<◌, List, [], ◌∷◌, ◌++◌, length, map, All, Contains, IfOk, Ok, Err, Result, refl, sym, ap, subst, arith}
 use Rattle.std.specs.List.Sorted.{IsSorted}
 use Rattle.std.specs.declared.cmp.Ordering.{Ordering}
 use Rattle.std.proofs.lemmas.List.{get_or-map, length-map}
-use Rattle.std.proofs.lemmas.List.Elements.{All-contains, All-append, Contains-append_left, Contains-append_right}
+use Rattle.std.proofs.lemmas.List.Elements.{All-append, Contains-append_right}
 use Rattle.jvm_model.specs.declared.program.NamedClass.{NamedClass}
 use Rattle.jvm_model.specs.declared.program.Origin.{Origin}
 use Rattle.jvm_model.specs.declared.stub.StubClass.{StubClass}
-use Rattle.jvm_model.specs.Linking.{AreMet, barred, Claim, cycle_claim, IsOrder, kind_claims, linked, Meets, name_claims, origins, own_classes, program_from, there_claims}
+use Rattle.jvm_model.specs.LinkedPrograms.{HasStubClasses}
+use Rattle.jvm_model.specs.Linking.{AreMet, barred, Claim, class_from, cycle_claim, folder_origin, IsFileOrder, IsOrder, kind_claims, linked, name_claims, origins, own_classes, program_from, stub_origin, there_claims}
 use Rattle.jvm_model.specs.Programs.{Program}
+use Rattle.jvm_model.specs.Stubs.{class_of_stub}
 use Rattle.linked_program.specs.declared.link_end.LinkEnd.{LinkEnd}
 use Rattle.linked_program.specs.declared.link_end.LinkEnd.TheVariants.{Refused, Memory}
 use Rattle.linked_program.specs.Assembling.{Assembles}
-use Rattle.linking.specs.Claims.{TellsEnd, unsorted}
-use Rattle.linking.specs.LinkTelling.{flat_claims, TellsLink}
 use Rattle.linked_program.specs.Whole.{IsLinkable}
 use Rattle.linked_program.proofs.Assembled.{all_from}
-use Rattle.linking.proofs.ClaimSteps.{met_append, unmet_back, unmet_front}
+use Rattle.linked_program.proofs.Bridges.{map_to}
+use Rattle.linking.specs.Claims.{TellsEnd, unsorted}
+use Rattle.linking.specs.LinkTelling.{flat_claims, TellsLink, TellsLinkInOrder}
+use Rattle.linking.proofs.ClaimSteps.{met_append, met_back, met_front, unmet_back, unmet_front}
 use Rattle.linking.proofs.FlatClaims.{kind_flat, names_flat, there_flat}
 use Rattle.linking.proofs.KnownClasses.{all_met_same, end_same, IsFlatClaim}
 use Rattle.linking.proofs.Linkables.{linkable}
 use Rattle.linking.proofs.OrderedPrograms.{ordered_same}
-use Rattle.linking.proofs.Orders.{exists_order}
+use Rattle.linking.proofs.Orders.{exists_order, in_order}
 
 -- A list in the order of what a function gives of its elements is mapped to a list in order.
 pub IsSorted-map : {X Y : Type 0} (f : X → Y) (cmp : Y → Y → Ordering) (xs : List X) → IsSorted (λ a b. cmp (f a) (f b)) xs → IsSorted cmp (map f xs)
@@ -30,13 +33,13 @@ IsSorted-map f cmp (x ∷ xs) sorted k d low high =
     let within : k + 1 < length (x ∷ xs) = omega (arith, length-map (x ∷ xs) f) in
     rw (get_or-map f (x ∷ xs) (k + 1) x d within, get_or-map f (x ∷ xs) k x d (omega arith)) (sorted k x low within)
 
--- ---- claims in parts
+-- What is told of class files in the order of their files is told of them in each order.
+pub told_in_order : (files ordered : List NamedClass) (stubs : List StubClass) → IsFileOrder files ordered → (r : Result Program LinkEnd) → TellsLinkInOrder ordered stubs r → TellsLink files stubs r
+told_in_order files ordered stubs is (Ok p) told = record { ordered = ordered; by_file = is; links = told }
+told_in_order files ordered stubs is (Err (Refused refusal)) told = record { ordered = ordered; by_file = is; links = told }
+told_in_order files ordered stubs is (Err _) told = told
 
-front_met : (p : Program) (xs ys : List Claim) → AreMet p (xs ++ ys) → AreMet p xs
-front_met p xs ys met = all_from (λ (c : Claim). Meets p c.demand) xs (λ c among. All-contains (λ (d : Claim). Meets p d.demand) (xs ++ ys) c met (Contains-append_left xs ys c among))
-
-back_met : (p : Program) (xs ys : List Claim) → AreMet p (xs ++ ys) → AreMet p ys
-back_met p xs ys met = all_from (λ (c : Claim). Meets p c.demand) ys (λ c among. All-contains (λ (d : Claim). Meets p d.demand) (xs ++ ys) c met (Contains-append_right xs ys c among))
+-- ---- the program, or the first demand that is not met
 
 module _ (files : List NamedClass) (stubs : List StubClass) where
   abbrev ns : List Claim
@@ -52,13 +55,13 @@ module _ (files : List NamedClass) (stubs : List StubClass) where
   all_flat = All-append IsFlatClaim (ns ++ ts) ks (All-append IsFlatClaim ns ts (names_flat files (own_classes stubs)) (there_flat files stubs)) (kind_flat files (own_classes stubs))
 
   -- a check that fails bars the program in each order
-  pub link_barred : (end : LinkEnd) → TellsEnd (unsorted files stubs) (flat_claims files stubs) end → TellsLink files stubs (Err end)
-  link_barred Memory told = tt
+  pub link_barred : (end : LinkEnd) → TellsEnd (unsorted files stubs) (flat_claims files stubs) end → TellsLinkInOrder files stubs (Err end)
   link_barred (Refused refusal) told =
       let order = exists_order (origins files stubs) in
       let p = program_from order.0 in
       let here = end_same (unsorted files stubs) p (flat_claims files stubs) (Refused refusal) (ordered_same (origins files stubs) order.0 order.1) all_flat told in
       barred order.0 refusal order.1 (unmet_front p refusal (flat_claims files stubs) (map cycle_claim order.0) here) refl
+  link_barred _ told = told
 
   module _ (order : List Origin) (is : IsOrder (origins files stubs) order) (met : AreMet (unsorted files stubs) (flat_claims files stubs)) where
     abbrev p : Program
@@ -68,10 +71,21 @@ module _ (files : List NamedClass) (stubs : List StubClass) where
     flat_met = all_met_same (unsorted files stubs) p (flat_claims files stubs) (ordered_same (origins files stubs) order is) all_flat met
 
     pub is_linkable : IsLinkable order
-    is_linkable = linkable files stubs order is (back_met p ns ts (front_met p (ns ++ ts) ks flat_met)) (back_met p (ns ++ ts) ks flat_met) (front_met p ns ts (front_met p (ns ++ ts) ks flat_met))
+    is_linkable = linkable files stubs order is (met_back p ns ts (met_front p (ns ++ ts) ks flat_met)) (met_back p (ns ++ ts) ks flat_met) (met_front p ns ts (met_front p (ns ++ ts) ks flat_met))
 
     -- what putting the program together tells is what linking gives
-    pub link_told : (r : Result Program LinkEnd) → Assembles order r → TellsLink files stubs r
+    pub link_told : (r : Result Program LinkEnd) → Assembles order r → TellsLinkInOrder files stubs r
     link_told (Ok q) a = linked order is (met_append p (flat_claims files stubs) (map cycle_claim order) flat_met a.1) (ap Ok a.0)
     link_told (Err (Refused refusal)) a = barred order refusal is (unmet_back p refusal (flat_claims files stubs) (map cycle_claim order) flat_met a) refl
     link_told (Err Memory) a = tt
+
+    -- each stub that is a class of its own is a class of the program
+    has_stubs : HasStubClasses p stubs
+    has_stubs = all_from (λ (c : StubClass). Contains p.classes (class_of_stub c)) (own_classes stubs) (λ c among.
+        let own = map_to (stub_origin stubs) (own_classes stubs) c among in
+        map_to class_from order (stub_origin stubs c)
+        (in_order (origins files stubs) order is (stub_origin stubs c) (Contains-append_right (map (folder_origin stubs) files) (map (stub_origin stubs) (own_classes stubs)) (stub_origin stubs c) own)))
+
+    pub stubs_told : (r : Result Program LinkEnd) → Assembles order r → IfOk r (λ (q : Program). HasStubClasses q stubs)
+    stubs_told (Ok q) a = subst (λ (q : Program). HasStubClasses q stubs) (sym a.0) has_stubs
+    stubs_told (Err end) a = tt

@@ -1,14 +1,10 @@
 -- From the demands that are met to what putting the program together needs.
-use Rattle.std.proofs.Common.{◌≡◌, ◌≢◌, ℕ, suc, ◌+◌, Bool, true, false, List, [], ◌∷◌, ◌++◌, map, Contains, AllPairs, Option, Some, refl, sym, ap, subst, inl, inr, ◌⊎◌, arith}
+use Rattle.std.proofs.Common.{◌≡◌, ℕ, ◌+◌, Bool, true, false, List, [], ◌∷◌, ◌++◌, map, Contains, Option, Some, refl, sym, ap, subst, inl, inr, ◌⊎◌}
 use Rattle.std.specs.List.{flat_map}
 use Rattle.std.specs.Option.{option_to_list}
 use Rattle.std.specs.Str.{bytes_eq}
 use Rattle.std.proofs.lemmas.List.Elements.{All-contains, Contains-append_left, Contains-append_right, Contains-append_cases}
-use Rattle.std.proofs.lemmas.List.Kept.{AllPairs-cons}
 use Rattle.std.proofs.lemmas.List.Sorted.{Contains-permutation, IsPermutation-map, IsPermutation-sym}
-use Rattle.std.proofs.lemmas.Map.Keys.{IsDistinct-IsPermutation}
-use Rattle.std.proofs.lemmas.Map.Made.{AllPairs-from_IsDistinct, IsDistinct-from_AllPairs}
-use Rattle.std.proofs.lemmas.Option.{slice_get_within, get_or_from_slice_get}
 use Rattle.std.proofs.lemmas.Slice.Eq.{bytes_eq-Decides}
 use Rattle.jvm_model.specs.declared.pool.PoolEntry.{PoolEntry}
 use Rattle.jvm_model.specs.declared.program.NamedClass.{NamedClass}
@@ -17,28 +13,22 @@ use Rattle.jvm_model.specs.declared.program.Origin.TheVariants.{Folder, Stub}
 use Rattle.jvm_model.specs.declared.stub.StubClass.{StubClass}
 use Rattle.jvm_model.specs.declared.stub.StubField.{StubField}
 use Rattle.jvm_model.specs.declared.stub.StubMethod.{StubMethod}
-use Rattle.jvm_model.specs.Linking.{AreMet, Meets, Claim, Description, is_there, of_kind, NamedSuper, class_from, description_claims, file_claims, folder_origin, interface_places, IsOrder, kind_claim, kind_claims, mention_claim, name_claims, names, native_claims, native_descriptions, origins, own_classes, program_from, stub_claims, stub_descriptions, stub_origin, stub_there_claims, supers_of_file, supers_of_stub, superclass_place, there_claim, there_claims, told}
+use Rattle.jvm_model.specs.Linking.{AreMet, Meets, Claim, Description, is_there, of_kind, NamedSuper, class_from, description_claims, folder_origin, interface_places, IsOrder, kind_claim, kind_claims, mention_claim, name_claims, names, native_claims, native_descriptions, origins, own_classes, program_from, stub_descriptions, stub_origin, stub_there_claims, supers_of_file, supers_of_stub, superclass_place, there_claim, there_claims, told}
 use Rattle.jvm_model.specs.LinkedPrograms.{HasSupers, IsThere}
 use Rattle.jvm_model.specs.Lookups.{class_name_at}
-use Rattle.jvm_model.specs.Programs.{Class, Program, name_of, class_or_none}
-use Rattle.jvm_model.specs.Soundness.{flags_offset, interfaces_offset}
+use Rattle.jvm_model.specs.Programs.{Class, Program, class_or_none}
+use Rattle.jvm_model.specs.Soundness.{super_class_offset, interfaces_offset}
 use Rattle.jvm_model.specs.Stubs.{field_names, method_names, super_of}
 use Rattle.jvm_model.specs.Subtypes.{class_named}
 use Rattle.linked_program.specs.Whole.{IsLinkable}
 use Rattle.linked_program.proofs.Assembled.{all_from}
 use Rattle.linked_program.proofs.Bridges.{map_from, map_to, find_there, found_first}
+use Rattle.linking.specs.Claims.{file_name, stub_name}
+use Rattle.linking.proofs.DistinctNames.{Differ, differ_permuted, names_differ}
 use Rattle.linking.proofs.DescribedMembers.{mentioned_there, held_there, DescribesMethod}
 use Rattle.class_index.proofs.OrderPlaces.{place_of, contains_at, contains_first, contains_later, contains_cases, contains_none}
 
 -- ---- lists
-
-flips : (x y : List ℕ) → bytes_eq x y ≡ bytes_eq y x
-flips x y = by (bytes_eq x y) (bytes_eq y x) (λ t. (bytes_eq-Decides y x).1 (sym ((bytes_eq-Decides x y).0 t))) (λ t. (bytes_eq-Decides x y).1 (sym ((bytes_eq-Decides y x).0 t)))
-  where
-    by : (a b : Bool) → (a ≡ true → b ≡ true) → (b ≡ true → a ≡ true) → a ≡ b
-    by true b f g = sym (f refl)
-    by false true f g = g refl
-    by false false f g = refl
 
 contains_flat : {X Y : Type 0} (f : X → List Y) (xs : List X) (x : X) (y : Y) → Contains xs x → Contains (f x) y → Contains (flat_map f xs) y
 contains_flat f [] x y h g = absurd (contains_none x h)
@@ -49,97 +39,23 @@ contains_flat {X} {Y} f (z ∷ xs) x y h g =
     by rest (inl e) = Contains-append_left (f z) (flat_map f xs) y (subst (λ (w : X). Contains (f w) y) (sym e) g)
     by rest (inr later) = Contains-append_right (f z) (flat_map f xs) y (rest later g)
 
-all_pairs_append : {X : Type 0} (R : X → X → Type 0) (xs ys : List X) → AllPairs R xs → AllPairs R ys → ((x y : X) → Contains xs x → Contains ys y → R x y) → AllPairs R (xs ++ ys)
-all_pairs_append R [] ys h g cross = g
-all_pairs_append {X} R (x ∷ xs) ys h g cross =
-    AllPairs-cons R x (xs ++ ys)
-    (all_from (R x) (xs ++ ys) (λ y among. elim (Contains-append_cases xs ys y among) [
-      | inl first ↦ let p = place_of xs y first in
-          subst (R x) (get_or_from_slice_get xs p.0 y x p.1) (h 0 (suc p.0) x (omega arith) (let within = slice_get_within xs p.0 y p.1 in omega (arith, within)))
-      | inr second ↦ cross x y (contains_first x xs) second
-    ]))
-    (all_pairs_append R xs ys (λ i j d lt within. h (suc i) (suc j) d (omega (arith, lt)) (omega (arith, within))) g (λ a b first second. cross a b (contains_later x xs a first) second))
-
--- ---- names that differ
-
-abbrev pub nm : NamedClass → List ℕ
-nm f = name_of f.class
-
-pub record FilesDiffer (others earlier : List (List ℕ)) (files : List NamedClass) : Type 0 where
-  pub pairs : AllPairs (λ x y. x ≢ y) (map nm files)
-  pub fresh : (name : List ℕ) → Contains (map nm files) name → (Contains (earlier ++ others) name → ⊥)
-
-met_head : (p : Program) (c : Claim) (xs : List Claim) → AreMet p (c ∷ xs) → Meets p c.demand
-met_head p c xs met = All-contains (λ (d : Claim). Meets p d.demand) (c ∷ xs) c met (contains_first c xs)
-
-met_rest : (p : Program) (c : Claim) (xs : List Claim) → AreMet p (c ∷ xs) → AreMet p xs
-met_rest p c xs met = all_from (λ (d : Claim). Meets p d.demand) xs (λ d among. All-contains (λ (e : Claim). Meets p e.demand) (c ∷ xs) d met (contains_later c xs d among))
-
-files_differ : (p : Program) (others earlier : List (List ℕ)) (files : List NamedClass) → AreMet p (file_claims others earlier files) → FilesDiffer others earlier files
-files_differ p others earlier [] met = record { pairs = λ i j d lt within. absurd (omega (arith, within)); fresh = λ name among. absurd (contains_none name among) }
-files_differ p others earlier (f ∷ files) met =
-    let head = met_head p _ _ met in
-    let rest = files_differ p others (earlier ++ nm f ∷ []) files (met_rest p _ _ met) in
-    record {
-      pairs = AllPairs-cons (λ x y. x ≢ y) (nm f) (map nm files)
-          (all_from (λ (y : List ℕ). nm f ≢ y) (map nm files) (λ y among e. rest.fresh y among
-          (Contains-append_left (earlier ++ nm f ∷ []) others y (Contains-append_right earlier (nm f ∷ []) y (subst (λ (n : List ℕ). Contains (nm f ∷ []) n) e (contains_first (nm f) []))))))
-          rest.pairs;
-      fresh = λ name among has. elim (contains_cases (nm f) (map nm files) name among) [
-        | inl e ↦ head (subst (Contains (earlier ++ others)) (sym e) has)
-        | inr later ↦ rest.fresh name later (elim (Contains-append_cases earlier others name has) [
-          | inl first ↦ Contains-append_left (earlier ++ nm f ∷ []) others name (Contains-append_left earlier (nm f ∷ []) name first)
-          | inr second ↦ Contains-append_right (earlier ++ nm f ∷ []) others name second
-        ])
-      ];
-    }
-
-abbrev pub sn : StubClass → List ℕ
-sn c = c.name
-
-pub record StubsDiffer (earlier : List (List ℕ)) (classes : List StubClass) : Type 0 where
-  pub pairs : AllPairs (λ x y. x ≢ y) (map sn classes)
-  pub fresh : (name : List ℕ) → Contains (map sn classes) name → (Contains earlier name → ⊥)
-
-stubs_differ : (p : Program) (earlier : List (List ℕ)) (classes : List StubClass) → AreMet p (stub_claims earlier classes) → StubsDiffer earlier classes
-stubs_differ p earlier [] met = record { pairs = λ i j d lt within. absurd (omega (arith, within)); fresh = λ name among. absurd (contains_none name among) }
-stubs_differ p earlier (c ∷ classes) met =
-    let head = met_head p _ _ met in
-    let rest = stubs_differ p (earlier ++ sn c ∷ []) classes (met_rest p _ _ met) in
-    record {
-      pairs = AllPairs-cons (λ x y. x ≢ y) (sn c) (map sn classes)
-          (all_from (λ (y : List ℕ). sn c ≢ y) (map sn classes) (λ y among e. rest.fresh y among
-          (Contains-append_right earlier (sn c ∷ []) y (subst (λ (n : List ℕ). Contains (sn c ∷ []) n) e (contains_first (sn c) [])))))
-          rest.pairs;
-      fresh = λ name among has. elim (contains_cases (sn c) (map sn classes) name among) [
-        | inl e ↦ head (subst (Contains earlier) (sym e) has)
-        | inr later ↦ rest.fresh name later (Contains-append_left earlier (sn c ∷ []) name has)
-      ];
-    }
-
 module _ (files : List NamedClass) (stubs : List StubClass) where
   abbrev pub own : List StubClass
   own = own_classes stubs
 
-  names_unsorted : (fs : List NamedClass) (cs : List StubClass) → names (map (folder_origin stubs) fs ++ map (stub_origin stubs) cs) ≡ map nm fs ++ map sn cs
+  names_unsorted : (fs : List NamedClass) (cs : List StubClass) → names (map (folder_origin stubs) fs ++ map (stub_origin stubs) cs) ≡ map file_name fs ++ map stub_name cs
   names_unsorted [] [] = refl
-  names_unsorted [] (c ∷ cs) = ap (λ (ns : List (List ℕ)). sn c ∷ ns) (names_unsorted [] cs)
-  names_unsorted (f ∷ fs) cs = ap (λ (ns : List (List ℕ)). nm f ∷ ns) (names_unsorted fs cs)
+  names_unsorted [] (c ∷ cs) = ap (λ (ns : List (List ℕ)). stub_name c ∷ ns) (names_unsorted [] cs)
+  names_unsorted (f ∷ fs) cs = ap (λ (ns : List (List ℕ)). file_name f ∷ ns) (names_unsorted fs cs)
 
   module _ (order : List Origin) (is : IsOrder (origins files stubs) order) where
     abbrev pub p : Program
     p = program_from order
 
-    differ : AreMet p (name_claims files own) → AllPairs (λ x y. x ≢ y) (names order)
+    differ : AreMet p (name_claims files own) → Differ (names order)
     differ met =
-        let of_files = files_differ p (map sn own) [] files (all_from (λ (c : Claim). Meets p c.demand) (file_claims (map sn own) [] files) (λ c among. All-contains (λ (d : Claim). Meets p d.demand) (name_claims files own) c met (Contains-append_left _ _ c among))) in
-        let of_stubs = stubs_differ p [] own (all_from (λ (c : Claim). Meets p c.demand) (stub_claims [] own) (λ c among. All-contains (λ (d : Claim). Meets p d.demand) (name_claims files own) c met (Contains-append_right _ _ c among))) in
-        let all = all_pairs_append (λ x y. x ≢ y) (map nm files) (map sn own) of_files.pairs of_stubs.pairs
-        (λ x y first second e. of_files.fresh x first (subst (Contains (map sn own)) (sym e) second)) in
-        let unsorted : AllPairs (λ x y. x ≢ y) (names (origins files stubs)) = subst (λ (ns : List (List ℕ)). AllPairs (λ x y. x ≢ y) ns) (sym (names_unsorted files own)) all in
-        AllPairs-from_IsDistinct bytes_eq-Decides (names order)
-        (IsDistinct-IsPermutation bytes_eq flips (names (origins files stubs)) (names order) (IsPermutation-map (λ (o : Origin). (class_from o).name) (origins files stubs) order is.same)
-        (IsDistinct-from_AllPairs bytes_eq-Decides (names (origins files stubs)) unsorted))
+        differ_permuted (names (origins files stubs)) (names order) (IsPermutation-map (λ (o : Origin). (class_from o).name) (origins files stubs) order is.same)
+        (subst Differ (sym (names_unsorted files own)) (names_differ p files stubs met))
 
     -- ---- supertypes
 
@@ -176,7 +92,7 @@ module _ (files : List NamedClass) (stubs : List StubClass) where
     file_supers : (f : NamedClass) → MeetsSupers (supers_of_file f) → HasSupers p (class_from (folder_origin stubs f))
     file_supers f meets = record {
       superclass = λ name e.
-          let s : NamedSuper = record { name = name; as_interface = false; file = f.file; offset = flags_offset f.class + 4 } in
+          let s : NamedSuper = record { name = name; as_interface = false; file = f.file; offset = super_class_offset f.class } in
           let among = Contains-append_left (map (superclass_place f) (option_to_list (class_name_at f.class.pool f.class.super_class))) (interface_places f.file f.class.pool (interfaces_offset f.class) f.class.interfaces) s (map_to (superclass_place f) (option_to_list (class_name_at f.class.pool f.class.super_class)) name (subst (λ (o : Option (List ℕ)). Contains (option_to_list o) name) (sym e) (contains_first name []))) in
           let both = meets.each s among in
           class_there name false both.0 both.1;

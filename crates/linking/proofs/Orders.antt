@@ -5,7 +5,7 @@ use Rattle.std.specs.Cmp.{IsTotalOrder}
 use Rattle.std.specs.Cmp.Lexicographic.{slice_cmp}
 use Rattle.std.specs.Ordering.{nat_cmp, is_lt}
 use Rattle.std.proofs.lemmas.Cmp.{nat_list_cmp_total}
-use Rattle.std.proofs.lemmas.List.Sorted.{ranks_by, IsPermutation-refl, IsPermutation-sym, IsPermutation-trans, IsPermutation-cons, IsPermutation-middle, Contains-permutation}
+use Rattle.std.proofs.lemmas.List.Sorted.{ranks_by, IsPermutation-refl, IsPermutation-trans, IsPermutation-cons, IsPermutation-middle, Contains-permutation}
 use Rattle.jvm_model.specs.declared.program.Origin.{Origin}
 use Rattle.jvm_model.specs.Linking.{IsOrder, class_from}
 
@@ -87,9 +87,6 @@ exists_order all =
     let s = sort (λ (o : Origin). (class_from o).name) (slice_cmp nat_cmp) nat_list_cmp_total all in
     (s.ordered, record { same = s.same; sorted = s.sorted })
 
--- What stands in the order is one of those that it orders, and each of these stands there.
-pub permuted : (all order : List Origin) → IsOrder all order → (o : Origin) → Contains order o → Contains all o
-permuted all order is o among = Contains-permutation order all o (IsPermutation-sym all order is.same) among
-
-pub ordered : (all order : List Origin) → IsOrder all order → (o : Origin) → Contains all o → Contains order o
-ordered all order is o among = Contains-permutation all order o is.same among
+-- Each of these classes stands in the order.
+pub in_order : (all order : List Origin) → IsOrder all order → (o : Origin) → Contains all o → Contains order o
+in_order all order is o among = Contains-permutation all order o is.same among

@@ -4,7 +4,7 @@ use Rattle.std.specs.List.{slice_get, list_any}
 use Rattle.std.specs.Str.{bytes_eq}
 use Rattle.std.proofs.lemmas.Bool.{cases_eq, false≢true}
 use Rattle.std.proofs.lemmas.List.{append-nil, length-append}
-use Rattle.std.proofs.lemmas.Option.{slice_get_within, same_Some, none-some}
+use Rattle.std.proofs.lemmas.Option.{slice_get_within, same_Some}
 use Rattle.std.proofs.lemmas.Slice.Eq.{bytes_eq-Decides}
 use Rattle.jvm_model.specs.declared.stub.StubClass.{StubClass}
 use Rattle.class_index.specs.FirstPlaces.{StandsNowhere}
@@ -37,10 +37,7 @@ patches_one name stubs s is same =
     let both : s.is_patch && bytes_eq s.name name ≡ true = ap (λ (b : Bool). b && bytes_eq s.name name) is ∙ (bytes_eq-Decides s.name name).1 same in
     patches_more name stubs s ∙ ap (λ (b : Bool). patches_for name stubs ++ cond b (s ∷ []) []) both
 
--- a stub that is no patch, or one of another name
-other_kind : (name : List ℕ) (s : StubClass) → s.is_patch ≡ false → s.is_patch && bytes_eq s.name name ≡ false
-other_kind name s e = ap (λ (b : Bool). b && bytes_eq s.name name) e
-
+-- a stub of another name
 other_name : (name : List ℕ) (s : StubClass) → (s.name ≡ name → ⊥) → s.is_patch && bytes_eq s.name name ≡ false
 other_name name s differ = by s.is_patch (bytes_eq s.name name) refl
   where
@@ -50,23 +47,6 @@ other_name name s differ = by s.is_patch (bytes_eq s.name name) refl
     by true true e = absurd (differ ((bytes_eq-Decides s.name name).0 e))
 
 -- ---- lists with one stub more
-
-pub listed_none : AreListed [] [] []
-listed_none = record {
-  distinct = record { one_place = λ i j text at_i at_j. absurd (none-some text at_i) };
-  count = refl;
-  listed = λ place name e. absurd (none-some name e);
-  others = λ name none. refl;
-}
-
-pub listed_other : (stubs : List StubClass) (s : StubClass) (names : List (List ℕ)) (lists : List (List StubClass)) → s.is_patch ≡ false → AreListed stubs names lists
-    → AreListed (stubs ++ s ∷ []) names lists
-listed_other stubs s names lists other are = record {
-  distinct = are.distinct;
-  count = are.count;
-  listed = λ place name at_name. are.listed place name at_name ∙ ap Some (sym (patches_same name stubs s (other_kind name s other)));
-  others = λ name none. patches_same name stubs s (other_kind name s other) ∙ are.others name none;
-}
 
 pub listed_patch : (stubs : List StubClass) (s : StubClass) (names : List (List ℕ)) (lists : List (List StubClass)) (place : ℕ) (list : List StubClass)
     → s.is_patch ≡ true → slice_get names place ≡ Some s.name → slice_get lists place ≡ Some list → AreListed stubs names lists

@@ -1,27 +1,67 @@
--- Classes come from sound class files, and from stubs whose members differ, also with what patches say.
-use Rattle.std.proofs.Common.{◌≡◌, ℕ, ◌<◌, ◌^◌, Bool, true, false, not, ◌&&◌, ◌||◌, List, [], ◌∷◌, length, map, All, refl, sym, ◌∙◌, ap}
+-- Classes come from checked class files, and from stubs that keep the rules of stub files, also with what patches say.
+use Rattle.std.proofs.Common.{◌≡◌, ℕ, Bool, true, false, not, ◌&&◌, ◌||◌, List, [], ◌∷◌, map, filter, All, refl, sym, ◌∙◌, ap}
 use Rattle.std.specs.Prelude.{if◌then◌else◌}
 use Rattle.std.specs.List.{list_any}
 use Rattle.std.specs.Str.{bytes_eq}
 use Rattle.std.proofs.lemmas.Cmp.{nat_list_eq_equiv}
-use Rattle.std.proofs.lemmas.List.Elements.{All-append, All-map, All-weaker, All-filter}
+use Rattle.std.proofs.lemmas.List.Elements.{All-nil, All-cons, All-head, All-tail, All-append, All-map, All-weaker, All-filter}
 use Rattle.std.proofs.lemmas.List.Sorted.{All-permutation}
+use Rattle.jvm_model.specs.declared.class_file.ClassFile.{ClassFile}
 use Rattle.jvm_model.specs.declared.program.NamedClass.{NamedClass}
 use Rattle.jvm_model.specs.declared.program.Origin.{Origin}
 use Rattle.jvm_model.specs.declared.stub.StubClass.{StubClass}
 use Rattle.jvm_model.specs.declared.stub.StubMethod.{StubMethod}
 use Rattle.jvm_model.specs.Automata.{all_differ}
-use Rattle.jvm_model.specs.Linking.{Description, IsOrder, descriptions, folder_origin, origins, own_classes, patches_of, stub_origin, told, with_description, with_descriptions}
-use Rattle.jvm_model.specs.Soundness.{IsSoundClass}
-use Rattle.jvm_model.specs.Spelling.{spell}
+use Rattle.jvm_model.specs.Linking.{Description, IsOrder, descriptions, folder_origin, native_descriptions, origins, own_classes, patches_of, stub_descriptions, stub_origin, told, with_description, with_descriptions}
+use Rattle.jvm_model.specs.StubRules.{IsSoundMethod, IsSoundStub}
 use Rattle.jvm_model.specs.Stubs.{is_same_method}
-use Rattle.linked_program.specs.Origins.{IsSoundOrigin, HasDifferent}
+use Rattle.linked_program.proofs.Pieces.{each_piece}
+use Rattle.linked_program.specs.Origins.{IsSoundOrigin}
+use Rattle.linking.proofs.Building.{and_true}
+use Rattle.linking.specs.LinkTelling.{IsSoundFile}
+use Rattle.linking.specs.Patching.{is_native_in, patches_for}
 
--- ---- truth of tests
+-- ---- descriptions that keep the rules
 
-and_parts : (a b : Bool) → (a && b) ≡ true → (a ≡ true) × (b ≡ true)
-and_parts true b h = (refl, h)
-and_parts false b h = absurd cc
+abbrev IsSoundDescription : Description → Type 0
+IsSoundDescription d = IsSoundMethod d.method
+
+-- one more, and more of them
+sound_with : (held : List Description) (d : Description) → All IsSoundDescription held → IsSoundDescription d → All IsSoundDescription (with_description held d)
+sound_with [] d sound one = All-cons IsSoundDescription d [] one (All-nil IsSoundDescription)
+sound_with (e ∷ others) d sound one =
+    let rest = All-tail IsSoundDescription e others sound in
+    by (is_same_method e.method d.method) (All-head IsSoundDescription e others sound) rest (sound_with others d rest one)
+  where
+    by : (b : Bool) → IsSoundDescription e → All IsSoundDescription others → All IsSoundDescription (with_description others d)
+        → All IsSoundDescription (if b then d ∷ others else e ∷ with_description others d)
+    by true first rest more = All-cons IsSoundDescription d others one rest
+    by false first rest more = All-cons IsSoundDescription e (with_description others d) first more
+
+sound_with_all : (held ds : List Description) → All IsSoundDescription held → All IsSoundDescription ds → All IsSoundDescription (with_descriptions held ds)
+sound_with_all held [] sound more = sound
+sound_with_all held (d ∷ ds) sound more =
+    sound_with_all (with_description held d) ds (sound_with held d sound (All-head IsSoundDescription d ds more)) (All-tail IsSoundDescription d ds more)
+
+-- what they tell keeps the rules
+told_sound : (ds : List Description) → All IsSoundDescription ds → All IsSoundMethod (told ds)
+told_sound ds sound = All-map IsSoundMethod (λ (d : Description). d.method) ds sound
+
+own_sound : (c : StubClass) → IsSoundStub c → All IsSoundDescription (descriptions c)
+own_sound c sound = All-map IsSoundDescription (λ (m : StubMethod). record { method = m; file = c.file }) c.methods sound.methods
+
+patches_sound : (name : List ℕ) (stubs : List StubClass) → All IsSoundStub stubs → All IsSoundDescription (patches_of name stubs)
+patches_sound name stubs sound =
+    let found = patches_for name stubs in
+    each_piece IsSoundDescription descriptions found
+    (All-weaker IsSoundStub (λ (c : StubClass). All IsSoundDescription (descriptions c)) own_sound found (All-filter (λ (s : StubClass). s.is_patch && bytes_eq s.name name) IsSoundStub stubs sound))
+
+natives_sound : (stubs : List StubClass) (c : ClassFile) (name : List ℕ) → All IsSoundStub stubs → All IsSoundDescription (with_descriptions [] (filter (is_native_in c) (patches_of name stubs)))
+natives_sound stubs c name sound =
+    sound_with_all [] (filter (is_native_in c) (patches_of name stubs)) (All-nil IsSoundDescription)
+    (All-filter (is_native_in c) IsSoundDescription (patches_of name stubs) (patches_sound name stubs sound))
+
+-- ---- descriptions of different methods
 
 or_parts : (a b : Bool) → (a || b) ≡ false → (a ≡ false) × (b ≡ false)
 or_parts true b h = absurd cc
@@ -31,12 +71,10 @@ not-true : (b : Bool) → not b ≡ true → b ≡ false
 not-true true h = absurd cc
 not-true false h = refl
 
--- ---- descriptions
-
 -- methods of one name and descriptor are the same as the same ones
 same-alike : (m n other : StubMethod) → is_same_method m n ≡ true → is_same_method m other ≡ is_same_method n other
 same-alike m n other h =
-    let parts = and_parts (bytes_eq m.name n.name) (bytes_eq m.descriptor n.descriptor) h in
+    let parts = and_true (bytes_eq m.name n.name) (bytes_eq m.descriptor n.descriptor) h in
     let by_name = nat_list_eq_equiv.congr m.name n.name other.name parts.0 in
     let by_descriptor = nat_list_eq_equiv.congr m.descriptor n.descriptor other.descriptor parts.1 in
     (λ i. by_name i && by_descriptor i)
@@ -57,7 +95,7 @@ none_with test (e ∷ others) d none fails =
 differ_with : (held : List Description) (d : Description) → all_differ is_same_method (told held) ≡ true → all_differ is_same_method (told (with_description held d)) ≡ true
 differ_with [] d differ = refl
 differ_with (e ∷ others) d differ =
-    let parts = and_parts (not (list_any (is_same_method e.method) (told others))) (all_differ is_same_method (told others)) differ in
+    let parts = and_true (not (list_any (is_same_method e.method) (told others))) (all_differ is_same_method (told others)) differ in
     by parts.0 parts.1 (is_same_method e.method d.method) refl (differ_with others d parts.1)
   where
     by : not (list_any (is_same_method e.method) (told others)) ≡ true → all_differ is_same_method (told others) ≡ true → (b : Bool) → is_same_method e.method d.method ≡ b
@@ -81,27 +119,35 @@ told_of : (file : List ℕ) (methods : List StubMethod) → told (map (λ m. rec
 told_of file [] = refl
 told_of file (m ∷ methods) = ap (λ (ms : List StubMethod). m ∷ ms) (told_of file methods)
 
-stub_differs : (stubs : List StubClass) (c : StubClass) → HasDifferent c → IsSoundOrigin (stub_origin stubs c)
-stub_differs stubs c has = record {
-  methods =
-      let own : all_differ is_same_method (told (descriptions c)) ≡ true = ap (all_differ is_same_method) (told_of c.file c.methods) ∙ has.methods in
-      differ_with_all (descriptions c) (patches_of c.name stubs) own;
-  fields = has.fields;
-}
-
 -- ---- all classes
 
+file_sound : (stubs : List StubClass) → All IsSoundStub stubs → (f : NamedClass) → IsSoundFile f → IsSoundOrigin (folder_origin stubs f)
+file_sound stubs sound f checked = (checked, told_sound (native_descriptions stubs f.class) (natives_sound stubs f.class _ sound))
+
+stub_sound : (stubs : List StubClass) → All IsSoundStub stubs → (c : StubClass) → IsSoundStub c → IsSoundOrigin (stub_origin stubs c)
+stub_sound stubs all c sound = record {
+  name = sound.name;
+  super_class = sound.super_class;
+  interfaces = sound.interfaces;
+  methods = told_sound (stub_descriptions stubs c) (sound_with_all (descriptions c) (patches_of c.name stubs) (own_sound c sound) (patches_sound c.name stubs all));
+  fields = sound.fields;
+  methods_differ =
+      let own : all_differ is_same_method (told (descriptions c)) ≡ true = ap (all_differ is_same_method) (told_of c.file c.methods) ∙ sound.methods_differ in
+      differ_with_all (descriptions c) (patches_of c.name stubs) own;
+  fields_differ = sound.fields_differ;
+  patch = sound.patch;
+}
+
 -- The classes that are linked come from where they may come from.
-pub sound_origins : (files : List NamedClass) (stubs : List StubClass) → All (λ (f : NamedClass). IsSoundClass f.class × (length (spell f.class) < 2 ^ 32)) files → All HasDifferent stubs
-    → All IsSoundOrigin (origins files stubs)
-sound_origins files stubs sound different =
-    let own = All-filter (λ (s : StubClass). not s.is_patch) HasDifferent stubs different in
-    let of_stubs = All-weaker HasDifferent (λ (c : StubClass). IsSoundOrigin (stub_origin stubs c)) (stub_differs stubs) (own_classes stubs) own in
+sound_origins : (files : List NamedClass) (stubs : List StubClass) → All IsSoundFile files → All IsSoundStub stubs → All IsSoundOrigin (origins files stubs)
+sound_origins files stubs checked sound =
+    let of_files = All-weaker IsSoundFile (λ (f : NamedClass). IsSoundOrigin (folder_origin stubs f)) (file_sound stubs sound) files checked in
+    let own = All-filter (λ (s : StubClass). not s.is_patch) IsSoundStub stubs sound in
+    let of_stubs = All-weaker IsSoundStub (λ (c : StubClass). IsSoundOrigin (stub_origin stubs c)) (stub_sound stubs sound) (own_classes stubs) own in
     All-append IsSoundOrigin (map (folder_origin stubs) files) (map (stub_origin stubs) (own_classes stubs))
-    (All-map IsSoundOrigin (folder_origin stubs) files sound)
+    (All-map IsSoundOrigin (folder_origin stubs) files of_files)
     (All-map IsSoundOrigin (stub_origin stubs) (own_classes stubs) of_stubs)
 
 -- So they do in their order.
-pub sound_order : (files : List NamedClass) (stubs : List StubClass) → All (λ (f : NamedClass). IsSoundClass f.class × (length (spell f.class) < 2 ^ 32)) files → All HasDifferent stubs
-    → (order : List Origin) → IsOrder (origins files stubs) order → All IsSoundOrigin order
-sound_order files stubs sound different order is = All-permutation IsSoundOrigin (origins files stubs) order is.same (sound_origins files stubs sound different)
+pub sound_order : (files : List NamedClass) (stubs : List StubClass) → All IsSoundFile files → All IsSoundStub stubs → (order : List Origin) → IsOrder (origins files stubs) order → All IsSoundOrigin order
+sound_order files stubs checked sound order is = All-permutation IsSoundOrigin (origins files stubs) order is.same (sound_origins files stubs checked sound)

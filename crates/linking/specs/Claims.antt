@@ -4,7 +4,7 @@ use Rattle.jvm_model.specs.declared.access.AccessFlag.TheVariants.{Interface}
 use Rattle.jvm_model.specs.Access.{has_flag}
 use Rattle.jvm_model.specs.declared.program.NamedClass.{NamedClass}
 use Rattle.jvm_model.specs.declared.stub.StubClass.{StubClass}
-use Rattle.jvm_model.specs.Linking.{Claim, claim, Demand, differs, is_there, of_kind, no_cycle, NamedSuper, there_claim, kind_claim, AreMet, IsFirstUnmet, Meets, program_from, origins, own_classes}
+use Rattle.jvm_model.specs.Linking.{Claim, Demand, is_there, of_kind, no_cycle, NamedSuper, there_claim, kind_claim, AreMet, IsFirstUnmet, Meets, program_from, origins, own_classes}
 use Rattle.jvm_model.specs.Programs.{Class, Program, name_of}
 use Rattle.class_index.specs.FirstPlaces.{StandsNowhere}
 use Rattle.class_index.specs.TextNumbers.{with_text}
@@ -15,7 +15,7 @@ use Rattle.linking.specs.declared.supers.SuperRule.TheVariants.{There, Kind}
 
 -- ---- what is told
 
--- The end tells the first demand that is not met. Want of memory tells nothing.
+-- The end tells the first demand that is not met. Where memory ran out, nothing is told.
 abbrev pub TellsEnd : Program → List Claim → LinkEnd → Type 0
 TellsEnd p claims (Refused refusal) = IsFirstUnmet p refusal claims
 TellsEnd p claims Memory = Unit {0}
@@ -109,7 +109,3 @@ own_kind c = if c.is_patch then [] else c.is_interface ∷ []
 abbrev pub with_own_names : List (List ℕ) → List StubClass → List (List ℕ)
 with_own_names texts [] = texts
 with_own_names texts (c ∷ stubs) = with_own_names (if c.is_patch then texts else with_text texts c.name) stubs
-
--- what is demanded of the name of a stub that is a class of its own
-abbrev pub own_claim : List (List ℕ) → StubClass → List Claim
-own_claim earlier c = if c.is_patch then [] else claim c.file 0 (differs earlier c.name) ∷ []

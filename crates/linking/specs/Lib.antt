@@ -2,4 +2,5 @@ pub mod Claims
 pub mod Patching
 pub mod PatchLists
 pub mod Supers
+pub mod StubSources
 pub mod LinkTelling

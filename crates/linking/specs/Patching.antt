@@ -10,9 +10,12 @@ use Rattle.jvm_model.specs.declared.stub.StubClass.{StubClass}
 use Rattle.jvm_model.specs.declared.stub.StubMethod.{StubMethod}
 use Rattle.jvm_model.specs.Access.{has_flag}
 use Rattle.jvm_model.specs.Linking.{Description, describes, with_description}
+use Rattle.jvm_model.specs.Lookups.{Signature}
 use Rattle.jvm_model.specs.Programs.{signature_of}
+use Rattle.jvm_model.specs.Stubs.{stub_signature}
 use Rattle.linking.specs.declared.descriptions.Described.{Described}
 use Rattle.class_index.specs.MemberKeys.{Key}
+use Rattle.linked_program.specs.MemberLists.{key_in}
 
 -- the description that is lent
 abbrev pub description_of : Described → Description
@@ -20,15 +23,18 @@ description_of d = record { method = d.method.now; file = d.file.now }
 
 -- what tells the descriptions of one class apart
 abbrev pub method_key : Description → Key
-method_key d = record { class = 0; name = d.method.name; descriptor = d.method.descriptor }
+method_key d = key_in 0 (stub_signature d.method)
 
 -- the patches of the class of a name
 abbrev pub patches_for : List ℕ → List StubClass → List StubClass
 patches_for name stubs = filter (λ (s : StubClass). s.is_patch && bytes_eq s.name name) stubs
 
--- a native method by whether it is static, its name and its descriptor
+-- a native method by whether it is static, in place of the number of a class, and by its name and descriptor
+abbrev pub static_key : Bool → Signature → Key
+static_key is_static s = key_in (if is_static then 1 else 0) s
+
 abbrev pub member_key : List PoolEntry → Member → Key
-member_key pool m = record { class = if has_flag m.flags Static then 1 else 0; name = (signature_of pool m).name; descriptor = (signature_of pool m).descriptor }
+member_key pool m = static_key (has_flag m.flags Static) (signature_of pool m)
 
 abbrev pub native_key : List PoolEntry → Member → List Key
 native_key pool m = if has_flag m.flags Native then member_key pool m ∷ [] else []
@@ -38,7 +44,7 @@ native_keys pool methods = map (member_key pool) (filter (λ (m : Member). has_f
 
 -- the native method that a stub would describe
 abbrev pub described_key : StubMethod → Key
-described_key m = record { class = if m.is_static then 1 else 0; name = m.name; descriptor = m.descriptor }
+described_key m = static_key m.is_static (stub_signature m)
 
 -- the description is that of a native method of the class file
 abbrev pub is_native_in : ClassFile → Description → Bool

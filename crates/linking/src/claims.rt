@@ -1,11 +1,10 @@
 //! What linking demands before the classes are put in order: that their names differ, that what they name is there, and that
 //! it is of the right kind (JVMS 5.3, 5.3.5). Each check tells the first demand that is not met.
 
-ghost use Rattle.std.specs.Prelude.{◌≡◌, ◌<◌, ◌^◌, length, All};
+ghost use Rattle.std.specs.Prelude.{◌≡◌, All};
 ghost use Rattle.linking.specs.Claims.{TellsClaims, Knows, unsorted};
-ghost use Rattle.jvm_model.specs.declared.program.NamedClass.{NamedClass};
 ghost use Rattle.jvm_model.specs.Linking.{own_classes, name_claims, there_claims, kind_claims};
-ghost use Rattle.jvm_model.specs.Spelling.{spell};
+ghost use Rattle.linking.specs.LinkTelling.{IsSoundFile};
 
 use crate::class_names::{check_file_names, check_stub_names, stub_names};
 use crate::known::Known;
@@ -16,9 +15,10 @@ use jvm_model::{NamedClass, StubClass};
 use linked_program::link_end::LinkEnd;
 use std::alloc::Global;
 
-/// The names of all classes differ: of class files among each other and from all stubs, and then of stubs among each other.
+/// The names of all classes differ: of class files among each other and from all stubs; and then of stubs among each other, those
+/// that are there from the start first.
 pub fn check_names(alloc: Global, files: &[NamedClass], stubs: &[StubClass]) -> Result<(), LinkEnd>
-    requires { All (λ (f : NamedClass). length (spell f.class) < 2 ^ 32) files.now }
+    requires { All IsSoundFile files.now }
     ensures { TellsClaims (unsorted files.now stubs.now) (name_claims files.now (own_classes stubs.now)) result }
 {
     let others = stub_names(alloc, stubs)?;
@@ -37,7 +37,7 @@ pub fn check_presence(
 ) -> Result<(), LinkEnd>
     requires known { Knows known.now (unsorted files.now stubs.now) }
     requires patches { patches.now ≡ stubs.now }
-    requires sizes { All (λ (f : NamedClass). length (spell f.class) < 2 ^ 32) files.now }
+    requires files { All IsSoundFile files.now }
     ensures { TellsClaims (unsorted files.now stubs.now) (there_claims files.now stubs.now) result }
 {
     check_supers_of_files(alloc, known, SuperRule::There, files)?;
@@ -53,7 +53,7 @@ pub fn check_kinds(
     stubs: &[StubClass],
 ) -> Result<(), LinkEnd>
     requires known { Knows known.now (unsorted files.now stubs.now) }
-    requires sizes { All (λ (f : NamedClass). length (spell f.class) < 2 ^ 32) files.now }
+    requires files { All IsSoundFile files.now }
     ensures { TellsClaims (unsorted files.now stubs.now) (kind_claims files.now (own_classes stubs.now)) result }
 {
     check_supers_of_files(alloc, known, SuperRule::Kind, files)?;

@@ -1,20 +1,56 @@
 //! The names of classes differ.
 
-ghost use Rattle.std.specs.Prelude.{◌≡◌, ℕ, ◌<◌, ◌^◌, List, [], ◌∷◌, ◌++◌, length, All, IfOk, OnOk, IfErr};
+ghost use Rattle.std.specs.Prelude.{◌≡◌, ℕ, List, [], ◌∷◌, ◌++◌, map, All, IfOk, OnOk, IfErr};
 ghost use Rattle.class_index.specs.FirstPlaces.{StandsNowhere};
 ghost use Rattle.linked_program.specs.declared.link_end.LinkEnd.TheVariants.{Memory};
-ghost use Rattle.linking.specs.Claims.{TellsClaims, HasTextsOf, with_own_names, file_name, own_name, own_claim};
-ghost use Rattle.jvm_model.specs.declared.program.NamedClass.{NamedClass};
-ghost use Rattle.jvm_model.specs.Linking.{claim, differs, this_class_offset, file_claims, stub_claims, own_classes};
+ghost use Rattle.linking.specs.Claims.{TellsClaims, HasTextsOf, with_own_names, file_name, stub_name};
+ghost use Rattle.linking.specs.LinkTelling.{IsSoundFile};
+ghost use Rattle.linking.specs.StubSources.{is_from, is_own_from, one_from, own_from};
+ghost use Rattle.jvm_model.specs.Linking.{base_first, claim, differs, file_claims, is_base_stub, own_classes, stub_claims};
 ghost use Rattle.jvm_model.specs.Programs.{Program};
-ghost use Rattle.jvm_model.specs.Spelling.{spell};
+ghost use Rattle.jvm_model.specs.Soundness.{this_class_offset};
 
 use class_index::text_index::TextIndex;
 use class_index::texts::class_text;
-use jvm_model::layout::flags_offset;
+use jvm_model::layout::this_class_offset;
 use jvm_model::{Name, NamedClass, Reason, StubClass};
 use linked_program::link_end::{LinkEnd, refused};
 use std::alloc::{AllocError, Global};
+
+/// Where stubs come from.
+#[derive(Clone, Copy)]
+pub(crate) enum StubSource {
+    /// They are there from the start, and a minus stands for their file.
+    Base,
+    /// They are those of the user's files.
+    User,
+}
+
+impl StubSource {
+    /// Whether a stub comes from here.
+    fn has(self, c: &StubClass) -> bool
+        ensures { result ≡ is_from self c.now }
+    {
+        match self {
+            StubSource::Base => is_base_stub(c),
+            StubSource::User => !is_base_stub(c),
+        }
+    }
+
+    /// Whether a stub comes from here and is a class of its own.
+    fn has_class(self, c: &StubClass) -> bool
+        ensures { result ≡ is_own_from self c.now }
+    {
+        !c.is_patch && self.has(c)
+    }
+}
+
+/// Whether a stub is there from the start: a minus stands for its file.
+fn is_base_stub(c: &StubClass) -> bool
+    ensures { result ≡ is_base_stub c.now }
+{
+    c.file.as_str() == "-"
+}
 
 /// The names of the stubs that are classes of their own.
 pub(crate) fn stub_names(alloc: Global, stubs: &[StubClass]) -> Result<TextIndex, AllocError>
@@ -44,7 +80,7 @@ pub(crate) fn check_file_names(
     others: &TextIndex,
     files: &[NamedClass],
 ) -> Result<(), LinkEnd>
-    requires { All (λ (f : NamedClass). length (spell f.class) < 2 ^ 32) files.now }
+    requires { All IsSoundFile files.now }
     ensures { (p : Program) (names : List (List ℕ)) → HasTextsOf others.now names → TellsClaims p (file_claims names [] files.now) result }
 {
     let mut earlier = TextIndex::new(alloc);
@@ -61,39 +97,60 @@ fn check_file_name(
     earlier: &mut TextIndex,
     f: &NamedClass,
 ) -> Result<(), LinkEnd>
-    requires { length (spell f.now.class) < 2 ^ 32 }
+    requires { IsSoundFile f.now }
     ensures added { OnOk result (earlier.new ≡ earlier.old ++ file_name f.now ∷ []) }
     ensures told { (p : Program) (names : List (List ℕ)) → HasTextsOf others.now names
         → TellsClaims p (claim f.now.file (this_class_offset f.now.class) (differs (earlier.old ++ names) (file_name f.now)) ∷ []) result }
 {
     let name = class_text(f.class.pool.as_slice(), f.class.this_class);
-    let offset = flags_offset(&f.class) + 2;
+    let offset = this_class_offset(&f.class);
     match others.find(name) {
         Some(_) => Err(refused(alloc, &f.file, offset, Reason::DuplicateClass)),
         None => add_name(alloc, earlier, name, &f.file, offset),
     }
 }
 
-/// The names of stubs that are classes of their own differ from those of earlier ones.
+/// The names of stubs that are classes of their own differ from those of earlier ones, where those that are there from the start
+/// come first.
 pub(crate) fn check_stub_names(alloc: Global, stubs: &[StubClass]) -> Result<(), LinkEnd>
-    ensures { (p : Program) → TellsClaims p (stub_claims [] (own_classes stubs.now)) result }
+    ensures { (p : Program) → TellsClaims p (stub_claims [] (base_first (own_classes stubs.now))) result }
 {
     let mut earlier = TextIndex::new(alloc);
+    check_names_from(alloc, StubSource::Base, &mut earlier, stubs)?;
+    check_names_from(alloc, StubSource::User, &mut earlier, stubs)
+}
+
+/// The names of stubs of a source that are classes of their own differ from the earlier ones, to which they are added.
+fn check_names_from(
+    alloc: Global,
+    source: StubSource,
+    earlier: &mut TextIndex,
+    stubs: &[StubClass],
+) -> Result<(), LinkEnd>
+    ensures added { OnOk result (earlier.new ≡ earlier.old ++ map stub_name (own_from source stubs.now)) }
+    ensures told { (p : Program) → TellsClaims p (stub_claims earlier.old (own_from source stubs.now)) result }
+{
     for c in stubs {
-        check_stub_name(alloc, &mut earlier, c)?;
+        check_stub_name(alloc, source, earlier, c)?;
     }
     Ok(())
 }
 
-/// The name of a stub that is a class of its own differs from the earlier ones, to which it is added.
-fn check_stub_name(alloc: Global, earlier: &mut TextIndex, c: &StubClass) -> Result<(), LinkEnd>
-    ensures added { OnOk result (earlier.new ≡ earlier.old ++ own_name c.now) }
-    ensures told { (p : Program) → TellsClaims p (own_claim earlier.old c.now) result }
+/// The name of a stub, if it is one of the source and a class of its own, differs from the earlier ones, to which it is added.
+fn check_stub_name(
+    alloc: Global,
+    source: StubSource,
+    earlier: &mut TextIndex,
+    c: &StubClass,
+) -> Result<(), LinkEnd>
+    ensures added { OnOk result (earlier.new ≡ earlier.old ++ map stub_name (one_from source c.now)) }
+    ensures told { (p : Program) → TellsClaims p (stub_claims earlier.old (one_from source c.now)) result }
 {
-    if c.is_patch {
-        return Ok(());
+    if source.has_class(c) {
+        add_name(alloc, earlier, c.name.as_slice(), &c.file, 0)
+    } else {
+        Ok(())
     }
-    add_name(alloc, earlier, c.name.as_slice(), &c.file, 0)
 }
 
 /// Adds a name that is none of the earlier ones.

@@ -2,8 +2,12 @@
 
 ghost use Rattle.std.specs.Prelude.{◌≡◌, [], ◌∷◌, ◌++◌, map, OnOk, IfOk};
 ghost use Rattle.linking.specs.Patching.{description_of};
+ghost use Rattle.class_index.specs.MemberKeys.{key_of};
 ghost use Rattle.jvm_model.specs.Linking.{with_description, with_descriptions, descriptions};
+ghost use Rattle.jvm_model.specs.Stubs.{stub_signature};
+ghost use Rattle.linked_program.specs.MemberLists.{key_in};
 
+use crate::keys::{key_in, stub_signature};
 use class_index::member_index::MemberIndex;
 use class_index::member_key::MemberKey;
 use jvm_model::{Name, StubClass, StubMethod};
@@ -38,15 +42,9 @@ impl<'a> Model for Descriptions<'a> {
 
 /// The key of a description among those of one class.
 fn key_of_method(method: &StubMethod) -> MemberKey<'_>
-    ensures class { result.class ≡ 0 }
-    ensures name { result.name.now ≡ method.now.name }
-    ensures descriptor { result.descriptor.now ≡ method.now.descriptor }
+    ensures { key_of result ≡ key_in 0 (stub_signature method.entry.now) }
 {
-    MemberKey {
-        class: 0,
-        name: method.name.as_slice(),
-        descriptor: method.descriptor.as_slice(),
-    }
+    key_in(0, stub_signature(method))
 }
 
 impl<'a> Descriptions<'a> {

@@ -5,6 +5,7 @@ mod claims;
 mod class_names;
 mod copies;
 mod descriptions;
+mod keys;
 mod known;
 pub mod link;
 mod mentions;

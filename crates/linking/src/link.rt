@@ -1,13 +1,13 @@
 //! Linking: from the class files of a folder and from stubs to one program.
 
-ghost use Rattle.std.specs.Prelude.{◌≡◌, ◌<◌, ◌^◌, length, All};
+ghost use Rattle.std.specs.Prelude.{◌≡◌, All, IfOk};
 ghost use Rattle.std.specs.Ordering.{nat_cmp};
 ghost use Rattle.std.specs.Cmp.Lexicographic.{slice_cmp};
-ghost use Rattle.jvm_model.specs.Linking.{IsOrder, class_from};
-ghost use Rattle.jvm_model.specs.Spelling.{spell};
+ghost use Rattle.jvm_model.specs.LinkedPrograms.{HasStubClasses};
+ghost use Rattle.jvm_model.specs.Linking.{IsFileOrder, IsOrder, class_from};
+ghost use Rattle.jvm_model.specs.StubRules.{IsSoundStub};
 ghost use Rattle.linking.specs.Claims.{TellsClaims, unsorted};
-ghost use Rattle.linking.specs.LinkTelling.{flat_claims, IsSoundFile, TellsLink};
-ghost use Rattle.linked_program.specs.Origins.{HasDifferent};
+ghost use Rattle.linking.specs.LinkTelling.{flat_claims, IsSoundFile, TellsLink, TellsLinkInOrder};
 
 use crate::claims::{check_kinds, check_names, check_presence};
 use crate::known::known_classes;
@@ -20,31 +20,50 @@ use linked_program::program::Program;
 use std::alloc::Global;
 use std::cmp::Ordering;
 
-/// Links class files, in byte order of their files' names, and stubs to a program (JVMS 5.3). Patches add to the classes of
-/// their names. The class files are moved.
+/// Links class files and stubs to a program (JVMS 5.3). The class files, in whatever order they come, are taken in byte order of the
+/// names of their files, and are moved. Patches add to the classes of their names.
 ///
 /// Refused at the first demand that is not met, of these in order:
 ///
 /// - `DuplicateClass` at the index of the class itself in a file, if an earlier file or a stub has its name; and at a stub's
-///   file, if an earlier stub has its name;
+///   file, if an earlier stub has its name, where the stubs that are there from the start come before those of the user's files;
 /// - `MissingClass` at the index of a supertype that is not there; and at a stub's file, if a supertype is not there, or a class
 ///   that a result, an exception or a field mentions;
 /// - `KindMismatch` at the index of a superclass that is an interface, or of a superinterface that is none; or at a stub's file;
 /// - `Cycle` at the index of the class itself, or at a stub's file, for the class of the least name that is above itself
 ///   (5.3.5).
 ///
-/// What is told at a stub's file has the offset 0. `Memory` is want of memory, or of a number of 32 bits for a class or a member.
+/// What is told at a stub's file has the offset 0. `Memory` is reported out of memory, and where 32 bits do not number the classes
+/// or the members.
+///
+/// Each stub that is a class of its own is a class of the program, as it describes itself.
 pub fn link(
     alloc: Global,
-    classes: Vec<NamedClass>,
+    mut classes: Vec<NamedClass>,
     stubs: Vec<StubClass>,
 ) -> Result<Program, LinkEnd>
     requires files { All IsSoundFile classes.items }
-    requires stubs { All HasDifferent stubs.items }
-    ensures { TellsLink classes.items stubs.items result }
+    requires stubs { All IsSoundStub stubs.items }
+    ensures tells { TellsLink classes.items stubs.items result }
+    ensures base { IfOk result (λ p. HasStubClasses p stubs.items) }
 {
-    check(alloc, &classes, &stubs)?;
-    let mut order = origins(alloc, classes, stubs)?;
+    put_files_in_order(&mut classes);
+    link_in_order(alloc, classes, stubs)
+}
+
+/// Links class files that are in byte order of the names of their files, and stubs.
+fn link_in_order(
+    alloc: Global,
+    files: Vec<NamedClass>,
+    stubs: Vec<StubClass>,
+) -> Result<Program, LinkEnd>
+    requires files { All IsSoundFile files.items }
+    requires stubs { All IsSoundStub stubs.items }
+    ensures tells { TellsLinkInOrder files.items stubs.items result }
+    ensures base { IfOk result (λ p. HasStubClasses p stubs.items) }
+{
+    check(alloc, &files, &stubs)?;
+    let mut order = origins(alloc, files, stubs)?;
     put_in_order(&mut order);
     Program::assemble(alloc, order)
 }
@@ -59,6 +78,17 @@ fn check(alloc: Global, files: &[NamedClass], stubs: &[StubClass]) -> Result<(),
     let patches = Patches::new(alloc, stubs)?;
     check_presence(alloc, &known, &patches, files, stubs)?;
     check_kinds(alloc, &known, files, stubs)
+}
+
+/// Puts class files in byte order of the names of their files.
+fn put_files_in_order(files: &mut Vec<NamedClass>)
+    ensures { IsFileOrder files.old.items files.new.items }
+{
+    files.sort_unstable_by(
+        |a: &NamedClass, b: &NamedClass| -> Ordering
+            ensures { result ≡ slice_cmp nat_cmp a.now.file b.now.file }
+        { a.file.as_str().cmp(b.file.as_str()) },
+    );
 }
 
 /// Puts classes in byte order of their names.

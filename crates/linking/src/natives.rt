@@ -2,13 +2,17 @@
 
 ghost use Rattle.std.specs.Prelude.{◌≡◌, ◌++◌, IfOk, OnOk};
 ghost use Rattle.std.specs.List.{list_any};
-ghost use Rattle.linking.specs.Patching.{member_key, described_key, native_key, native_keys};
+ghost use Rattle.linking.specs.Patching.{static_key, member_key, described_key, native_key, native_keys};
 ghost use Rattle.class_index.specs.MemberKeys.{key_of};
 ghost use Rattle.jvm_model.specs.Linking.{describes};
+ghost use Rattle.jvm_model.specs.Lookups.{lent_signature};
+ghost use Rattle.jvm_model.specs.Programs.{signature_of};
 
+use crate::keys::{key_in, stub_signature};
 use class_index::member_index::MemberIndex;
 use class_index::member_key::MemberKey;
 use class_index::texts::plain_text;
+use jvm_model::lookup::Signature;
 use jvm_model::{AccessFlag, ClassFile, Member, PoolEntry, StubMethod};
 use std::alloc::{AllocError, Global};
 use std::marker::Model;
@@ -32,26 +36,36 @@ impl<'a> Model for Natives<'a> {
     ghost invariant = { λ n. n.index ≡ native_keys n.class.now.pool n.class.now.methods };
 }
 
-/// The key of a method of a class file: in place of the number of a class it tells whether the method is static.
-fn key_of_member<'a>(pool: &'a [PoolEntry], member: &Member) -> MemberKey<'a>
-    ensures { key_of result ≡ member_key pool.entry.now member.now }
+/// The key of a method, which tells in place of the number of a class whether the method is static.
+fn static_key(is_static: bool, signature: Signature<'_>) -> MemberKey<'_>
+    ensures { key_of result ≡ static_key is_static (lent_signature signature.entry) }
 {
-    MemberKey {
-        class: u32::from(AccessFlag::Static.is_set_in(member.flags)),
+    key_in(u32::from(is_static), signature)
+}
+
+/// The name and the descriptor of a method of a class file.
+fn signature_of<'a>(pool: &'a [PoolEntry], member: &Member) -> Signature<'a>
+    ensures { lent_signature result ≡ signature_of pool.entry.now member.now }
+{
+    Signature {
         name: plain_text(pool, member.name),
         descriptor: plain_text(pool, member.descriptor),
     }
+}
+
+/// The key of a method of a class file.
+fn key_of_member<'a>(pool: &'a [PoolEntry], member: &Member) -> MemberKey<'a>
+    ensures { key_of result ≡ member_key pool.entry.now member.now }
+{
+    let is_static = AccessFlag::Static.is_set_in(member.flags);
+    static_key(is_static, signature_of(pool, member))
 }
 
 /// The key of the method that a stub would describe.
 fn key_of_described(method: &StubMethod) -> MemberKey<'_>
     ensures { key_of result ≡ described_key method.entry.now }
 {
-    MemberKey {
-        class: u32::from(method.is_static),
-        name: method.name.as_slice(),
-        descriptor: method.descriptor.as_slice(),
-    }
+    static_key(method.is_static, stub_signature(method))
 }
 
 /// The index of the native ones of methods.

@@ -1,6 +1,6 @@
 //! What is known of the methods of a class with what patches add to it.
 
-ghost use Rattle.std.specs.Prelude.{◌≡◌, ◌++◌, map, flat_map, filter, IfOk, OnOk};
+ghost use Rattle.std.specs.Prelude.{◌≡◌, map, flat_map, filter, IfOk, OnOk};
 ghost use Rattle.linking.specs.Patching.{description_of, is_native_in, with_native};
 ghost use Rattle.jvm_model.specs.Linking.{descriptions, with_descriptions, stub_descriptions, native_descriptions};
 

@@ -1,19 +1,18 @@
 //! What linking demands of supertypes: that they are there, and of the right kind (JVMS 5.3.5). Each check tells the first demand
 //! that is not met.
 
-ghost use Rattle.std.specs.Prelude.{◌≡◌, ℕ, ◌+◌, ◌*◌, ◌<◌, ◌^◌, [], ◌∷◌, ◌++◌, length, map, flat_map, All, option_map};
+ghost use Rattle.std.specs.Prelude.{[], ◌∷◌, map, flat_map, All};
 ghost use Rattle.std.specs.Option.{option_to_list};
-ghost use Rattle.linking.specs.Claims.{TellsClaims, Knows, unsorted, super_claim, of_own};
+ghost use Rattle.linking.specs.Claims.{TellsClaims, super_claim, of_own};
 ghost use Rattle.linking.specs.Supers.{named_super, stub_superclass, stub_interfaces};
-ghost use Rattle.jvm_model.specs.declared.program.NamedClass.{NamedClass};
-ghost use Rattle.jvm_model.specs.Linking.{claim, differs, is_there, of_kind, own_classes, interface_places, superclass_place, supers_of_file, supers_of_stub, kind_claims};
+ghost use Rattle.jvm_model.specs.Linking.{claim, is_there, of_kind, own_classes, interface_places, superclass_place, supers_of_file, supers_of_stub};
 ghost use Rattle.jvm_model.specs.Lookups.{class_name_at};
 ghost use Rattle.jvm_model.specs.Soundness.{interfaces_offset};
-ghost use Rattle.jvm_model.specs.Spelling.{spell};
+ghost use Rattle.linking.specs.LinkTelling.{IsSoundFile};
 
 use crate::known::Known;
 use class_index::texts::class_text;
-use jvm_model::layout::{flags_offset, interfaces_offset};
+use jvm_model::layout::{interfaces_offset, super_class_offset};
 use jvm_model::lookup::class_name_at;
 use jvm_model::{Name, NamedClass, Reason, StubClass};
 use linked_program::link_end::{LinkEnd, refused};
@@ -93,13 +92,13 @@ fn check_superclass(
     rule: SuperRule,
     f: &NamedClass,
 ) -> Result<(), LinkEnd>
-    requires { length (spell f.now.class) < 2 ^ 32 }
+    requires { IsSoundFile f.now }
     ensures { TellsClaims known.now (map (super_claim rule) (map (superclass_place f.now) (option_to_list (class_name_at f.now.class.pool f.now.class.super_class)))) result }
 {
     match class_name_at(f.class.pool.as_slice(), f.class.super_class) {
         None => Ok(()),
         Some(name) => {
-            let offset = flags_offset(&f.class) + 4;
+            let offset = super_class_offset(&f.class);
             let s = Super {
                 name,
                 as_interface: false,
@@ -118,7 +117,7 @@ fn check_interfaces(
     rule: SuperRule,
     f: &NamedClass,
 ) -> Result<(), LinkEnd>
-    requires { length (spell f.now.class) < 2 ^ 32 }
+    requires { IsSoundFile f.now }
     ensures { TellsClaims known.now (map (super_claim rule) (interface_places f.now.file f.now.class.pool (interfaces_offset f.now.class) f.now.class.interfaces)) result }
 {
     let pool = f.class.pool.as_slice();
@@ -143,7 +142,7 @@ fn check_file_supers(
     rule: SuperRule,
     f: &NamedClass,
 ) -> Result<(), LinkEnd>
-    requires { length (spell f.now.class) < 2 ^ 32 }
+    requires { IsSoundFile f.now }
     ensures { TellsClaims known.now (map (super_claim rule) (supers_of_file f.now)) result }
 {
     check_superclass(alloc, known, rule, f)?;
@@ -157,7 +156,7 @@ pub(crate) fn check_supers_of_files(
     rule: SuperRule,
     files: &[NamedClass],
 ) -> Result<(), LinkEnd>
-    requires { All (λ (f : NamedClass). length (spell f.class) < 2 ^ 32) files.now }
+    requires { All IsSoundFile files.now }
     ensures { TellsClaims known.now (map (super_claim rule) (flat_map supers_of_file files.now)) result }
 {
     for f in files {

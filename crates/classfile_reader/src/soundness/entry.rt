@@ -9,10 +9,11 @@ ghost use Rattle.classfile_reader.specs.KnownTexts.{AreKnown};
 
 use crate::soundness::known::KnownTexts;
 use crate::soundness::uses::{
-    at_offset, either_signature_holds, handle_targets, index_reason, is_text, leads_to,
-    signature_holds, text_reason,
+    at_offset, either_signature_holds, handle_targets, index_reason, is_text, signature_holds,
+    text_reason,
 };
 use jvm_model::layout::entry_length;
+use jvm_model::lookup::leads_to;
 use jvm_model::{EntryKind, Grammar, PoolEntry, Reason};
 use std::alloc::AllocError;
 
@@ -112,9 +113,8 @@ fn entry_reason(
         PoolEntry::Fieldref { class, member } => {
             reference_reason(pool, known, fields, *class, *member)
         }
-        PoolEntry::Methodref { class, member } | PoolEntry::InterfaceMethodref { class, member } => {
-            reference_reason(pool, known, methods, *class, *member)
-        }
+        PoolEntry::Methodref { class, member } | PoolEntry::InterfaceMethodref { class, member } =>
+            { reference_reason(pool, known, methods, *class, *member) }
         PoolEntry::NameAndType { name, descriptor } => {
             name_and_type_reason(pool, known, *name, *descriptor)
         }

@@ -2,16 +2,15 @@
 
 ghost use Rattle.std.specs.Prelude.{codes, ◌≡◌, ◌↔◌, IfOk, IsTrue, Some, List, [], ◌∷◌};
 ghost use Rattle.std.specs.List.{list_all, list_any};
-ghost use Rattle.jvm_model.specs.declared.pool.EntryKind.{EntryKind};
 ghost use Rattle.jvm_model.specs.declared.pool.PoolEntry.{PoolEntry};
 ghost use Rattle.jvm_model.specs.Lookups.{class_name_at};
-ghost use Rattle.jvm_model.specs.Soundness.{at_offset, leads, Use, is_text_byte, is_of_kind, leads_to, handle_targets, UseHolds, TextIsIn, no_array, superclass, signature, either_signature, text_uses, class_uses};
+ghost use Rattle.jvm_model.specs.Soundness.{at_offset, leads, Use, is_text_byte, handle_targets, UseHolds, TextIsIn, no_array, superclass, signature, either_signature, text_uses, class_uses};
 ghost use Rattle.classfile_reader.specs.FirstPlace.{IsFirstUse, IsFirstBreach};
 ghost use Rattle.classfile_reader.specs.KnownTexts.{AreKnown};
 
 use crate::soundness::known::KnownTexts;
 use jvm_model::grammar::is_array;
-use jvm_model::lookup::{class_name_at, entry_at};
+use jvm_model::lookup::{class_name_at, entry_at, leads_to};
 use jvm_model::{EntryKind, Grammar, PoolEntry, Reason};
 use std::alloc::AllocError;
 
@@ -30,23 +29,6 @@ pub(crate) fn is_text(bytes: &[u8]) -> bool
     ensures { result ≡ list_all is_text_byte bytes.now }
 {
     bytes.iter().all(|byte| is_text_byte(*byte))
-}
-
-/// Whether an entry is of one of these kinds.
-fn is_of_any(entry: &PoolEntry, allowed: &[EntryKind]) -> bool
-    ensures { result ≡ list_any (λ (k : EntryKind). is_of_kind k entry.now) allowed.now }
-{
-    allowed.iter().any(|kind| kind.is_of(entry))
-}
-
-/// Whether an index leads to an entry of one of these kinds.
-pub(crate) fn leads_to(pool: &[PoolEntry], allowed: &[EntryKind], index: u16) -> bool
-    ensures { result ≡ leads_to pool.now allowed.now index }
-{
-    match entry_at(pool, index) {
-        Some(entry) => is_of_any(entry, allowed),
-        None => false,
-    }
 }
 
 /// What an index breaks that has to lead to an entry of one of these kinds.

@@ -35,7 +35,7 @@ pub add_all-requires : goal.add_all-requires
 add_all-requires c =
     let old = c.loop-next.invariant in
     let size : c.add.new.self.size ≡ length c.args.parents.now =
-    ap (λ (s : Classes). s.size) c.in_ok-add.ensures ∙ ap (λ (s : Classes). s.size) old.is ∙ c.requires.size in
+    ap (λ (s : Classes). s.size) c.in_ok-add.ensures.ok ∙ ap (λ (s : Classes). s.size) old.is ∙ c.requires.size in
     rw c.deref.ensures.value
     (next_in_range c.args.parents.now c.args.lists.now c.args.first c.in-Some.class c.add.new.self.size c.args.gathered.now c.loop-next.gathered c.loop-next.next
     c.index-lists-class.result c.requires.in_range old c.in-Some.is c.index-lists-class.is size)
@@ -68,7 +68,7 @@ loop-next-preserved c =
     gathering_more g lists c.args.first x c.args.gathered.now now c.add_all.new.self (get_or g x c.index-parents-class.result) list c.requires.in_range
     (subst (λ (o : Option ℕ). IsGathering g lists c.args.first c.args.gathered.now now o) c.in-Some.is c.loop-next.invariant)
     (slice_get-get_or g x c.index-parents-class.result below) place
-    (both_added now c.add.new.self c.add_all.new.self x list.items c.deref.result.now c.in_ok-add.ensures c.in_ok-add_all.ensures c.deref.ensures.value)
+    (both_added now c.add.new.self c.add_all.new.self x list.items c.deref.result.now c.in_ok-add.ensures.ok c.in_ok-add_all.ensures.ok c.deref.ensures.value)
 
 pub returns : goal.returns
 returns c =

@@ -14,4 +14,4 @@ both_added old between new xs o y first second is =
 pub returns-in_ok-add : goal.returns-in_ok-add
 returns-in_ok-add c =
     both_added c.args.classes.now c.add_all.new.self c.add.new.self c.args.parents.now.interfaces.items c.args.parents.now.super_class c.in-Some.class
-    (rw (← c.deref.ensures.value) c.in_ok-add_all.ensures) c.in_ok-add.ensures c.in-Some.is
+    (rw (← c.deref.ensures.value) c.in_ok-add_all.ensures.ok) c.in_ok-add.ensures.ok c.in-Some.is

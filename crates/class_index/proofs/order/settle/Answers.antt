@@ -28,12 +28,12 @@ returns-in_ok-add-in-None-clause-sorting c =
     let g = c.args.parents.now in
     let p = c.index-parents-waiter.result in
     let stands = entry_read g p c.requires.ready.parents c.args.waiter.class c.requires.ready.stands c.index-parents-waiter.is in
-    rw c.in_ok-add-in-None.ensures
+    rw c.in_ok-add-in-None.ensures.ok
     (placed_sorting g c.args.order.now c.args.waiting.now.items c.args.waiter.class p c.requires.sorting stands c.in-None.ensures.none)
 
 pub returns-in_ok-add-in-None-clause-goes_on : goal.returns-in_ok-add-in-None-clause-goes_on
 returns-in_ok-add-in-None-clause-goes_on c =
-    rw c.in_ok-add-in-None.ensures (placed_goes_on c.args.order.now.items c.args.waiting.now.items c.args.waiter.class)
+    rw c.in_ok-add-in-None.ensures.ok (placed_goes_on c.args.order.now.items c.args.waiting.now.items c.args.waiter.class)
 
 pub returns-in_ok-push-in-Some-clause-sorting : goal.returns-in_ok-push-in-Some-clause-sorting
 returns-in_ok-push-in-Some-clause-sorting c =

@@ -1,16 +1,15 @@
-use Rattle.std.proofs.Common.{ℕ, ◌<◌, ◌^◌, List, [], length, sym, ap, subst}
+use Rattle.std.proofs.Common.{ℕ, List, [], sym, ap, subst}
 use Rattle.std.proofs.lemmas.List.{drop_all}
 use Rattle.std.proofs.lemmas.Result.{err_from_is_err_and}
-use Rattle.jvm_model.specs.declared.program.NamedClass.{NamedClass}
 use Rattle.jvm_model.specs.Linking.{file_claims}
-use Rattle.jvm_model.specs.Spelling.{spell}
+use Rattle.linking.specs.LinkTelling.{IsSoundFile}
 use Rattle.linking.proofs.ClaimSteps.{left_all, left_as, left_end}
 use Rattle.linking.proofs.ClassNames.{next_file, stop_file}
 use Rattle.linking.proofs.class_names.check_file_names.Goals as goal
 
 pub check_file_name-requires : goal.check_file_name-requires
 check_file_name-requires c =
-    subst (λ (f : NamedClass). length (spell f.class) < 2 ^ 32) (sym c.f-item.is) (c.requires c.loop-f.f-index c.f-item.result c.loop-f-test.true)
+    subst IsSoundFile (sym c.f-item.is) (c.requires c.loop-f.f-index c.f-item.result c.loop-f-test.true)
 
 pub loop-f-init : goal.loop-f-init
 loop-f-init c = λ p names has. left_as p _ _ _ (ap (λ (ns : List (List ℕ)). file_claims names ns c.args.files.now) (sym c.new-earlier.ensures)) (left_all p (file_claims names [] c.args.files.now))

@@ -3,7 +3,7 @@ use Rattle.std.proofs.lemmas.Result.{err_from_is_err_and}
 use Rattle.jvm_model.specs.Linking.{kind_claims, name_claims, own_classes, there_claims}
 use Rattle.linking.specs.Claims.{unsorted}
 use Rattle.linking.proofs.ClaimSteps.{end_back, end_front, met_append, tells_back}
-use Rattle.linking.proofs.NewNames.{names_differ}
+use Rattle.linking.proofs.DistinctNames.{names_new}
 use Rattle.linking.proofs.link.check.Goals as goal
 
 pub returns-in_err-check_names : goal.returns-in_err-check_names
@@ -18,7 +18,7 @@ returns-in_err-check_names c =
     rw (q.1, q.2) (end_front p (ns ++ ts) (kind_claims files (own_classes stubs)) end (end_front p ns ts end c.in_err-check_names.ensures))
 
 pub known_classes-requires : goal.known_classes-requires
-known_classes-requires c = names_differ (unsorted c.args.files.now c.args.stubs.now) c.args.files.now c.args.stubs.now c.in_ok-check_names.ensures
+known_classes-requires c = names_new (unsorted c.args.files.now c.args.stubs.now) c.args.files.now c.args.stubs.now c.in_ok-check_names.ensures
 
 pub returns-in_err-check_presence : goal.returns-in_err-check_presence
 returns-in_err-check_presence c =

@@ -1,8 +1,8 @@
 use Rattle.std.proofs.Common.{◌≡◌, Bool, true, false, not, cond, List, [], ◌∷◌, ◌++◌, filter, refl, sym, ◌∙◌, ap}
+use Rattle.std.proofs.lemmas.List.Elements.{filter-append}
 use Rattle.jvm_model.specs.declared.stub.StubClass.{StubClass}
 use Rattle.jvm_model.specs.Linking.{own_classes}
 use Rattle.linking.specs.Patching.{is_patch_stub, own_one}
-use Rattle.linking.proofs.Building.{filter_more}
 use Rattle.linking.proofs.origins.part.Goals as goal
 
 own_last : (c : StubClass) → own_one c ≡ own_classes (c ∷ [])
@@ -20,6 +20,6 @@ loop-c-preserved c =
     let done = c.loop-c.yielded in
     let x = c.in-Some.c in
     record {
-      own = c.in_ok-put.ensures.own ∙ (λ i. c.loop-c.invariant.own i ++ own_last x i) ∙ sym (filter_more (λ (s : StubClass). not s.is_patch) done (x ∷ []));
-      patches = c.in_ok-put.ensures.patches ∙ ap (λ (ps : List StubClass). ps ++ filter is_patch_stub (x ∷ [])) c.loop-c.invariant.patches ∙ sym (filter_more is_patch_stub done (x ∷ []));
+      own = c.in_ok-put.ensures.own ∙ (λ i. c.loop-c.invariant.own i ++ own_last x i) ∙ sym (filter-append (λ (s : StubClass). not s.is_patch) done (x ∷ []));
+      patches = c.in_ok-put.ensures.patches ∙ ap (λ (ps : List StubClass). ps ++ filter is_patch_stub (x ∷ [])) c.loop-c.invariant.patches ∙ sym (filter-append is_patch_stub done (x ∷ []));
     }

@@ -58,4 +58,4 @@ returns c =
 pub overflow_add-offset : goal.overflow_add-offset
 overflow_add-offset c =
     let long = ap (length {A = ℕ}) c.as_slice-index-items.ensures in
-    record { fits = omega (arith, c.loop-index.invariant.at, c.loop-index-test.true, long, spell_length c.args.f.now.class, c.requires) }
+    record { fits = omega (arith, c.loop-index.invariant.at, c.loop-index-test.true, long, spell_length c.args.f.now.class, c.requires.size) }

@@ -1,7 +1,7 @@
-use Rattle.std.proofs.Common.{◌<◌, ◌^◌, List, map, length, refl, sym, subst}
+use Rattle.std.proofs.Common.{List, map, refl, sym, subst}
 use Rattle.std.specs.List.{flat_map}
 use Rattle.std.proofs.lemmas.Result.{err_from_is_err_and}
-use Rattle.jvm_model.specs.Spelling.{spell}
+use Rattle.linking.specs.LinkTelling.{IsSoundFile}
 use Rattle.jvm_model.specs.declared.program.NamedClass.{NamedClass}
 use Rattle.jvm_model.specs.Linking.{supers_of_file}
 use Rattle.linking.specs.Claims.{super_claim}
@@ -33,4 +33,4 @@ returns c =
 
 pub check_file_supers-requires : goal.check_file_supers-requires
 check_file_supers-requires c =
-    subst (λ (f : NamedClass). length (spell f.class) < 2 ^ 32) (sym c.f-item.is) (c.requires c.loop-f.f-index c.f-item.result c.loop-f-test.true)
+    subst IsSoundFile (sym c.f-item.is) (c.requires c.loop-f.f-index c.f-item.result c.loop-f-test.true)

@@ -1,10 +1,7 @@
-use Rattle.std.proofs.Common.{◌≡◌, drop}
+use Rattle.std.proofs.Common.{◌≡◌, take}
 use Rattle.class_index.specs.ClassSets.{with_classes}
 use Rattle.class_index.proofs.class_set.ClassSet.add_all.Given as goal
 
--- what is left of the classes, added to the set, gives what all of them give
+-- the first ones of the classes are added
 abbrev pub invariant-loop-class : goal.invariant-loop-class
-invariant-loop-class l = record {
-  size : l.self.size ≡ l.initial.self.size;
-  rest : with_classes l.self.items (drop l.class-index l.classes) ≡ with_classes l.initial.self.items l.classes;
-}
+invariant-loop-class l = l.self ≡ record { size = l.initial.self.size; items = with_classes l.initial.self.items (take l.class-index l.classes) }

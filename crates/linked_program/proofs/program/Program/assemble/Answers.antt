@@ -8,7 +8,8 @@ use Rattle.jvm_model.specs.Linking.{class_from, names}
 use Rattle.class_index.specs.declared.parents.Parents.{Parents}
 use Rattle.class_index.specs.AboveLists.{AreAboveLists, IsSortedCopy}
 use Rattle.linked_program.specs.ByteOrder.{IsAscending}
-use Rattle.linked_program.specs.MemberLists.{AreMethods, AreFields}
+use Rattle.linked_program.specs.Declarations.{field_declarations, method_declarations}
+use Rattle.linked_program.specs.MemberLists.{IsTable}
 use Rattle.linked_program.specs.Numbering.{AreParents, HasNames}
 use Rattle.class_index.specs.Supertypes.{AreInRange}
 use Rattle.class_index.specs.UpwardOrder.{IsLeastOnCycle, IsUpward}
@@ -96,7 +97,7 @@ invariant_of-result c =
     let copies : AllZip IsSortedCopy c.in_ok-above.above.items c.in_ok-sorted.sorted.items = subst (λ (ls : List (Vec ℕ Global)). AllZip IsSortedCopy ls c.in_ok-sorted.sorted.items) c.deref-7.ensures.value c.in_ok-sorted.ensures in
     record {
       sound = c.requires.sound;
-      program = is_program order parents c.requires.linkable.differ are c.requires.linkable (none_above_itself parents c.in-Ok.upward.items upward);
+      program = is_program order parents c.requires.linkable.differ are c.requires.sound c.requires.linkable (none_above_itself parents c.in-Ok.upward.items upward);
       few = omega (arith, counted, kept, test);
       ascending = subst IsAscending (sym named) (ascending order c.requires.linkable);
       names_are = named;
@@ -105,8 +106,8 @@ invariant_of-result c =
       ordered = (c.in-Ok.upward.items, upward);
       lists_are = lists;
       sorted_are = sorted_above parents c.in_ok-above.above.items c.in_ok-sorted.sorted.items lists copies;
-      methods_are = subst (λ (os : List Origin). AreMethods os c.in_ok-methods.methods c.in_ok-methods.method_places.items) c.deref-8.ensures.value c.in_ok-methods.ensures.methods;
-      fields_are = subst (λ (os : List Origin). AreFields os c.in_ok-fields.fields c.in_ok-fields.field_places.items) c.deref-9.ensures.value c.in_ok-fields.ensures.fields;
+      methods_are = subst (λ (os : List Origin). IsTable method_declarations os c.in_ok-methods.methods) c.deref-8.ensures.value c.in_ok-methods.ensures.table;
+      fields_are = subst (λ (os : List Origin). IsTable field_declarations os c.in_ok-fields.fields) c.deref-9.ensures.value c.in_ok-fields.ensures.table;
     }
 
 pub returns : goal.returns

@@ -7,4 +7,4 @@ use Rattle.linked_program.proofs.program.Program.class_name.Goals as goal
 pub returns : goal.returns
 returns c =
     c.as_slice.ensures ∙ c.index.ensures
-    ∙ get_or_from_slice_get c.self.inside.names.items c.args.class (name_at c.args.self.now c.args.class) c.index.result.now (stands_in c.self.inside.origins.items c.self.inside.names.items c.self.inside.parents.items c.self.inside.above.items c.self.inside.sorted.items c.self.inside.methods c.self.inside.method_places.items c.self.inside.fields c.self.inside.field_places.items c.self.invariant c.args.self.now c.self.view_is c.args.class c.requires)
+    ∙ get_or_from_slice_get c.self.inside.names.items c.args.class.0 (name_at c.args.self.now c.args.class.0) c.index.result.now (stands_in c.self.inside c.self.invariant c.args.self.now c.self.view_is c.args.class.0 c.requires)

@@ -1,12 +1,12 @@
-use Rattle.std.proofs.Common.{ℕ, List, IfNone, subst}
-use Rattle.jvm_model.specs.declared.program.Origin.{Origin}
-use Rattle.jvm_model.specs.Linking.{program_from}
-use Rattle.jvm_model.specs.Programs.{Program}
-use Rattle.jvm_model.specs.Resolution.{Declares, HasSignature}
-use Rattle.linked_program.specs.Numbers.{name_at}
+use Rattle.jvm_model.specs.Lookups.{lent_signature}
+use Rattle.linked_program.proofs.DeclaredMembers.{method_declared, declared_method}
 use Rattle.linked_program.proofs.program.Program.declared_method.Goals as goal
 
-pub returns-clause-none : goal.returns-clause-none
-returns-clause-none c =
-    let told = subst (λ (order : List Origin). let q = program_from order in IfNone c.first_method.result ((n : ℕ) → Declares q (HasSignature (record { name = c.args.name.now; descriptor = c.args.descriptor.now })) (name_at q c.args.class) n → ⊥)) c.deref.ensures.value c.first_method.ensures.none in
-    subst (λ (q : Program). IfNone c.first_method.result ((n : ℕ) → Declares q (HasSignature (record { name = c.args.name.now; descriptor = c.args.descriptor.now })) (name_at q c.args.class) n → ⊥)) c.self.view_is told
+pub returns-in-Some-clause-found : goal.returns-in-Some-clause-found
+returns-in-Some-clause-found c =
+    method_declared c.self.inside.origins.items c.deref.result.now c.args.self.now c.deref.ensures.value c.self.view_is c.args.class.0 (lent_signature c.args.signature) c.in-Some.number c.in-Some.ensures.found
+
+pub returns-in-None-clause-none : goal.returns-in-None-clause-none
+returns-in-None-clause-none c = λ n d.
+    c.in-None.ensures.none n
+    (declared_method c.self.inside.origins.items c.deref.result.now c.args.self.now c.deref.ensures.value c.self.view_is c.args.class.0 (lent_signature c.args.signature) n d)

@@ -6,11 +6,11 @@ use Rattle.linked_program.proofs.program.Program.is_at_or_above.Goals as goal
 
 pub is_at_or_above-requires-clause-lower : goal.is_at_or_above-requires-clause-lower
 is_at_or_above-requires-clause-lower c =
-    subst (λ (ps : List Parents). c.args.lower < length ps) (sym c.deref.ensures.value)
-    (below_parents_in c.self.inside.origins.items c.self.inside.names.items c.self.inside.parents.items c.self.inside.above.items c.self.inside.sorted.items c.self.inside.methods c.self.inside.method_places.items c.self.inside.fields c.self.inside.field_places.items c.self.invariant c.args.self.now c.self.view_is c.args.lower c.requires.lower)
+    subst (λ (ps : List Parents). c.args.lower.0 < length ps) (sym c.deref.ensures.value)
+    (below_parents_in c.self.inside c.self.invariant c.args.self.now c.self.view_is c.args.lower.0 c.requires.lower)
 
 pub returns : goal.returns
 returns c =
-    let exact = subtype_in c.self.inside.origins.items c.self.inside.names.items c.self.inside.parents.items c.self.inside.above.items c.self.inside.sorted.items c.self.inside.methods c.self.inside.method_places.items c.self.inside.fields c.self.inside.field_places.items c.self.invariant c.args.self.now c.self.view_is c.args.lower c.args.upper c.requires.lower c.requires.upper in
-    let told = subst (λ (ps : List Parents). IsTrue c.is_at_or_above.result ↔ IsAtOrAbove ps c.args.lower c.args.upper) c.deref.ensures.value c.is_at_or_above.ensures in
+    let exact = subtype_in c.self.inside c.self.invariant c.args.self.now c.self.view_is c.args.lower.0 c.args.upper.0 c.requires.lower c.requires.upper in
+    let told = subst (λ (ps : List Parents). IsTrue c.is_at_or_above.result ↔ IsAtOrAbove ps c.args.lower.0 c.args.upper.0) c.deref.ensures.value c.is_at_or_above.ensures in
     (λ t. exact.0 (told.0 t), λ s. told.1 (exact.1 s))

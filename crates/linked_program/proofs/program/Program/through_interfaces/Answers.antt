@@ -8,27 +8,27 @@ use Rattle.linked_program.proofs.program.Program.through_interfaces.Goals as goa
 
 pub index-requires : goal.index-requires
 index-requires c =
-    let below = below_lists_in c.self.inside.origins.items c.self.inside.names.items c.self.inside.parents.items c.self.inside.above.items c.self.inside.sorted.items c.self.inside.methods c.self.inside.method_places.items c.self.inside.fields c.self.inside.field_places.items c.self.invariant c.args.self.now c.self.view_is c.args.class c.requires in
+    let below = below_lists_in c.self.inside c.self.invariant c.args.self.now c.self.view_is c.args.class.0 c.requires in
     let long = c.self.inside.above.ok in
     omega (arith, below, long)
 
 pub returns-clause-below : goal.returns-clause-below
 returns-clause-below c =
-    let below = below_lists_in c.self.inside.origins.items c.self.inside.names.items c.self.inside.parents.items c.self.inside.above.items c.self.inside.sorted.items c.self.inside.methods c.self.inside.method_places.items c.self.inside.fields c.self.inside.field_places.items c.self.invariant c.args.self.now c.self.view_is c.args.class c.requires in
-    let stands_there = slice_get_read c.self.inside.above.items (length c.self.inside.above.items) c.args.class c.index.result.now refl below c.index.ensures in
+    let below = below_lists_in c.self.inside c.self.invariant c.args.self.now c.self.view_is c.args.class.0 c.requires in
+    let stands_there = slice_get_read c.self.inside.above.items (length c.self.inside.above.items) c.args.class.0 c.index.result.now refl below c.index.ensures in
     subst (λ (xs : List ℕ). All (IsClassNumber c.args.self.now) xs) (sym c.deref.ensures.value)
-    (through_below_in c.self.inside.origins.items c.self.inside.names.items c.self.inside.parents.items c.self.inside.above.items c.self.inside.sorted.items c.self.inside.methods c.self.inside.method_places.items c.self.inside.fields c.self.inside.field_places.items c.self.invariant c.args.self.now c.self.view_is c.args.class c.index.result.now c.requires stands_there)
+    (through_below_in c.self.inside c.self.invariant c.args.self.now c.self.view_is c.args.class.0 c.index.result.now c.requires stands_there)
 
 pub returns-clause-exact : goal.returns-clause-exact
 returns-clause-exact c =
-    let below = below_lists_in c.self.inside.origins.items c.self.inside.names.items c.self.inside.parents.items c.self.inside.above.items c.self.inside.sorted.items c.self.inside.methods c.self.inside.method_places.items c.self.inside.fields c.self.inside.field_places.items c.self.invariant c.args.self.now c.self.view_is c.args.class c.requires in
-    let stands_there = slice_get_read c.self.inside.above.items (length c.self.inside.above.items) c.args.class c.index.result.now refl below c.index.ensures in
+    let below = below_lists_in c.self.inside c.self.invariant c.args.self.now c.self.view_is c.args.class.0 c.requires in
+    let stands_there = slice_get_read c.self.inside.above.items (length c.self.inside.above.items) c.args.class.0 c.index.result.now refl below c.index.ensures in
     λ class stands n number. subst (λ (xs : List ℕ). Contains xs n ↔ IsThroughInterface c.args.self.now class n) (sym c.deref.ensures.value)
-    (through_exact_in c.self.inside.origins.items c.self.inside.names.items c.self.inside.parents.items c.self.inside.above.items c.self.inside.sorted.items c.self.inside.methods c.self.inside.method_places.items c.self.inside.fields c.self.inside.field_places.items c.self.invariant c.args.self.now c.self.view_is c.args.class c.index.result.now c.requires stands_there class stands n number)
+    (through_exact_in c.self.inside c.self.invariant c.args.self.now c.self.view_is c.args.class.0 c.index.result.now c.requires stands_there class stands n number)
 
 pub returns-clause-order : goal.returns-clause-order
 returns-clause-order c =
-    let below = below_lists_in c.self.inside.origins.items c.self.inside.names.items c.self.inside.parents.items c.self.inside.above.items c.self.inside.sorted.items c.self.inside.methods c.self.inside.method_places.items c.self.inside.fields c.self.inside.field_places.items c.self.invariant c.args.self.now c.self.view_is c.args.class c.requires in
-    let stands_there = slice_get_read c.self.inside.above.items (length c.self.inside.above.items) c.args.class c.index.result.now refl below c.index.ensures in
+    let below = below_lists_in c.self.inside c.self.invariant c.args.self.now c.self.view_is c.args.class.0 c.requires in
+    let stands_there = slice_get_read c.self.inside.above.items (length c.self.inside.above.items) c.args.class.0 c.index.result.now refl below c.index.ensures in
     λ class stands. subst (λ (xs : List ℕ). IsSearchOrder c.args.self.now class xs) (sym c.deref.ensures.value)
-    (through_order_in c.self.inside.origins.items c.self.inside.names.items c.self.inside.parents.items c.self.inside.above.items c.self.inside.sorted.items c.self.inside.methods c.self.inside.method_places.items c.self.inside.fields c.self.inside.field_places.items c.self.invariant c.args.self.now c.self.view_is c.args.class c.index.result.now c.requires stands_there class stands)
+    (through_order_in c.self.inside c.self.invariant c.args.self.now c.self.view_is c.args.class.0 c.index.result.now c.requires stands_there class stands)

@@ -1,10 +1,8 @@
 use Rattle.std.proofs.Common.{subst}
 use Rattle.jvm_model.specs.LinkedPrograms.{IsProgram}
 use Rattle.linked_program.specs.Ranks.{IsRanked}
-use Rattle.jvm_model.specs.LinkedPrograms.{MembersDiffer}
 use Rattle.linked_program.proofs.Accessing.{differ, same_size}
 use Rattle.linked_program.proofs.Ranking.{ranked}
-use Rattle.linked_program.proofs.SoundMembers.{members_differ}
 use Rattle.linked_program.proofs.program.Program.well_formed.Goals as goal
 
 pub returns-clause-program : goal.returns-clause-program
@@ -13,7 +11,4 @@ returns-clause-program c = subst IsProgram c.self.view_is c.self.invariant.progr
 pub returns-clause-ranked : goal.returns-clause-ranked
 returns-clause-ranked c =
     subst IsRanked c.self.view_is
-    (ranked c.self.inside.origins.items c.self.inside.parents.items (differ c.self.inside.origins.items c.self.inside.names.items c.self.inside.parents.items c.self.inside.above.items c.self.inside.sorted.items c.self.inside.methods c.self.inside.method_places.items c.self.inside.fields c.self.inside.field_places.items c.self.invariant) c.self.invariant.parents_are c.self.invariant.ordered (same_size c.self.inside.origins.items c.self.inside.names.items c.self.inside.parents.items c.self.inside.above.items c.self.inside.sorted.items c.self.inside.methods c.self.inside.method_places.items c.self.inside.fields c.self.inside.field_places.items c.self.invariant))
-
-pub returns-clause-members : goal.returns-clause-members
-returns-clause-members c = subst MembersDiffer c.self.view_is (members_differ c.self.inside.origins.items c.self.invariant.sound c.self.invariant.program.differ)
+    (ranked c.self.inside.origins.items c.self.inside.parents.items (differ c.self.inside c.self.invariant) c.self.invariant.parents_are c.self.invariant.ordered (same_size c.self.inside c.self.invariant))

@@ -11,9 +11,8 @@ use Rattle.linking.proofs.descriptions.Descriptions.add.Goals as goal
 
 pub invariant_of-self : goal.invariant_of-self
 invariant_of-self c =
-    let e = c.key_of_method.ensures in
     let d = description_of c.args.described in
-    let key : key_of c.key_of_method.result ≡ method_key d = λ i. record { class = e.class i; name = e.name i; descriptor = e.descriptor i } in
+    let key : key_of c.key_of_method.result ≡ method_key d = c.key_of_method.ensures in
     let held = map description_of c.self.inside.items.items in
     let place = c.in-Some.place in
     let stands : slice_get (map method_key held) place ≡ Some (method_key d) =
@@ -22,18 +21,16 @@ invariant_of-self c =
 
 pub returns-in-None : goal.returns-in-None
 returns-in-None c =
-    let e = c.key_of_method.ensures in
     let d = description_of c.args.described in
-    let key : key_of c.key_of_method.result ≡ method_key d = λ i. record { class = e.class i; name = e.name i; descriptor = e.descriptor i } in
+    let key : key_of c.key_of_method.result ≡ method_key d = c.key_of_method.ensures in
     let keys : c.self.inside.index ≡ map method_key c.args.self.now = c.self.invariant ∙ ap (map method_key) c.self.view_is in
     let none = subst (λ (ks : List Key). StandsNowhere ks (method_key d)) keys (subst (λ (k : Key). StandsNowhere c.self.inside.index k) key c.in-None.ensures.none) in
     on_ok_weaker c.push.result (λ pushed. pushed ∙ sym (added c.args.self.now d none)) c.push.ensures
 
 pub returns-in-Some : goal.returns-in-Some
 returns-in-Some c =
-    let e = c.key_of_method.ensures in
     let d = description_of c.args.described in
-    let key : key_of c.key_of_method.result ≡ method_key d = λ i. record { class = e.class i; name = e.name i; descriptor = e.descriptor i } in
+    let key : key_of c.key_of_method.result ≡ method_key d = c.key_of_method.ensures in
     let held = map description_of c.self.inside.items.items in
     let place = c.in-Some.place in
     let first = subst (λ (ks : List Key). IsFirstPlace ks (method_key d) place) c.self.invariant (subst (λ (k : Key). IsFirstPlace c.self.inside.index k place) key c.in-Some.ensures.found) in

@@ -1,0 +1,6 @@
+-- What 32 bits can number.
+use Rattle.std.specs.Prelude.{◌+◌, ◌≤◌, ◌^◌, List, length}
+
+-- There are 2^32 - 1 items or more, so that one more has no number.
+abbrev pub AreTooMany : {X : Type 0} → List X → Type 0
+AreTooMany xs = 2 ^ 32 ≤ length xs + 1
