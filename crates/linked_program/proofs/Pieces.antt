@@ -87,6 +87,19 @@ in_piece f (x ∷ xs) n m e = elim (cases_lt n (length (f x))) [
 pub one_more_piece : {X M : Type 0} (f : X → List M) (xs : List X) (x : X) → flat_map f (xs ++ x ∷ []) ≡ flat_map f xs ++ f x
 one_more_piece f xs x = flat_map-append f xs (x ∷ []) ∙ ap (λ ms. flat_map f xs ++ ms) (append-nil (f x))
 
+-- an item of a piece stands after those of the earlier pieces
+pub from_piece : {X M : Type 0} (f : X → List M) (xs : List X) (k j : ℕ) (x : X) (m : M) → slice_get xs k ≡ Some x → slice_get (f x) j ≡ Some m
+    → slice_get (flat_map f xs) (length (flat_map f (take k xs)) + j) ≡ Some m
+from_piece f [] k j x m e stands = absurd (none-some x e)
+from_piece {X} {M} f (y ∷ xs) zero j x m e stands =
+    let here : slice_get (f y) j ≡ Some m = ap (λ (z : X). slice_get (f z) j) (same_Some y x e) ∙ stands in
+    let first : 0 + j ≡ j = omega arith in
+    ap (slice_get (f y ++ flat_map f xs)) first ∙ at_left (f y) (flat_map f xs) j (slice_get_within (f y) j m here) ∙ here
+from_piece f (y ∷ xs) (suc k) j x m e stands =
+    let long = length-append (f y) (flat_map f (take k xs)) in
+    at_right (f y) (flat_map f xs) (length (f y ++ flat_map f (take k xs)) + j) (length (flat_map f (take k xs)) + j) (omega (arith, long))
+    ∙ from_piece f xs k j x m e stands
+
 -- what holds of the items of each piece holds of all
 pub each_piece : {X M : Type 0} (P : M → Type 0) (f : X → List M) (xs : List X) → All (λ x. All P (f x)) xs → All P (flat_map f xs)
 each_piece P f xs each = λ k d lt.

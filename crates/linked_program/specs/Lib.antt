@@ -5,6 +5,7 @@ pub mod Origins
 pub mod Declarations
 pub mod DeclaredClasses
 pub mod MemberLists
+pub mod Bodies
 pub mod Ranks
 pub mod Whole
 pub mod Indexes

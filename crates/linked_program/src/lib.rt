@@ -6,6 +6,7 @@ pub mod link_end;
 pub mod member_kind;
 pub mod member_table;
 pub mod member_view;
+pub mod method_body;
 pub mod numbering;
 pub mod origin;
 pub mod program;

@@ -5,7 +5,7 @@ ghost use Rattle.jvm_model.specs.Linking.{class_from};
 
 use class_index::texts::class_text;
 use jvm_model::lookup::class_name_at;
-use jvm_model::{AccessFlag, Origin};
+use jvm_model::{AccessFlag, Name, Origin};
 
 /// The name of the class (JVMS 4.1).
 pub fn name(origin: &Origin) -> &[u8]
@@ -16,6 +16,16 @@ pub fn name(origin: &Origin) -> &[u8]
             class_text(file.class.pool.as_slice(), file.class.this_class)
         }
         Origin::Stub(stub) => stub.name.as_slice(),
+    }
+}
+
+/// The name of the file that has the class.
+pub fn file_name(origin: &Origin) -> &Name
+    ensures { result.now ≡ (class_from origin.now).file }
+{
+    match origin {
+        Origin::Folder { file, .. } => &file.file,
+        Origin::Stub(stub) => &stub.file,
     }
 }
 

@@ -6,6 +6,7 @@ ghost use Rattle.jvm_model.specs.Lookups.{lent_signature};
 ghost use Rattle.jvm_model.specs.Programs.{Class, Method, Field};
 ghost use Rattle.jvm_model.specs.Resolution.{Declares, DeclaresField, HasSignature};
 ghost use Rattle.jvm_model.specs.Subtypes.{IsSubtype};
+ghost use Rattle.linked_program.specs.Bodies.{IsBodyView};
 ghost use Rattle.linked_program.specs.FieldSearches.{IsSearchOrder};
 ghost use Rattle.linked_program.specs.Numbers.{name_at, IsClassNumber, IsFieldNumber, IsMethodNumber, IsNumber};
 ghost use Rattle.linked_program.specs.Ranks.{IsRanked};
@@ -17,15 +18,16 @@ use crate::link_end::{LinkEnd, refused};
 use crate::member_kind::{Fields, Methods};
 use crate::member_table::MemberTable;
 use crate::member_view::MemberView;
+use crate::method_body::{MethodBody, body_in};
 use crate::numbering::{names_of, parents_of_all};
-use crate::origin::{is_folder, is_interface};
+use crate::origin::{file_name, is_folder, is_interface};
 use crate::sorted::find_in_order;
 use class_index::above::{above_lists, is_at_or_above, sorted_lists};
 use class_index::order::upward_order;
 use class_index::parents::Parents;
 use jvm_model::layout::this_class_offset;
 use jvm_model::lookup::Signature;
-use jvm_model::{Bytes, ClassNo, FieldNo, MethodNo, Origin, Reason};
+use jvm_model::{Bytes, ClassNo, FieldNo, MethodNo, Name, Origin, Reason};
 use std::alloc::Global;
 use std::marker::Model;
 
@@ -109,6 +111,14 @@ impl Program {
         ensures { result.now ≡ name_at self.now class.0 }
     {
         self.names[class.0 as usize].as_slice()
+    }
+
+    /// The name of the file that has the class: a class file of the folder, or a stub file.
+    pub fn file_name(&self, class: ClassNo) -> &Name
+        requires { IsClassNumber self.now class.0 }
+        ensures { (c : Class) → slice_get self.now.classes class.0 ≡ Some c → result.now ≡ c.file }
+    {
+        file_name(&self.origins[class.0 as usize])
     }
 
     /// Whether the class is an interface (JVMS 4.1).
@@ -203,6 +213,16 @@ impl Program {
         ensures { (m : Method) → slice_get self.now.methods number.0 ≡ Some m → IsMethodView self.now m result }
     {
         self.methods.view::<Methods>(&self.origins, number.0)
+    }
+
+    /// What stands for a method when it is called. It takes no memory, and time linear in the descriptions of native methods of
+    /// its class.
+    pub fn method_body(&self, number: MethodNo) -> MethodBody<'_>
+        requires { IsMethodNumber self.now number.0 }
+        ensures { (m : Method) → slice_get self.now.methods number.0 ≡ Some m → IsBodyView m.body result }
+    {
+        let at = self.methods.places[number.0 as usize];
+        body_in(&self.origins[at.class.0 as usize], at.place as usize)
     }
 
     /// A field.
