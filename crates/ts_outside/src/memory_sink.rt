@@ -59,9 +59,11 @@ impl MemorySink {
 }
 
 impl Sink for MemorySink {
-    ghost use Rattle.std.specs.Prelude.{Some};
+    ghost use Rattle.std.specs.Prelude.{Some, None};
 
     ghost taken = { λ sink. Some sink.bytes };
+
+    ghost handed = { λ _. None };
 
     ghost faults = { λ sink. sink.faults };
 

@@ -37,6 +37,8 @@ impl<R: Print + Clone + Drop> Sink for RealSink<R> {
 
     ghost taken = { λ _. None };
 
+    ghost handed = { λ _. None };
+
     ghost faults = { λ faults. faults };
 
     fn write(&mut self, piece: &[u8]) -> Result<usize, SinkFailed>

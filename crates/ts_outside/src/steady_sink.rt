@@ -42,6 +42,8 @@ impl Sink for SteadySink {
 
     ghost taken = { λ _. None };
 
+    ghost handed = { λ _. None };
+
     ghost faults = { λ _. 0 };
 
     fn write(&mut self, piece: &[u8]) -> Result<usize, SinkFailed>
