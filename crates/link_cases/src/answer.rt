@@ -1,17 +1,17 @@
 //! The answers of a linked program, as text.
 
-ghost use Rattle.std.specs.Prelude.{◌<◌, length};
-ghost use Rattle.linked_program.specs.Numbers.{IsMethodNumber};
+ghost use Rattle.linked_program.specs.Numbers.{IsFieldNumber, IsMethodNumber};
 
 use crate::query::Search;
 use crate::searches::{SearchEnd, class_of, is_below, resolved, resolved_field, selected, special};
 use jvm_model::{FieldNo, MethodNo, reason_word};
+use linked_program::method_body::MethodBody;
 use linked_program::program::Program;
 use std::alloc::{AllocError, Global};
 use std::str;
 
-/// The answer of a program: `yes` or `no`; of a resolution of a method the method; of another search the class that declares
-/// what is found; or why nothing is found.
+/// The answer of a program: `yes` or `no`; of a resolution of a method the method; of a body what stands for the method; of another
+/// search the class that declares what is found; or why nothing is found.
 pub fn answer(alloc: Global, program: &Program, search: &Search<'_>) -> Result<String, AllocError> {
     match found(alloc, program, search) {
         Ok(text) => Ok(text),
@@ -33,6 +33,10 @@ fn found<'a>(
         Search::Method(reference) => {
             let method = resolved(program, reference)?;
             full_name(alloc, program, method)
+        }
+        Search::Body(reference) => {
+            let method = resolved(program, reference)?;
+            source_of(alloc, program, method)
         }
         Search::Field(reference) => {
             let field = resolved_field(program, reference)?;
@@ -62,10 +66,10 @@ fn full_name<'a>(
 ) -> Result<String, SearchEnd<'a>>
     requires { IsMethodNumber program.now method.0 }
 {
-    let view = program.method(method.0);
+    let view = program.method(method);
     let class = shown(program.class_name(view.class));
-    let name = shown(view.name);
-    let descriptor = shown(view.descriptor);
+    let name = shown(view.signature.name);
+    let descriptor = shown(view.signature.descriptor);
     Ok(format!(in alloc; "{class}.{name} {descriptor}")?)
 }
 
@@ -77,7 +81,7 @@ fn owner_of_method<'a>(
 ) -> Result<String, SearchEnd<'a>>
     requires { IsMethodNumber program.now method.0 }
 {
-    let class = program.class_name(program.method(method.0).class);
+    let class = program.class_name(program.method(method).class);
     Ok(String::from_str(alloc, shown(class))?)
 }
 
@@ -87,10 +91,25 @@ fn owner_of_field<'a>(
     program: &Program,
     field: FieldNo,
 ) -> Result<String, SearchEnd<'a>>
-    requires { field.0 < length program.now.fields }
+    requires { IsFieldNumber program.now field.0 }
 {
-    let class = program.class_name(program.field(field.0).class);
+    let class = program.class_name(program.field(field).class);
     Ok(String::from_str(alloc, shown(class))?)
+}
+
+/// What stands for a method: the file of its class, and its number there; or the file of its class, and that a stub describes it.
+fn source_of<'a>(
+    alloc: Global,
+    program: &Program,
+    method: MethodNo,
+) -> Result<String, SearchEnd<'a>>
+    requires { IsMethodNumber program.now method.0 }
+{
+    let file = program.file_name(program.method(method).class).as_str();
+    match program.method_body(method) {
+        MethodBody::InFile { number, .. } => Ok(format!(in alloc; "{file} method {number}")?),
+        MethodBody::Described(_) => Ok(format!(in alloc; "{file} described")?),
+    }
 }
 
 /// A name as text.

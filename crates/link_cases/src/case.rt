@@ -39,6 +39,7 @@ fn linked<T: Tree>(alloc: Global, tree: &mut T) -> Result<Program, CaseEnd> {
     match link(alloc, files, stubs) {
         Ok(program) => Ok(program),
         Err(LinkEnd::Refused(refusal)) => Err(CaseEnd::Refused(refusal)),
+        Err(LinkEnd::TooMany) => Err(CaseEnd::TooMany),
         Err(LinkEnd::Memory) => Err(CaseEnd::Memory),
     }
 }

@@ -13,6 +13,8 @@ pub enum CaseEnd {
     Refused(Refusal),
     /// A file that is asked for is not there, or cannot be read.
     Unread,
+    /// The classes have too many members to number.
+    TooMany,
     /// Memory ran out.
     Memory,
 }
@@ -34,6 +36,7 @@ impl fmt::Display for CaseEnd {
                 write!(f, "refused {file} {offset} {word}")
             }
             CaseEnd::Unread => write!(f, "a file is not there, or cannot be read"),
+            CaseEnd::TooMany => write!(f, "the classes have too many members to number"),
             CaseEnd::Memory => write!(f, "memory ran out"),
         }
     }

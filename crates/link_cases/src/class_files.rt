@@ -9,7 +9,7 @@ use jvm_model::{Name, NamedClass, ReadRefusal, Refusal};
 use std::alloc::Global;
 use ts_outside::Tree;
 
-/// All class files, in byte order of their names; or the first one that is refused.
+/// All class files, in the order of their names; or the first one that is refused.
 pub fn read_files<T: Tree>(alloc: Global, tree: &mut T) -> Result<Vec<NamedClass>, CaseEnd>
     ensures { IfOk result (λ files. All IsSoundFile files.items) }
 {

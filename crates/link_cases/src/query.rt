@@ -38,6 +38,8 @@ pub enum Search<'a> {
     Subtype(&'a str, &'a str),
     /// The method that a reference resolves to (5.4.3.3, 5.4.3.4).
     Method(MethodReference<'a>),
+    /// What stands for the method that a reference resolves to.
+    Body(MethodReference<'a>),
     /// The field that a reference resolves to (5.4.3.2).
     Field(FieldReference<'a>),
     /// The method that a call goes to on an object of the class or the array (6.5.invokevirtual, 6.5.invokeinterface).
@@ -76,6 +78,10 @@ fn search_in<'a>(words: &[&'a str]) -> Option<Search<'a>> {
         ["method", class, kind, name, descriptor] => {
             let reference = method_reference(class, kind, name, descriptor)?;
             Some(Search::Method(reference))
+        }
+        ["body", class, kind, name, descriptor] => {
+            let reference = method_reference(class, kind, name, descriptor)?;
+            Some(Search::Body(reference))
         }
         ["field", class, kind, name, descriptor] => {
             let reference = field_reference(class, kind, name, descriptor)?;

@@ -1,7 +1,7 @@
 //! The searches in a linked program, by the names of a query.
 
-ghost use Rattle.std.specs.Prelude.{◌<◌, length, IfOk};
-ghost use Rattle.linked_program.specs.Numbers.{IsClassNumber, IsMethodNumber};
+ghost use Rattle.std.specs.Prelude.{IfOk};
+ghost use Rattle.linked_program.specs.Numbers.{IsClassNumber, IsFieldNumber, IsMethodNumber};
 
 use crate::query::{FieldReference, MethodReference};
 use hierarchy::classes::{find_class, is_subtype};
@@ -9,6 +9,7 @@ use hierarchy::resolve::resolve_method;
 use hierarchy::resolve_field::resolve_field;
 use hierarchy::select::select;
 use hierarchy::special::special_target;
+use jvm_model::lookup::Signature;
 use jvm_model::{ClassNo, FieldNo, MethodNo, Reason};
 use linked_program::program::Program;
 use std::alloc::AllocError;
@@ -57,6 +58,14 @@ pub fn is_below<'a>(
     Ok(is_subtype(program, lower, upper))
 }
 
+/// A name and a descriptor, as bytes.
+fn signature_of<'a>(name: &'a str, descriptor: &'a str) -> Signature<'a> {
+    Signature {
+        name: name.as_bytes(),
+        descriptor: descriptor.as_bytes(),
+    }
+}
+
 /// The method that a reference resolves to.
 pub fn resolved<'a>(
     program: &Program,
@@ -65,9 +74,8 @@ pub fn resolved<'a>(
     ensures { IfOk result (λ m. IsMethodNumber program.now m.0) }
 {
     let class = class_of(program, reference.class)?;
-    let name = reference.name.as_bytes();
-    let descriptor = reference.descriptor.as_bytes();
-    let method = resolve_method(program, class, reference.interface, name, descriptor)?;
+    let signature = signature_of(reference.name, reference.descriptor);
+    let method = resolve_method(program, class, reference.interface, signature)?;
     Ok(method)
 }
 
@@ -76,12 +84,11 @@ pub fn resolved_field<'a>(
     program: &Program,
     reference: &FieldReference<'a>,
 ) -> Result<FieldNo, SearchEnd<'a>>
-    ensures { IfOk result (λ f. f.0 < length program.now.fields) }
+    ensures { IfOk result (λ f. IsFieldNumber program.now f.0) }
 {
     let class = class_of(program, reference.class)?;
-    let name = reference.name.as_bytes();
-    let descriptor = reference.descriptor.as_bytes();
-    let field = resolve_field(program, class, name, descriptor, reference.is_static)?;
+    let signature = signature_of(reference.name, reference.descriptor);
+    let field = resolve_field(program, class, signature, reference.is_static)?;
     Ok(field)
 }
 
