@@ -1,3 +1,4 @@
+-- Public contracts rest on this module.
 -- Reading attributes, fields and methods (JVMS 4.5 to 4.7).
 use Rattle.std.specs.Prelude.{Result, Ok}
 use Rattle.std.specs.Int.{w16, w32}

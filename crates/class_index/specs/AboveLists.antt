@@ -1,3 +1,4 @@
+-- Public contracts rest on this module.
 -- The lists of the supertypes of each class through its superinterfaces.
 use Rattle.std.specs.Prelude.{◌≡◌, ℕ, ◌<◌, List, Vec, [], ◌∷◌, Some, length, slice_get, IsPermutation}
 use Rattle.std.specs.List.Sorted.{IsNonDecreasing}

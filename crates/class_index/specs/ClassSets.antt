@@ -1,3 +1,4 @@
+-- Public contracts rest on this module.
 -- Sets of classes that keep the order in which the classes came.
 use Rattle.std.specs.Prelude.{ℕ, ◌<◌, ◌≡◌, Bool, false, List, [], ◌∷◌, ◌++◌, nat_eq, length, take, All, if◌then◌else◌}
 use Rattle.std.specs.List.{list_any, slice_index_or, IsDistinct}

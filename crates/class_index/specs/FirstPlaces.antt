@@ -1,3 +1,4 @@
+-- Public contracts rest on this module.
 -- The first place of an item in a list that may have it more than once.
 use Rattle.std.specs.Prelude.{◌≡◌, ◌≢◌, ℕ, ◌<◌, List, Some, slice_get}
 

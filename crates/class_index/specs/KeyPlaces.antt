@@ -1,3 +1,4 @@
+-- Public contracts rest on this module.
 -- Keys whose texts have numbers, and a map from each to its first place.
 use Rattle.std.specs.Prelude.{◌≡◌, ℕ, ◌<◌, ◌^◌, List, ◌∷◌, ◌++◌, length, map, All, Some, None, slice_index_or, []}
 use Rattle.indexmap.specs.IndexMap.{IndexMap, get}

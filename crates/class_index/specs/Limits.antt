@@ -1,3 +1,4 @@
+-- Public contracts rest on this module.
 -- What 32 bits can number.
 use Rattle.std.specs.Prelude.{◌+◌, ◌≤◌, ◌^◌, List, length}
 

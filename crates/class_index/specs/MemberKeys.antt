@@ -1,3 +1,4 @@
+-- Public contracts rest on this module.
 -- What tells the members of a program apart: the number of the class, the name and the descriptor (JVMS 4.5, 4.6: no two
 -- fields and no two methods of one class file have the same name and descriptor).
 use Rattle.std.specs.Prelude.{ℕ, List, [], ◌∷◌, map}

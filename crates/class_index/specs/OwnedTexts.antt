@@ -1,3 +1,4 @@
+-- Public contracts rest on this module.
 -- The bytes that vectors own.
 use Rattle.std.specs.Prelude.{ℕ, ◌<◌, ◌^◌, List, length, map}
 use Rattle.std.specs.Global.{Vec}

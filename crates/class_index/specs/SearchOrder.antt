@@ -1,3 +1,4 @@
+-- Public contracts rest on this module.
 -- The order in which resolution searches the supertypes of a class (JVMS 5.4.3.2).
 use Rattle.std.specs.Prelude.{◌≡◌, ℕ, List, [], ◌∷◌, ◌++◌, Some, nat_eq, not, filter, slice_get}
 use Rattle.class_index.specs.declared.parents.Parents.{Parents}

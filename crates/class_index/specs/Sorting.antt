@@ -1,3 +1,4 @@
+-- Only the proofs of this crate rest on this module.
 -- The state of sorting classes upward: those that are placed, and those that wait for a direct supertype to be placed.
 use Rattle.std.specs.Prelude.{◌≡◌, ℕ, ◌<◌, ◌≤◌, true, false, List, Vec, Some, length, take, All, Any, Contains, slice_get, nat_eq}
 use Rattle.std.specs.List.{IsDistinct}

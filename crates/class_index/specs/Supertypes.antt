@@ -1,3 +1,4 @@
+-- Public contracts rest on this module.
 -- What stands above a class: its direct supertypes, and those above them. Classes are numbers, places in a list.
 use Rattle.std.specs.Prelude.{◌≡◌, ℕ, ◌<◌, List, ◌++◌, Some, length, All, Contains, slice_get}
 use Rattle.std.specs.Option.{option_to_list}

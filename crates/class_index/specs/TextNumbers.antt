@@ -1,3 +1,4 @@
+-- Public contracts rest on this module.
 -- Texts by number: the number of a text is its place in a list in which no text stands twice.
 use Rattle.std.specs.Prelude.{◌≡◌, ℕ, List, [], ◌∷◌, ◌++◌, Some, slice_get, if◌then◌else◌}
 use Rattle.std.specs.List.{list_any}

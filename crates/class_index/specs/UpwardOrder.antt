@@ -1,3 +1,4 @@
+-- Public contracts rest on this module.
 -- The order of all classes in which each stands after its supertypes; and what keeps a program from having one.
 use Rattle.std.specs.Prelude.{◌≡◌, ℕ, ◌<◌, ◌≤◌, List, Some, nat_eq, length, take, All, Contains, slice_get}
 use Rattle.std.specs.List.{IsDistinct}

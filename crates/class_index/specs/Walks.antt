@@ -1,3 +1,4 @@
+-- Only the proofs of this crate rest on this module.
 -- A walk over all that is above a class.
 use Rattle.std.specs.Prelude.{◌≡◌, ℕ, ◌<◌, true, List, Some, All, slice_get}
 use Rattle.class_index.specs.declared.parents.Parents.{Parents}

@@ -1,3 +1,4 @@
+-- Public contracts rest on this module.
 -- Reading a class file (JVMS 4.1).
 use Rattle.std.specs.Prelude.{◌≤◌, ℕ, List, length, Result, Ok, Err, nat_lt, ◌==◌, ◌||◌, if◌then◌else◌}
 use Rattle.std.specs.Int.{w16, w32}

@@ -1,3 +1,4 @@
+-- Public contracts rest on this module.
 -- Why a class file is refused, and at which offset.
 use Rattle.std.specs.Prelude.{◌≡◌, ℕ, List, Some, Err}
 use Rattle.jvm_model.specs.declared.class_file.ClassFile.{ClassFile}

@@ -1,3 +1,4 @@
+-- Public contracts rest on this module.
 -- Which place of a class file is told: the first one of which the use does not hold.
 use Rattle.std.specs.Prelude.{◌≡◌, ◌⊎◌, ℕ, List, [], ◌∷◌, Option, Some, None}
 use Rattle.jvm_model.specs.declared.pool.PoolEntry.{PoolEntry}

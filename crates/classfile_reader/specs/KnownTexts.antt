@@ -1,3 +1,4 @@
+-- Only the proofs of this crate rest on this module.
 -- The texts of a constant pool that are known to be in a grammar.
 use Rattle.std.specs.Prelude.{ℕ, List, nat_eq, IsTrue}
 use Rattle.std.specs.HashSet.{HashSet, contains}

@@ -1,3 +1,4 @@
+-- Public contracts rest on this module.
 -- The order in which the places of a class file stand: by offset, and at one offset by reason.
 use Rattle.std.specs.Prelude.{◌≡◌, ℕ, ◌<◌, true, List, AllPairs}
 use Rattle.std.specs.declared.cmp.Ordering.{Ordering}

@@ -1,3 +1,4 @@
+-- Public contracts rest on this module.
 -- Reading the constant pool (JVMS 4.4).
 use Rattle.std.specs.Prelude.{ℕ, zero, suc, ◌-◌, List, [], ◌∷◌, Option, Some, None, Result, Ok, Err, ◌==◌, if◌then◌else◌}
 use Rattle.std.specs.Int.{Width, w16, w32, w64}

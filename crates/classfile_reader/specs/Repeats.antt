@@ -1,3 +1,4 @@
+-- Only the proofs of this crate rest on this module.
 -- Members that have the name and the descriptor of an earlier one.
 use Rattle.std.specs.Prelude.{◌≡◌, ℕ, Bool, true, false, List, length, take, Option, Some, slice_get, option_and_then, option_map}
 use Rattle.std.specs.declared.cmp.Ordering.{Ordering}

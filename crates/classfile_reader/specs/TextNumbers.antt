@@ -1,3 +1,4 @@
+-- Only the proofs of this crate rest on this module.
 -- Numbers for the texts of a constant pool, which are the same exactly where the bytes are the same.
 use Rattle.std.specs.Prelude.{◌≡◌, ℕ, zero, suc, Bool, false, List, map, Option, None, position, slice_get, option_and_then}
 use Rattle.std.specs.BTreeMap.{BTreeMap, get_by}

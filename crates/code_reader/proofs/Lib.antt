@@ -3,6 +3,7 @@ pub mod Dimensions
 pub mod Divided
 pub mod EachCode
 pub mod Front
+pub mod KnownInstructions
 pub mod MachineBodies
 pub mod MethodPlaces
 pub mod OneReading

@@ -1,3 +1,4 @@
+-- Only the proofs of this crate rest on this module.
 -- What the code answers on the body of a Code attribute.
 use Rattle.std.specs.Prelude.{◌≡◌, ℕ, List, Result, Ok, Err}
 use Rattle.jvm_model.specs.declared.code.Code.{Code}

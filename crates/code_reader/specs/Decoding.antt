@@ -1,3 +1,4 @@
+-- Only the proofs of this crate rest on this module.
 -- What reading an instruction answers, beside what the standard says of it.
 use Rattle.std.specs.Prelude.{◌≡◌, Result, Ok, Err}
 use Rattle.jvm_model.specs.declared.reason.Reason.{Reason}

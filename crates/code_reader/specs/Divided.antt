@@ -1,3 +1,4 @@
+-- Only the proofs of this crate rest on this module.
 -- What the code's division of a code array says.
 use Rattle.std.specs.Prelude.{◌≡◌, ℕ, false, List, get_or}
 use Rattle.jvm_model.specs.declared.pool.PoolEntry.{PoolEntry}

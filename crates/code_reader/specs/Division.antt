@@ -1,3 +1,4 @@
+-- Public contracts rest on this module.
 -- How the code of a method is divided into instructions (JVMS 4.7.3, 4.9.1), and what is wrong with one of them.
 use Rattle.std.specs.Prelude.{◌≡◌, ℕ, ◌+◌, ◌<◌, Bool, false, ◌&&◌, ◌||◌, not, nat_eq, nat_le, nat_lt, List, [], ◌∷◌, length, Option, Some, None, Result, Ok, Err, if◌then◌else◌}
 use Rattle.std.specs.List.{list_all, list_any}

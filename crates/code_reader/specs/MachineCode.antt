@@ -1,3 +1,4 @@
+-- Public contracts rest on this module.
 -- The code that is read beside the body of a Code attribute, in which the machine finds its instructions (JVMS 4.7.3).
 use Rattle.std.specs.Prelude.{◌≡◌, ℕ, ◌+◌, length, slice_get, Some, None, Ok}
 use Rattle.jvm_model.specs.declared.code.Code.{Code}

@@ -1,3 +1,4 @@
+-- Only the proofs of this crate rest on this module.
 -- The units of the parameters of a descriptor that was read.
 use Rattle.std.specs.Prelude.{◌≡◌, ℕ, ◌≤◌, Option, Some, None, sum_by}
 use Rattle.jvm_model.specs.declared.descriptor.Descriptor.{Descriptor}

@@ -1,3 +1,4 @@
+-- Public contracts rest on this module.
 -- Where the methods of a class file stand, and the code in one (JVMS 4.6, 4.7.3).
 use Rattle.std.specs.Prelude.{◌≡◌, ℕ, ◌+◌, List, length, take}
 use Rattle.std.specs.List.{flat_map}

@@ -1,124 +1,36 @@
 -- An instruction that is read has the row of its opcode, which is not that of the prefix wide.
-use Rattle.std.proofs.Common.{◌≡◌, ℕ, ◌+◌, ◌*◌, ◌-◌, Bool, true, false, cond, ltb, eqb, ◌||◌, List, [], ◌∷◌, length, drop, get_or, Option, Some, None, Result, Ok, Err, refl, sym, ap, ◌∙◌, subst}
+use Rattle.std.proofs.Common.{◌≡◌, ℕ, false, List, Option, Some, Ok, refl}
 use Rattle.jvm_model.specs.declared.pool.PoolEntry.{PoolEntry}
-use Rattle.jvm_model.specs.declared.reason.Reason.{Reason}
-use Rattle.jvm_model.specs.declared.reason.Reason.TheVariants.{BadOpcode, CodeCut}
-use Rattle.jvm_model.specs.Instructions.{DecodedInstruction, word, above_least, padding, switch, table_switch, pairs_switch, widened_by, widened_row, widened_first, with_operands, with_row, first_instruction, instruction_at}
-use Rattle.jvm_model.specs.InstructionUses.{within_dimensions}
+use Rattle.jvm_model.specs.Instructions.{DecodedInstruction}
 use Rattle.jvm_model.specs.Table.{Row, row_of, Operands, nothing, implied, value_1, value_2, type_code, local_1, pool_1, pool_2, offset_2, offset_4, local_and_value, pool_2_and_count, pool_2_and_zeros, pool_2_and_dimensions, table_of_offsets, pairs_with_offsets, widened}
-use Rattle.code_reader.specs.Division.{within, instruction_in}
+use Rattle.code_reader.proofs.KnownInstructions.{HasSize, known_at, read_in}
+use Rattle.code_reader.specs.Division.{instruction_in}
 use Rattle.flow_graph.specs.Reading.{is_widened}
 
-pub record IsKnown (i : DecodedInstruction) : Type 0 where
+pub record IsNarrow (i : DecodedInstruction) : Type 0 where
   pub row : row_of i.opcode ≡ Some i.row
   pub narrow : is_widened i.row.operands ≡ false
 
-abbrev read_as : DecodedInstruction → Result DecodedInstruction Reason
-read_as i = Ok i
+narrow_of : (o : Operands) (size : ℕ) → HasSize o size → is_widened o ≡ false
+narrow_of nothing size is = refl
+narrow_of (implied local) size is = refl
+narrow_of value_1 size is = refl
+narrow_of value_2 size is = refl
+narrow_of type_code size is = refl
+narrow_of local_1 size is = refl
+narrow_of (pool_1 leads) size is = refl
+narrow_of (pool_2 leads) size is = refl
+narrow_of offset_2 size is = refl
+narrow_of offset_4 size is = refl
+narrow_of local_and_value size is = refl
+narrow_of pool_2_and_count size is = refl
+narrow_of pool_2_and_zeros size is = refl
+narrow_of pool_2_and_dimensions size is = refl
+narrow_of table_of_offsets size is = refl
+narrow_of pairs_with_offsets size is = refl
+narrow_of widened size is = absurd is
 
-abbrev refused : Reason → Result DecodedInstruction Reason
-refused reason = Err reason
-
-ok_is : (i j : DecodedInstruction) → read_as i ≡ Ok j → i ≡ j
-ok_is i j e = cc
-
--- a test that did not refuse
-passed : (t : Bool) (reason : Reason) (r : Result DecodedInstruction Reason) (i : DecodedInstruction) → cond t (refused reason) r ≡ Ok i → r ≡ Ok i
-passed true reason r i e = absurd cc
-passed false reason r i e = e
-
-taken : (t : Bool) (r : Result DecodedInstruction Reason) (reason : Reason) (i : DecodedInstruction) → cond t r (refused reason) ≡ Ok i → r ≡ Ok i
-taken true r reason i e = e
-taken false r reason i e = absurd cc
-
--- an instruction with a row, which is the one that is read
-known : (opcode : ℕ) (r : Row) (o : Operands) (j i : DecodedInstruction) → row_of opcode ≡ Some r → r.operands ≡ o → j.opcode ≡ opcode → j.row ≡ r → is_widened o ≡ false → read_as j ≡ Ok i → IsKnown i
-known opcode r o j i row of at same narrow e =
-    subst IsKnown (ok_is j i e) (record {
-      row = ap row_of at ∙ row ∙ ap (λ (x : Row). Some x) (sym same);
-      narrow = subst (λ (p : Operands). is_widened p ≡ false) (sym (ap (λ (x : Row). x.operands) same ∙ of)) narrow;
-    })
-
-by_switch : (opcode : ℕ) (r : Row) (o : Operands) (offset long entry count : ℕ) (bytes : List ℕ) (i : DecodedInstruction) → row_of opcode ≡ Some r → r.operands ≡ o → is_widened o ≡ false
-    → switch opcode r offset long entry count bytes ≡ Ok i → IsKnown i
-by_switch opcode r o offset long entry count bytes i row of narrow e = known opcode r o _ i row of refl refl narrow (passed (ltb (length bytes) long) CodeCut _ i e)
-
-by_table : (opcode : ℕ) (r : Row) (offset : ℕ) (bytes : List ℕ) (i : DecodedInstruction) → row_of opcode ≡ Some r → r.operands ≡ table_of_offsets → table_switch opcode r offset bytes ≡ Ok i → IsKnown i
-by_table opcode r offset bytes i row of e =
-    let low = above_least (word (drop 4 bytes)) in
-    let high = above_least (word (drop 8 bytes)) in
-    let p = passed (ltb (length bytes) 12) CodeCut _ i e in
-    by_switch opcode r table_of_offsets offset (12 + 4 * (high - low + 1)) 4 (high - low + 1) bytes i row of refl (passed (ltb high low) BadOpcode _ i p)
-
-by_pairs : (opcode : ℕ) (r : Row) (offset : ℕ) (bytes : List ℕ) (i : DecodedInstruction) → row_of opcode ≡ Some r → r.operands ≡ pairs_with_offsets → pairs_switch opcode r offset bytes ≡ Ok i → IsKnown i
-by_pairs opcode r offset bytes i row of e =
-    let count = word (drop 4 bytes) in
-    let p = passed (ltb (length bytes) 8) CodeCut _ i e in
-    by_switch opcode r pairs_with_offsets offset (8 + 8 * count) 8 count bytes i row of refl (taken (ltb count 0x80000000) _ BadOpcode i p)
-
-by_widened : (opcode : ℕ) (r : Row) (o : Operands) (bytes : List ℕ) (i : DecodedInstruction) → row_of opcode ≡ Some r → r.operands ≡ o → widened_by opcode r o bytes ≡ Ok i → IsKnown i
-by_widened opcode r local_1 bytes i row of e = known opcode r local_1 _ i row of refl refl refl (passed (ltb (length bytes) 2) CodeCut _ i e)
-by_widened opcode r local_and_value bytes i row of e = known opcode r local_and_value _ i row of refl refl refl (passed (ltb (length bytes) 4) CodeCut _ i e)
-by_widened opcode r nothing bytes i row of e = absurd cc
-by_widened opcode r (implied local) bytes i row of e = absurd cc
-by_widened opcode r value_1 bytes i row of e = absurd cc
-by_widened opcode r value_2 bytes i row of e = absurd cc
-by_widened opcode r type_code bytes i row of e = absurd cc
-by_widened opcode r (pool_1 leads) bytes i row of e = absurd cc
-by_widened opcode r (pool_2 leads) bytes i row of e = absurd cc
-by_widened opcode r offset_2 bytes i row of e = absurd cc
-by_widened opcode r offset_4 bytes i row of e = absurd cc
-by_widened opcode r pool_2_and_count bytes i row of e = absurd cc
-by_widened opcode r pool_2_and_zeros bytes i row of e = absurd cc
-by_widened opcode r pool_2_and_dimensions bytes i row of e = absurd cc
-by_widened opcode r table_of_offsets bytes i row of e = absurd cc
-by_widened opcode r pairs_with_offsets bytes i row of e = absurd cc
-by_widened opcode r widened bytes i row of e = absurd cc
-
-by_widened_row : (opcode : ℕ) (o : Option Row) (bytes : List ℕ) (i : DecodedInstruction) → row_of opcode ≡ o → widened_row opcode o bytes ≡ Ok i → IsKnown i
-by_widened_row opcode (Some r) bytes i row e = by_widened opcode r r.operands bytes i row refl e
-by_widened_row opcode None bytes i row e = absurd cc
-
-by_widened_first : (bytes : List ℕ) (i : DecodedInstruction) → widened_first bytes ≡ Ok i → IsKnown i
-by_widened_first [] i e = absurd cc
-by_widened_first (opcode ∷ bytes) i e = by_widened_row opcode (row_of opcode) bytes i refl e
-
-by_operands : (opcode : ℕ) (r : Row) (offset : ℕ) (o : Operands) (bytes : List ℕ) (i : DecodedInstruction) → row_of opcode ≡ Some r → r.operands ≡ o → with_operands opcode r offset o bytes ≡ Ok i → IsKnown i
-by_operands opcode r offset nothing bytes i row of e = known opcode r nothing _ i row of refl refl refl e
-by_operands opcode r offset (implied local) bytes i row of e = known opcode r (implied local) _ i row of refl refl refl e
-by_operands opcode r offset value_1 bytes i row of e = known opcode r value_1 _ i row of refl refl refl (passed (ltb (length bytes) 1) CodeCut _ i e)
-by_operands opcode r offset value_2 bytes i row of e = known opcode r value_2 _ i row of refl refl refl (passed (ltb (length bytes) 2) CodeCut _ i e)
-by_operands opcode r offset type_code bytes i row of e =
-    let wrong = ltb (get_or bytes 0 0) 4 || ltb 11 (get_or bytes 0 0) in
-    known opcode r type_code _ i row of refl refl refl (passed wrong BadOpcode _ i (passed (ltb (length bytes) 1) CodeCut _ i e))
-by_operands opcode r offset local_1 bytes i row of e = known opcode r local_1 _ i row of refl refl refl (passed (ltb (length bytes) 1) CodeCut _ i e)
-by_operands opcode r offset (pool_1 leads) bytes i row of e = known opcode r (pool_1 leads) _ i row of refl refl refl (passed (ltb (length bytes) 1) CodeCut _ i e)
-by_operands opcode r offset (pool_2 leads) bytes i row of e = known opcode r (pool_2 leads) _ i row of refl refl refl (passed (ltb (length bytes) 2) CodeCut _ i e)
-by_operands opcode r offset offset_2 bytes i row of e = known opcode r offset_2 _ i row of refl refl refl (passed (ltb (length bytes) 2) CodeCut _ i e)
-by_operands opcode r offset offset_4 bytes i row of e = known opcode r offset_4 _ i row of refl refl refl (passed (ltb (length bytes) 4) CodeCut _ i e)
-by_operands opcode r offset local_and_value bytes i row of e = known opcode r local_and_value _ i row of refl refl refl (passed (ltb (length bytes) 2) CodeCut _ i e)
-by_operands opcode r offset pool_2_and_count bytes i row of e = known opcode r pool_2_and_count _ i row of refl refl refl (passed (ltb (length bytes) 4) CodeCut _ i e)
-by_operands opcode r offset pool_2_and_zeros bytes i row of e = known opcode r pool_2_and_zeros _ i row of refl refl refl (passed (ltb (length bytes) 4) CodeCut _ i e)
-by_operands opcode r offset pool_2_and_dimensions bytes i row of e =
-    known opcode r pool_2_and_dimensions _ i row of refl refl refl (passed (eqb (get_or bytes 2 0) 0) BadOpcode _ i (passed (ltb (length bytes) 3) CodeCut _ i e))
-by_operands opcode r offset table_of_offsets bytes i row of e = by_table opcode r offset (drop (padding offset) bytes) i row of e
-by_operands opcode r offset pairs_with_offsets bytes i row of e = by_pairs opcode r offset (drop (padding offset) bytes) i row of e
-by_operands opcode r offset widened bytes i row of e = by_widened_first bytes i e
-
-by_row : (opcode : ℕ) (o : Option Row) (offset : ℕ) (bytes : List ℕ) (i : DecodedInstruction) → row_of opcode ≡ o → with_row opcode o offset bytes ≡ Ok i → IsKnown i
-by_row opcode (Some r) offset bytes i row e = by_operands opcode r offset r.operands bytes i row refl e
-by_row opcode None offset bytes i row e = absurd cc
-
-by_first : (offset : ℕ) (bytes : List ℕ) (i : DecodedInstruction) → first_instruction offset bytes ≡ Ok i → IsKnown i
-by_first offset [] i e = absurd cc
-by_first offset (opcode ∷ bytes) i e = by_row opcode (row_of opcode) offset bytes i refl e
-
-known_at : (code : List ℕ) (offset : ℕ) (i : DecodedInstruction) → instruction_at code offset ≡ Ok i → IsKnown i
-known_at code offset i e = by_first offset (drop offset code) i e
-
-within_is : (pool : List PoolEntry) (r : Result DecodedInstruction Reason) (i : DecodedInstruction) → within pool r ≡ Ok i → r ≡ Ok i
-within_is pool (Ok j) i e = taken (within_dimensions pool j) (read_as j) BadOpcode i e
-within_is pool (Err reason) i e = absurd cc
-
-pub known_in : (pool : List PoolEntry) (code : List ℕ) (offset : ℕ) (i : DecodedInstruction) → instruction_in pool code offset ≡ Ok i → IsKnown i
-known_in pool code offset i e = known_at code offset i (within_is pool (instruction_at code offset) i e)
+pub known_in : (pool : List PoolEntry) (code : List ℕ) (offset : ℕ) (i : DecodedInstruction) → instruction_in pool code offset ≡ Ok i → IsNarrow i
+known_in pool code offset i e =
+    let k = known_at code offset i (read_in pool code offset i e) in
+    record { row = k.row; narrow = narrow_of i.row.operands i.size k.size }

@@ -1,3 +1,4 @@
+-- Only the proofs of this crate rest on this module.
 -- The walk need not meet a handler at each instruction that it covers (JVMS 2.10): it is noted already, or still listed there.
 use Rattle.std.specs.Prelude.{◌≡◌, ◌⊎◌, ℕ, true, List, Some, slice_get, Contains}
 use Rattle.jvm_model.specs.declared.code.Code.{Code}

@@ -1,3 +1,4 @@
+-- Public contracts rest on this module.
 -- How many units of the operand stack an instruction pops and pushes (JVMS 2.6.2, 6.5).
 use Rattle.std.specs.Prelude.{◌≡◌, ℕ, List, [], length, Option, Some, None, option_and_then}
 use Rattle.std.specs.List.{AllZip}

@@ -1,3 +1,4 @@
+-- Public contracts rest on this module.
 -- Where an instruction goes on, and which handlers cover it (JVMS 2.10, 3.12, 4.7.3, 6.5).
 use Rattle.std.specs.Prelude.{ℕ, ◌+◌, Bool, true, false, ◌&&◌, not, nat_eq, nat_le, nat_lt, List, [], ◌∷◌, ◌++◌, map, filter, Option, option_map, slice_get, if◌then◌else◌}
 use Rattle.std.specs.List.{list_any, position}

@@ -1,3 +1,4 @@
+-- Public contracts rest on this module.
 -- What a flow graph says of the code of its method, apart from how it was found (JVMS 2.6.2, 2.10, 4.9.2, 4.10).
 use Rattle.std.specs.Prelude.{◌≡◌, ℕ, ◌<◌, ◌≤◌, false, List, Some, slice_get, Contains, All, Ok}
 use Rattle.std.specs.List.{AllByRecursion}

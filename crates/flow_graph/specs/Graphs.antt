@@ -1,3 +1,4 @@
+-- Public contracts rest on this module.
 -- The flow graph that the walk over the code of a method gives, or its first fault (JVMS 4.9.2, 4.10).
 use Rattle.std.specs.Prelude.{◌≡◌, ℕ, ◌+◌, List, [], ◌∷◌, ◌++◌, Option, Some, None, Result, Ok, Err, if◌then◌else◌}
 use Rattle.jvm_model.specs.declared.class_file.ClassFile.{ClassFile}

@@ -1,3 +1,4 @@
+-- Public contracts rest on this module.
 -- The handlers of a method in the order of their starts, and how those that cover an offset are found by halves
 -- (JVMS 2.10, 4.7.3).
 use Rattle.std.specs.Prelude.{◌≡◌, ℕ, ◌+◌, ◌/◌, ◌<◌, ◌≤◌, Bool, ◌&&◌, nat_le, nat_lt, List, [], ◌∷◌, ◌++◌, length, map, filter, take, drop, All, Some, slice_get}

@@ -1,3 +1,4 @@
+-- Public contracts rest on this module.
 -- What the reader of code saw to at each instruction, and the units of descriptors as the code counts them.
 use Rattle.std.specs.Prelude.{◌≡◌, ℕ, ◌+◌, ◌<◌, ◌≤◌, Bool, true, false, List, length, Option, Some, None, option_and_then, sum_by, slice_index_or}
 use Rattle.std.specs.BTreeMap.{BTreeMap, get}

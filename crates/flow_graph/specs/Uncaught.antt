@@ -1,3 +1,4 @@
+-- Only the proofs of this crate rest on this module.
 -- Handlers that may not be caught yet, by the offsets that they cover, level by level (JVMS 2.10, 4.7.3).
 use Rattle.std.specs.Prelude.{◌≡◌, ◌⊎◌, ℕ, ◌+◌, ◌/◌, ◌%◌, ◌<◌, ◌≤◌, true, List, [], ◌∷◌, ◌++◌, length, option_map, unwrap_or, slice_get, Contains}
 use Rattle.std.specs.Global.{Vec}

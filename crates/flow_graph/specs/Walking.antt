@@ -1,3 +1,4 @@
+-- Only the proofs of this crate rest on this module.
 -- What the code's walk does in parts.
 use Rattle.std.specs.Prelude.{◌≡◌, ◌≤◌, ℕ, Bool, true, false, ◌||◌, nat_eq, List, Option, Some, None, slice_get}
 use Rattle.std.specs.BTreeSet.{BTreeSet, contains}

@@ -1,3 +1,4 @@
+-- Public contracts rest on this module.
 -- The walk over the code of a method from its first instruction on (JVMS 2.6.2, 4.9.2, 4.10): at which height each
 -- instruction is reached, and what is noted of it.
 use Rattle.std.specs.Prelude.{◌≡◌, ℕ, ◌+◌, ◌-◌, Bool, true, false, ◌&&◌, ◌||◌, not, nat_eq, nat_lt, List, [], ◌∷◌, length, replicate, Option, Some, None, slice_get, slice_set, if◌then◌else◌}

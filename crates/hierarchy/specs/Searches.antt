@@ -1,3 +1,4 @@
+-- Public contracts rest on this module.
 -- What searches for methods are given, and what they pass.
 use Rattle.std.specs.Prelude.{◌≡◌, ◌≢◌, ◌⊎◌, ℕ, ◌≤◌, Bool, true, false, List, [], ◌∷◌, Option, Some, slice_get, Contains, IsTrue}
 use Rattle.jvm_model.specs.Lookups.{Signature}

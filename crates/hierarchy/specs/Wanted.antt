@@ -1,3 +1,4 @@
+-- Only the proofs of this crate rest on this module.
 -- What a search for a method takes, by the kind of search.
 use Rattle.std.specs.Prelude.{◌≡◌, ℕ, false, Some, slice_get}
 use Rattle.hierarchy.specs.declared.wanted.Wanted.{Wanted}

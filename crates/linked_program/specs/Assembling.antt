@@ -1,3 +1,4 @@
+-- Public contracts rest on this module.
 -- What putting a program together tells.
 use Rattle.std.specs.Prelude.{◌≡◌, List, map, Result, Ok, Err}
 use Rattle.std.specs.List.{flat_map}

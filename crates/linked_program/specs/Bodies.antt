@@ -1,3 +1,4 @@
+-- Public contracts rest on this module.
 -- What stands for a method, as it is shown.
 use Rattle.std.specs.Prelude.{◌≡◌}
 use Rattle.jvm_model.specs.Programs.{Body, in_file, described, returns_at_once}

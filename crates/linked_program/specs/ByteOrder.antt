@@ -1,3 +1,4 @@
+-- Public contracts rest on this module.
 -- Texts in the order of their bytes: the first byte that differs decides, and a front comes before the longer text.
 use Rattle.std.specs.Prelude.{◌≡◌, ℕ, ◌<◌, List, Some, slice_get}
 use Rattle.std.specs.Ordering.{nat_cmp}

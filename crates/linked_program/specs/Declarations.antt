@@ -1,3 +1,4 @@
+-- Public contracts rest on this module.
 -- Methods and fields, as far as they are alike: each is declared in a class, with a name, a descriptor and flags.
 use Rattle.std.specs.Prelude.{◌≡◌, ℕ, List, Some, map, slice_get}
 use Rattle.jvm_model.specs.declared.class_file.ClassFile.{ClassFile}

@@ -1,3 +1,4 @@
+-- Public contracts rest on this module.
 -- Each member is declared in the class that has it: a law of methods and of fields.
 use Rattle.std.specs.Prelude.{◌≡◌, All, refl}
 use Rattle.std.specs.List.{enumerate_from}

@@ -1,3 +1,4 @@
+-- Public contracts rest on this module.
 -- The search for a field, by numbers of classes.
 use Rattle.std.specs.Prelude.{◌≡◌, ◌⊎◌, ℕ, List, [], ◌∷◌, Option, Some, None}
 use Rattle.jvm_model.specs.Lookups.{Signature}

@@ -1,3 +1,4 @@
+-- Public contracts rest on this module.
 -- What keeps a linked program and its indexes together.
 use Rattle.std.specs.Prelude.{◌≡◌, ◌<◌, ◌^◌, length, All}
 use Rattle.jvm_model.specs.LinkedPrograms.{IsProgram}

@@ -1,3 +1,4 @@
+-- Public contracts rest on this module.
 -- How linking ends without a program.
 use Rattle.std.specs.Prelude.{ℕ, List, ◌≡◌}
 use Rattle.jvm_model.specs.declared.reason.Reason.{Reason}

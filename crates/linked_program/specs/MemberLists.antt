@@ -1,3 +1,4 @@
+-- Public contracts rest on this module.
 -- The members of all classes by number, class by class: their keys, and the places at which they stand.
 use Rattle.std.specs.Prelude.{◌≡◌, ◌⊎◌, ℕ, List, map, length, Contains, Some, slice_get}
 use Rattle.std.specs.List.{flat_map, range_with_len}

@@ -1,3 +1,4 @@
+-- Public contracts rest on this module.
 -- The direct supertypes of the classes of a program, by number.
 use Rattle.std.specs.Prelude.{◌≡◌, ℕ, ◌<◌, List, [], map, length, All, Contains, option_map, unwrap_or, slice_get}
 use Rattle.std.specs.List.{AllZip}

@@ -1,3 +1,4 @@
+-- Public contracts rest on this module.
 -- Classes, methods and fields of a program by number, and what stands at a number.
 use Rattle.std.specs.Prelude.{◌≡◌, ℕ, ◌<◌, List, [], length, Option, Some, option_map, unwrap_or, Result, Ok, Err, slice_get}
 use Rattle.jvm_model.specs.declared.number.ClassNo.{ClassNo}

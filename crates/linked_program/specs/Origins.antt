@@ -1,3 +1,4 @@
+-- Public contracts rest on this module.
 -- What linking knows of where classes come from.
 use Rattle.std.specs.Prelude.{All}
 use Rattle.jvm_model.specs.declared.program.Origin.{Origin}

@@ -1,3 +1,4 @@
+-- Public contracts rest on this module.
 -- What bounds each walk upward: ranks of names, which fall from each class to its direct supertypes.
 use Rattle.std.specs.Prelude.{ℕ, ◌<◌, List, length, Contains}
 use Rattle.jvm_model.specs.Programs.{Class, Program}

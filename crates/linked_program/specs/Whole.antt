@@ -1,3 +1,4 @@
+-- Public contracts rest on this module.
 -- What a linked program shows of classes and members, and what linking has to know of classes to make one.
 use Rattle.std.specs.Prelude.{◌≢◌, ℕ, List, All, AllPairs, Contains, IsSorted}
 use Rattle.std.specs.Cmp.Lexicographic.{slice_cmp}

@@ -1,3 +1,4 @@
+-- Public contracts rest on this module.
 -- What is told of claims: that all are met, or the first that is not. And what of a program the claims on names and kinds need.
 use Rattle.std.specs.Prelude.{ℕ, Bool, false, List, [], ◌∷◌, ◌++◌, map, None, Result, Ok, Err, Contains, ◌≡◌, if◌then◌else◌}
 use Rattle.jvm_model.specs.declared.access.AccessFlag.TheVariants.{Interface}

@@ -1,3 +1,4 @@
+-- Public contracts rest on this module.
 -- What the call that links tells.
 use Rattle.std.specs.Prelude.{List, ◌++◌, Result, Ok, Err}
 use Rattle.jvm_model.specs.declared.program.NamedClass.{NamedClass}

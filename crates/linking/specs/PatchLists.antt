@@ -1,3 +1,4 @@
+-- Public contracts rest on this module.
 -- Patches in lists, one for each name of a class that has patches.
 use Rattle.std.specs.Prelude.{◌≡◌, ℕ, List, [], ◌∷◌, ◌++◌, map, length, Some, slice_get}
 use Rattle.std.specs.Borrow.{Bor}

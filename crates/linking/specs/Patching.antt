@@ -1,3 +1,4 @@
+-- Public contracts rest on this module.
 -- Descriptions that are lent, patches by the name of their class, and the native methods that patches may describe.
 use Rattle.std.specs.Prelude.{ℕ, Bool, ◌&&◌, List, [], ◌∷◌, map, filter, if◌then◌else◌}
 use Rattle.std.specs.Str.{bytes_eq}

@@ -1,3 +1,4 @@
+-- Only the proofs of this crate rest on this module.
 -- The stubs that are there from the start, and those of the user's files.
 use Rattle.std.specs.Prelude.{Bool, not, ◌&&◌, List, [], ◌∷◌, filter, if◌then◌else◌}
 use Rattle.jvm_model.specs.declared.stub.StubClass.{StubClass}

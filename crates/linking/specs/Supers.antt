@@ -1,3 +1,4 @@
+-- Only the proofs of this crate rest on this module.
 -- Supertypes that are lent, and those of a stub in two parts.
 use Rattle.std.specs.Prelude.{ℕ, List, map, true, false}
 use Rattle.std.specs.Option.{option_to_list}

@@ -15,7 +15,7 @@ use Rattle.code_reader.specs.Division.{Spot, Divides, at_end, stops, goes_on}
 use Rattle.one_class_form.specs.declared.simple.Simple.{Simple}
 use Rattle.one_class_form.specs.declared.simple.Simple.TheVariants.{New, Dup, Store, Load, InvokeSpecial, InvokeVirtual, Return}
 use Rattle.one_class_form.specs.SimpleCode.{instruction, code_of, OperandFits, opcode, operand, given, placed_from}
-use Rattle.one_class_form.proofs.Decoding.{HasSize, IsKnown, known_at, read_in}
+use Rattle.code_reader.proofs.KnownInstructions.{HasSize, IsKnown, known_at, read_in}
 
 -- what an instruction does, as a row of the table says it
 abbrev pub HasShape : Simple → Decoded → Type 0

@@ -1,5 +1,4 @@
 pub mod Options
-pub mod Decoding
 pub mod FormCode
 pub mod CodeOfBody
 pub mod OneBody

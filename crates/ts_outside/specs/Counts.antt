@@ -1,3 +1,4 @@
+-- Public contracts rest on this module.
 -- Counters that stop at their last value, and what it means that one of them rose in a call.
 use Rattle.std.specs.Prelude.{ℕ, ◌+◌, ◌-◌, ◌^◌, ◌<◌, ◌≤◌, ◌⊎◌, min}
 

@@ -1,3 +1,4 @@
+-- Public contracts rest on this module.
 -- What a tree holds: a finite map from names to bytes.
 use Rattle.std.specs.Prelude.{codes, ℕ, Bool, true, ◌&&◌, not, nat_eq, List, [], ◌∷◌, map, filter, find, Option, option_map, IsPermutation, IsSorted}
 use Rattle.std.specs.List.{ends_with, list_any}

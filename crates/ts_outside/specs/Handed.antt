@@ -1,3 +1,4 @@
+-- Public contracts rest on this module.
 -- What a sink tells of the calls of its write.
 use Rattle.std.specs.Prelude.{ℕ, List, [], ◌∷◌, ◌++◌}
 

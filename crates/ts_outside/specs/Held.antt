@@ -1,3 +1,4 @@
+-- Public contracts rest on this module.
 -- The files that a program holds as pairs of a name and the bytes.
 use Rattle.std.specs.Prelude.{List, map, ℕ, String, string_bytes, Vec}
 use Rattle.std.specs.declared.alloc.Global.{Global}

@@ -1,3 +1,4 @@
+-- Public contracts rest on this module.
 -- What the trees and the sink in memory are: what they hold, which of their calls fail, and what they counted.
 use Rattle.std.specs.Prelude.{ℕ, ◌-◌, Bool, ◌||◌, nat_eq, List, ◌++◌, length, take, if◌then◌else◌}
 use Rattle.std.specs.List.{list_any}

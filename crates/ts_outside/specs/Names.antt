@@ -1,3 +1,4 @@
+-- Public contracts rest on this module.
 -- Names of files in a real folder.
 use Rattle.std.specs.Prelude.{codes, ℕ, Bool, not, ◌&&◌, nat_eq, length, List, IsTrue, IsSorted}
 use Rattle.std.specs.List.{list_all, list_any, slice_split}

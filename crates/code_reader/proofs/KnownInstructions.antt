@@ -8,11 +8,12 @@ use Rattle.jvm_model.specs.InstructionUses.{within_dimensions}
 use Rattle.jvm_model.specs.Table.{Row, row_of, Operands, nothing, implied, value_1, value_2, type_code, local_1, pool_1, pool_2, offset_2, offset_4, local_and_value, pool_2_and_count, pool_2_and_zeros, pool_2_and_dimensions, table_of_offsets, pairs_with_offsets, widened}
 use Rattle.code_reader.specs.Division.{within, instruction_in}
 
--- without operands it takes one byte, and with an index of two bytes three
+-- without operands it takes one byte, and with an index of two bytes three; none is the prefix wide
 abbrev pub HasSize : Operands → ℕ → Type 0
 HasSize nothing size = size ≡ 1
 HasSize (implied local) size = size ≡ 1
 HasSize (pool_2 leads) size = size ≡ 3
+HasSize widened size = ⊥
 HasSize _ size = Unit {0}
 
 pub record IsKnown (i : DecodedInstruction) : Type 0 where
