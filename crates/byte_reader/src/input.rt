@@ -67,7 +67,10 @@ impl<'a> Input<'a> {
         ensures unmoved { IfErr result (FailsUnmoved self.old self.new) }
     {
         if self.rest.len() < count {
-            return Err(ReadRefusal::Refused { offset: self.offset, reason: Reason::Truncated });
+            return Err(ReadRefusal::Refused {
+                offset: self.offset,
+                reason: Reason::Truncated,
+            });
         }
         let (front, rest) = self.rest.split_at(count);
         self.rest = rest;
