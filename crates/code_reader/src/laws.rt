@@ -19,8 +19,7 @@ pub fn one_code_reading()
 
 /// Each code of a sound class file is told: it reads as a value, or has a first fault.
 pub fn each_code_is_told()
-    ensures { (c : ClassFile) (method : ℕ) → ClassFits c → IsSoundClass c → HasCodeAttribute c method
-        → (outcome : Result Code Fault) × ReadsCode c method outcome }
+    ensures { (c : ClassFile) (method : ℕ) → IsSoundClass c → HasCodeAttribute c method → (outcome : Result Code Fault) × ReadsCode c method outcome }
 {}
 
 /// The code that is read is that of a body in which the machine finds the method's instructions: it has the limits and the

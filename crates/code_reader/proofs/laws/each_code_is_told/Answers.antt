@@ -2,4 +2,4 @@ use Rattle.code_reader.proofs.EachCode.{each_code_is_told}
 use Rattle.code_reader.proofs.laws.each_code_is_told.Goals as goal
 
 pub returns : goal.returns
-returns c = λ class method fits. each_code_is_told class method
+returns c = each_code_is_told
