@@ -64,3 +64,27 @@ pub fn refused(alloc: Global, file: &Name, offset: u32, reason: Reason) -> LinkE
         Err(_) => LinkEnd::Memory,
     }
 }
+
+#[cfg(test)]
+mod tests {
+    use super::*;
+    use std::test::Fail;
+
+    #[test]
+    fn ends_are_told(rt: HostRuntime) -> Result<(), Fail> {
+        let alloc = rt.alloc();
+        let file = Name::from_string(String::from_str(alloc, "p/A.class")?);
+        let end = refused(alloc, &file, 42, Reason::Cycle);
+        let text = format!(in alloc; "{end}")?;
+        assert_eq!(rt; text.as_str(), "p/A.class is refused at byte 42: Cycle");
+        let many = LinkEnd::from(IndexError::TooMany);
+        let text = format!(in alloc; "{many}")?;
+        assert_eq!(rt;
+            text.as_str(),
+            "the classes have too many members to number"
+        );
+        let text = format!(in alloc; "{}", LinkEnd::Memory)?;
+        assert_eq!(rt; text.as_str(), "out of memory");
+        Ok(())
+    }
+}

@@ -247,3 +247,6 @@ fn cycle_at(alloc: Global, class: &Origin) -> LinkEnd
         Origin::Stub(stub) => refused(alloc, &stub.file, 0, Reason::Cycle),
     }
 }
+
+#[cfg(test)]
+mod tests;
