@@ -1,6 +1,6 @@
 //! A list of keys that may have one more than once, in which the first place of a key is found by hashing.
 
-ghost use Rattle.std.specs.Prelude.{◌≡◌, ℕ, ◌<◌, ◌^◌, ◌↔◌, [], ◌∷◌, ◌++◌, length, Err, Some, slice_get, IfSome, IfNone, OnOk, OnErr};
+ghost use Rattle.std.specs.Prelude.{◌≡◌, ◌<◌, ◌^◌, ◌↔◌, [], ◌∷◌, ◌++◌, length, Err, IfSome, IfNone, OnOk, OnErr};
 ghost use Rattle.class_index.specs.declared.index_error.IndexError.TheVariants.{TooMany};
 ghost use Rattle.class_index.specs.FirstPlaces.{IsFirstPlace, StandsNowhere};
 ghost use Rattle.class_index.specs.Limits.{AreTooMany};

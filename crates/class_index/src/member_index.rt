@@ -1,6 +1,6 @@
 //! Members by class, name and descriptor: from the key of a member to its place in a list.
 
-ghost use Rattle.std.specs.Prelude.{◌≡◌, ◌⊎◌, ℕ, ◌<◌, ◌^◌, ◌↔◌, [], ◌∷◌, ◌++◌, length, All, Err, Some, slice_get, IsTrue, IfSome, IfNone, OnOk, OnErr};
+ghost use Rattle.std.specs.Prelude.{◌≡◌, ◌⊎◌, ◌<◌, ◌^◌, ◌↔◌, [], ◌∷◌, ◌++◌, length, All, Err, Some, IsTrue, IfSome, IfNone, OnOk, OnErr};
 ghost use Rattle.class_index.specs.declared.index_error.IndexError.TheVariants.{TooMany};
 ghost use Rattle.class_index.specs.FirstPlaces.{IsFirstPlace, StandsNowhere};
 ghost use Rattle.class_index.specs.KeyPlaces.{HasTexts, IsSpelledLast};

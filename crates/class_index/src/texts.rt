@@ -1,8 +1,7 @@
 //! Texts of a constant pool where a program names them, which are empty where an index leads to none.
 
-ghost use Rattle.std.specs.Prelude.{◌≡◌, option_map};
+ghost use Rattle.std.specs.Prelude.{◌≡◌};
 ghost use Rattle.jvm_model.specs.Programs.{text_or_none, class_or_none};
-ghost use Rattle.jvm_model.specs.Stubs.{result_class};
 
 use jvm_model::PoolEntry;
 use jvm_model::lookup::{class_name_at, text_at};

@@ -1,47 +1,21 @@
--- The search for a field, class by class.
-use Rattle.std.proofs.Common.{◌≡◌, ℕ, ◌+◌, ◌<◌, ◌≤◌, List, [], ◌∷◌, ◌++◌, length, drop, get_or, add-one, drop-cons, Option, Some, None, refl, sym, ◌∙◌, subst, arith, inl, inr}
+-- The search for a field: in a class, in its superinterfaces, and then in its superclass.
+use Rattle.std.proofs.Common.{◌≡◌, ℕ, ◌<◌, List, [], ◌∷◌, ◌++◌, length, drop, Option, Some, None, IfSome, refl, sym, ◌∙◌, subst, inl, inr}
 use Rattle.std.specs.Option.{option_to_list}
-use Rattle.std.proofs.lemmas.Grind.{common_steps}
 use Rattle.std.proofs.lemmas.Option.{slice_get_within, same_Some, none-some}
 use Rattle.jvm_model.specs.Lookups.{Signature}
 use Rattle.jvm_model.specs.Programs.{Class, Program}
-use Rattle.jvm_model.specs.Resolution.{DeclaresField, FindsField, FindsAmong, above, nowhere, first, later}
-use Rattle.linked_program.specs.FieldSearches.{IsFirstField}
-use Rattle.linked_program.specs.Numbers.{name_at}
-use Rattle.hierarchy.proofs.ClassPlaces.{IsClassAt}
-use Rattle.hierarchy.proofs.Chains.{IsStep, IsTop}
+use Rattle.jvm_model.specs.Subtypes.{class_named, IsChain}
+use Rattle.jvm_model.specs.Resolution.{DeclaresField, FindsField, FindsAmong, itself, above, nowhere, first, later}
+use Rattle.linked_program.specs.FieldSearches.{IsFirstField, IsSearchOrder}
+use Rattle.hierarchy.specs.Searches.{DeclaresNoField, FindsBelow}
+use Rattle.hierarchy.specs.Upward.{AnswersFirst}
+use Rattle.hierarchy.proofs.ClassPlaces.{number_named}
 
 -- ---- one class after another
 
 -- What is found among the classes from a place on is what is found among all.
 pub record IsRestOf (p : Program) (s : Signature) (classes : List ℕ) (place : ℕ) : Type 0 where
   pub whole : (found : Option ℕ) → IsFirstField p s (drop place classes) found → IsFirstField p s classes found
-
-rest_at : (classes : List ℕ) (place : ℕ) → place < length classes → drop place classes ≡ get_or classes place 0 ∷ drop (place + 1) classes
-rest_at classes place lt = rw (add-one, drop-cons classes place 0) refl
-
-pub rest_found : (p : Program) (s : Signature) (classes : List ℕ) (place number : ℕ) → place < length classes → IsRestOf p s classes place
-    → DeclaresField p s (name_at p (get_or classes place 0)) number → IsFirstField p s classes (Some number)
-rest_found p s classes place number lt rest declares =
-    let here : IsFirstField p s (get_or classes place 0 ∷ drop (place + 1) classes) (Some number) = inl (number, refl, declares) in
-    rest.whole (Some number) (subst (λ (xs : List ℕ). IsFirstField p s xs (Some number)) (sym (rest_at classes place lt)) here)
-
-pub rest_more : (p : Program) (s : Signature) (classes : List ℕ) (place : ℕ) → place < length classes → IsRestOf p s classes place
-    → ((other : ℕ) → DeclaresField p s (name_at p (get_or classes place 0)) other → ⊥) → IsRestOf p s classes (place + 1)
-rest_more p s classes place lt rest none =
-    record {
-      whole = λ found h.
-          let here : IsFirstField p s (get_or classes place 0 ∷ drop (place + 1) classes) found = inr (none, h) in
-          rest.whole found (subst (λ (xs : List ℕ). IsFirstField p s xs found) (sym (rest_at classes place lt)) here);
-    }
-
-drop_past : (classes : List ℕ) (place : ℕ) → length classes ≤ place → drop place classes ≡ []
-drop_past classes place le = grind (arith, common_steps)
-
-pub rest_none : (p : Program) (s : Signature) (classes : List ℕ) (place : ℕ) → length classes ≤ place → IsRestOf p s classes place → IsFirstField p s classes None
-rest_none p s classes place le rest =
-    let empty : IsFirstField p s [] None = refl in
-    rest.whole None (subst (λ (xs : List ℕ). IsFirstField p s xs None) (sym (drop_past classes place le)) empty)
 
 -- ---- superinterfaces, and then the superclass
 
@@ -55,37 +29,60 @@ among_then p s others more before found e nowhere h = h
 among_then p s others more before found e (first class rest n field) h = absurd (none-some n (sym e))
 among_then p s others more before found e (later class rest _ none x) h = later class (rest ++ more) found none (among_then p s rest more before found e x h)
 
--- The class declares no field of the signature.
-pub record HasNone (p : Program) (s : Signature) (n : ℕ) : Type 0 where
-  pub none : (number : ℕ) → DeclaresField p s (name_at p n) number → ⊥
+no_field : (p : Program) (s : Signature) (name : List ℕ) (c : Class) → class_named p name ≡ Some c → DeclaresNoField p s c → (number : ℕ) → DeclaresField p s name number → ⊥
+no_field p s name c named none = subst (λ (x : List ℕ). (number : ℕ) → DeclaresField p s x number → ⊥) (number_named p name c named).2 none
 
-pub finds_in_interfaces : (p : Program) (s : Signature) (n number : ℕ) (c : Class) → IsClassAt p n c → HasNone p s n → FindsAmong p s c.interfaces (Some number)
-    → FindsField p s (name_at p n) (Some number)
-finds_in_interfaces p s n number c at none h =
-    above (name_at p n) (Some number) c at.named none.none (among_more p s number c.interfaces (option_to_list c.super_class) (Some number) refl h)
+-- What is found from the class of a name on, if there is one.
+abbrev FindsFrom : Program → Signature → Option (List ℕ) → Option ℕ → Type 0
+FindsFrom p s None found = FindsAmong p s [] found
+FindsFrom p s (Some name) found = FindsField p s name found
 
-pub finds_above : (p : Program) (s : Signature) (n up : ℕ) (found : Option ℕ) (step : IsStep p n up) → HasNone p s n → FindsAmong p s step.class.interfaces None
-    → FindsField p s (name_at p up) found → FindsField p s (name_at p n) found
-finds_above p s n up found step none nothing h =
-    let super : FindsAmong p s (name_at p up ∷ []) found = one found h in
-    above (name_at p n) found step.class step.at.named none.none
-    (among_then p s step.class.interfaces (option_to_list step.class.super_class) None found refl nothing
-    (subst (λ (o : Option (List ℕ)). FindsAmong p s (option_to_list o) found) (sym step.super) super))
-  where
-    one : (o : Option ℕ) → FindsField p s (name_at p up) o → FindsAmong p s (name_at p up ∷ []) o
-    one None field = later (name_at p up) [] None field nowhere
-    one (Some number) field = first (name_at p up) [] number field
+among_from : (p : Program) (s : Signature) (start : Option (List ℕ)) (found : Option ℕ) → FindsFrom p s start found → FindsAmong p s (option_to_list start) found
+among_from p s None found h = h
+among_from p s (Some name) None h = later name [] None h nowhere
+among_from p s (Some name) (Some number) h = first name [] number h
 
-pub finds_nothing : (p : Program) (s : Signature) (n : ℕ) (top : IsTop p n) → HasNone p s n → FindsAmong p s top.class.interfaces None → FindsField p s (name_at p n) None
-finds_nothing p s n top none nothing =
-    above (name_at p n) None top.class top.at.named none.none
-    (among_then p s top.class.interfaces (option_to_list top.class.super_class) None None refl nothing
-    (subst (λ (o : Option (List ℕ)). FindsAmong p s (option_to_list o) None) (sym top.super) nowhere))
+-- what is found above a class that finds nothing, nor its superinterfaces
+beyond : (p : Program) (s : Signature) (name : List ℕ) (c : Class) (found : Option ℕ) → class_named p name ≡ Some c → FindsBelow p s c None → FindsFrom p s c.super_class found
+    → FindsField p s name found
+beyond p s name c found named none higher =
+    above name found c named (no_field p s name c named none.0)
+    (among_then p s c.interfaces (option_to_list c.super_class) None found refl none.1 (among_from p s c.super_class found higher))
+
+-- what a walk finds that looks for a field
+pub field_first : (p : Program) (s : Signature) (start : Option (List ℕ)) (chain : List Class) (found : Option ℕ) → IsChain p start chain → AnswersFirst (FindsBelow p s) chain found
+    → FindsFrom p s start found
+field_first p s None [] None is h = nowhere
+field_first p s None [] (Some number) is h = absurd h
+field_first p s None (c ∷ chain) found is h = absurd is
+field_first p s (Some name) [] found is h = absurd is
+field_first p s (Some name) (c ∷ chain) (Some number) is (inl here) =
+    elim here.0 [
+      | inl declares ↦ itself name number (subst (λ (x : List ℕ). DeclaresField p s x number) (number_named p name c is.0).2 declares)
+      | inr among ↦
+          above name (Some number) c is.0 (no_field p s name c is.0 among.0)
+          (among_more p s number c.interfaces (option_to_list c.super_class) (Some number) refl among.1)
+    ]
+field_first p s (Some name) (c ∷ chain) (Some number) is (inr h) = beyond p s name c (Some number) is.0 h.0 (field_first p s c.super_class chain (Some number) is.1 h.1)
+field_first p s (Some name) (c ∷ chain) None is h = beyond p s name c None is.0 h.0 (field_first p s c.super_class chain None is.1 h.1)
+
+-- the field is there
+pub field_within : (p : Program) (s : Signature) (chain : List Class) (found : Option ℕ) → AnswersFirst (FindsBelow p s) chain found → IfSome found (λ n. n < length p.fields)
+field_within p s chain None h = tt
+field_within p s [] (Some number) h = absurd h
+field_within p s (c ∷ chain) (Some number) (inl here) = here.1
+field_within p s (c ∷ chain) (Some number) (inr h) = field_within p s chain (Some number) h.1
 
 -- the field that is found among classes is there
-pub first_within : (p : Program) (s : Signature) (classes : List ℕ) (found : Option ℕ) (number : ℕ) → found ≡ Some number → IsFirstField p s classes found → number < length p.fields
+first_within : (p : Program) (s : Signature) (classes : List ℕ) (found : Option ℕ) (number : ℕ) → found ≡ Some number → IsFirstField p s classes found → number < length p.fields
 first_within p s [] found number e h = absurd (none-some number (sym h ∙ e))
 first_within p s (n ∷ classes) found number e (inl here) =
     let declares = here.2 in
     subst (λ (k : ℕ). k < length p.fields) (same_Some here.0 number (sym here.1 ∙ e)) (slice_get_within p.fields here.0 declares.field declares.stands)
 first_within p s (n ∷ classes) found number e (inr after) = first_within p s classes found number e after.1
+
+-- what is found in the superinterfaces of a class that declares none
+pub interfaces_found : (p : Program) (s : Signature) (c : Class) (numbers : List ℕ) (found : Option ℕ) → IsSearchOrder p c numbers → DeclaresNoField p s c → IsFirstField p s numbers found
+    → FindsBelow p s c found
+interfaces_found p s c numbers None order none h = (none, order.finds s None h)
+interfaces_found p s c numbers (Some number) order none h = (inr (none, order.finds s (Some number) h), first_within p s numbers (Some number) number refl h)

@@ -1,59 +1,51 @@
 -- Walks upward that look for a class: one that hides a method of another package, or one of a name.
 use Rattle.std.specs.Prelude.{codes}
-use Rattle.std.proofs.Common.{◌≡◌, ◌≢◌, ℕ, zero, suc, ◌<◌, Bool, List, [], ◌∷◌, length, get_or, Some, refl, sym, ◌∙◌, ap, subst, arith, inl, inr}
+use Rattle.std.proofs.Common.{◌≡◌, ◌≢◌, ℕ, zero, suc, ◌<◌, Bool, true, false, List, [], ◌∷◌, length, get_or, Option, Some, None, IfNone, refl, sym, ◌∙◌, ap, subst, arith, inl, inr}
 use Rattle.std.specs.Bool.{IsTrue}
 use Rattle.std.specs.List.{slice_get, Contains}
+use Rattle.std.specs.Option.{is_some, unwrap_or}
+use Rattle.std.proofs.lemmas.Bool.{false≢true}
 use Rattle.std.proofs.lemmas.Option.{same_Some}
-use Rattle.jvm_model.specs.LinkedPrograms.{IsProgram}
 use Rattle.jvm_model.specs.Lookups.{Signature, MemberReference}
 use Rattle.jvm_model.specs.Programs.{Class, Method, Program}
+use Rattle.jvm_model.specs.Subtypes.{IsChain}
 use Rattle.jvm_model.specs.Selection.{StandsBelow, IsPackageOverridden, IsPackagePrivate, IsSuperCall, StartsSearch, at_super, at_named}
-use Rattle.linked_program.specs.Numbers.{name_at, IsClassNumber}
-use Rattle.linked_program.specs.Ranks.{IsRanked}
-use Rattle.hierarchy.specs.Searches.{HasNamed, IsReachedUpward, Hides, HidesAlong, IsHidden}
-use Rattle.hierarchy.proofs.ClassPlaces.{class_of_number}
-use Rattle.hierarchy.proofs.Chains.{Along, along_up, along_down, along_first, along_last, chain_split, IsStep, IsTop}
+use Rattle.linked_program.specs.Numbers.{name_at}
+use Rattle.hierarchy.specs.Searches.{Finds, IsReachedUpward, Hides, HidesAlong, AnswersHidden, IsHidden}
+use Rattle.hierarchy.specs.Upward.{AnswersFirst, IsFirstUpward}
+use Rattle.hierarchy.proofs.Walks.{HasAlong, first_along}
+use Rattle.hierarchy.proofs.Chains.{IsTop, chain_same}
 
 -- ---- hiding
 
-hidden_along : (p : Program) (name owner : List ℕ) (s : Signature) → IsHidden p name owner s → Along p (HidesAlong p owner s) name
-hidden_along p name owner s h = record { chain = h.chain; of_start = h.of_start; holds = h.hides }
+pub none_then : {X : Type 0} (found : Option X) (Q : Type 0) → is_some found ≡ false → IfNone found Q → Q
+none_then None Q is none = none
+none_then (Some x) Q is none = absurd (false≢true (sym is))
 
-along_hidden : (p : Program) (name owner : List ℕ) (s : Signature) → Along p (HidesAlong p owner s) name → IsHidden p name owner s
-along_hidden p name owner s h = record { chain = h.chain; of_start = h.of_start; hides = h.holds }
+-- what a walk finds that looks for a class that hides
+hidden_first : (p : Program) (owner : List ℕ) (s : Signature) (chain : List Class) (found : Option Bool) → AnswersFirst (AnswersHidden p owner s) chain found
+    → (IsTrue (unwrap_or found false) → HidesAlong p owner s chain) × (HidesAlong p owner s chain → IsTrue (unwrap_or found false))
+hidden_first p owner s [] (Some answer) h = absurd h
+hidden_first p owner s [] None h = (λ t. absurd (false≢true t), λ along. absurd along)
+hidden_first p owner s (c ∷ chain) (Some true) (inl here) = (λ t. (here.0, inl here.1), λ along. refl)
+hidden_first p owner s (c ∷ chain) (Some true) (inr above) = (λ t. (above.0.0, inr ((hidden_first p owner s chain (Some true) above.1).0 t)), λ along. refl)
+hidden_first p owner s (c ∷ chain) (Some false) (inl here) = (λ t. absurd (false≢true t), λ along. absurd (along.0 here))
+hidden_first p owner s (c ∷ chain) (Some false) (inr above) = (
+  λ t. absurd (false≢true t),
+  λ along. elim along.1 [ inl hides ↦ absurd (above.0.1 hides) | inr later ↦ (hidden_first p owner s chain (Some false) above.1).1 later ],
+)
+hidden_first p owner s (c ∷ chain) None h = (
+  λ t. absurd (false≢true t),
+  λ along. elim along.1 [ inl hides ↦ absurd (h.0.1 hides) | inr later ↦ (hidden_first p owner s chain None h.1).1 later ],
+)
 
-pub hidden_here : (p : Program) → IsProgram p → IsRanked p → (n : ℕ) (owner : List ℕ) (s : Signature) → IsClassNumber p n → name_at p n ≢ owner → Hides p owner s (name_at p n)
-    → IsHidden p (name_at p n) owner s
-hidden_here p program ranked n owner s within differs hides =
-    let there = class_of_number p program n within in
-    along_hidden p (name_at p n) owner s
-    (along_first p program ranked (HidesAlong p owner s) (name_at p n) there.0 there.1.named
-    (λ rest. (subst (λ (x : List ℕ). x ≢ owner) there.1.name differs, inl (subst (λ (x : List ℕ). Hides p owner s x) there.1.name hides))))
-
-pub hidden_above : (p : Program) (n up : ℕ) (owner : List ℕ) (s : Signature) → IsStep p n up → name_at p n ≢ owner → IsHidden p (name_at p up) owner s → IsHidden p (name_at p n) owner s
-hidden_above p n up owner s step differs hidden =
-    along_hidden p (name_at p n) owner s
-    (along_down p (HidesAlong p owner s) (name_at p n) (name_at p up) step.class step.at.named step.super
-    (λ rest h. (subst (λ (x : List ℕ). x ≢ owner) step.at.name differs, inr h)) (hidden_along p (name_at p up) owner s hidden))
-
-pub hidden_below : (p : Program) (n up : ℕ) (owner : List ℕ) (s : Signature) → IsStep p n up → (Hides p owner s (name_at p n) → ⊥) → IsHidden p (name_at p n) owner s → IsHidden p (name_at p up) owner s
-hidden_below p n up owner s step none hidden =
-    along_hidden p (name_at p up) owner s
-    (along_up p (HidesAlong p owner s) (name_at p n) (name_at p up) step.class step.at.named step.super
-    (λ rest h. elim h.1 [ inl here ↦ absurd (none (subst (λ (x : List ℕ). Hides p owner s x) (sym step.at.name) here)) | inr above ↦ above ])
-    (hidden_along p (name_at p n) owner s hidden))
-
-pub hidden_last : (p : Program) (n : ℕ) (owner : List ℕ) (s : Signature) → IsTop p n → (Hides p owner s (name_at p n) → ⊥) → IsHidden p (name_at p n) owner s → ⊥
-hidden_last p n owner s top none hidden =
-    let last = along_last p (HidesAlong p owner s) (name_at p n) top.class top.at.named top.super (hidden_along p (name_at p n) owner s hidden) in
-    elim last.1 [ inl here ↦ none (subst (λ (x : List ℕ). Hides p owner s x) (sym top.at.name) here) | inr above ↦ above ]
-
-pub hidden_owner : (p : Program) → IsProgram p → (n : ℕ) (owner : List ℕ) (s : Signature) → IsClassNumber p n → name_at p n ≡ owner → IsHidden p (name_at p n) owner s → ⊥
-hidden_owner p program n owner s within same hidden =
-    let there = class_of_number p program n within in
-    let split = chain_split p (name_at p n) hidden.chain there.0 hidden.of_start there.1.named in
-    let holds : HidesAlong p owner s (there.0 ∷ split.0) = subst (HidesAlong p owner s) split.1 hidden.hides in
-    holds.0 (sym there.1.name ∙ same)
+pub hidden_found : (p : Program) (start owner : List ℕ) (s : Signature) (found : Option Bool) → IsFirstUpward p (AnswersHidden p owner s) start found
+    → (IsTrue (unwrap_or found false) → IsHidden p start owner s) × (IsHidden p start owner s → IsTrue (unwrap_or found false))
+hidden_found p start owner s found walk =
+    let first = hidden_first p owner s walk.chain found walk.first in (
+      λ t. record { chain = walk.chain; of_start = walk.of_start; hides = first.0 t },
+      λ h. first.1 (subst (HidesAlong p owner s) (chain_same p (Some start) h.chain walk.chain h.of_start walk.of_start) h.hides),
+    )
 
 -- ---- a method of another package
 
@@ -109,61 +101,53 @@ overridden_hidden p class resolved m stands h =
 
 -- ---- a class of a name
 
-abbrev NamedAlong : List ℕ → List Class → Type 0
-NamedAlong name chain = HasNamed chain name
-
-upward_along : (p : Program) (start name : List ℕ) → IsReachedUpward p start name → Along p (NamedAlong name) start
-upward_along p start name h = record { chain = h.chain; of_start = h.of_start; holds = h.among }
-
-along_upward : (p : Program) (start name : List ℕ) → Along p (NamedAlong name) start → IsReachedUpward p start name
-along_upward p start name h = record { chain = h.chain; of_start = h.of_start; among = h.holds }
-
-pub upward_here : (p : Program) → IsProgram p → IsRanked p → (n : ℕ) (name : List ℕ) → IsClassNumber p n → name_at p n ≡ name → IsReachedUpward p (name_at p n) name
-upward_here p program ranked n name within same =
-    let there = class_of_number p program n within in
-    along_upward p (name_at p n) name
-    (along_first p program ranked (NamedAlong name) (name_at p n) there.0 there.1.named (λ rest. inl (sym there.1.name ∙ same)))
-
-pub upward_above : (p : Program) (n up : ℕ) (name : List ℕ) → IsStep p n up → IsReachedUpward p (name_at p up) name → IsReachedUpward p (name_at p n) name
-upward_above p n up name step h =
-    along_upward p (name_at p n) name
-    (along_down p (NamedAlong name) (name_at p n) (name_at p up) step.class step.at.named step.super (λ rest x. inr x) (upward_along p (name_at p up) name h))
-
-pub upward_below : (p : Program) (n up : ℕ) (name : List ℕ) → IsStep p n up → name_at p n ≢ name → IsReachedUpward p (name_at p n) name → IsReachedUpward p (name_at p up) name
-upward_below p n up name step differs h =
-    along_upward p (name_at p up) name
-    (along_up p (NamedAlong name) (name_at p n) (name_at p up) step.class step.at.named step.super
-    (λ rest x. elim x [ inl here ↦ absurd (differs (step.at.name ∙ here)) | inr above ↦ above ]) (upward_along p (name_at p n) name h))
-
-pub upward_last : (p : Program) (n : ℕ) (name : List ℕ) → IsTop p n → name_at p n ≢ name → IsReachedUpward p (name_at p n) name → ⊥
-upward_last p n name top differs h =
-    let last : NamedAlong name (top.class ∷ []) = along_last p (NamedAlong name) (name_at p n) top.class top.at.named top.super (upward_along p (name_at p n) name h) in
-    elim last [ inl here ↦ differs (top.at.name ∙ here) | inr above ↦ above ]
-
--- ---- calls of a superclass's method
-
-named_contained_in : (chain : List Class) (name : List ℕ) → HasNamed chain name → (above : Class) × Contains chain above × (above.name ≡ name)
-named_contained_in [] name h = absurd h
-named_contained_in (c ∷ chain) name (inl here) = (c, (0, omega arith, refl), here)
-named_contained_in (c ∷ chain) name (inr later) =
-    let found = named_contained_in chain name later in
+named_above : (chain : List Class) (name : List ℕ) (number : ℕ) → HasAlong (λ c n. c.name ≡ name) chain number → (above : Class) × Contains chain above × (above.name ≡ name)
+named_above [] name number h = absurd h
+named_above (c ∷ chain) name number (inl here) = (c, (0, omega arith, refl), here)
+named_above (c ∷ chain) name number (inr later) =
+    let found = named_above chain name number later in
     let at = found.1 in
     let lt = at.1 in
     (found.0, (suc at.0, omega (arith, lt), at.2), found.2)
 
-place_named : (chain : List Class) (k : ℕ) (above : Class) (name : List ℕ) → k < length chain → get_or chain k above ≡ above → above.name ≡ name → HasNamed chain name
-place_named [] k above name lt at named = absurd (omega (arith, lt))
-place_named (c ∷ chain) zero above name lt at named = inl (ap (λ (x : Class). x.name) at ∙ named)
-place_named (c ∷ chain) (suc k) above name lt at named = inr (place_named chain k above name (omega (arith, lt)) at named)
+above_named : (chain : List Class) (k : ℕ) (above : Class) (name : List ℕ) (number : ℕ) → k < length chain → get_or chain k above ≡ above → above.name ≡ name
+    → HasAlong (λ c n. c.name ≡ name) chain number
+above_named [] k above name number lt at named = absurd (omega (arith, lt))
+above_named (c ∷ chain) zero above name number lt at named = inl (ap (λ (x : Class). x.name) at ∙ named)
+above_named (c ∷ chain) (suc k) above name number lt at named = inr (above_named chain k above name number (omega (arith, lt)) at named)
+
+-- what a walk finds that looks for a class by its name
+pub reached_found : (p : Program) (start name : List ℕ) (found : Option ℕ) → IsFirstUpward p (λ c. Finds (λ n. c.name ≡ name)) start found
+    → (IsTrue (is_some found) → IsReachedUpward p start name) × (IsReachedUpward p start name → IsTrue (is_some found))
+reached_found p start name (Some number) walk = (
+  λ t.
+      let above = named_above walk.chain name number (first_along (λ c n. c.name ≡ name) walk.chain (Some number) walk.first) in
+      record { chain = walk.chain; of_start = walk.of_start; above = above.0; stands = above.1; named = above.2 },
+  λ h. refl,
+)
+reached_found p start name None walk = (
+  λ t. absurd (false≢true t),
+  λ h.
+      let same = chain_same p (Some start) h.chain walk.chain h.of_start walk.of_start in
+      let along = above_named h.chain h.stands.0 h.above name 0 h.stands.1 h.stands.2 h.named in
+      absurd (first_along (λ c n. c.name ≡ name) walk.chain None walk.first 0 (subst (λ (list : List Class). HasAlong (λ c n. c.name ≡ name) list 0) same along)),
+)
+
+-- a class without a superclass is the only one that is reached from it
+pub reached_top : (p : Program) (n : ℕ) (name : List ℕ) → IsTop p n → IsReachedUpward p (name_at p n) name → name_at p n ≡ name
+reached_top p n name top h =
+    let alone : h.chain ≡ top.class ∷ [] = chain_same p (Some (name_at p n)) h.chain (top.class ∷ []) h.of_start (top.at.named, subst (λ (v : Option (List ℕ)). IsChain p v []) (sym top.super) tt) in
+    let along = above_named h.chain h.stands.0 h.above name 0 h.stands.1 h.stands.2 h.named in
+    elim (subst (λ (list : List Class). HasAlong (λ c n. c.name ≡ name) list 0) alone along) [ inl here ↦ top.at.name ∙ here | inr above ↦ absurd above ]
+
+-- ---- calls of a superclass's method
 
 pub super_upward : (p : Program) (current : List ℕ) (m : MemberReference) → IsSuperCall p current m → IsReachedUpward p current m.class
-super_upward p current m h =
-    record { chain = h.chain; of_start = h.upward; among = place_named h.chain h.stands.0 h.above m.class h.stands.1 h.stands.2 h.named }
+super_upward p current m h = record { chain = h.chain; of_start = h.upward; above = h.above; stands = h.stands; named = h.named }
 
 pub upward_super : (p : Program) (current : List ℕ) (m : MemberReference) (no_constructor : m.signature.name ≢ codes "<init>") → current ≢ m.class → IsReachedUpward p current m.class → IsSuperCall p current m
 upward_super p current m no_constructor other h =
-    let found = named_contained_in h.chain m.class h.among in
-    record { no_constructor = no_constructor; other = other; chain = h.chain; upward = h.of_start; above = found.0; stands = found.1; named = found.2 }
+    record { no_constructor = no_constructor; other = other; chain = h.chain; upward = h.of_start; above = h.above; stands = h.stands; named = h.named }
 
 -- the search begins at one class
 pub starts_same : (p : Program) (current : List ℕ) (m : MemberReference) (x y : List ℕ) → StartsSearch p current m x → StartsSearch p current m y → x ≡ y

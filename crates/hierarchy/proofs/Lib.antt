@@ -1,12 +1,12 @@
 pub mod ClassPlaces
 pub mod Packages
 pub mod Chains
-pub mod Superinterfaces
-pub mod Wants
+pub mod Walks
+pub mod Declaring
+pub mod Inheriting
 pub mod Selecting
 pub mod Hiding
 pub mod FoundIn
-pub mod Offers
 pub mod Specific
 pub mod Resolving
 pub mod FieldWalks

@@ -1,16 +1,17 @@
 -- Resolution: what a reference to a method gives by what the searches found; and where a special call goes.
-use Rattle.std.proofs.Common.{◌≡◌, ◌≢◌, ℕ, Bool, true, false, List, Some, refl, sym, ◌∙◌, subst}
+use Rattle.std.proofs.Common.{◌≡◌, ◌≢◌, ℕ, Bool, true, false, List, Option, Some, refl, sym, ◌∙◌, subst}
 use Rattle.std.specs.Bool.{MatchBool}
 use Rattle.std.proofs.Math.Bool.{beq}
 use Rattle.std.proofs.lemmas.Bool.{false≢true}
 use Rattle.std.proofs.lemmas.Option.{same_Some, slice_get_within}
 use Rattle.jvm_model.specs.Lookups.{Signature}
 use Rattle.jvm_model.specs.Programs.{Class, Method, Program}
-use Rattle.jvm_model.specs.Resolution.{HasSignature, IsInstanceWith, IsFound, IsFoundIn, IsFoundInInterface, declared_there, of_object, IsInherited, IsOnlyDefault, ResolvesFrom, itself, by_default, by_name, Resolves}
+use Rattle.jvm_model.specs.Resolution.{HasSignature, IsInstanceWith, IsFound, IsFoundIn, IsFoundInInterface, declared_there, of_object, IsLeastInherited, IsOnlyDefault, ResolvesFrom, itself, by_default, by_name, Resolves}
 use Rattle.jvm_model.specs.Selection.{SelectsFrom, upward, by_default as by_only_default, StartsSearch, SelectsSpecial}
 use Rattle.jvm_model.specs.Subtypes.{class_named}
 use Rattle.linked_program.specs.Numbers.{IsMethodNumber}
-use Rattle.hierarchy.specs.Searches.{HasTwoDefaults, SelectsInstance}
+use Rattle.hierarchy.specs.Searches.{Finds, SelectsInstance}
+use Rattle.hierarchy.proofs.Declaring.{finds_same}
 use Rattle.hierarchy.proofs.Hiding.{starts_same}
 use Rattle.hierarchy.proofs.Selecting.{found_within, default_within}
 
@@ -28,25 +29,19 @@ other_kind_of true false e = λ s. false≢true (sym s)
 other_kind_of false true e = λ s. false≢true s
 other_kind_of false false e = λ s. false≢true (sym e)
 
--- of two defaults none is the only one
-pub two_not_only : (p : Program) (class : List ℕ) (s : Signature) (n : ℕ) → HasTwoDefaults p class s → IsOnlyDefault p class s n → ⊥
-two_not_only p class s n two only = two.differ (only.only two.first two.first_default ∙ sym (only.only two.second two.second_default))
-
 -- ---- resolution
 
 resolves_how : (p : Program) (name : List ℕ) (s : Signature) (n : ℕ) (c : Class) → class_named p name ≡ Some c → Resolves p (record { class = name; signature = s }) n
     → ResolvesFrom p name s (IsFoundIn p (HasSignature s) s c) n
 resolves_how p name s n c named r = subst (λ (x : Class). ResolvesFrom p name s (IsFoundIn p (HasSignature s) s x) n) (same_Some r.class c (sym r.named ∙ named)) r.search
 
-pub resolves_none : (p : Program) (name : List ℕ) (s : Signature) (n : ℕ) (c : Class) → class_named p name ≡ Some c
-    → ((other : ℕ) → IsFoundIn p (HasSignature s) s c other → ⊥) → ((other : ℕ) → IsOnlyDefault p name s other → ⊥) → ((other : ℕ) → IsInherited p name s other → ⊥)
-    → Resolves p (record { class = name; signature = s }) n → ⊥
-resolves_none p name s n c named none no_default no_inherited r =
-    elim (resolves_how p name s n c named r) [
-      | itself own ↦ none n own
-      | by_default _ only ↦ no_default n only
-      | by_name _ _ least ↦ no_inherited n least.inherited
-    ]
+-- neither the search of the class itself nor the defaults give any
+pub resolves_least : (p : Program) (name : List ℕ) (s : Signature) (c : Class) (found : Option ℕ) → class_named p name ≡ Some c → ((other : ℕ) → IsFoundIn p (HasSignature s) s c other → ⊥)
+    → ((other : ℕ) → IsOnlyDefault p name s other → ⊥) → Finds (IsLeastInherited p name s) found → Finds (Resolves p (record { class = name; signature = s })) found
+resolves_least p name s c found named none no_default =
+    finds_same (IsLeastInherited p name s) (Resolves p (record { class = name; signature = s })) found
+    (λ n least. record { class = c; named = named; search = by_name none no_default least })
+    (λ n r. elim (resolves_how p name s n c named r) [ itself own ↦ absurd (none n own) | by_default _ only ↦ absurd (no_default n only) | by_name _ _ least ↦ least ])
 
 -- ---- special calls
 
@@ -54,10 +49,11 @@ instance_how : (p : Program) (start : List ℕ) (s : Signature) (n : ℕ) (c : C
     → SelectsFrom p start s (IsFoundIn p (IsInstanceWith s) s c) n
 instance_how p start s n c named r = subst (λ (x : Class). SelectsFrom p start s (IsFoundIn p (IsInstanceWith s) s x) n) (same_Some r.class c (sym r.named ∙ named)) r.chosen
 
-pub instance_none : (p : Program) (start : List ℕ) (s : Signature) (n : ℕ) (c : Class) → class_named p start ≡ Some c
-    → ((other : ℕ) → IsFoundIn p (IsInstanceWith s) s c other → ⊥) → ((other : ℕ) → IsOnlyDefault p start s other → ⊥) → SelectsInstance p start s n → ⊥
-instance_none p start s n c named none no_default r =
-    elim (instance_how p start s n c named r) [ upward own ↦ none n own | by_only_default _ only ↦ no_default n only ]
+pub instance_default : (p : Program) (start : List ℕ) (s : Signature) (c : Class) (found : Option ℕ) → class_named p start ≡ Some c
+    → ((other : ℕ) → IsFoundIn p (IsInstanceWith s) s c other → ⊥) → Finds (IsOnlyDefault p start s) found → Finds (SelectsInstance p start s) found
+instance_default p start s c found named none =
+    finds_same (IsOnlyDefault p start s) (SelectsInstance p start s) found (λ n only. record { class = c; named = named; chosen = by_only_default none only })
+    (λ n r. elim (instance_how p start s n c named r) [ upward own ↦ absurd (none n own) | by_only_default _ only ↦ only ])
 
 interface_within : (p : Program) (Is : ℕ → Method → Type 0) (s : Signature) (name : List ℕ) (n : ℕ) → IsFoundInInterface p Is s name n → IsMethodNumber p n
 interface_within p Is s name n (declared_there d) = slice_get_within p.methods n d.method d.stands

@@ -1,2 +1,2 @@
-pub mod Wanted
 pub mod Searches
+pub mod Upward

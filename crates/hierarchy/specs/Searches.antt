@@ -1,19 +1,25 @@
 -- Public contracts rest on this module.
--- What searches for methods are given, and what they pass.
-use Rattle.std.specs.Prelude.{◌≡◌, ◌≢◌, ◌⊎◌, ℕ, ◌≤◌, Bool, true, false, List, [], ◌∷◌, Option, Some, slice_get, Contains, IsTrue}
+-- What searches for methods and fields give, and what they pass.
+use Rattle.std.specs.Prelude.{◌≡◌, ◌≢◌, ◌⊎◌, ℕ, ◌<◌, Bool, true, false, List, [], ◌∷◌, Option, Some, None, length, slice_get, Contains, IsTrue}
 use Rattle.jvm_model.specs.Lookups.{Signature}
 use Rattle.jvm_model.specs.Programs.{Class, Method, Program, is_private, is_static, is_abstract}
-use Rattle.jvm_model.specs.Resolution.{Declares, HasSignature, IsInstanceWith, IsFoundIn, IsInherited, IsDefault, IsOnlyDefault}
+use Rattle.jvm_model.specs.Resolution.{Declares, DeclaresField, FindsAmong, HasSignature, IsInstanceWith, IsFoundIn, IsInherited, IsDefault, IsOnlyDefault}
 use Rattle.jvm_model.specs.Selection.{Selects, SelectsFrom, Clashes, package_of}
 use Rattle.jvm_model.specs.Subtypes.{class_named, IsChain, IsProperSubtype}
+use Rattle.linked_program.specs.Whole.{IsThroughInterface}
 use Rattle.hierarchy.specs.declared.choice.Choice.{Choice}
 use Rattle.hierarchy.specs.declared.choice.Choice.TheVariants.{Nothing, One, Several}
-use Rattle.hierarchy.specs.declared.wanted.Wanted.{Wanted}
-use Rattle.hierarchy.specs.declared.wanted.Wanted.TheVariants.{Any, Instance, PublicInstance, Selected}
 
--- A name and a descriptor, together.
-abbrev pub signature_from : List ℕ → List ℕ → Signature
-signature_from name descriptor = record { name = name; descriptor = descriptor }
+-- The number, if there is one, is one of which the fact holds; there is none only where it holds of none.
+abbrev pub Finds : (ℕ → Type 0) → Option ℕ → Type 0
+Finds Q (Some number) = Q number
+Finds Q None = (number : ℕ) → Q number → ⊥
+
+-- ---- methods that a class declares
+
+-- The method has the signature, and is one that is looked for.
+abbrev pub IsSuch : Signature → (ℕ → Method → Type 0) → ℕ → Method → Type 0
+IsSuch s Takes number m = (m.signature ≡ s) × Takes number m
 
 -- The method of the number is there, and has the signature.
 pub record HasOwnSignature (p : Program) (s : Signature) (number : ℕ) : Type 0 where
@@ -21,62 +27,49 @@ pub record HasOwnSignature (p : Program) (s : Signature) (number : ℕ) : Type 0
   pub stands : slice_get p.methods number ≡ Some method
   pub same_call : method.signature ≡ s
 
--- A search on behalf of a resolved method is for the signature of that method; any other search may be for any.
-abbrev pub IsFor : Program → Wanted → Signature → Type 0
-IsFor p Any s = Unit {0}
-IsFor p Instance s = Unit {0}
-IsFor p PublicInstance s = Unit {0}
-IsFor p (Selected resolved) s = HasOwnSignature p s resolved
-
--- What is looked for upward at a call of a resolved method, one of an interface's method or any other.
-abbrev pub wanted_of : Bool → ℕ → Wanted
-wanted_of true resolved = Instance
-wanted_of false resolved = Selected resolved
-
 -- ---- methods of superinterfaces
 
--- The interface of a number declares the method, and its subtypes inherit it: it has the signature, and is neither private
--- nor static (JVMS 5.4.3.3).
-pub record IsOffered (p : Program) (s : Signature) (interface number : ℕ) : Type 0 where
+-- Subtypes inherit the method of an interface, since it is neither private nor static; and it is one that is looked for.
+abbrev pub IsInheritable : (ℕ → Method → Type 0) → ℕ → Method → Type 0
+IsInheritable Takes number m = (is_private m ≡ false) × (is_static m ≡ false) × Takes number m
+
+-- The interface of a number declares such a method of the signature (JVMS 5.4.3.3).
+pub record IsOffered (p : Program) (s : Signature) (Takes : ℕ → Method → Type 0) (interface number : ℕ) : Type 0 where
   pub class : Class
   pub at : slice_get p.classes interface ≡ Some class
   pub kind : IsTrue class.is_interface
-  pub method : Method
-  pub stands : slice_get p.methods number ≡ Some method
-  pub of_class : method.class ≡ class.name
-  pub same_call : method.signature ≡ s
-  pub visible : is_private method ≡ false
-  pub instance : is_static method ≡ false
+  pub declares : Declares p (IsSuch s (IsInheritable Takes)) class.name number
 
--- One of the listed interfaces offers the method.
-pub record IsOfferedAmong (p : Program) (s : Signature) (interfaces : List ℕ) (number : ℕ) : Type 0 where
+-- One of the listed interfaces does.
+pub record IsOfferedAmong (p : Program) (s : Signature) (Takes : ℕ → Method → Type 0) (interfaces : List ℕ) (number : ℕ) : Type 0 where
   pub interface : ℕ
   pub among : Contains interfaces interface
-  pub offered : IsOffered p s interface number
+  pub offered : IsOffered p s Takes interface number
 
--- The method is one of a proper subtype of the class of a name.
-pub record IsBelow (p : Program) (name : List ℕ) (number : ℕ) : Type 0 where
-  pub method : Method
-  pub stands : slice_get p.methods number ≡ Some method
-  pub below : IsProperSubtype p method.class name
+-- A supertype of the class through one of its superinterfaces does.
+pub record OffersThrough (p : Program) (s : Signature) (Takes : ℕ → Method → Type 0) (c : Class) (number : ℕ) : Type 0 where
+  pub interface : ℕ
+  pub through : IsThroughInterface p c interface
+  pub offered : IsOffered p s Takes interface number
 
--- The method is not abstract, and no method that the class inherits is declared in a subinterface of its interface.
-pub record IsLowestConcrete (p : Program) (class : List ℕ) (s : Signature) (number : ℕ) : Type 0 where
-  pub method : Method
-  pub stands : slice_get p.methods number ≡ Some method
-  pub concrete : is_abstract method ≡ false
-  pub lowest : (other : ℕ) → IsInherited p class s other → IsBelow p method.class other → ⊥
+-- The class inherits the method from a superinterface, and it is one that is looked for.
+pub record InheritsSuch (p : Program) (class : List ℕ) (s : Signature) (Takes : ℕ → Method → Type 0) (number : ℕ) : Type 0 where
+  pub inherited : IsInherited p class s number
+  pub taken : Takes number inherited.method
+
+-- No method of the signature that the class inherits is declared in a subtype of the class of a name.
+abbrev pub InheritsNoneBelow : Program → List ℕ → Signature → List ℕ → Type 0
+InheritsNoneBelow p class s upper = (other : ℕ) → InheritsSuch p class s (λ n o. IsProperSubtype p o.class upper) other → ⊥
+
+-- The method is not abstract, and no method that the class inherits is declared in a subtype of its class.
+abbrev pub IsLowestConcrete : Program → List ℕ → Signature → Method → Type 0
+IsLowestConcrete p class s m = (is_abstract m ≡ false) × InheritsNoneBelow p class s m.class
+
+-- It is not the one that is left out, either.
+abbrev pub IsOtherDefault : Program → List ℕ → Signature → Option ℕ → ℕ → Method → Type 0
+IsOtherDefault p class s except number m = (except ≢ Some number) × IsLowestConcrete p class s m
 
 -- ---- answers
-
--- The number, if there is one, is the least of which the fact holds.
-pub record IsLeast (Q : ℕ → Type 0) (number : Option ℕ) : Type 0 where
-  pub is : (n : ℕ) → number ≡ Some n → Q n
-  pub least : (n : ℕ) → Q n → (x : ℕ) × (number ≡ Some x) × (x ≤ n)
-
--- The number was there before, or is that of a method that one of the interfaces offers.
-abbrev pub IsKeptOrOffered : Program → Signature → List ℕ → Option ℕ → ℕ → Type 0
-IsKeptOrOffered p s interfaces before number = (before ≡ Some number) ⊎ IsOfferedAmong p s interfaces number
 
 -- Two methods of superinterfaces are maximally specific and not abstract.
 pub record HasTwoDefaults (p : Program) (class : List ℕ) (s : Signature) : Type 0 where
@@ -105,16 +98,13 @@ IsChosen p by_interface class resolved Several = Clashes p by_interface class re
 
 -- ---- chains of superclasses
 
--- One of the classes of the chain has the name.
-abbrev pub HasNamed : List Class → List ℕ → Type 0
-HasNamed [] name = ⊥
-HasNamed (c ∷ chain) name = (c.name ≡ name) ⊎ HasNamed chain name
-
 -- The second name is that of the class of the first, or of one of its superclasses.
 pub record IsReachedUpward (p : Program) (start name : List ℕ) : Type 0 where
   pub chain : List Class
   pub of_start : IsChain p (Some start) chain
-  pub among : HasNamed chain name
+  pub above : Class
+  pub stands : Contains chain above
+  pub named : above.name ≡ name
 
 -- A class has a method of the signature, and is in another package than the owner.
 pub record Hides (p : Program) (owner : List ℕ) (s : Signature) (class : List ℕ) : Type 0 where
@@ -127,10 +117,29 @@ abbrev pub HidesAlong : Program → List ℕ → Signature → List Class → Ty
 HidesAlong p owner s [] = ⊥
 HidesAlong p owner s (c ∷ chain) = (c.name ≢ owner) × (Hides p owner s c.name ⊎ HidesAlong p owner s chain)
 
+-- From the class of a name upward, and below the owner, a class hides a method of the signature.
 pub record IsHidden (p : Program) (start owner : List ℕ) (s : Signature) : Type 0 where
   pub chain : List Class
   pub of_start : IsChain p (Some start) chain
   pub hides : HidesAlong p owner s chain
+
+-- What a class answers to whether a method of the owner is hidden: it is, by this class; it is not, since this is the owner; or
+-- neither, and the search goes on.
+abbrev pub AnswersHidden : Program → List ℕ → Signature → Class → Option Bool → Type 0
+AnswersHidden p owner s c (Some true) = (c.name ≢ owner) × Hides p owner s c.name
+AnswersHidden p owner s c (Some false) = c.name ≡ owner
+AnswersHidden p owner s c None = (c.name ≢ owner) × (Hides p owner s c.name → ⊥)
+
+-- ---- fields
+
+-- The class declares no field of the signature.
+abbrev pub DeclaresNoField : Program → Signature → Class → Type 0
+DeclaresNoField p s c = (number : ℕ) → DeclaresField p s c.name number → ⊥
+
+-- What the search for a field finds in a class and in its superinterfaces, before it goes on to the superclass.
+abbrev pub FindsBelow : Program → Signature → Class → Option ℕ → Type 0
+FindsBelow p s c (Some number) = (DeclaresField p s c.name number ⊎ (DeclaresNoField p s c × FindsAmong p s c.interfaces (Some number))) × (number < length p.fields)
+FindsBelow p s c None = DeclaresNoField p s c × FindsAmong p s c.interfaces None
 
 -- ---- special calls
 

@@ -1,14 +1,19 @@
-//! The methods of superinterfaces: those that are maximally specific and not abstract, and the first of all (JVMS 5.4.3.3).
+//! The methods of superinterfaces: those that are maximally specific and not abstract, and the one with the least number (JVMS
+//! 5.4.3.3).
 
-ghost use Rattle.std.specs.Prelude.{◌≡◌, ◌⊎◌, ◌↔◌, ℕ, All, Some, IsTrue, IfSome, IfNone};
-ghost use Rattle.jvm_model.specs.Resolution.{IsInherited, IsLeastInherited};
+ghost use Rattle.std.specs.Prelude.{◌≡◌, ◌↔◌, Some, slice_get, IsTrue};
+ghost use Rattle.jvm_model.specs.Lookups.{lent_signature};
+ghost use Rattle.jvm_model.specs.Programs.{Method};
+ghost use Rattle.jvm_model.specs.Resolution.{IsLeastInherited, IsOnlyDefault};
 ghost use Rattle.linked_program.specs.Numbers.{name_at, IsClassNumber, IsMethodNumber};
-ghost use Rattle.hierarchy.specs.Searches.{signature_from, AreDefaults, IsLowestConcrete, IsLeast, IsKeptOrOffered};
+ghost use Rattle.hierarchy.specs.Searches.{Finds, AreDefaults, IsLowestConcrete};
 
 use crate::choice::Choice;
-use crate::search::is_proper_subtype;
-use crate::sought::{Sought, first_inherited, offered};
-use jvm_model::AccessFlag;
+use crate::classes::is_proper_subtype;
+use crate::methods::{class_of, is_abstract};
+use crate::sought::Sought;
+use crate::superinterfaces::first_inherited;
+use jvm_model::Signature;
 use linked_program::program::Program;
 
 /// A method of a proper subtype of a class.
@@ -18,148 +23,144 @@ struct InSubtype {
 }
 
 impl Sought for InSubtype {
-    ghost use Rattle.linked_program.specs.Numbers.{name_at, IsClassNumber};
-    ghost use Rattle.hierarchy.specs.Searches.{IsBelow};
+    ghost use Rattle.jvm_model.specs.Subtypes.{IsProperSubtype};
 
-    ghost fits = { λ x p. IsClassNumber p x.upper };
+    ghost fits = { λ x p s. IsClassNumber p x.upper };
 
-    ghost takes = { λ x p n. IsBelow p (name_at p x.upper) n };
+    ghost takes = { λ x p n m. IsProperSubtype p m.class (name_at p x.upper) };
 
     fn accepts(&self, program: &Program, number: u32) -> bool {
-        is_proper_subtype(program, program.method(number).class, self.upper)
+        is_proper_subtype(program, class_of(program, number), self.upper)
     }
 }
 
-/// A method that is maximally specific among those that a class inherits, and not abstract. One number may be left out.
+/// A method that is maximally specific among those of its name and descriptor that a class inherits, and not abstract. One number
+/// may be left out.
 #[derive(Clone, Copy)]
 struct LowestConcrete<'a> {
     class: u32,
-    name: &'a [u8],
-    descriptor: &'a [u8],
+    signature: Signature<'a>,
     except: Option<u32>,
 }
 
 impl Sought for LowestConcrete<'_> {
-    ghost use Rattle.std.specs.Prelude.{◌≢◌, Some};
-    ghost use Rattle.linked_program.specs.Numbers.{name_at, IsClassNumber};
-    ghost use Rattle.hierarchy.specs.Searches.{IsLowestConcrete, signature_from};
+    ghost use Rattle.hierarchy.specs.Searches.{IsOtherDefault};
 
-    ghost fits = { λ x p. IsClassNumber p x.class };
+    ghost fits = { λ x p s. IsClassNumber p x.class };
 
-    ghost takes = { λ x p n. IsLowestConcrete p (name_at p x.class) (signature_from x.name.now x.descriptor.now) n × (x.except ≢ Some n) };
+    ghost takes = { λ x p. IsOtherDefault p (name_at p x.class) (lent_signature x.signature) x.except };
 
     fn accepts(&self, program: &Program, number: u32) -> bool {
         self.except != Some(number)
-            && is_lowest_concrete(program, self.class, self.name, self.descriptor, number)
+            && is_lowest_concrete(program, self.class, self.signature, number)
     }
 }
 
-/// Whether a method is not abstract, and no method that the class inherits is declared in a subinterface of its interface.
-fn is_lowest_concrete(
-    program: &Program,
-    class: u32,
-    name: &[u8],
-    descriptor: &[u8],
-    number: u32,
-) -> bool
+/// Whether a method is not abstract, and no method of the name and descriptor that the class inherits is declared in a subtype of
+/// its class.
+fn is_lowest_concrete(program: &Program, class: u32, signature: Signature<'_>, number: u32) -> bool
     requires class { IsClassNumber program.now class }
     requires number { IsMethodNumber program.now number }
-    ensures { IsTrue result ↔ IsLowestConcrete program.now (name_at program.now class) (signature_from name.now descriptor.now) number }
+    ensures { (m : Method) → slice_get program.now.methods number ≡ Some m
+        → IsTrue result ↔ IsLowestConcrete program.now (name_at program.now class) (lent_signature signature.entry) m }
 {
-    let method = program.method(number);
-    if AccessFlag::Abstract.is_set_in(method.flags) {
+    if is_abstract(program, number) {
         return false;
     }
     let below = InSubtype {
-        upper: method.class,
+        upper: class_of(program, number),
     };
-    first_inherited(program, class, name, descriptor, &below).is_none()
+    first_inherited(program, class, signature, &below).is_none()
 }
 
 /// The methods of superinterfaces of a class that are maximally specific and not abstract: none, the only one, or several
 /// (JVMS 5.4.3.3).
 ///
 /// Time is linear in the superinterfaces for each of their methods of the name and descriptor that is not abstract.
-pub(crate) fn find_defaults(program: &Program, class: u32, name: &[u8], descriptor: &[u8]) -> Choice
+pub(crate) fn find_defaults(program: &Program, class: u32, signature: Signature<'_>) -> Choice
     requires { IsClassNumber program.now class }
-    ensures { AreDefaults program.now (name_at program.now class) (signature_from name.now descriptor.now) result }
+    ensures { AreDefaults program.now (name_at program.now class) (lent_signature signature.entry) result }
 {
     let any = LowestConcrete {
         class,
-        name,
-        descriptor,
+        signature,
         except: None,
     };
-    let Some(first) = first_inherited(program, class, name, descriptor, &any) else {
+    let Some(first) = first_inherited(program, class, signature, &any) else {
         return Choice::Nothing;
     };
     let other = LowestConcrete {
         class,
-        name,
-        descriptor,
+        signature,
         except: Some(first),
     };
-    if first_inherited(program, class, name, descriptor, &other).is_some() {
-        Choice::Several
-    } else {
-        Choice::One(first)
+    match first_inherited(program, class, signature, &other) {
+        Some(_) => Choice::Several,
+        None => Choice::One(first),
+    }
+}
+
+/// The only method of superinterfaces of a class that is maximally specific and not abstract (JVMS 5.4.3.3).
+pub(crate) fn only_default(program: &Program, class: u32, signature: Signature<'_>) -> Option<u32>
+    requires { IsClassNumber program.now class }
+    ensures { Finds (IsOnlyDefault program.now (name_at program.now class) (lent_signature signature.entry)) result }
+{
+    match find_defaults(program, class, signature) {
+        Choice::One(number) => Some(number),
+        Choice::Nothing => None,
+        Choice::Several => None,
+    }
+}
+
+/// A method with a lower number.
+#[derive(Clone, Copy)]
+struct Lower {
+    than: u32,
+}
+
+impl Sought for Lower {
+    ghost use Rattle.std.specs.Prelude.{◌<◌};
+
+    ghost fits = { λ x p s. Unit {0} };
+
+    ghost takes = { λ x p n m. n < x.than };
+
+    fn accepts(&self, _program: &Program, number: u32) -> bool {
+        number < self.than
+    }
+}
+
+/// The method with the least number of those of its name and descriptor that a class inherits.
+#[derive(Clone, Copy)]
+struct Least<'a> {
+    class: u32,
+    signature: Signature<'a>,
+}
+
+impl Sought for Least<'_> {
+    ghost use Rattle.std.specs.Prelude.{ℕ, ◌<◌};
+    ghost use Rattle.hierarchy.specs.Searches.{InheritsSuch};
+
+    ghost fits = { λ x p s. IsClassNumber p x.class };
+
+    ghost takes = { λ x p n m. (other : ℕ) → InheritsSuch p (name_at p x.class) (lent_signature x.signature) (λ k o. k < n) other → ⊥ };
+
+    fn accepts(&self, program: &Program, number: u32) -> bool {
+        let lower = Lower { than: number };
+        first_inherited(program, self.class, self.signature, &lower).is_none()
     }
 }
 
 /// Of the methods that a class inherits from its superinterfaces the one with the least number.
+///
+/// Time is linear in the superinterfaces for each of their methods of the name and descriptor.
 pub(crate) fn least_inherited(
     program: &Program,
     class: u32,
-    name: &[u8],
-    descriptor: &[u8],
+    signature: Signature<'_>,
 ) -> Option<u32>
     requires { IsClassNumber program.now class }
-    ensures found { IfSome result (IsLeastInherited program.now (name_at program.now class) (signature_from name.now descriptor.now)) }
-    ensures none { IfNone result ((n : ℕ) → IsInherited program.now (name_at program.now class) (signature_from name.now descriptor.now) n → ⊥) }
+    ensures { Finds (IsLeastInherited program.now (name_at program.now class) (lent_signature signature.entry)) result }
 {
-    program.well_formed();
-    let mut least = None;
-    let mut current = class;
-    'upward: for _passed in 0..program.class_count() {
-        let interfaces = program.through_interfaces(current);
-        least = least_among(program, interfaces, name, descriptor, least);
-        let Some(above) = program.super_class(current) else {
-            return least;
-        };
-        current = above;
-    }
-    unreachable!()
-}
-
-/// The least number of those that the interfaces offer, and of the one that was there before.
-fn least_among(
-    program: &Program,
-    interfaces: &[u32],
-    name: &[u8],
-    descriptor: &[u8],
-    before: Option<u32>,
-) -> Option<u32>
-    requires { All (IsClassNumber program.now) interfaces.now }
-    ensures { IsLeast (IsKeptOrOffered program.now (signature_from name.now descriptor.now) interfaces.now before) result }
-{
-    program.well_formed();
-    let mut least = before;
-    for interface in interfaces {
-        let number = offered(program, *interface, name, descriptor);
-        least = lesser(least, number);
-    }
-    least
-}
-
-/// The lesser of two numbers, if there are two.
-fn lesser(number: Option<u32>, other: Option<u32>) -> Option<u32>
-    ensures { IsLeast (λ n. (number ≡ Some n) ⊎ (other ≡ Some n)) result }
-{
-    let Some(x) = number else {
-        return other;
-    };
-    let Some(y) = other else {
-        return number;
-    };
-    if y < x { other } else { number }
+    first_inherited(program, class, signature, &Least { class, signature })
 }

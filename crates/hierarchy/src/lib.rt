@@ -5,6 +5,8 @@
 mod choice;
 pub mod classes;
 mod defaults;
+mod methods;
+mod overriding;
 mod package;
 pub mod resolve;
 pub mod resolve_field;
@@ -12,4 +14,5 @@ mod search;
 pub mod select;
 mod sought;
 pub mod special;
-mod wanted;
+mod superinterfaces;
+mod upward;

@@ -1,17 +1,20 @@
 //! The method that a call on an object goes to (JVMS 5.4.5, 6.5.invokevirtual, 6.5.invokeinterface).
 
 ghost use Rattle.std.specs.Prelude.{◌≡◌, ◌↔◌, Some, slice_get, IsTrue, IfOk};
-ghost use Rattle.jvm_model.specs.Programs.{Method, is_abstract};
+ghost use Rattle.jvm_model.specs.Lookups.{lent_signature};
+ghost use Rattle.jvm_model.specs.Programs.{Method};
 ghost use Rattle.jvm_model.specs.Selection.{Selection, IsPackageOverridden, IsPackagePrivate, is_direct};
 ghost use Rattle.linked_program.specs.Numbers.{name_at, IsClassNumber, IsMethodNumber, method_number};
-ghost use Rattle.hierarchy.specs.Searches.{signature_from, IsChosen, IsHidden, Hides, wanted_of};
+ghost use Rattle.hierarchy.specs.Searches.{IsChosen, IsHidden, Hides};
 
 use crate::choice::Choice;
 use crate::defaults::find_defaults;
+use crate::methods::{class_of, is_abstract, is_private, signature_of};
+use crate::overriding::Selectable;
 use crate::package::is_same_package;
 use crate::search::found_upward;
-use crate::wanted::Wanted;
-use jvm_model::{AccessFlag, ClassNo, MethodNo, Reason};
+use crate::upward::{Step, first_upward};
+use jvm_model::{AccessFlag, ClassNo, MethodNo, Reason, Signature};
 use linked_program::program::Program;
 
 /// Where a call of a resolved method on an object of a class goes, at a call of an interface's method or of any other one
@@ -47,14 +50,6 @@ pub fn select(
     }
 }
 
-/// Whether a method is abstract.
-pub(crate) fn is_abstract(program: &Program, number: u32) -> bool
-    requires { IsMethodNumber program.now number }
-    ensures { (m : Method) → slice_get program.now.methods number ≡ Some m → result ≡ is_abstract m }
-{
-    AccessFlag::Abstract.is_set_in(program.method(number).flags)
-}
-
 /// The method that is selected, whether it is abstract or not.
 fn chosen(program: &Program, resolved: u32, receiver: u32, interface: bool) -> Choice
     requires resolved { IsMethodNumber program.now resolved }
@@ -64,12 +59,15 @@ fn chosen(program: &Program, resolved: u32, receiver: u32, interface: bool) -> C
     if is_direct(program, resolved, interface) {
         return Choice::One(resolved);
     }
-    let method = program.method(resolved);
-    let wanted = wanted_for(interface, resolved);
-    if let Some(target) = found_upward(program, receiver, method.name, method.descriptor, wanted) {
+    let signature = signature_of(program, resolved);
+    let selectable = Selectable {
+        interface,
+        resolved,
+    };
+    if let Some(target) = found_upward(program, receiver, signature, &selectable) {
         return Choice::One(target);
     }
-    find_defaults(program, receiver, method.name, method.descriptor)
+    find_defaults(program, receiver, signature)
 }
 
 /// Whether the resolved method is private, and the call is none of an interface's method.
@@ -80,18 +78,7 @@ fn is_direct(program: &Program, resolved: u32, interface: bool) -> bool
     if interface {
         return false;
     }
-    AccessFlag::Private.is_set_in(program.method(resolved).flags)
-}
-
-/// What is looked for upward.
-fn wanted_for(interface: bool, resolved: u32) -> Wanted
-    ensures { result ≡ wanted_of interface resolved }
-{
-    if interface {
-        Wanted::Instance
-    } else {
-        Wanted::Selected(resolved)
-    }
+    is_private(program, resolved)
 }
 
 /// Whether a method that is visible in its package alone has, from the class upward to below its own, a method of its name and
@@ -104,8 +91,12 @@ fn is_package_overridden(program: &Program, class: u32, resolved: u32) -> bool
     if !is_package_private(program, resolved) {
         return false;
     }
-    let method = program.method(resolved);
-    is_hidden(program, class, method.class, method.name, method.descriptor)
+    is_hidden(
+        program,
+        class,
+        class_of(program, resolved),
+        signature_of(program, resolved),
+    )
 }
 
 /// Whether a method has no flag of access.
@@ -113,7 +104,7 @@ fn is_package_private(program: &Program, number: u32) -> bool
     requires { IsMethodNumber program.now number }
     ensures { (m : Method) → slice_get program.now.methods number ≡ Some m → IsTrue result ↔ IsPackagePrivate m }
 {
-    let flags = program.method(number).flags;
+    let flags = program.method(MethodNo(number)).flags;
     if AccessFlag::Public.is_set_in(flags) {
         return false;
     }
@@ -123,36 +114,55 @@ fn is_package_private(program: &Program, number: u32) -> bool
     !AccessFlag::Private.is_set_in(flags)
 }
 
+/// A class that hides a method of the owner, looked for upward to below the owner.
+#[derive(Clone, Copy)]
+struct Hiding<'a> {
+    owner: u32,
+    signature: Signature<'a>,
+}
+
+impl Step for Hiding<'_> {
+    ghost use Rattle.jvm_model.specs.Lookups.{lent_signature};
+    ghost use Rattle.linked_program.specs.Numbers.{name_at, IsClassNumber};
+    ghost use Rattle.hierarchy.specs.Searches.{AnswersHidden};
+
+    type Answer = bool;
+
+    ghost fits = { λ x p. IsClassNumber p x.owner };
+
+    ghost answers = { λ x p. AnswersHidden p (name_at p x.owner) (lent_signature x.signature) };
+
+    fn at(&self, program: &Program, class: u32) -> Option<bool> {
+        program.well_formed();
+        if class == self.owner {
+            return Some(false);
+        }
+        if hides(program, class, self.owner, self.signature) {
+            return Some(true);
+        }
+        None
+    }
+}
+
 /// Whether, from the class upward to below another one, a class in another package than that one has a method of the name and
 /// descriptor.
-fn is_hidden(program: &Program, class: u32, owner: u32, name: &[u8], descriptor: &[u8]) -> bool
+fn is_hidden(program: &Program, class: u32, owner: u32, signature: Signature<'_>) -> bool
     requires class { IsClassNumber program.now class }
     requires owner { IsClassNumber program.now owner }
-    ensures { IsTrue result ↔ IsHidden program.now (name_at program.now class) (name_at program.now owner) (signature_from name.now descriptor.now) }
+    ensures { IsTrue result ↔ IsHidden program.now (name_at program.now class) (name_at program.now owner) (lent_signature signature.entry) }
 {
-    program.well_formed();
-    let mut current = class;
-    'upward: for _passed in 0..program.class_count() {
-        if current == owner {
-            return false;
-        }
-        if hides(program, current, owner, name, descriptor) {
-            return true;
-        }
-        let Some(above) = program.super_class(current) else {
-            return false;
-        };
-        current = above;
-    }
-    unreachable!()
+    first_upward(program, class, &Hiding { owner, signature }).unwrap_or(false)
 }
 
 /// Whether a class in another package than the owner has a method of the name and descriptor.
-fn hides(program: &Program, class: u32, owner: u32, name: &[u8], descriptor: &[u8]) -> bool
+fn hides(program: &Program, class: u32, owner: u32, signature: Signature<'_>) -> bool
     requires class { IsClassNumber program.now class }
     requires owner { IsClassNumber program.now owner }
-    ensures { IsTrue result ↔ Hides program.now (name_at program.now owner) (signature_from name.now descriptor.now) (name_at program.now class) }
+    ensures { IsTrue result ↔ Hides program.now (name_at program.now owner) (lent_signature signature.entry) (name_at program.now class) }
 {
-    program.declared_method(class, name, descriptor).is_some()
-        && !is_same_package(program.class_name(class), program.class_name(owner))
+    program.declared_method(ClassNo(class), signature).is_some()
+        && !is_same_package(
+            program.class_name(ClassNo(class)),
+            program.class_name(ClassNo(owner)),
+        )
 }

@@ -1,17 +1,18 @@
 //! The target of a special call (JVMS 6.5.invokespecial).
 
-ghost use Rattle.std.specs.Prelude.{◌≡◌, ◌↔◌, ℕ, codes, Some, slice_get, IsTrue, IfOk, IfSome, IfNone};
+ghost use Rattle.std.specs.Prelude.{◌≡◌, ◌↔◌, codes, Some, slice_get, IsTrue, IfOk};
+ghost use Rattle.jvm_model.specs.Lookups.{lent_signature};
 ghost use Rattle.jvm_model.specs.Programs.{Method};
 ghost use Rattle.jvm_model.specs.Selection.{SpecialSelection, StartsSearch};
 ghost use Rattle.linked_program.specs.Numbers.{name_at, IsClassNumber, IsMethodNumber, method_number};
-ghost use Rattle.hierarchy.specs.Searches.{signature_from, IsReachedUpward, SelectsInstance};
+ghost use Rattle.hierarchy.specs.Searches.{Finds, IsReachedUpward, SelectsInstance};
 
-use crate::choice::Choice;
-use crate::defaults::find_defaults;
+use crate::defaults::only_default;
+use crate::methods::{is_abstract, signature_of};
 use crate::search::found_in;
-use crate::select::is_abstract;
-use crate::wanted::Wanted;
-use jvm_model::{ClassNo, MethodNo, Reason};
+use crate::sought::Instance;
+use crate::upward::{Step, first_upward};
+use jvm_model::{ClassNo, MethodNo, Reason, Signature};
 use linked_program::program::Program;
 
 /// Where a special call goes, from the code of a class to a resolved method that is named with a class (JVMS
@@ -31,9 +32,9 @@ pub fn special_target(
     ensures selection { (m : Method) → slice_get program.now.methods resolved.0 ≡ Some m
         → SpecialSelection program.now (name_at program.now current.0) (record { class = name_at program.now named.0; signature = m.signature }) (method_number result) }
 {
-    let method = program.method(resolved.0);
-    let start = search_start(program, current.0, named.0, method.name, method.descriptor);
-    let Some(target) = selected_from(program, start, method.name, method.descriptor) else {
+    let signature = signature_of(program, resolved.0);
+    let start = search_start(program, current.0, named.0, signature);
+    let Some(target) = selected_from(program, start, signature) else {
         return Err(Reason::NoImplementation);
     };
     if is_abstract(program, target) {
@@ -43,14 +44,14 @@ pub fn special_target(
 }
 
 /// The class at which the search begins: at a call of a superclass's method, the superclass of the current class.
-fn search_start(program: &Program, current: u32, named: u32, name: &[u8], descriptor: &[u8]) -> u32
+fn search_start(program: &Program, current: u32, named: u32, signature: Signature<'_>) -> u32
     requires current { IsClassNumber program.now current }
     requires named { IsClassNumber program.now named }
     ensures class { IsClassNumber program.now result }
-    ensures start { StartsSearch program.now (name_at program.now current) (record { class = name_at program.now named; signature = signature_from name.now descriptor.now }) (name_at program.now result) }
+    ensures start { StartsSearch program.now (name_at program.now current) (record { class = name_at program.now named; signature = lent_signature signature.entry }) (name_at program.now result) }
 {
     program.well_formed();
-    if is_constructor(name) {
+    if is_constructor(signature.name) {
         return named;
     }
     if current == named {
@@ -59,8 +60,8 @@ fn search_start(program: &Program, current: u32, named: u32, name: &[u8], descri
     if !is_upward(program, current, named) {
         return named;
     }
-    match program.super_class(current) {
-        Some(above) => above,
+    match program.super_class(ClassNo(current)) {
+        Some(above) => above.0,
         None => named,
     }
 }
@@ -72,39 +73,48 @@ fn is_constructor(name: &[u8]) -> bool
     name == b"<init>".as_slice()
 }
 
+/// The class of a number, looked for upward.
+#[derive(Clone, Copy)]
+struct Reached {
+    upper: u32,
+}
+
+impl Step for Reached {
+    ghost use Rattle.linked_program.specs.Numbers.{name_at, IsClassNumber};
+
+    type Answer = u32;
+
+    ghost fits = { λ x p. IsClassNumber p x.upper };
+
+    ghost answers = { λ x p c. Finds (λ n. c.name ≡ name_at p x.upper) };
+
+    fn at(&self, program: &Program, class: u32) -> Option<u32> {
+        program.well_formed();
+        if class == self.upper {
+            Some(class)
+        } else {
+            None
+        }
+    }
+}
+
 /// Whether a class is another one, or among the superclasses of it.
 fn is_upward(program: &Program, class: u32, upper: u32) -> bool
     requires class { IsClassNumber program.now class }
     requires upper { IsClassNumber program.now upper }
     ensures { IsTrue result ↔ IsReachedUpward program.now (name_at program.now class) (name_at program.now upper) }
 {
-    program.well_formed();
-    let mut current = class;
-    'upward: for _passed in 0..program.class_count() {
-        if current == upper {
-            return true;
-        }
-        let Some(above) = program.super_class(current) else {
-            return false;
-        };
-        current = above;
-    }
-    unreachable!()
+    first_upward(program, class, &Reached { upper }).is_some()
 }
 
 /// The instance method of the name and descriptor that a search from a class finds, upward or as the only default.
-fn selected_from(program: &Program, start: u32, name: &[u8], descriptor: &[u8]) -> Option<u32>
+fn selected_from(program: &Program, start: u32, signature: Signature<'_>) -> Option<u32>
     requires { IsClassNumber program.now start }
-    ensures found { IfSome result (SelectsInstance program.now (name_at program.now start) (signature_from name.now descriptor.now)) }
-    ensures none { IfNone result ((n : ℕ) → SelectsInstance program.now (name_at program.now start) (signature_from name.now descriptor.now) n → ⊥) }
+    ensures { Finds (SelectsInstance program.now (name_at program.now start) (lent_signature signature.entry)) result }
 {
     program.well_formed();
-    if let Some(target) = found_in(program, start, name, descriptor, Wanted::Instance) {
+    if let Some(target) = found_in(program, start, signature, &Instance) {
         return Some(target);
     }
-    match find_defaults(program, start, name, descriptor) {
-        Choice::One(target) => Some(target),
-        Choice::Nothing => None,
-        Choice::Several => None,
-    }
+    only_default(program, start, signature)
 }

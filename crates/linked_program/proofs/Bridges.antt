@@ -27,7 +27,7 @@ pub names_are : (order : List Origin) → class_names (program_from order) ≡ n
 names_are [] = refl
 names_are (o ∷ order) = ap (λ (rest : List (List ℕ)). (class_from o).name ∷ rest) (names_are order)
 
-name_of_class : (p : Program) (k : ℕ) (c : Class) → slice_get p.classes k ≡ Some c → name_at p k ≡ c.name
+pub name_of_class : (p : Program) (k : ℕ) (c : Class) → slice_get p.classes k ≡ Some c → name_at p k ≡ c.name
 name_of_class p k c e = ap (λ (o : Option Class). unwrap_or (option_map (λ (d : Class). d.name) o) []) e
 
 pub name_at_in : (order : List Origin) (k : ℕ) → name_at (program_from order) k ≡ name_in (names order) k

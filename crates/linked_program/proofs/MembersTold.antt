@@ -16,6 +16,7 @@ use Rattle.class_index.specs.FirstPlaces.{StandsNowhere}
 use Rattle.class_index.specs.Limits.{AreTooMany}
 use Rattle.class_index.specs.MemberKeys.{Key, signature_texts}
 use Rattle.class_index.specs.TextNumbers.{different, with_texts}
+use Rattle.class_index.proofs.OrderPlaces.{stands_below}
 use Rattle.class_index.proofs.ListPlaces.{in_longer, pushed_at, at_map}
 use Rattle.class_index.proofs.TextPlaces.{too_many_longer, with_texts_extends, with_texts-append}
 use Rattle.linked_program.specs.declared.member_table.MemberPlace.{MemberPlace}
@@ -23,7 +24,7 @@ use Rattle.linked_program.specs.declared.member_view.MemberView.{MemberView}
 use Rattle.linked_program.specs.Declarations.{Declaration, IsDeclared, IsShownAs}
 use Rattle.linked_program.specs.MemberLists.{AreTooManyKeys, AreTooManyMembers, key_in, places_in, IsPlaceOf, IsKeyOf, TellEach}
 use Rattle.linked_program.specs.Numbers.{name_at}
-use Rattle.linked_program.proofs.Pieces.{item_there, among_at, take_one_more, map_one_more, one_more_piece, tell_both, tell_each, tell_places, tell_more}
+use Rattle.linked_program.proofs.Pieces.{among_at, take_one_more, map_one_more, one_more_piece, tell_both, tell_each, tell_places, tell_more}
 
 -- ---- the members of one class are added one by one
 
@@ -187,7 +188,7 @@ module _ (members : Origin → List Declaration) (of_class : (o : Origin) → Al
   declared_at class s n e =
       let key : Key = record { class = class; signature = s } in
       let within : n < length (flat_map members order) = omega (arith, told.as_many, slice_get_within keys n key e) in
-      let d = item_there (flat_map members order) n within in
+      let d = stands_below (flat_map members order) n within in
       let t = told.each n d.0 key d.1 e in
       let o = t.of_class.origin in
       record {
@@ -202,10 +203,10 @@ module _ (members : Origin → List Declaration) (of_class : (o : Origin) → Al
   declared_nowhere class s differ within none n declared =
       let d = declared.declaration in
       let long : n < length keys = omega (arith, told.as_many, slice_get_within (flat_map members order) n d declared.stands) in
-      let key = item_there keys n long in
+      let key = stands_below keys n long in
       let t = told.each n d key.0 declared.stands key.1 in
       let o = t.of_class.origin in
-      let there = item_there order class within in
+      let there = stands_below order class within in
       let same = sym (of_named o d t.of_class.among) ∙ declared.of_class ∙ name_is order class there.0 there.1 in
       let number = one_place (class_names (program_from order)) differ key.0.class class (class_from o).name (class_from there.0).name
       (named_at order key.0.class o t.of_class.stands) (named_at order class there.0 there.1) same in

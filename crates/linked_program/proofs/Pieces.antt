@@ -12,11 +12,6 @@ use Rattle.class_index.proofs.OrderPlaces.{all_at}
 
 -- ---- what stands at a place
 
-pub item_there : {X : Type 0} (xs : List X) (k : ℕ) → k < length xs → (x : X) × (slice_get xs k ≡ Some x)
-item_there [] k lt = absurd (omega arith)
-item_there (x ∷ xs) zero lt = (x, refl)
-item_there (x ∷ xs) (suc k) lt = item_there xs k (omega arith)
-
 pub among_at : {X : Type 0} (xs : List X) (k : ℕ) (x : X) → slice_get xs k ≡ Some x → Contains xs x
 among_at xs k x e = (k, slice_get_within xs k x e, get_or_from_slice_get xs k x x e)
 

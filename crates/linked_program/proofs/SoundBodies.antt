@@ -3,6 +3,7 @@ use Rattle.std.proofs.Common.{◌≡◌, inl, inr, ℕ, zero, suc, Bool, true, f
 use Rattle.std.specs.List.{enumerate_from, position_or_len, slice_get}
 use Rattle.std.specs.Option.{option_map_or}
 use Rattle.std.specs.Str.{bytes_eq}
+use Rattle.std.proofs.lemmas.Bool.{and_parts}
 use Rattle.std.proofs.lemmas.List.Elements.{All-map}
 use Rattle.std.proofs.lemmas.Option.{slice_get-get_or}
 use Rattle.std.proofs.lemmas.Slice.Eq.{bytes_eq-Decides}
@@ -53,10 +54,6 @@ names_sound order sound =
 
 -- ---- the bodies of methods
 
-both : (a b : Bool) → (a && b) ≡ true → (a ≡ true) × (b ≡ true)
-both true b h = (refl, h)
-both false b h = absurd cc
-
 static_as : (wanted is : Bool) → (if wanted then is else not is) ≡ true → is ≡ wanted
 static_as true is h = h
 static_as false true h = absurd cc
@@ -85,9 +82,9 @@ body_of_member c natives checked sound m there = by (find test natives) refl
         let native = has_flag m.1.flags Native in
         let name = bytes_eq s.name d.name in
         let descriptor = bytes_eq s.descriptor d.descriptor in
-        let last = both (concrete && native && name && descriptor) (is_static_as d m.1) at.2 in
-        let third = both (concrete && native && name) descriptor last.0 in
-        let second = both (concrete && native) name third.0 in
+        let last = and_parts (concrete && native && name && descriptor) (is_static_as d m.1) at.2 in
+        let third = and_parts (concrete && native && name) descriptor last.0 in
+        let second = and_parts (concrete && native) name third.0 in
         record {
           sound = all_at IsSoundMethod natives at.0 d sound at.1;
           same_call = same_texts s d.name d.descriptor second.1 third.1;

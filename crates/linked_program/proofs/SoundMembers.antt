@@ -2,7 +2,7 @@
 use Rattle.std.proofs.Common.{◌≡◌, ◌≢◌, inl, inr, ℕ, zero, suc, ◌+◌, ◌<◌, ◌≤◌, Bool, true, false, not, ◌&&◌, ◌||◌, List, [], ◌∷◌, length, map, take, get_or, All, AllPairs, Contains, Some, refl, sym, ap, ◌∙◌, subst, arith}
 use Rattle.std.specs.List.{enumerate_from, flat_map, list_any, slice_get}
 use Rattle.std.specs.Str.{bytes_eq}
-use Rattle.std.proofs.lemmas.Bool.{cases_lt}
+use Rattle.std.proofs.lemmas.Bool.{and_parts, cases_lt}
 use Rattle.std.proofs.lemmas.List.{length-take-le, get_or-take}
 use Rattle.std.proofs.lemmas.List.Elements.{Contains-get_or}
 use Rattle.std.proofs.lemmas.Option.{slice_get_within, get_or_from_slice_get, same_Some, none-some}
@@ -69,10 +69,6 @@ members_apart pool names descriptors ms uses =
 
 -- ---- those of a stub
 
-both_true : (a b : Bool) → (a && b) ≡ true → (a ≡ true) × (b ≡ true)
-both_true true b h = (refl, h)
-both_true false b h = absurd cc
-
 all_true : (a b : Bool) → a ≡ true → b ≡ true → (a && b) ≡ true
 all_true a b p q = (λ i. p i && q i)
 
@@ -89,12 +85,12 @@ all_apart : {X : Type 0} (same : X → X → Bool) (xs : List X) → all_differ 
 all_apart same [] h p q x y lt at_p at_q is = none-some x at_p
 all_apart same (z ∷ xs) h p zero x y lt at_p at_q is = absurd (omega arith)
 all_apart same (z ∷ xs) h zero (suc q) x y lt at_p at_q is =
-    let first = (both_true (not (list_any (same z) xs)) (all_differ same xs) h).0 in
+    let first = (and_parts (not (list_any (same z) xs)) (all_differ same xs) h).0 in
     let found = any_at (same z) xs q y at_q (ap (λ v. same v y) (same_Some _ _ at_p) ∙ is) in
     let never : false ≡ true = sym (ap not found) ∙ first in
     absurd cc
 all_apart same (z ∷ xs) h (suc p) (suc q) x y lt at_p at_q is =
-    all_apart same xs (both_true (not (list_any (same z) xs)) (all_differ same xs) h).1 p q x y (omega arith) at_p at_q is
+    all_apart same xs (and_parts (not (list_any (same z) xs)) (all_differ same xs) h).1 p q x y (omega arith) at_p at_q is
 
 same_texts : (a b c d : List ℕ) → a ≡ b → c ≡ d → (bytes_eq a b && bytes_eq c d) ≡ true
 same_texts a b c d e f = all_true (bytes_eq a b) (bytes_eq c d) ((bytes_eq-Decides a b).1 e) ((bytes_eq-Decides c d).1 f)

@@ -17,7 +17,7 @@ pub enum LinkEnd {
     #[error("{} is refused at byte {}: {}", .0.file.as_str(), .0.offset, reason_word(.0.reason))]
     Refused(Refusal),
     /// There are 2^32 - 1 classes, methods, fields or texts, or more.
-    #[error("the classes have too many members to number")]
+    #[error("there are too many classes, methods, fields or texts to number")]
     TooMany,
     /// Memory ran out.
     #[error("out of memory")]
@@ -81,7 +81,7 @@ mod tests {
         let text = format!(in alloc; "{many}")?;
         assert_eq!(rt;
             text.as_str(),
-            "the classes have too many members to number"
+            "there are too many classes, methods, fields or texts to number"
         );
         let text = format!(in alloc; "{}", LinkEnd::Memory)?;
         assert_eq!(rt; text.as_str(), "out of memory");

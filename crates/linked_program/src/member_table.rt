@@ -1,7 +1,7 @@
 //! The members of one kind of all classes of a program by number: class by class, and in a class in the order of the file. An
 //! index has them by class, name and descriptor, and a list has the place of each.
 
-ghost use Rattle.std.specs.Prelude.{◌≡◌, ◌≢◌, ◌⊎◌, ℕ, ◌+◌, ◌<◌, ◌≤◌, ◌^◌, [], ◌∷◌, ◌++◌, AllPairs, All, Err, Some, flat_map, length, map, slice_get, IfOk, IfSome, IfNone, OnOk};
+ghost use Rattle.std.specs.Prelude.{◌≡◌, ◌≢◌, ◌⊎◌, ℕ, ◌+◌, ◌<◌, ◌≤◌, ◌^◌, [], ◌∷◌, ◌++◌, AllPairs, Err, Some, flat_map, length, map, slice_get, IfOk, IfSome, IfNone, OnOk};
 ghost use Rattle.jvm_model.specs.LinkedPrograms.{class_names};
 ghost use Rattle.jvm_model.specs.Linking.{program_from};
 ghost use Rattle.jvm_model.specs.Lookups.{lent_signature};

@@ -25,7 +25,7 @@ pub(crate) fn body_in(origin: &Origin, place: usize) -> MethodBody<'_>
     ensures { (m : Method) → slice_get (methods_from origin.now) place ≡ Some m → IsBodyView m.body result }
 {
     match origin {
-        Origin::Folder { file, natives } => { body_in_file(&file.class, natives.as_slice(), place) }
+        Origin::Folder { file, natives } => body_in_file(&file.class, natives.as_slice(), place),
         Origin::Stub(stub) => MethodBody::Described(&stub.methods.as_slice()[place]),
     }
 }

@@ -1,6 +1,6 @@
 //! The numbers of classes: each class has its place in byte order of the names as its number, and its supertypes by number.
 
-ghost use Rattle.std.specs.Prelude.{◌≡◌, ℕ, ◌<◌, ◌^◌, length, map, take, slice_index_or, option_map, Some, slice_get, All, Contains, IfOk, []};
+ghost use Rattle.std.specs.Prelude.{◌≡◌, ◌<◌, ◌^◌, length, map, Some, All, Contains, IfOk};
 ghost use Rattle.jvm_model.specs.Linking.{class_from, names};
 ghost use Rattle.linked_program.specs.ByteOrder.{IsAscending};
 ghost use Rattle.linked_program.specs.Numbering.{AreParents, HasNames, IsParents, name_in};

@@ -1,44 +1,42 @@
-use Rattle.std.proofs.Common.{◌∙◌, ℕ, Some, sym, ap, inl, inr}
+use Rattle.std.proofs.Common.{ℕ, Some, None, sym, ap, inl, inr}
 use Rattle.std.proofs.lemmas.Bool.{cases_eq}
 use Rattle.std.proofs.lemmas.Option.{none-some, same_Some}
+use Rattle.jvm_model.specs.Lookups.{lent_signature}
 use Rattle.linked_program.specs.Numbers.{name_at}
-use Rattle.hierarchy.specs.Searches.{signature_from, HasTwoDefaults}
-use Rattle.hierarchy.proofs.Specific.{default_from, default_lowest, some_then, none_then}
+use Rattle.hierarchy.proofs.Specific.{such_default, default_such}
 use Rattle.hierarchy.proofs.defaults.find_defaults.Goals as goal
 
 pub returns-in_default : goal.returns-in_default
 returns-in_default c = λ n default.
     let p = c.args.program.now in
-    let s = signature_from c.args.name.now c.args.descriptor.now in
-    c.in_default.ensures.none n default.specific.inherited (default_lowest p (name_at p c.args.class) s n default, λ e. none-some n e)
+    c.in_default.ensures n (default_such p (name_at p c.args.class) (lent_signature c.args.signature) None n (λ e. none-some n e) default)
 
-pub returns-then-is_some : goal.returns-then-is_some
-returns-then-is_some c =
+pub returns-in-Some-first_inherited : goal.returns-in-Some-first_inherited
+returns-in-Some-first_inherited c =
     let p = c.args.program.now in
-    let s = signature_from c.args.name.now c.args.descriptor.now in
+    let s = lent_signature c.args.signature in
     let class = name_at p c.args.class in
-    let found = c.in-Some.ensures.found in
-    some_then c.first_inherited-2.result _ (HasTwoDefaults p class s) (sym c.is_some.ensures ∙ c.if-is_some.true) c.first_inherited-2.ensures.found
-    (λ second is. record {
-      first = c.in-Some.first;
-      second = second;
-      first_default = default_from p class s c.in-Some.first found.0 found.1.0;
-      second_default = default_from p class s second is.0 is.1.0;
-      differ = λ e. is.1.1 (ap (λ (n : ℕ). Some n) e);
-    })
-
-pub returns-else-is_some : goal.returns-else-is_some
-returns-else-is_some c =
-    let p = c.args.program.now in
-    let s = signature_from c.args.name.now c.args.descriptor.now in
-    let class = name_at p c.args.class in
-    let found = c.in-Some.ensures.found in
-    let none = none_then c.first_inherited-2.result _ (sym c.is_some.ensures ∙ c.if-is_some.false) c.first_inherited-2.ensures.none in
+    let first = c.in-Some.first in
+    let second = c.in-Some-first_inherited.field-0 in
+    let such = c.in-Some-first_inherited.ensures in
     record {
-      default = default_from p class s c.in-Some.first found.0 found.1.0;
-      only = λ other default. elim (cases_eq other c.in-Some.first) [
+      first = first;
+      second = second;
+      first_default = such_default p class s None first c.in-Some.ensures;
+      second_default = such_default p class s (Some first) second such;
+      differ = λ e. such.taken.0 (ap (λ (n : ℕ). Some n) e);
+    }
+
+pub returns-in-None : goal.returns-in-None
+returns-in-None c =
+    let p = c.args.program.now in
+    let s = lent_signature c.args.signature in
+    let class = name_at p c.args.class in
+    let first = c.in-Some.first in
+    record {
+      default = such_default p class s None first c.in-Some.ensures;
+      only = λ other default. elim (cases_eq other first) [
         | inl same ↦ same
-        | inr differs ↦
-            absurd (none other default.specific.inherited (default_lowest p class s other default, λ e. differs (sym (same_Some c.in-Some.first other e))))
+        | inr differs ↦ absurd (c.in-None.ensures other (default_such p class s (Some first) other (λ e. differs (sym (same_Some first other e))) default))
       ];
     }

@@ -1,55 +1,30 @@
-use Rattle.std.proofs.lemmas.Option.{IfSome_then}
-use Rattle.jvm_model.specs.Resolution.{itself, by_default, by_name}
+use Rattle.std.proofs.Common.{Some, None}
+use Rattle.jvm_model.specs.Lookups.{lent_signature}
+use Rattle.jvm_model.specs.Resolution.{itself, by_default}
 use Rattle.linked_program.specs.Numbers.{name_at}
-use Rattle.hierarchy.specs.Searches.{signature_from}
-use Rattle.class_index.proofs.SpelledKeys.{if_none_more}
 use Rattle.hierarchy.proofs.ClassPlaces.{class_of_number}
-use Rattle.hierarchy.proofs.Resolving.{two_not_only, resolves_none}
+use Rattle.hierarchy.proofs.Resolving.{resolves_least}
+use Rattle.hierarchy.proofs.Selecting.{finds_any}
 use Rattle.hierarchy.proofs.resolve.resolved.Goals as goal
 
-pub returns-in-Some-clause-found : goal.returns-in-Some-clause-found
-returns-in-Some-clause-found c =
-    let class = class_of_number c.args.program.now c.well_formed-2.ensures.program c.args.class c.requires in
-    record { class = class.0; named = class.1.named; search = itself (c.in-Some.ensures.found class.0 class.1.stands) }
-
-pub returns-in-One-clause-found : goal.returns-in-One-clause-found
-returns-in-One-clause-found c =
-    let class = class_of_number c.args.program.now c.well_formed-2.ensures.program c.args.class c.requires in
-    record { class = class.0; named = class.1.named; search = by_default (c.in_default.ensures.none class.0 class.1.stands) c.in-One.ensures }
-
-pub returns-in-Nothing-clause-found : goal.returns-in-Nothing-clause-found
-returns-in-Nothing-clause-found c =
-    let class = class_of_number c.args.program.now c.well_formed-2.ensures.program c.args.class c.requires in
-    IfSome_then c.least_inherited.result c.least_inherited.ensures.found (λ n least.
-    record { class = class.0; named = class.1.named; search = by_name (c.in_default.ensures.none class.0 class.1.stands) (λ other only. c.in-Nothing.ensures other only.default) least })
-
-pub returns-in-Nothing-clause-none : goal.returns-in-Nothing-clause-none
-returns-in-Nothing-clause-none c =
+pub returns-in-Some : goal.returns-in-Some
+returns-in-Some c =
     let p = c.args.program.now in
-    let s = signature_from c.args.name.now c.args.descriptor.now in
     let class = class_of_number p c.well_formed-2.ensures.program c.args.class c.requires in
-    if_none_more c.least_inherited.result _ _ (λ none n resolves.
-    resolves_none p (name_at p c.args.class) s n class.0 class.1.named (c.in_default.ensures.none class.0 class.1.stands) (λ other only. c.in-Nothing.ensures other only.default) none resolves)
-    c.least_inherited.ensures.none
+    let own = finds_any p (lent_signature c.args.signature) class.0 (Some c.in-Some.number) (c.in-Some.ensures class.0 class.1.stands) in
+    record { class = class.0; named = class.1.named; search = itself own }
 
-pub returns-in-Several-clause-found : goal.returns-in-Several-clause-found
-returns-in-Several-clause-found c =
+pub returns-in-Some-only_default : goal.returns-in-Some-only_default
+returns-in-Some-only_default c =
     let p = c.args.program.now in
-    let s = signature_from c.args.name.now c.args.descriptor.now in
     let class = class_of_number p c.well_formed-2.ensures.program c.args.class c.requires in
-    IfSome_then c.least_inherited-in-Several.result c.least_inherited-in-Several.ensures.found (λ n least.
-    record {
-      class = class.0;
-      named = class.1.named;
-      search = by_name (c.in_default.ensures.none class.0 class.1.stands) (λ other only. two_not_only p (name_at p c.args.class) s other c.in-Several.ensures only) least;
-    })
+    let none = finds_any p (lent_signature c.args.signature) class.0 None (c.in_default.ensures class.0 class.1.stands) in
+    record { class = class.0; named = class.1.named; search = by_default none c.in-Some-only_default.ensures }
 
-pub returns-in-Several-clause-none : goal.returns-in-Several-clause-none
-returns-in-Several-clause-none c =
+pub returns : goal.returns
+returns c =
     let p = c.args.program.now in
-    let s = signature_from c.args.name.now c.args.descriptor.now in
+    let s = lent_signature c.args.signature in
     let class = class_of_number p c.well_formed-2.ensures.program c.args.class c.requires in
-    if_none_more c.least_inherited-in-Several.result _ _ (λ none n resolves.
-    resolves_none p (name_at p c.args.class) s n class.0 class.1.named (c.in_default.ensures.none class.0 class.1.stands)
-    (λ other only. two_not_only p (name_at p c.args.class) s other c.in-Several.ensures only) none resolves)
-    c.least_inherited-in-Several.ensures.none
+    let none = finds_any p s class.0 None (c.in_default.ensures class.0 class.1.stands) in
+    resolves_least p (name_at p c.args.class) s class.0 c.least_inherited.result class.1.named none c.in_default-only_default.ensures c.least_inherited.ensures

@@ -1,6 +1,6 @@
 use Rattle.std.proofs.Common.{◌∙◌, ℕ, List, Some, refl, sym, subst}
+use Rattle.jvm_model.specs.Lookups.{lent_signature}
 use Rattle.jvm_model.specs.Resolution.{FindsField, found, other_kind}
-use Rattle.hierarchy.specs.Searches.{signature_from}
 use Rattle.hierarchy.proofs.ClassPlaces.{name_at-at, place_there}
 use Rattle.hierarchy.proofs.Resolving.{same_kind, other_kind_of}
 use Rattle.hierarchy.proofs.resolve_field.resolve_field.Goals as goal
@@ -11,7 +11,7 @@ is_static_field-requires c = c.in-Some.ensures.within
 pub returns-then-is_static_field-is_static-clause-resolution : goal.returns-then-is_static_field-is_static-clause-resolution
 returns-then-is_static_field-is_static-clause-resolution c = λ class stands.
     let p = c.args.program.now in
-    let s = signature_from c.args.name.now c.args.descriptor.now in
+    let s = lent_signature c.args.signature in
     let name = name_at-at p c.args.class.0 class stands in
     let field = place_there p.fields c.in-Some.number c.in-Some.ensures.within in
     found c.in-Some.number field.0 (subst (λ (x : List ℕ). FindsField p s x (Some c.in-Some.number)) name c.in-Some.ensures.finds) field.1
@@ -20,7 +20,7 @@ returns-then-is_static_field-is_static-clause-resolution c = λ class stands.
 pub returns-else-is_static_field-is_static-clause-resolution : goal.returns-else-is_static_field-is_static-clause-resolution
 returns-else-is_static_field-is_static-clause-resolution c = λ class stands.
     let p = c.args.program.now in
-    let s = signature_from c.args.name.now c.args.descriptor.now in
+    let s = lent_signature c.args.signature in
     let name = name_at-at p c.args.class.0 class stands in
     let field = place_there p.fields c.in-Some.number c.in-Some.ensures.within in
     other_kind c.in-Some.number field.0 (subst (λ (x : List ℕ). FindsField p s x (Some c.in-Some.number)) name c.in-Some.ensures.finds) field.1

@@ -1,6 +1,6 @@
 use Rattle.std.proofs.Common.{◌∙◌, sym}
 use Rattle.std.proofs.lemmas.Bool.{false≢true}
-use Rattle.hierarchy.proofs.Specific.{none_then}
+use Rattle.hierarchy.proofs.Hiding.{none_then}
 use Rattle.hierarchy.proofs.select.hides.Goals as goal
 
 pub returns-else-is_some : goal.returns-else-is_some

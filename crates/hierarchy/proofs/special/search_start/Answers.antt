@@ -1,11 +1,11 @@
 use Rattle.std.proofs.Common.{◌∙◌, refl, sym}
 use Rattle.std.proofs.lemmas.Bool.{false≢true}
+use Rattle.jvm_model.specs.Lookups.{lent_signature}
 use Rattle.jvm_model.specs.Selection.{at_super, at_named}
 use Rattle.linked_program.specs.Numbers.{name_at}
-use Rattle.hierarchy.specs.Searches.{signature_from}
 use Rattle.hierarchy.proofs.ClassPlaces.{same_number}
 use Rattle.hierarchy.proofs.Chains.{step_at, top_at}
-use Rattle.hierarchy.proofs.Hiding.{super_upward, upward_super, upward_last}
+use Rattle.hierarchy.proofs.Hiding.{super_upward, upward_super, reached_top}
 use Rattle.hierarchy.proofs.special.search_start.Goals as goal
 
 pub returns-then-not-is_upward-clause-start : goal.returns-then-not-is_upward-clause-start
@@ -24,7 +24,7 @@ returns-in-Some-clause-start c =
     let is = c.well_formed-2.ensures in
     let step = step_at p is.program c.args.current c.in-Some.above c.super_class.result c.requires.current c.in-Some.is c.super_class.ensures in
     at_super step.class
-    (upward_super p (name_at p c.args.current) (record { class = name_at p c.args.named; signature = signature_from c.args.name.now c.args.descriptor.now })
+    (upward_super p (name_at p c.args.current) (record { class = name_at p c.args.named; signature = lent_signature c.args.signature })
     (λ e. false≢true (sym c.if-is_constructor.false ∙ c.is_constructor.ensures.1 e))
     (λ e. c.if-current-named.false (same_number p is.program c.args.current c.args.named c.requires.current c.requires.named e))
     (c.is_upward.ensures.0 c.if-not-is_upward.false))
@@ -35,6 +35,5 @@ returns-in-None-clause-start c =
     let p = c.args.program.now in
     let is = c.well_formed-2.ensures in
     let top = top_at p is.program c.args.current c.super_class.result c.requires.current c.in-None.is c.super_class.ensures in
-    absurd (upward_last p c.args.current (name_at p c.args.named) top
-    (λ e. c.if-current-named.false (same_number p is.program c.args.current c.args.named c.requires.current c.requires.named e))
-    (c.is_upward.ensures.0 c.if-not-is_upward.false))
+    let same = reached_top p c.args.current (name_at p c.args.named) top (c.is_upward.ensures.0 c.if-not-is_upward.false) in
+    absurd (c.if-current-named.false (same_number p is.program c.args.current c.args.named c.requires.current c.requires.named same))

@@ -1,7 +1,6 @@
-use Rattle.std.proofs.Common.{◌≡◌, ℕ, ◌+◌, List, Some, length, get_or, sym, ◌∙◌, ap, subst, arith, Bor}
+use Rattle.std.proofs.Common.{◌≡◌, ℕ, List, Some, length, get_or, sym, ◌∙◌, ap, subst, arith, Bor}
 use Rattle.std.specs.List.{enumerate_from, slice_get}
 use Rattle.std.proofs.lemmas.Option.{get_or_from_slice_get}
-use Rattle.jvm_model.specs.declared.class_file.Member.{Member}
 use Rattle.jvm_model.specs.declared.program.Origin.{Origin}
 use Rattle.jvm_model.specs.declared.stub.StubMethod.{StubMethod}
 use Rattle.jvm_model.specs.Linking.{body_from, folder_method, methods_from}

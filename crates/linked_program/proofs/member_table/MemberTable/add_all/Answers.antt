@@ -1,8 +1,8 @@
 use Rattle.std.proofs.Common.{◌<◌, ◌+◌, [], ◌∷◌, ◌++◌, length, Err, inl, inr, refl, ap, arith}
 use Rattle.std.proofs.lemmas.Result.{err_from_is_err_and}
 use Rattle.class_index.specs.declared.index_error.IndexError.TheVariants.{TooMany}
+use Rattle.class_index.proofs.OrderPlaces.{stands_below}
 use Rattle.class_index.proofs.SpelledKeys.{kept_error}
-use Rattle.linked_program.proofs.Pieces.{item_there}
 use Rattle.linked_program.proofs.MembersTold.{key_shown, keys_added, places_added, many_added, many_places}
 use Rattle.linked_program.proofs.member_table.MemberTable.add_all.Goals as goal
 
@@ -13,7 +13,7 @@ returns-in_err-add-clause-too_many g c = λ told.
     let place = c.loop-place.place in
     let start = c.args.self.now.index in
     let within : place < length ds = omega (arith, c.count-place-end.ensures) in
-    let d = item_there ds place within in
+    let d = stands_below ds place within in
     let p = err_from_is_err_and c.from_residual.result c.from_residual.ensures.1 in
     let same = kept_error c.from_residual.result p.0 c.in_err-add.field-0.0 TooMany p.1 p.2 told in
     let longer = c.loop-place.self.index ++ key_shown c.view.result ∷ [] in
@@ -30,7 +30,7 @@ loop-place-preserved g c =
     let place = c.loop-place.place in
     let view = c.view.result in
     let within : place < length ds = omega (arith, c.count-place-end.ensures) in
-    let d = item_there ds place within in
+    let d = stands_below ds place within in
     let shown = c.view.ensures d.0 d.1 in
     record {
       keys = keys_added class ds place d.0 view c.args.self.now.index c.loop-place.self.index c.add.new.self.index d.1 shown c.loop-place.invariant.keys c.in_ok-add.ensures.key;

@@ -4,10 +4,9 @@ use Rattle.std.proofs.lemmas.List.Elements.{All-contains}
 use Rattle.std.proofs.lemmas.Option.{slice_get_within, get_or_from_slice_get}
 use Rattle.jvm_model.specs.declared.program.Origin.{Origin}
 use Rattle.jvm_model.specs.Linking.{class_from, program_from}
-use Rattle.class_index.proofs.OrderPlaces.{contains_at}
+use Rattle.class_index.proofs.OrderPlaces.{contains_at, stands_below}
 use Rattle.linked_program.specs.Declarations.{Declaration}
 use Rattle.linked_program.specs.Numbers.{name_at}
-use Rattle.linked_program.proofs.Pieces.{item_there}
 use Rattle.linked_program.proofs.MembersTold.{name_is, place_read, view_below}
 use Rattle.linked_program.proofs.member_table.MemberTable.view.Goals as goal
 
@@ -15,7 +14,7 @@ pub bounds-order-at : goal.bounds-order-at
 bounds-order-at g c =
     let members = g.K.MemberKind.members in
     let order = c.args.order.now in
-    let d = item_there (flat_map members order) c.args.number c.requires.there in
+    let d = stands_below (flat_map members order) c.args.number c.requires.there in
     let at = place_read members order c.args.self.now.places.items c.requires.table.told_by_places c.args.number d.0 c.index-at.result.now d.1 c.index-at.ensures in
     slice_get_within order c.index-at.result.now.class.0 at.origin at.class
 
@@ -24,7 +23,7 @@ view-requires g c =
     let members = g.K.MemberKind.members in
     let order = c.args.order.now in
     let place = c.index-at.result.now in
-    let d = item_there (flat_map members order) c.args.number c.requires.there in
+    let d = stands_below (flat_map members order) c.args.number c.requires.there in
     let at = place_read members order c.args.self.now.places.items c.requires.table.told_by_places c.args.number d.0 place d.1 c.index-at.ensures in
     let is = sym (get_or_from_slice_get order place.class.0 at.origin c.index-order-at.result at.class) ∙ sym c.index-order-at.is in
     subst (λ (o : Origin). place.place < length (members o)) is (slice_get_within (members at.origin) place.place d.0 at.stands)

@@ -1,6 +1,5 @@
-use Rattle.std.proofs.Common.{codes, ◌≡◌, ℕ, inl, true, false, List, [], ◌∷◌, IsTrue, Option, Some, None, refl, sym, ◌∙◌, ap, subst, arith}
+use Rattle.std.proofs.Common.{codes, ◌≡◌, ℕ, inl, true, false, List, [], ◌∷◌, IsTrue, None, refl, sym, ◌∙◌, ap, subst, arith}
 use Rattle.std.proofs.lemmas.List.Elements.{All-nil, All-from_recursion}
-use Rattle.jvm_model.specs.declared.descriptor.Kind.{Kind}
 use Rattle.jvm_model.specs.declared.descriptor.Kind.TheVariants.{Prim}
 use Rattle.jvm_model.specs.declared.stub.StubArgument.{StubArgument}
 use Rattle.jvm_model.specs.declared.stub.StubClass.{StubClass}

@@ -1,0 +1,116 @@
+//! The search for a method in the superinterfaces of a class, direct or not.
+
+ghost use Rattle.std.specs.Prelude.{All};
+ghost use Rattle.jvm_model.specs.Lookups.{lent_signature};
+ghost use Rattle.linked_program.specs.Numbers.{name_at, IsClassNumber};
+ghost use Rattle.hierarchy.specs.Searches.{Finds, InheritsSuch, IsOffered, IsOfferedAmong};
+
+use crate::methods::{is_private, is_static};
+use crate::search::declared;
+use crate::sought::Sought;
+use crate::upward::{Step, first_upward};
+use jvm_model::{ClassNo, Signature};
+use linked_program::program::Program;
+
+/// A method that subtypes inherit from an interface, and that is looked for: it is neither private nor static.
+#[derive(Drop)]
+struct Inheritable<'a, S> {
+    sought: &'a S,
+}
+
+impl<S: Sought> Sought for Inheritable<'_, S> {
+    ghost use Rattle.hierarchy.specs.Searches.{IsInheritable};
+
+    ghost fits = { λ x. S.fits x.sought.now };
+
+    ghost takes = { λ x p. IsInheritable (S.takes x.sought.now p) };
+
+    fn accepts(&self, program: &Program, number: u32) -> bool {
+        if is_private(program, number) {
+            return false;
+        }
+        if is_static(program, number) {
+            return false;
+        }
+        self.sought.accepts(program, number)
+    }
+}
+
+/// The method of the name and descriptor that an interface declares and its subtypes inherit, if it is looked for.
+fn offered<S: Sought>(
+    program: &Program,
+    interface: u32,
+    signature: Signature<'_>,
+    sought: &S,
+) -> Option<u32>
+    requires class { IsClassNumber program.now interface }
+    requires fits { S.fits sought.now program.now (lent_signature signature) }
+    ensures { Finds (IsOffered program.now (lent_signature signature.entry) (S.takes sought.now program.now) interface) result }
+{
+    if !program.is_interface(ClassNo(interface)) {
+        return None;
+    }
+    declared(program, interface, signature, &Inheritable { sought })
+}
+
+/// The first method that one of the interfaces offers, and that is looked for.
+fn first_among<S: Sought>(
+    program: &Program,
+    interfaces: &[u32],
+    signature: Signature<'_>,
+    sought: &S,
+) -> Option<u32>
+    requires below { All (IsClassNumber program.now) interfaces.now }
+    requires fits { S.fits sought.now program.now (lent_signature signature) }
+    ensures { Finds (IsOfferedAmong program.now (lent_signature signature.entry) (S.takes sought.now program.now) interfaces.now) result }
+{
+    for interface in interfaces {
+        if let Some(number) = offered(program, *interface, signature, sought) {
+            return Some(number);
+        }
+    }
+    None
+}
+
+/// A method of superinterfaces, looked for upward: in those of each class.
+#[derive(Drop)]
+struct InterfaceSearch<'a, S> {
+    signature: Signature<'a>,
+    sought: &'a S,
+}
+
+impl<S: Sought> Step for InterfaceSearch<'_, S> {
+    ghost use Rattle.jvm_model.specs.Lookups.{lent_signature};
+    ghost use Rattle.hierarchy.specs.Searches.{Finds, OffersThrough};
+
+    type Answer = u32;
+
+    ghost fits = { λ x p. S.fits x.sought.now p (lent_signature x.signature) };
+
+    ghost answers = { λ x p c. Finds (OffersThrough p (lent_signature x.signature) (S.takes x.sought.now p) c) };
+
+    fn at(&self, program: &Program, class: u32) -> Option<u32> {
+        first_among(
+            program,
+            program.through_interfaces(ClassNo(class)),
+            self.signature,
+            self.sought,
+        )
+    }
+}
+
+/// A method of the name and descriptor that the class inherits from a superinterface, and that is looked for. It looks at the
+/// interfaces from the class upward, at each as often as a superclass has it above.
+pub(crate) fn first_inherited<S: Sought>(
+    program: &Program,
+    class: u32,
+    signature: Signature<'_>,
+    sought: &S,
+) -> Option<u32>
+    requires class { IsClassNumber program.now class }
+    requires fits { S.fits sought.now program.now (lent_signature signature) }
+    ensures { Finds (InheritsSuch program.now (name_at program.now class) (lent_signature signature.entry) (S.takes sought.now program.now)) result }
+{
+    program.well_formed();
+    first_upward(program, class, &InterfaceSearch { signature, sought })
+}
