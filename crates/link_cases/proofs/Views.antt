@@ -7,8 +7,8 @@ use Rattle.linked_program.specs.Numbers.{IsClassNumber, IsMethodNumber}
 use Rattle.linked_program.specs.Whole.{IsFieldView, IsMethodView}
 use Rattle.class_index.proofs.OrderPlaces.{stands_below}
 
-pub class_of_method : (p : Program) (n : ℕ) (v : MemberView) → IsMethodNumber p n → ((m : Method) → slice_get p.methods n ≡ Some m → IsMethodView p m v) → IsClassNumber p v.class
+pub class_of_method : (p : Program) (n : ℕ) (v : MemberView) → IsMethodNumber p n → ((m : Method) → slice_get p.methods n ≡ Some m → IsMethodView p m v) → IsClassNumber p v.class.0
 class_of_method p n v within view = let there = stands_below p.methods n within in (view there.0 there.1).below
 
-pub class_of_field : (p : Program) (n : ℕ) (v : MemberView) → n < length p.fields → ((f : Field) → slice_get p.fields n ≡ Some f → IsFieldView p f v) → IsClassNumber p v.class
+pub class_of_field : (p : Program) (n : ℕ) (v : MemberView) → n < length p.fields → ((f : Field) → slice_get p.fields n ≡ Some f → IsFieldView p f v) → IsClassNumber p v.class.0
 class_of_field p n v within view = let there = stands_below p.fields n within in (view there.0 there.1).below
