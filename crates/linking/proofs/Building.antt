@@ -70,16 +70,16 @@ text_same x y e = (bytes_eq-Decides x y).1 e
 
 -- ---- a description takes the place of an earlier one
 
-same_key : (e d : Description) → is_same_method e.method d.method ≡ true → method_key e ≡ method_key d
+pub same_key : (e d : Description) → is_same_method e.method d.method ≡ true → method_key e ≡ method_key d
 same_key e d same =
     let parts = and_true (bytes_eq e.method.name d.method.name) (bytes_eq e.method.descriptor d.method.descriptor) same in
     let name = same_text _ _ parts.0 in
     let descriptor = same_text _ _ parts.1 in
-    (λ i. record { class = 0; name = name i; descriptor = descriptor i })
+    (λ i. record { class = 0; signature = record { name = name i; descriptor = descriptor i } })
 
 key_same : (e d : Description) → method_key e ≡ method_key d → is_same_method e.method d.method ≡ true
 key_same e d same =
-    both_true _ _ (text_same _ _ (ap (λ (k : Key). k.name) same)) (text_same _ _ (ap (λ (k : Key). k.descriptor) same))
+    both_true _ _ (text_same _ _ (ap (λ (k : Key). k.signature.name) same)) (text_same _ _ (ap (λ (k : Key). k.signature.descriptor) same))
 
 place_by : (e : Description) (held : List Description) (d : Description) (b : Bool) → is_same_method e.method d.method ≡ b
     → with_description (e ∷ held) d ≡ cond b (d ∷ held) (e ∷ with_description held d)
@@ -157,14 +157,14 @@ module _ (pool : List PoolEntry) (d : StubMethod) where
       let name = same_text _ _ at_name.1 in
       let descriptor = same_text _ _ at_descriptor.1 in
       let class = static_class d.is_static (has_flag m.flags Static) last.1 in
-      (at_native.1, (λ i. record { class = class i; name = name i; descriptor = descriptor i }))
+      (at_native.1, (λ i. record { class = class i; signature = record { name = name i; descriptor = descriptor i } }))
 
   is_described : (m : Member) → d.is_abstract ≡ false → has_flag m.flags Native ≡ true → member_key pool m ≡ described_key d → describes pool d m ≡ true
   is_described m concrete native same =
       both_true _ _
       (both_true _ _
-      (both_true _ _ (both_true (not d.is_abstract) (has_flag m.flags Native) (ap not concrete) native) (text_same _ _ (ap (λ (k : Key). k.name) same)))
-      (text_same _ _ (ap (λ (k : Key). k.descriptor) same)))
+      (both_true _ _ (both_true (not d.is_abstract) (has_flag m.flags Native) (ap not concrete) native) (text_same _ _ (ap (λ (k : Key). k.signature.name) same)))
+      (text_same _ _ (ap (λ (k : Key). k.signature.descriptor) same)))
       (class_static d.is_static (has_flag m.flags Static) (ap (λ (k : Key). k.class) same))
 
   pub none_described : d.is_abstract ≡ true → (ms : List Member) → list_any (describes pool d) ms ≡ false

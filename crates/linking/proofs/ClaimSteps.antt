@@ -1,5 +1,5 @@
 -- What is told of claims, walked one after the other.
-use Rattle.std.proofs.Common.{◌≡◌, IfErr, ℕ, ◌+◌, ◌<◌, ◌≤◌, Bool, true, false, List, [], ◌∷◌, ◌++◌, length, map, get_or, drop, not, cond, Result, Ok, Err, refl, sym, ◌∙◌, ap, subst, inl, inr, append_assoc}
+use Rattle.std.proofs.Common.{◌≡◌, ℕ, ◌+◌, ◌<◌, ◌≤◌, Bool, true, false, List, [], ◌∷◌, ◌++◌, length, map, get_or, drop, not, cond, Result, Ok, Err, refl, sym, ◌∙◌, ap, subst, inl, inr, append_assoc}
 use Rattle.std.specs.List.{flat_map}
 use Rattle.std.proofs.lemmas.List.{drop_more, drop_all, append-nil, map-append}
 use Rattle.std.proofs.lemmas.List.Elements.{All-nil, All-cons, All-head, All-tail, All-append}
@@ -9,9 +9,9 @@ use Rattle.jvm_model.specs.declared.pool.PoolEntry.{PoolEntry}
 use Rattle.jvm_model.specs.Linking.{Claim, interface_places, reason_of, AreMet, IsFirstUnmet, Meets, own_classes}
 use Rattle.jvm_model.specs.Programs.{Program, class_or_none}
 use Rattle.linked_program.specs.declared.link_end.LinkEnd.{LinkEnd}
-use Rattle.linked_program.specs.declared.link_end.LinkEnd.TheVariants.{Refused, Memory}
+use Rattle.linked_program.specs.declared.link_end.LinkEnd.TheVariants.{Refused, TooMany, Memory}
 use Rattle.linking.specs.declared.supers.SuperRule.{SuperRule}
-use Rattle.linking.specs.Claims.{TellsEnd, TellsClaims, of_own, super_claim}
+use Rattle.linking.specs.Claims.{TellsEnd, TellsEndOrLarge, TellsClaims, TellsClaimsOrLarge, of_own, super_claim}
 use Rattle.linked_program.specs.LinkEnds.{IsLinkRefusal}
 
 -- ---- claims before others
@@ -28,17 +28,35 @@ pub unmet_back : (p : Program) (r : Refusal) (xs ys : List Claim) → AreMet p x
 unmet_back p r [] ys met h = h
 unmet_back p r (c ∷ xs) ys met h = inr (All-head (IsMet p) c xs met, unmet_back p r xs ys (All-tail (IsMet p) c xs met) h)
 
-pub end_front : (p : Program) (xs ys : List Claim) (e : LinkEnd) → TellsEnd p xs e → TellsEnd p (xs ++ ys) e
-end_front p xs ys (Refused r) h = unmet_front p r xs ys h
-end_front p xs ys _ h = h
+pub end_front : (Large : Type 0) (p : Program) (xs ys : List Claim) (e : LinkEnd) → TellsEndOrLarge Large p xs e → TellsEndOrLarge Large p (xs ++ ys) e
+end_front Large p xs ys (Refused r) h = unmet_front p r xs ys h
+end_front Large p xs ys _ h = h
 
-pub end_back : (p : Program) (xs ys : List Claim) (e : LinkEnd) → AreMet p xs → TellsEnd p ys e → TellsEnd p (xs ++ ys) e
-end_back p xs ys (Refused r) met h = unmet_back p r xs ys met h
-end_back p xs ys _ met h = h
+pub end_back : (Large : Type 0) (p : Program) (xs ys : List Claim) (e : LinkEnd) → AreMet p xs → TellsEndOrLarge Large p ys e → TellsEndOrLarge Large p (xs ++ ys) e
+end_back Large p xs ys (Refused r) met h = unmet_back p r xs ys met h
+end_back Large p xs ys _ met h = h
 
-pub tells_back : {X : Type 0} (p : Program) (xs ys : List Claim) (r : Result X LinkEnd) → AreMet p xs → TellsClaims p ys r → TellsClaims p (xs ++ ys) r
-tells_back p xs ys (Ok x) met h = All-append (IsMet p) xs ys met h
-tells_back p xs ys (Err e) met h = end_back p xs ys e met h
+pub tells_back : {X : Type 0} (Large : Type 0) (p : Program) (xs ys : List Claim) (r : Result X LinkEnd) → AreMet p xs → TellsClaimsOrLarge Large p ys r → TellsClaimsOrLarge Large p (xs ++ ys) r
+tells_back Large p xs ys (Ok x) met h = All-append (IsMet p) xs ys met h
+tells_back Large p xs ys (Err e) met h = end_back Large p xs ys e met h
+
+-- ---- what is large is so in another way
+
+pub end_more : (Large More : Type 0) (p : Program) (claims : List Claim) (e : LinkEnd) → (Large → More) → TellsEndOrLarge Large p claims e → TellsEndOrLarge More p claims e
+end_more Large More p claims (Refused r) more h = h
+end_more Large More p claims TooMany more h = more h
+end_more Large More p claims Memory more h = tt
+
+pub tells_more : {X : Type 0} (Large More : Type 0) (p : Program) (claims : List Claim) (r : Result X LinkEnd) → (Large → More) → TellsClaimsOrLarge Large p claims r → TellsClaimsOrLarge More p claims r
+tells_more Large More p claims (Ok x) more h = h
+tells_more Large More p claims (Err e) more h = end_more Large More p claims e more h
+
+-- where nothing was numbered, nothing is too large
+pub end_unnumbered : (Large : Type 0) (p : Program) (claims : List Claim) (e : LinkEnd) → TellsEnd p claims e → TellsEndOrLarge Large p claims e
+end_unnumbered Large p claims e h = end_more ⊥ Large p claims e (λ never. absurd never) h
+
+pub tells_unnumbered : {X : Type 0} (Large : Type 0) (p : Program) (claims : List Claim) (r : Result X LinkEnd) → TellsClaims p claims r → TellsClaimsOrLarge Large p claims r
+tells_unnumbered Large p claims r h = tells_more ⊥ Large p claims r (λ never. absurd never) h
 
 -- ---- claims that are met
 
@@ -64,9 +82,10 @@ met_back p (c ∷ xs) ys met = met_back p xs ys (met_rest p c (xs ++ ys) met)
 pub one_met : (p : Program) (c : Claim) → Meets p c.demand → AreMet p (c ∷ [])
 one_met p c h = All-cons (IsMet p) c [] h (All-nil (IsMet p))
 
-pub one_unmet : (p : Program) (c : Claim) (e : LinkEnd) → (Meets p c.demand → ⊥) → IsLinkRefusal c.file c.offset (reason_of c.demand) e → TellsEnd p (c ∷ []) e
-one_unmet p c (Refused r) h is = inl (h, is)
-one_unmet p c _ h is = is
+pub one_unmet : (Large : Type 0) (p : Program) (c : Claim) (e : LinkEnd) → (Meets p c.demand → ⊥) → IsLinkRefusal c.file c.offset (reason_of c.demand) e → TellsEndOrLarge Large p (c ∷ []) e
+one_unmet Large p c (Refused r) h is = inl (h, is)
+one_unmet Large p c TooMany h is = absurd is
+one_unmet Large p c Memory h is = tt
 
 -- ---- a walk: what is left of the claims, where all before are met
 
@@ -91,9 +110,9 @@ left_step p whole xs ys left met = record {
 pub left_end : (p : Program) (whole : List Claim) → Left p whole [] → AreMet p whole
 left_end p whole left = subst (AreMet p) (sym (left.is ∙ append-nil left.front)) left.met
 
-pub left_stop : (p : Program) (whole xs ys : List Claim) (e : LinkEnd) → Left p whole (xs ++ ys) → TellsEnd p xs e → TellsEnd p whole e
-left_stop p whole xs ys e left h =
-    subst (λ (cs : List Claim). TellsEnd p cs e) (sym left.is) (end_back p left.front (xs ++ ys) e left.met (end_front p xs ys e h))
+pub left_stop : (Large : Type 0) (p : Program) (whole xs ys : List Claim) (e : LinkEnd) → Left p whole (xs ++ ys) → TellsEndOrLarge Large p xs e → TellsEndOrLarge Large p whole e
+left_stop Large p whole xs ys e left h =
+    subst (λ (cs : List Claim). TellsEndOrLarge Large p cs e) (sym left.is) (end_back Large p left.front (xs ++ ys) e left.met (end_front Large p xs ys e h))
 
 -- ---- what a list has from an item on
 
@@ -109,8 +128,11 @@ module _ {X : Type 0} (p : Program) (claims : List X → List Claim) (one : X �
   pub next_item : AreMet p (one x) → Left p (claims xs) (claims (drop (i + 1) xs))
   next_item met = left_step p (claims xs) (one x) _ at_item met
 
+  pub stop_item_or : (Large : Type 0) (e : LinkEnd) → TellsEndOrLarge Large p (one x) e → TellsEndOrLarge Large p (claims xs) e
+  stop_item_or Large e h = left_stop Large p (claims xs) (one x) _ e at_item h
+
   pub stop_item : (e : LinkEnd) → TellsEnd p (one x) e → TellsEnd p (claims xs) e
-  stop_item e h = left_stop p (claims xs) (one x) _ e at_item h
+  stop_item e h = stop_item_or ⊥ e h
 
 pub last_item : {X : Type 0} (p : Program) (claims : List X → List Claim) → claims [] ≡ [] → (xs : List X) (i : ℕ) → length xs ≤ i
     → Left p (claims xs) (claims (drop i xs)) → AreMet p (claims xs)
@@ -156,8 +178,3 @@ module _ (p : Program) (rule : SuperRule) (file : List ℕ) (pool : List PoolEnt
       left_as p whole _ _
       (ap (λ (ys : List ℕ). map (super_claim rule) (interface_places file pool offset ys)) (drop_more xs i 0 lt)
       ∙ ap (λ (text : List ℕ). named text ++ after) (sym is)) left
-
--- a claim that is met, where only that memory ran out is told
-pub met_or_memory : {X : Type 0} (p : Program) (c : Claim) (r : Result X LinkEnd) → Meets p c.demand → IfErr r (λ e. e ≡ Memory) → TellsClaims p (c ∷ []) r
-met_or_memory p c (Ok x) h is = one_met p c h
-met_or_memory p c (Err e) h is = subst (TellsEnd p (c ∷ [])) (sym is) tt

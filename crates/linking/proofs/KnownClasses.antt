@@ -9,7 +9,7 @@ use Rattle.jvm_model.specs.Linking.{Claim, Demand, differs, is_there, of_kind, n
 use Rattle.jvm_model.specs.Programs.{Class, Program}
 use Rattle.linked_program.specs.declared.link_end.LinkEnd.{LinkEnd}
 use Rattle.linked_program.specs.declared.link_end.LinkEnd.TheVariants.{Refused}
-use Rattle.linking.specs.Claims.{TellsEnd, TellsClaims, known_class, known_classes, known_program, known_part, Knows, IsKnownAs, IsFlat}
+use Rattle.linking.specs.Claims.{TellsEndOrLarge, TellsClaimsOrLarge, known_class, known_classes, known_program, known_part, Knows, IsKnownAs, IsFlat}
 use Rattle.class_index.specs.FirstPlaces.{StandsNowhere}
 use Rattle.class_index.proofs.OrderPlaces.{contains_at, place_of}
 use Rattle.class_index.proofs.ListPlaces.{map_at, at_map}
@@ -78,13 +78,13 @@ unmet_same p q r (c ∷ claims) same flat (inl h) = inl ((λ meets. h.0 (same.fr
 unmet_same p q r (c ∷ claims) same flat (inr h) =
     inr (same.to c.demand (All-head IsFlatClaim c claims flat) h.0, unmet_same p q r claims same (All-tail IsFlatClaim c claims flat) h.1)
 
-pub end_same : (p q : Program) (claims : List Claim) (e : LinkEnd) → SameDemands p q → All IsFlatClaim claims → TellsEnd p claims e → TellsEnd q claims e
-end_same p q claims (Refused r) same flat h = unmet_same p q r claims same flat h
-end_same p q claims _ same flat h = h
+pub end_same : (Large : Type 0) (p q : Program) (claims : List Claim) (e : LinkEnd) → SameDemands p q → All IsFlatClaim claims → TellsEndOrLarge Large p claims e → TellsEndOrLarge Large q claims e
+end_same Large p q claims (Refused r) same flat h = unmet_same p q r claims same flat h
+end_same Large p q claims _ same flat h = h
 
-pub tells_same : {X : Type 0} (p q : Program) (claims : List Claim) (r : Result X LinkEnd) → SameDemands p q → All IsFlatClaim claims → TellsClaims p claims r → TellsClaims q claims r
-tells_same p q claims (Ok x) same flat h = all_met_same p q claims same flat h
-tells_same p q claims (Err e) same flat h = end_same p q claims e same flat h
+pub tells_same : {X : Type 0} (Large : Type 0) (p q : Program) (claims : List Claim) (r : Result X LinkEnd) → SameDemands p q → All IsFlatClaim claims → TellsClaimsOrLarge Large p claims r → TellsClaimsOrLarge Large q claims r
+tells_same Large p q claims (Ok x) same flat h = all_met_same p q claims same flat h
+tells_same Large p q claims (Err e) same flat h = end_same Large p q claims e same flat h
 
 -- claims that are flat
 pub flat_map_flat : {X : Type 0} (f : X → List Claim) → ((x : X) → All IsFlatClaim (f x)) → (xs : List X) → All IsFlatClaim (flat_map f xs)

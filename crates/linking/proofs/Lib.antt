@@ -11,5 +11,6 @@ pub mod OrderedPrograms
 pub mod PatchesAlone
 pub mod Orders
 pub mod SoundOrigins
+pub mod LargeInputs
 pub mod LinkSteps
 pub mod PatchLists

@@ -1,9 +1,10 @@
 -- From the checks and the program that is put together to what linking gives.
-use Rattle.std.proofs.Common.{◌+◌, ◌<◌, List, [], ◌∷◌, ◌++◌, length, map, All, Contains, IfOk, Ok, Err, Result, refl, sym, ap, subst, arith}
+use Rattle.std.proofs.Common.{◌≡◌, ℕ, ◌+◌, ◌<◌, List, [], ◌∷◌, ◌++◌, length, map, All, Contains, IfOk, Ok, Err, Result, refl, sym, ap, subst, arith}
 use Rattle.std.specs.List.Sorted.{IsSorted}
 use Rattle.std.specs.declared.cmp.Ordering.{Ordering}
 use Rattle.std.proofs.lemmas.List.{get_or-map, length-map}
 use Rattle.std.proofs.lemmas.List.Elements.{All-append, Contains-append_right}
+use Rattle.std.proofs.lemmas.List.Sorted.{Contains-permutation, IsPermutation-append_left, IsPermutation-map, IsPermutation-sym, IsPermutation-trans, length_permutation}
 use Rattle.jvm_model.specs.declared.program.NamedClass.{NamedClass}
 use Rattle.jvm_model.specs.declared.program.Origin.{Origin}
 use Rattle.jvm_model.specs.declared.stub.StubClass.{StubClass}
@@ -11,17 +12,22 @@ use Rattle.jvm_model.specs.LinkedPrograms.{HasStubClasses}
 use Rattle.jvm_model.specs.Linking.{AreMet, barred, Claim, class_from, cycle_claim, folder_origin, IsFileOrder, IsOrder, kind_claims, linked, name_claims, origins, own_classes, program_from, stub_origin, there_claims}
 use Rattle.jvm_model.specs.Programs.{Program}
 use Rattle.jvm_model.specs.Stubs.{class_of_stub}
+use Rattle.class_index.specs.declared.index_error.IndexError.{IndexError}
+use Rattle.class_index.specs.declared.index_error.IndexError.TheVariants as index
 use Rattle.linked_program.specs.declared.link_end.LinkEnd.{LinkEnd}
-use Rattle.linked_program.specs.declared.link_end.LinkEnd.TheVariants.{Refused, Memory}
+use Rattle.linked_program.specs.declared.link_end.LinkEnd.TheVariants.{Refused, TooMany, Memory}
 use Rattle.linked_program.specs.Assembling.{Assembles}
+use Rattle.linked_program.specs.LinkEnds.{end_of}
 use Rattle.linked_program.specs.Whole.{IsLinkable}
 use Rattle.linked_program.proofs.Assembled.{all_from}
 use Rattle.linked_program.proofs.Bridges.{map_to}
-use Rattle.linking.specs.Claims.{TellsEnd, unsorted}
+use Rattle.linking.specs.Claims.{TellsEndOrLarge, unsorted}
 use Rattle.linking.specs.LinkTelling.{flat_claims, TellsLink, TellsLinkInOrder}
+use Rattle.linking.specs.TooLarge.{IsTooLargeInput, in_classes, in_file, in_patches, in_program, in_stub, TellsTooMany}
 use Rattle.linking.proofs.ClaimSteps.{met_append, met_back, met_front, unmet_back, unmet_front}
 use Rattle.linking.proofs.FlatClaims.{kind_flat, names_flat, there_flat}
 use Rattle.linking.proofs.KnownClasses.{all_met_same, end_same, IsFlatClaim}
+use Rattle.linking.proofs.LargeInputs.{names_count}
 use Rattle.linking.proofs.Linkables.{linkable}
 use Rattle.linking.proofs.OrderedPrograms.{ordered_same}
 use Rattle.linking.proofs.Orders.{exists_order, in_order}
@@ -33,11 +39,25 @@ IsSorted-map f cmp (x ∷ xs) sorted k d low high =
     let within : k + 1 < length (x ∷ xs) = omega (arith, length-map (x ∷ xs) f) in
     rw (get_or-map f (x ∷ xs) (k + 1) x d within, get_or-map f (x ∷ xs) k x d (omega arith)) (sorted k x low within)
 
+-- What is too large in the order of the files is so in each order.
+large_in_order : (files ordered : List NamedClass) (stubs : List StubClass) → IsFileOrder files ordered → IsTooLargeInput ordered stubs → IsTooLargeInput files stubs
+large_in_order files ordered stubs is (in_classes many) =
+    let long = length_permutation files ordered is.same in
+    in_classes (omega (arith, names_count files stubs, names_count ordered stubs, long, many))
+large_in_order files ordered stubs is (in_patches many) = in_patches many
+large_in_order files ordered stubs is (in_stub c among many) = in_stub c among many
+large_in_order files ordered stubs is (in_file f among many) = in_file f (Contains-permutation ordered files f (IsPermutation-sym files ordered is.same) among) many
+large_in_order files ordered stubs is (in_program order in_order' large) =
+    let own = map (stub_origin stubs) (own_classes stubs) in
+    let moved = IsPermutation-append_left own (map (folder_origin stubs) files) (map (folder_origin stubs) ordered) (IsPermutation-map (folder_origin stubs) files ordered is.same) in
+    in_program order (record { same = IsPermutation-trans (origins files stubs) (origins ordered stubs) order moved in_order'.same; sorted = in_order'.sorted }) large
+
 -- What is told of class files in the order of their files is told of them in each order.
 pub told_in_order : (files ordered : List NamedClass) (stubs : List StubClass) → IsFileOrder files ordered → (r : Result Program LinkEnd) → TellsLinkInOrder ordered stubs r → TellsLink files stubs r
 told_in_order files ordered stubs is (Ok p) told = record { ordered = ordered; by_file = is; links = told }
 told_in_order files ordered stubs is (Err (Refused refusal)) told = record { ordered = ordered; by_file = is; links = told }
-told_in_order files ordered stubs is (Err _) told = told
+told_in_order files ordered stubs is (Err TooMany) told = large_in_order files ordered stubs is told
+told_in_order files ordered stubs is (Err Memory) told = tt
 
 -- ---- the program, or the first demand that is not met
 
@@ -55,13 +75,19 @@ module _ (files : List NamedClass) (stubs : List StubClass) where
   all_flat = All-append IsFlatClaim (ns ++ ts) ks (All-append IsFlatClaim ns ts (names_flat files (own_classes stubs)) (there_flat files stubs)) (kind_flat files (own_classes stubs))
 
   -- a check that fails bars the program in each order
-  pub link_barred : (end : LinkEnd) → TellsEnd (unsorted files stubs) (flat_claims files stubs) end → TellsLinkInOrder files stubs (Err end)
+  pub link_barred : (end : LinkEnd) → TellsEndOrLarge (IsTooLargeInput files stubs) (unsorted files stubs) (flat_claims files stubs) end → TellsLinkInOrder files stubs (Err end)
   link_barred (Refused refusal) told =
       let order = exists_order (origins files stubs) in
       let p = program_from order.0 in
-      let here = end_same (unsorted files stubs) p (flat_claims files stubs) (Refused refusal) (ordered_same (origins files stubs) order.0 order.1) all_flat told in
+      let here = end_same (IsTooLargeInput files stubs) (unsorted files stubs) p (flat_claims files stubs) (Refused refusal) (ordered_same (origins files stubs) order.0 order.1) all_flat told in
       barred order.0 refusal order.1 (unmet_front p refusal (flat_claims files stubs) (map cycle_claim order.0) here) refl
-  link_barred _ told = told
+  link_barred TooMany told = told
+  link_barred Memory told = tt
+
+  -- and so does an index that is full
+  pub index_barred : (e : IndexError) → TellsTooMany (IsTooLargeInput files stubs) e → TellsLinkInOrder files stubs (Err (end_of e))
+  index_barred index.TooMany told = told
+  index_barred index.Memory told = tt
 
   module _ (order : List Origin) (is : IsOrder (origins files stubs) order) (met : AreMet (unsorted files stubs) (flat_claims files stubs)) where
     abbrev p : Program
@@ -77,6 +103,7 @@ module _ (files : List NamedClass) (stubs : List StubClass) where
     pub link_told : (r : Result Program LinkEnd) → Assembles order r → TellsLinkInOrder files stubs r
     link_told (Ok q) a = linked order is (met_append p (flat_claims files stubs) (map cycle_claim order) flat_met a.1) (ap Ok a.0)
     link_told (Err (Refused refusal)) a = barred order refusal is (unmet_back p refusal (flat_claims files stubs) (map cycle_claim order) flat_met a) refl
+    link_told (Err TooMany) a = in_program order is a
     link_told (Err Memory) a = tt
 
     -- each stub that is a class of its own is a class of the program

@@ -10,21 +10,30 @@ use Rattle.jvm_model.specs.Programs.{Class, Program, name_of}
 use Rattle.class_index.specs.FirstPlaces.{StandsNowhere}
 use Rattle.class_index.specs.TextNumbers.{with_text}
 use Rattle.linked_program.specs.declared.link_end.LinkEnd.{LinkEnd}
-use Rattle.linked_program.specs.declared.link_end.LinkEnd.TheVariants.{Refused, Memory}
+use Rattle.linked_program.specs.declared.link_end.LinkEnd.TheVariants.{Refused, TooMany, Memory}
 use Rattle.linking.specs.declared.supers.SuperRule.{SuperRule}
 use Rattle.linking.specs.declared.supers.SuperRule.TheVariants.{There, Kind}
 
 -- ---- what is told
 
--- The end tells the first demand that is not met. Where memory ran out, nothing is told.
-abbrev pub TellsEnd : Program → List Claim → LinkEnd → Type 0
-TellsEnd p claims (Refused refusal) = IsFirstUnmet p refusal claims
-TellsEnd p claims Memory = Unit {0}
+-- The end tells the first demand that is not met; or that there is too much to number, and this is so. Where memory ran out,
+-- nothing is told.
+abbrev pub TellsEndOrLarge : Type 0 → Program → List Claim → LinkEnd → Type 0
+TellsEndOrLarge Large p claims (Refused refusal) = IsFirstUnmet p refusal claims
+TellsEndOrLarge Large p claims TooMany = Large
+TellsEndOrLarge Large p claims Memory = Unit {0}
 
--- All demands are met, or the first that is not is told.
+-- All demands are met, or the end tells why not.
+abbrev pub TellsClaimsOrLarge : {X : Type 0} → Type 0 → Program → List Claim → Result X LinkEnd → Type 0
+TellsClaimsOrLarge Large p claims (Ok x) = AreMet p claims
+TellsClaimsOrLarge Large p claims (Err end) = TellsEndOrLarge Large p claims end
+
+-- The same where nothing is numbered.
+abbrev pub TellsEnd : Program → List Claim → LinkEnd → Type 0
+TellsEnd p claims end = TellsEndOrLarge ⊥ p claims end
+
 abbrev pub TellsClaims : {X : Type 0} → Program → List Claim → Result X LinkEnd → Type 0
-TellsClaims p claims (Ok x) = AreMet p claims
-TellsClaims p claims (Err end) = TellsEnd p claims end
+TellsClaims p claims r = TellsClaimsOrLarge ⊥ p claims r
 
 -- ---- the program, and what is known of it
 

@@ -3,4 +3,5 @@ pub mod Patching
 pub mod PatchLists
 pub mod Supers
 pub mod StubSources
+pub mod TooLarge
 pub mod LinkTelling

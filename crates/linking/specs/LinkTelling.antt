@@ -8,20 +8,23 @@ use Rattle.jvm_model.specs.Linking.{Claim, Links, LinksInOrder, kind_claims, nam
 use Rattle.jvm_model.specs.Programs.{Program}
 use Rattle.jvm_model.specs.Soundness.{IsChecked}
 use Rattle.linked_program.specs.declared.link_end.LinkEnd.{LinkEnd}
-use Rattle.linked_program.specs.declared.link_end.LinkEnd.TheVariants.{Refused, Memory}
+use Rattle.linked_program.specs.declared.link_end.LinkEnd.TheVariants.{Refused, TooMany, Memory}
+use Rattle.linking.specs.TooLarge.{IsTooLargeInput}
 
--- The call tells the outcome, which is a program or the first demand that is not met; or memory ran out.
-abbrev pub TellsOutcome : (Result Program Refusal → Type 0) → Result Program LinkEnd → Type 0
-TellsOutcome IsOutcome (Ok p) = IsOutcome (Ok p)
-TellsOutcome IsOutcome (Err (Refused refusal)) = IsOutcome (Err refusal)
-TellsOutcome IsOutcome (Err Memory) = Unit {0}
+-- The call tells the outcome, which is a program or the first demand that is not met; or that there is too much to number, and
+-- this is so; or memory ran out.
+abbrev pub TellsOutcome : (Result Program Refusal → Type 0) → Type 0 → Result Program LinkEnd → Type 0
+TellsOutcome IsOutcome Large (Ok p) = IsOutcome (Ok p)
+TellsOutcome IsOutcome Large (Err (Refused refusal)) = IsOutcome (Err refusal)
+TellsOutcome IsOutcome Large (Err TooMany) = Large
+TellsOutcome IsOutcome Large (Err Memory) = Unit {0}
 
 -- What linking class files and stubs gives; and what it gives of class files that are in the order of their files.
 abbrev pub TellsLink : List NamedClass → List StubClass → Result Program LinkEnd → Type 0
-TellsLink files stubs told = TellsOutcome (Links files stubs) told
+TellsLink files stubs told = TellsOutcome (Links files stubs) (IsTooLargeInput files stubs) told
 
 abbrev pub TellsLinkInOrder : List NamedClass → List StubClass → Result Program LinkEnd → Type 0
-TellsLinkInOrder files stubs told = TellsOutcome (LinksInOrder files stubs) told
+TellsLinkInOrder files stubs told = TellsOutcome (LinksInOrder files stubs) (IsTooLargeInput files stubs) told
 
 -- The class file was checked (JVMS 4.8).
 abbrev pub IsSoundFile : NamedClass → Type 0

@@ -16,15 +16,18 @@ use Rattle.jvm_model.specs.Programs.{signature_of}
 use Rattle.jvm_model.specs.Stubs.{stub_signature}
 use Rattle.linking.specs.declared.descriptions.Described.{Described}
 use Rattle.class_index.specs.MemberKeys.{Key}
-use Rattle.linked_program.specs.MemberLists.{key_in}
 
 -- the description that is lent
 abbrev pub description_of : Described → Description
 description_of d = record { method = d.method.now; file = d.file.now }
 
+-- the key of a name and a descriptor in the class of a number
+abbrev pub signature_key : ℕ → Signature → Key
+signature_key class s = record { class = class; signature = s }
+
 -- what tells the descriptions of one class apart
 abbrev pub method_key : Description → Key
-method_key d = key_in 0 (stub_signature d.method)
+method_key d = signature_key 0 (stub_signature d.method)
 
 -- the patches of the class of a name
 abbrev pub patches_for : List ℕ → List StubClass → List StubClass
@@ -32,7 +35,7 @@ patches_for name stubs = filter (λ (s : StubClass). s.is_patch && bytes_eq s.na
 
 -- a native method by whether it is static, in place of the number of a class, and by its name and descriptor
 abbrev pub static_key : Bool → Signature → Key
-static_key is_static s = key_in (if is_static then 1 else 0) s
+static_key is_static s = signature_key (if is_static then 1 else 0) s
 
 abbrev pub member_key : List PoolEntry → Member → Key
 member_key pool m = static_key (has_flag m.flags Static) (signature_of pool m)

@@ -2,9 +2,10 @@
 //! it is of the right kind (JVMS 5.3, 5.3.5). Each check tells the first demand that is not met.
 
 ghost use Rattle.std.specs.Prelude.{◌≡◌, All};
-ghost use Rattle.linking.specs.Claims.{TellsClaims, Knows, unsorted};
+ghost use Rattle.linking.specs.Claims.{TellsClaims, TellsClaimsOrLarge, Knows, unsorted};
 ghost use Rattle.jvm_model.specs.Linking.{own_classes, name_claims, there_claims, kind_claims};
 ghost use Rattle.linking.specs.LinkTelling.{IsSoundFile};
+ghost use Rattle.linking.specs.TooLarge.{IsTooLargeInput};
 
 use crate::class_names::{check_file_names, check_stub_names, stub_names};
 use crate::known::Known;
@@ -19,7 +20,7 @@ use std::alloc::Global;
 /// that are there from the start first.
 pub fn check_names(alloc: Global, files: &[NamedClass], stubs: &[StubClass]) -> Result<(), LinkEnd>
     requires { All IsSoundFile files.now }
-    ensures { TellsClaims (unsorted files.now stubs.now) (name_claims files.now (own_classes stubs.now)) result }
+    ensures { TellsClaimsOrLarge (IsTooLargeInput files.now stubs.now) (unsorted files.now stubs.now) (name_claims files.now (own_classes stubs.now)) result }
 {
     let others = stub_names(alloc, stubs)?;
     check_file_names(alloc, &others, files)?;
@@ -38,7 +39,7 @@ pub fn check_presence(
     requires known { Knows known.now (unsorted files.now stubs.now) }
     requires patches { patches.now ≡ stubs.now }
     requires files { All IsSoundFile files.now }
-    ensures { TellsClaims (unsorted files.now stubs.now) (there_claims files.now stubs.now) result }
+    ensures { TellsClaimsOrLarge (IsTooLargeInput files.now stubs.now) (unsorted files.now stubs.now) (there_claims files.now stubs.now) result }
 {
     check_supers_of_files(alloc, known, SuperRule::There, files)?;
     check_stubs(alloc, known, patches, stubs)?;
@@ -88,6 +89,7 @@ mod tests {
         match outcome {
             Ok(()) => None,
             Err(LinkEnd::Refused(refusal)) => Some(refusal.reason),
+            Err(LinkEnd::TooMany) => None,
             Err(LinkEnd::Memory) => None,
         }
     }

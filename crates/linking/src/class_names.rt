@@ -2,20 +2,22 @@
 
 ghost use Rattle.std.specs.Prelude.{◌≡◌, ℕ, List, [], ◌∷◌, ◌++◌, map, All, IfOk, OnOk, IfErr};
 ghost use Rattle.class_index.specs.FirstPlaces.{StandsNowhere};
-ghost use Rattle.linked_program.specs.declared.link_end.LinkEnd.TheVariants.{Memory};
-ghost use Rattle.linking.specs.Claims.{TellsClaims, HasTextsOf, with_own_names, file_name, stub_name};
+ghost use Rattle.class_index.specs.Limits.{AreTooMany};
+ghost use Rattle.linking.specs.Claims.{TellsClaimsOrLarge, HasTextsOf, with_own_names, file_name, stub_name};
 ghost use Rattle.linking.specs.LinkTelling.{IsSoundFile};
 ghost use Rattle.linking.specs.StubSources.{is_from, is_own_from, one_from, own_from};
+ghost use Rattle.linking.specs.TooLarge.{TellsTooMany};
 ghost use Rattle.jvm_model.specs.Linking.{base_first, claim, differs, file_claims, is_base_stub, own_classes, stub_claims};
 ghost use Rattle.jvm_model.specs.Programs.{Program};
 ghost use Rattle.jvm_model.specs.Soundness.{this_class_offset};
 
+use class_index::index_error::IndexError;
 use class_index::text_index::TextIndex;
 use class_index::texts::class_text;
 use jvm_model::layout::this_class_offset;
 use jvm_model::{Name, NamedClass, Reason, StubClass};
 use linked_program::link_end::{LinkEnd, refused};
-use std::alloc::{AllocError, Global};
+use std::alloc::Global;
 
 /// Where stubs come from.
 #[derive(Clone, Copy)]
@@ -53,8 +55,9 @@ fn is_base_stub(c: &StubClass) -> bool
 }
 
 /// The names of the stubs that are classes of their own.
-pub(crate) fn stub_names(alloc: Global, stubs: &[StubClass]) -> Result<TextIndex, AllocError>
-    ensures { IfOk result (λ names. names ≡ with_own_names [] stubs.now) }
+pub(crate) fn stub_names(alloc: Global, stubs: &[StubClass]) -> Result<TextIndex, IndexError>
+    ensures names { IfOk result (λ names. names ≡ with_own_names [] stubs.now) }
+    ensures too_many { IfErr result (TellsTooMany (AreTooMany (own_classes stubs.now))) }
 {
     let mut names = TextIndex::new(alloc);
     for c in stubs {
@@ -64,8 +67,9 @@ pub(crate) fn stub_names(alloc: Global, stubs: &[StubClass]) -> Result<TextIndex
 }
 
 /// Adds the name of a stub that is a class of its own.
-fn add_own(names: &mut TextIndex, c: &StubClass) -> Result<(), AllocError>
-    ensures { OnOk result (names.new ≡ with_own_names names.old (c.now ∷ [])) }
+fn add_own(names: &mut TextIndex, c: &StubClass) -> Result<(), IndexError>
+    ensures added { OnOk result (names.new ≡ with_own_names names.old (c.now ∷ [])) }
+    ensures too_many { IfErr result (TellsTooMany (AreTooMany names.old)) }
 {
     if c.is_patch {
         return Ok(());
@@ -81,7 +85,7 @@ pub(crate) fn check_file_names(
     files: &[NamedClass],
 ) -> Result<(), LinkEnd>
     requires { All IsSoundFile files.now }
-    ensures { (p : Program) (names : List (List ℕ)) → HasTextsOf others.now names → TellsClaims p (file_claims names [] files.now) result }
+    ensures { (p : Program) (names : List (List ℕ)) → HasTextsOf others.now names → TellsClaimsOrLarge (AreTooMany files.now) p (file_claims names [] files.now) result }
 {
     let mut earlier = TextIndex::new(alloc);
     for f in files {
@@ -100,7 +104,7 @@ fn check_file_name(
     requires { IsSoundFile f.now }
     ensures added { OnOk result (earlier.new ≡ earlier.old ++ file_name f.now ∷ []) }
     ensures told { (p : Program) (names : List (List ℕ)) → HasTextsOf others.now names
-        → TellsClaims p (claim f.now.file (this_class_offset f.now.class) (differs (earlier.old ++ names) (file_name f.now)) ∷ []) result }
+        → TellsClaimsOrLarge (AreTooMany earlier.old) p (claim f.now.file (this_class_offset f.now.class) (differs (earlier.old ++ names) (file_name f.now)) ∷ []) result }
 {
     let name = class_text(f.class.pool.as_slice(), f.class.this_class);
     let offset = this_class_offset(&f.class);
@@ -113,7 +117,7 @@ fn check_file_name(
 /// The names of stubs that are classes of their own differ from those of earlier ones, where those that are there from the start
 /// come first.
 pub(crate) fn check_stub_names(alloc: Global, stubs: &[StubClass]) -> Result<(), LinkEnd>
-    ensures { (p : Program) → TellsClaims p (stub_claims [] (base_first (own_classes stubs.now))) result }
+    ensures { (p : Program) → TellsClaimsOrLarge (AreTooMany (own_classes stubs.now)) p (stub_claims [] (base_first (own_classes stubs.now))) result }
 {
     let mut earlier = TextIndex::new(alloc);
     check_names_from(alloc, StubSource::Base, &mut earlier, stubs)?;
@@ -128,7 +132,8 @@ fn check_names_from(
     stubs: &[StubClass],
 ) -> Result<(), LinkEnd>
     ensures added { OnOk result (earlier.new ≡ earlier.old ++ map stub_name (own_from source stubs.now)) }
-    ensures told { (p : Program) → TellsClaims p (stub_claims earlier.old (own_from source stubs.now)) result }
+    ensures told { (p : Program) → TellsClaimsOrLarge (AreTooMany (earlier.old ++ map stub_name (own_from source stubs.now))) p
+        (stub_claims earlier.old (own_from source stubs.now)) result }
 {
     for c in stubs {
         check_stub_name(alloc, source, earlier, c)?;
@@ -144,7 +149,7 @@ fn check_stub_name(
     c: &StubClass,
 ) -> Result<(), LinkEnd>
     ensures added { OnOk result (earlier.new ≡ earlier.old ++ map stub_name (one_from source c.now)) }
-    ensures told { (p : Program) → TellsClaims p (stub_claims earlier.old (one_from source c.now)) result }
+    ensures told { (p : Program) → TellsClaimsOrLarge (AreTooMany earlier.old) p (stub_claims earlier.old (one_from source c.now)) result }
 {
     if source.has_class(c) {
         add_name(alloc, earlier, c.name.as_slice(), &c.file, 0)
@@ -162,19 +167,19 @@ fn add_name(
     offset: u32,
 ) -> Result<(), LinkEnd>
     ensures added { OnOk result (earlier.new ≡ earlier.old ++ name.now ∷ []) }
-    ensures told { (p : Program) → TellsClaims p (claim file.now offset (differs earlier.old name.now) ∷ []) result }
+    ensures told { (p : Program) → TellsClaimsOrLarge (AreTooMany earlier.old) p (claim file.now offset (differs earlier.old name.now) ∷ []) result }
 {
     match earlier.find(name) {
         Some(_) => Err(refused(alloc, file, offset, Reason::DuplicateClass)),
-        None => add_new_name(earlier, name),
+        None => Ok(add_new_name(earlier, name)?),
     }
 }
 
 /// Adds a name that is not there.
-fn add_new_name(earlier: &mut TextIndex, name: &[u8]) -> Result<(), LinkEnd>
+fn add_new_name(earlier: &mut TextIndex, name: &[u8]) -> Result<(), IndexError>
     requires { StandsNowhere earlier.old name.now }
     ensures added { OnOk result (earlier.new ≡ earlier.old ++ name.now ∷ []) }
-    ensures memory { IfErr result (λ end. end ≡ Memory) }
+    ensures too_many { IfErr result (TellsTooMany (AreTooMany earlier.old)) }
 {
     earlier.intern(name)?;
     Ok(())

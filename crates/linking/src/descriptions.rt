@@ -1,17 +1,18 @@
 //! What stubs say of the methods of one class, each method once.
 
-ghost use Rattle.std.specs.Prelude.{◌≡◌, [], ◌∷◌, ◌++◌, map, OnOk, IfOk};
-ghost use Rattle.linking.specs.Patching.{description_of};
+ghost use Rattle.std.specs.Prelude.{◌≡◌, [], ◌∷◌, ◌++◌, map, OnOk, IfOk, IfErr};
+ghost use Rattle.linking.specs.Patching.{description_of, signature_key};
+ghost use Rattle.linking.specs.TooLarge.{AreTooManyDescriptions, TellsTooMany};
 ghost use Rattle.class_index.specs.MemberKeys.{key_of};
 ghost use Rattle.jvm_model.specs.Linking.{with_description, with_descriptions, descriptions};
 ghost use Rattle.jvm_model.specs.Stubs.{stub_signature};
-ghost use Rattle.linked_program.specs.MemberLists.{key_in};
 
-use crate::keys::{key_in, stub_signature};
+use crate::keys::{signature_key, stub_signature};
+use class_index::index_error::IndexError;
 use class_index::member_index::MemberIndex;
 use class_index::member_key::MemberKey;
 use jvm_model::{Name, StubClass, StubMethod};
-use std::alloc::{AllocError, Global};
+use std::alloc::Global;
 use std::marker::Model;
 
 /// What a stub says of a method, and the file that says it.
@@ -42,9 +43,9 @@ impl<'a> Model for Descriptions<'a> {
 
 /// The key of a description among those of one class.
 fn key_of_method(method: &StubMethod) -> MemberKey<'_>
-    ensures { key_of result ≡ key_in 0 (stub_signature method.entry.now) }
+    ensures { key_of result ≡ signature_key 0 (stub_signature method.entry.now) }
 {
-    key_in(0, stub_signature(method))
+    signature_key(0, stub_signature(method))
 }
 
 impl<'a> Descriptions<'a> {
@@ -66,21 +67,23 @@ impl<'a> Descriptions<'a> {
     }
 
     /// Adds a description last.
-    fn push(&mut self, described: Described<'a>) -> Result<(), AllocError>
-        ensures { OnOk result (self.new ≡ self.old ++ description_of described.entry ∷ []) }
+    fn push(&mut self, described: Described<'a>) -> Result<(), IndexError>
+        ensures pushed { OnOk result (self.new ≡ self.old ++ description_of described.entry ∷ []) }
+        ensures too_many { IfErr result (TellsTooMany (AreTooManyDescriptions (self.old ++ description_of described.entry ∷ []))) }
     {
         self.items.push(described)?;
-        if let Err(full) = self.index.push(key_of_method(described.method)) {
+        if let Err(error) = self.index.push(key_of_method(described.method)) {
             self.items.pop();
-            return Err(full);
+            return Err(error);
         }
         Ok(())
     }
 
     /// Adds a description. It takes the place of an earlier one of its name and descriptor, and else comes last. The time is
     /// linear in these texts.
-    pub fn add(&mut self, described: Described<'a>) -> Result<(), AllocError>
-        ensures { OnOk result (self.new ≡ with_description self.old (description_of described.entry)) }
+    pub fn add(&mut self, described: Described<'a>) -> Result<(), IndexError>
+        ensures added { OnOk result (self.new ≡ with_description self.old (description_of described.entry)) }
+        ensures too_many { IfErr result (TellsTooMany (AreTooManyDescriptions (with_description self.old (description_of described.entry)))) }
     {
         match self.index.first(key_of_method(described.method)) {
             None => self.push(described),
@@ -92,8 +95,9 @@ impl<'a> Descriptions<'a> {
     }
 
     /// Adds all that a stub says, in its order.
-    pub fn add_all(&mut self, stub: &'a StubClass) -> Result<(), AllocError>
-        ensures { OnOk result (self.new ≡ with_descriptions self.old (descriptions stub.entry.now)) }
+    pub fn add_all(&mut self, stub: &'a StubClass) -> Result<(), IndexError>
+        ensures added { OnOk result (self.new ≡ with_descriptions self.old (descriptions stub.entry.now)) }
+        ensures too_many { IfErr result (TellsTooMany (AreTooManyDescriptions (with_descriptions self.old (descriptions stub.entry.now)))) }
     {
         for method in stub.methods.as_slice() {
             self.add(Described {
@@ -105,8 +109,9 @@ impl<'a> Descriptions<'a> {
     }
 
     /// What a stub says, in its order, also where it says it twice.
-    pub fn of(alloc: Global, stub: &'a StubClass) -> Result<Self, AllocError>
-        ensures { IfOk result (λ all. all ≡ descriptions stub.entry.now) }
+    pub fn of(alloc: Global, stub: &'a StubClass) -> Result<Self, IndexError>
+        ensures all { IfOk result (λ all. all ≡ descriptions stub.entry.now) }
+        ensures too_many { IfErr result (TellsTooMany (AreTooManyDescriptions (descriptions stub.entry.now))) }
     {
         let mut all = Descriptions::new(alloc);
         for method in stub.methods.as_slice() {

@@ -4,11 +4,11 @@ ghost use Rattle.std.specs.Prelude.{◌≡◌};
 ghost use Rattle.class_index.specs.MemberKeys.{key_of};
 ghost use Rattle.jvm_model.specs.Lookups.{lent_signature};
 ghost use Rattle.jvm_model.specs.Stubs.{stub_signature};
-ghost use Rattle.linked_program.specs.MemberLists.{key_in};
+ghost use Rattle.linking.specs.Patching.{signature_key};
 
 use class_index::member_key::MemberKey;
-use jvm_model::StubMethod;
 use jvm_model::lookup::Signature;
+use jvm_model::{ClassNo, StubMethod};
 
 /// The name and the descriptor of the method that a stub describes.
 pub(crate) fn stub_signature(method: &StubMethod) -> Signature<'_>
@@ -21,12 +21,11 @@ pub(crate) fn stub_signature(method: &StubMethod) -> Signature<'_>
 }
 
 /// The key of a name and a descriptor among the members of the class of a number.
-pub(crate) fn key_in(class: u32, signature: Signature<'_>) -> MemberKey<'_>
-    ensures { key_of result ≡ key_in class (lent_signature signature.entry) }
+pub(crate) fn signature_key(class: u32, signature: Signature<'_>) -> MemberKey<'_>
+    ensures { key_of result ≡ signature_key class (lent_signature signature.entry) }
 {
     MemberKey {
-        class,
-        name: signature.name,
-        descriptor: signature.descriptor,
+        class: ClassNo(class),
+        signature,
     }
 }

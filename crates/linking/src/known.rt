@@ -1,14 +1,17 @@
 //! The names of all classes, and which of them are interfaces.
 
-ghost use Rattle.std.specs.Prelude.{◌≡◌, [], ◌∷◌, ◌++◌, map, IfSome, IfNone, OnOk, IfOk};
+ghost use Rattle.std.specs.Prelude.{◌≡◌, [], ◌∷◌, ◌++◌, map, IfSome, IfNone, OnOk, IfOk, IfErr};
 ghost use Rattle.linking.specs.Claims.{IsKnownAs, Knows, unsorted, AreNewNames, all_names, file_name, file_kind, stub_name, stub_kind, own_name, own_kind};
+ghost use Rattle.linking.specs.TooLarge.{TellsTooMany};
 ghost use Rattle.class_index.specs.FirstPlaces.{StandsNowhere};
+ghost use Rattle.class_index.specs.Limits.{AreTooMany};
 ghost use Rattle.jvm_model.specs.Linking.{Meets, is_there, own_classes};
 
+use class_index::index_error::IndexError;
 use class_index::text_index::TextIndex;
 use class_index::texts::class_text;
 use jvm_model::{AccessFlag, NamedClass, StubClass};
-use std::alloc::{AllocError, Global};
+use std::alloc::Global;
 use std::marker::Model;
 
 /// The classes of a program by name, with the kind of each. Contracts see a program whose classes have a name and a kind alone.
@@ -46,9 +49,10 @@ pub fn known_classes(
     alloc: Global,
     files: &[NamedClass],
     stubs: &[StubClass],
-) -> Result<Known, AllocError>
+) -> Result<Known, IndexError>
     requires { AreNewNames [] (all_names files.now stubs.now) }
-    ensures { IfOk result (λ known. Knows known (unsorted files.now stubs.now)) }
+    ensures known { IfOk result (λ known. Knows known (unsorted files.now stubs.now)) }
+    ensures too_many { IfErr result (TellsTooMany (AreTooMany (all_names files.now stubs.now))) }
 {
     let mut names = TextIndex::new(alloc);
     let mut interfaces = Vec::new(alloc);
@@ -62,10 +66,11 @@ fn add_files(
     names: &mut TextIndex,
     interfaces: &mut Vec<bool>,
     files: &[NamedClass],
-) -> Result<(), AllocError>
+) -> Result<(), IndexError>
     requires { AreNewNames names.old (map file_name files.now) }
     ensures names { OnOk result (names.new ≡ names.old ++ map file_name files.now) }
     ensures kinds { OnOk result (interfaces.new.items ≡ interfaces.old.items ++ map file_kind files.now) }
+    ensures too_many { IfErr result (TellsTooMany (AreTooMany (names.old ++ map file_name files.now))) }
 {
     for f in files {
         add_file(names, interfaces, f)?;
@@ -78,10 +83,11 @@ fn add_file(
     names: &mut TextIndex,
     interfaces: &mut Vec<bool>,
     f: &NamedClass,
-) -> Result<(), AllocError>
+) -> Result<(), IndexError>
     requires { AreNewNames names.old (file_name f.now ∷ []) }
     ensures names { OnOk result (names.new ≡ names.old ++ file_name f.now ∷ []) }
     ensures kinds { OnOk result (interfaces.new.items ≡ interfaces.old.items ++ file_kind f.now ∷ []) }
+    ensures too_many { IfErr result (TellsTooMany (AreTooMany names.old)) }
 {
     let name = class_text(f.class.pool.as_slice(), f.class.this_class);
     let is_interface = AccessFlag::Interface.is_set_in(f.class.flags);
@@ -93,10 +99,11 @@ fn add_stubs(
     names: &mut TextIndex,
     interfaces: &mut Vec<bool>,
     stubs: &[StubClass],
-) -> Result<(), AllocError>
+) -> Result<(), IndexError>
     requires { AreNewNames names.old (map stub_name (own_classes stubs.now)) }
     ensures names { OnOk result (names.new ≡ names.old ++ map stub_name (own_classes stubs.now)) }
     ensures kinds { OnOk result (interfaces.new.items ≡ interfaces.old.items ++ map stub_kind (own_classes stubs.now)) }
+    ensures too_many { IfErr result (TellsTooMany (AreTooMany (names.old ++ map stub_name (own_classes stubs.now)))) }
 {
     for c in stubs {
         add_stub(names, interfaces, c)?;
@@ -109,10 +116,11 @@ fn add_stub(
     names: &mut TextIndex,
     interfaces: &mut Vec<bool>,
     c: &StubClass,
-) -> Result<(), AllocError>
+) -> Result<(), IndexError>
     requires { AreNewNames names.old (own_name c.now) }
     ensures names { OnOk result (names.new ≡ names.old ++ own_name c.now) }
     ensures kinds { OnOk result (interfaces.new.items ≡ interfaces.old.items ++ own_kind c.now) }
+    ensures too_many { IfErr result (TellsTooMany (AreTooMany names.old)) }
 {
     if c.is_patch {
         return Ok(());
@@ -126,10 +134,11 @@ fn add_class(
     interfaces: &mut Vec<bool>,
     name: &[u8],
     is_interface: bool,
-) -> Result<(), AllocError>
+) -> Result<(), IndexError>
     requires { StandsNowhere names.old name.now }
     ensures names { OnOk result (names.new ≡ names.old ++ name.now ∷ []) }
     ensures kinds { OnOk result (interfaces.new.items ≡ interfaces.old.items ++ is_interface ∷ []) }
+    ensures too_many { IfErr result (TellsTooMany (AreTooMany names.old)) }
 {
     names.intern(name)?;
     interfaces.push(is_interface)?;

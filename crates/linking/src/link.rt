@@ -6,8 +6,9 @@ ghost use Rattle.std.specs.Cmp.Lexicographic.{slice_cmp};
 ghost use Rattle.jvm_model.specs.LinkedPrograms.{HasStubClasses};
 ghost use Rattle.jvm_model.specs.Linking.{IsFileOrder, IsOrder, class_from};
 ghost use Rattle.jvm_model.specs.StubRules.{IsSoundStub};
-ghost use Rattle.linking.specs.Claims.{TellsClaims, unsorted};
+ghost use Rattle.linking.specs.Claims.{TellsClaimsOrLarge, unsorted};
 ghost use Rattle.linking.specs.LinkTelling.{flat_claims, IsSoundFile, TellsLink, TellsLinkInOrder};
+ghost use Rattle.linking.specs.TooLarge.{IsTooLargeInput};
 
 use crate::claims::{check_kinds, check_names, check_presence};
 use crate::known::known_classes;
@@ -33,8 +34,10 @@ use std::cmp::Ordering;
 /// - `Cycle` at the index of the class itself, or at a stub's file, for the class of the least name that is above itself
 ///   (5.3.5).
 ///
-/// What is told at a stub's file has the offset 0. `Memory` is reported out of memory, and where 32 bits do not number the classes
-/// or the members.
+/// What is told at a stub's file has the offset 0. `Memory` is reported out of memory.
+///
+/// `TooMany` is reported where there are 2^32 - 1 or more of what linking numbers: of the classes, of the patches, of the methods or
+/// the fields of the program or their different names and descriptors, or of these in the descriptions of one class.
 ///
 /// Each stub that is a class of its own is a class of the program, as it describes itself.
 pub fn link(
@@ -71,7 +74,7 @@ fn link_in_order(
 /// What is demanded before the classes are put in order.
 fn check(alloc: Global, files: &[NamedClass], stubs: &[StubClass]) -> Result<(), LinkEnd>
     requires { All IsSoundFile files.now }
-    ensures { TellsClaims (unsorted files.now stubs.now) (flat_claims files.now stubs.now) result }
+    ensures { TellsClaimsOrLarge (IsTooLargeInput files.now stubs.now) (unsorted files.now stubs.now) (flat_claims files.now stubs.now) result }
 {
     check_names(alloc, files, stubs)?;
     let known = known_classes(alloc, files, stubs)?;

@@ -1,8 +1,9 @@
 //! The classes that stubs mention are there.
 
 ghost use Rattle.std.specs.Prelude.{◌≡◌, false, not, ◌&&◌, ◌==◌, if◌then◌else◌, [], ◌∷◌, map, flat_map, option_map};
-ghost use Rattle.linking.specs.Claims.{TellsClaims, of_own};
-ghost use Rattle.linking.specs.Patching.{description_of};
+ghost use Rattle.linking.specs.Claims.{TellsClaims, TellsClaimsOrLarge, of_own};
+ghost use Rattle.linking.specs.Patching.{description_of, own_one};
+ghost use Rattle.linking.specs.TooLarge.{AreTooManyDescriptions, AreTooManyNatives, HasLargeFile, HasLargeStub};
 ghost use Rattle.jvm_model.specs.Linking.{stub_descriptions, mention_claim, description_claims, stub_there_claims, native_claims, own_classes};
 ghost use Rattle.jvm_model.specs.Stubs.{after_parameters, class_in, result_class, result_names, method_names, field_names};
 
@@ -172,7 +173,7 @@ fn check_stub(
     patches: &Patches<'_>,
     c: &StubClass,
 ) -> Result<(), LinkEnd>
-    ensures { TellsClaims known.now (stub_there_claims patches.now c.now) result }
+    ensures { TellsClaimsOrLarge (AreTooManyDescriptions (stub_descriptions patches.now c.now)) known.now (stub_there_claims patches.now c.now) result }
 {
     check_stub_supers(alloc, known, SuperRule::There, c)?;
     check_fields(alloc, known, c)?;
@@ -186,7 +187,8 @@ fn check_stub_methods(
     patches: &Patches<'_>,
     c: &StubClass,
 ) -> Result<(), LinkEnd>
-    ensures { TellsClaims known.now (description_claims (stub_descriptions patches.now c.now)) result }
+    ensures { TellsClaimsOrLarge (AreTooManyDescriptions (stub_descriptions patches.now c.now)) known.now
+        (description_claims (stub_descriptions patches.now c.now)) result }
 {
     let all = stub_descriptions(alloc, patches, c)?;
     check_descriptions(alloc, known, all.as_slice())
@@ -199,7 +201,7 @@ fn check_own_stub(
     patches: &Patches<'_>,
     c: &StubClass,
 ) -> Result<(), LinkEnd>
-    ensures { TellsClaims known.now (of_own (stub_there_claims patches.now) c.now) result }
+    ensures { TellsClaimsOrLarge (HasLargeStub patches.now (own_one c.now)) known.now (of_own (stub_there_claims patches.now) c.now) result }
 {
     if c.is_patch {
         return Ok(());
@@ -214,7 +216,8 @@ pub(crate) fn check_stubs(
     patches: &Patches<'_>,
     stubs: &[StubClass],
 ) -> Result<(), LinkEnd>
-    ensures { TellsClaims known.now (flat_map (stub_there_claims patches.now) (own_classes stubs.now)) result }
+    ensures { TellsClaimsOrLarge (HasLargeStub patches.now (own_classes stubs.now)) known.now
+        (flat_map (stub_there_claims patches.now) (own_classes stubs.now)) result }
 {
     for c in stubs {
         check_own_stub(alloc, known, patches, c)?;
@@ -229,7 +232,7 @@ fn check_file_natives(
     patches: &Patches<'_>,
     f: &NamedClass,
 ) -> Result<(), LinkEnd>
-    ensures { TellsClaims known.now (native_claims patches.now f.now) result }
+    ensures { TellsClaimsOrLarge (AreTooManyNatives patches.now f.now.class) known.now (native_claims patches.now f.now) result }
 {
     let all = native_descriptions(alloc, patches, &f.class)?;
     check_descriptions(alloc, known, all.as_slice())
@@ -242,7 +245,7 @@ pub(crate) fn check_natives(
     patches: &Patches<'_>,
     files: &[NamedClass],
 ) -> Result<(), LinkEnd>
-    ensures { TellsClaims known.now (flat_map (native_claims patches.now) files.now) result }
+    ensures { TellsClaimsOrLarge (HasLargeFile patches.now files.now) known.now (flat_map (native_claims patches.now) files.now) result }
 {
     for f in files {
         check_file_natives(alloc, known, patches, f)?;

@@ -1,20 +1,23 @@
 //! The native methods of a class file, which patches describe.
 
-ghost use Rattle.std.specs.Prelude.{◌≡◌, ◌++◌, IfOk, OnOk};
+ghost use Rattle.std.specs.Prelude.{◌≡◌, ◌++◌, IfOk, OnOk, IfErr};
 ghost use Rattle.std.specs.List.{list_any};
 ghost use Rattle.linking.specs.Patching.{static_key, member_key, described_key, native_key, native_keys};
+ghost use Rattle.linking.specs.TooLarge.{TellsTooMany};
 ghost use Rattle.class_index.specs.MemberKeys.{key_of};
 ghost use Rattle.jvm_model.specs.Linking.{describes};
 ghost use Rattle.jvm_model.specs.Lookups.{lent_signature};
 ghost use Rattle.jvm_model.specs.Programs.{signature_of};
+ghost use Rattle.linked_program.specs.MemberLists.{AreTooManyKeys};
 
-use crate::keys::{key_in, stub_signature};
+use crate::keys::{signature_key, stub_signature};
+use class_index::index_error::IndexError;
 use class_index::member_index::MemberIndex;
 use class_index::member_key::MemberKey;
 use class_index::texts::plain_text;
 use jvm_model::lookup::Signature;
 use jvm_model::{AccessFlag, ClassFile, Member, PoolEntry, StubMethod};
-use std::alloc::{AllocError, Global};
+use std::alloc::Global;
 use std::marker::Model;
 
 /// The native methods of a class file by name, descriptor, and whether they are static. Contracts see the class file.
@@ -40,7 +43,7 @@ impl<'a> Model for Natives<'a> {
 fn static_key(is_static: bool, signature: Signature<'_>) -> MemberKey<'_>
     ensures { key_of result ≡ static_key is_static (lent_signature signature.entry) }
 {
-    key_in(u32::from(is_static), signature)
+    signature_key(u32::from(is_static), signature)
 }
 
 /// The name and the descriptor of a method of a class file.
@@ -73,8 +76,9 @@ fn native_index(
     alloc: Global,
     pool: &[PoolEntry],
     methods: &[Member],
-) -> Result<MemberIndex, AllocError>
-    ensures { IfOk result (λ index. index ≡ native_keys pool.now methods.now) }
+) -> Result<MemberIndex, IndexError>
+    ensures index { IfOk result (λ index. index ≡ native_keys pool.now methods.now) }
+    ensures too_many { IfErr result (TellsTooMany (AreTooManyKeys (native_keys pool.now methods.now))) }
 {
     let mut index = MemberIndex::new(alloc);
     for method in methods {
@@ -88,8 +92,9 @@ fn add_native(
     index: &mut MemberIndex,
     pool: &[PoolEntry],
     method: &Member,
-) -> Result<(), AllocError>
-    ensures { OnOk result (index.new ≡ index.old ++ native_key pool.now method.now) }
+) -> Result<(), IndexError>
+    ensures added { OnOk result (index.new ≡ index.old ++ native_key pool.now method.now) }
+    ensures too_many { IfErr result (TellsTooMany (AreTooManyKeys (index.old ++ native_key pool.now method.now))) }
 {
     if AccessFlag::Native.is_set_in(method.flags) {
         index.push(key_of_member(pool, method))
@@ -100,8 +105,9 @@ fn add_native(
 
 impl<'a> Natives<'a> {
     /// The native methods of a class file (JVMS 4.6).
-    pub(crate) fn of(alloc: Global, class: &'a ClassFile) -> Result<Self, AllocError>
-        ensures { IfOk result (λ natives. natives ≡ class.entry.now) }
+    pub(crate) fn of(alloc: Global, class: &'a ClassFile) -> Result<Self, IndexError>
+        ensures natives { IfOk result (λ natives. natives ≡ class.entry.now) }
+        ensures too_many { IfErr result (TellsTooMany (AreTooManyKeys (native_keys class.entry.now.pool class.entry.now.methods))) }
     {
         let index = native_index(alloc, class.pool.as_slice(), class.methods.as_slice())?;
         Ok(Natives { class, index })

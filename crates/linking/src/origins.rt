@@ -1,12 +1,15 @@
 //! Where the classes of a program come from: the class files, and the stubs with what patches add to them.
 
-ghost use Rattle.std.specs.Prelude.{◌≡◌, ◌++◌, map, filter, IfOk, OnOk};
+ghost use Rattle.std.specs.Prelude.{◌≡◌, ◌++◌, map, filter, All, IfOk, OnOk, IfErr};
+ghost use Rattle.linking.specs.LinkTelling.{IsSoundFile};
 ghost use Rattle.linking.specs.Patching.{is_patch_stub, own_one, patch_one};
+ghost use Rattle.linking.specs.TooLarge.{AreTooManyDescriptions, AreTooManyNatives, HasLargeFile, HasLargeStub, IsTooLargeInput, TellsTooMany};
 ghost use Rattle.jvm_model.specs.Linking.{told, origins, folder_origin, stub_origin, native_descriptions, stub_descriptions, own_classes};
 
 use crate::copies::copied_methods;
 use crate::patch_index::Patches;
 use crate::patches::{native_descriptions, stub_descriptions};
+use class_index::index_error::IndexError;
 use jvm_model::{NamedClass, Origin, Sequence, StubClass, StubMethod};
 use std::alloc::{AllocError, Global};
 
@@ -23,8 +26,10 @@ pub fn origins(
     alloc: Global,
     files: Vec<NamedClass>,
     stubs: Vec<StubClass>,
-) -> Result<Vec<Origin>, AllocError>
-    ensures { IfOk result (λ all. all.items ≡ origins files.items stubs.items) }
+) -> Result<Vec<Origin>, IndexError>
+    requires { All IsSoundFile files.items }
+    ensures all { IfOk result (λ all. all.items ≡ origins files.items stubs.items) }
+    ensures too_many { IfErr result (TellsTooMany (IsTooLargeInput files.items stubs.items)) }
 {
     let parted = part(alloc, stubs)?;
     let Parted { own, patches } = parted;
@@ -66,8 +71,9 @@ fn put(
 }
 
 /// The origin of a class file.
-fn origin_of_file(alloc: Global, patches: &Patches<'_>, f: NamedClass) -> Result<Origin, AllocError>
-    ensures { IfOk result (λ o. o ≡ folder_origin patches.now f) }
+fn origin_of_file(alloc: Global, patches: &Patches<'_>, f: NamedClass) -> Result<Origin, IndexError>
+    ensures origin { IfOk result (λ o. o ≡ folder_origin patches.now f) }
+    ensures too_many { IfErr result (TellsTooMany (AreTooManyNatives patches.now f.class)) }
 {
     let natives = told_of_file(alloc, patches, &f)?;
     Ok(Origin::Folder { file: f, natives })
@@ -78,11 +84,12 @@ fn told_of_file(
     alloc: Global,
     patches: &Patches<'_>,
     f: &NamedClass,
-) -> Result<Sequence<StubMethod>, AllocError>
-    ensures { IfOk result (λ all. all ≡ told (native_descriptions patches.now f.now.class)) }
+) -> Result<Sequence<StubMethod>, IndexError>
+    ensures all { IfOk result (λ all. all ≡ told (native_descriptions patches.now f.now.class)) }
+    ensures too_many { IfErr result (TellsTooMany (AreTooManyNatives patches.now f.now.class)) }
 {
     let all = native_descriptions(alloc, patches, &f.class)?;
-    copied_methods(alloc, all.as_slice())
+    Ok(copied_methods(alloc, all.as_slice())?)
 }
 
 /// The origin of a stub.
@@ -90,8 +97,9 @@ fn origin_of_stub(
     alloc: Global,
     patches: &Patches<'_>,
     mut c: StubClass,
-) -> Result<Origin, AllocError>
-    ensures { IfOk result (λ o. o ≡ stub_origin patches.now c) }
+) -> Result<Origin, IndexError>
+    ensures origin { IfOk result (λ o. o ≡ stub_origin patches.now c) }
+    ensures too_many { IfErr result (TellsTooMany (AreTooManyDescriptions (stub_descriptions patches.now c))) }
 {
     c.methods = told_of_stub(alloc, patches, &c)?;
     Ok(Origin::Stub(c))
@@ -102,11 +110,12 @@ fn told_of_stub(
     alloc: Global,
     patches: &Patches<'_>,
     c: &StubClass,
-) -> Result<Sequence<StubMethod>, AllocError>
-    ensures { IfOk result (λ all. all ≡ told (stub_descriptions patches.now c.now)) }
+) -> Result<Sequence<StubMethod>, IndexError>
+    ensures all { IfOk result (λ all. all ≡ told (stub_descriptions patches.now c.now)) }
+    ensures too_many { IfErr result (TellsTooMany (AreTooManyDescriptions (stub_descriptions patches.now c.now))) }
 {
     let all = stub_descriptions(alloc, patches, c)?;
-    copied_methods(alloc, all.as_slice())
+    Ok(copied_methods(alloc, all.as_slice())?)
 }
 
 /// Adds class files.
@@ -115,8 +124,9 @@ fn add_files(
     all: &mut Vec<Origin>,
     patches: &Patches<'_>,
     files: Vec<NamedClass>,
-) -> Result<(), AllocError>
-    ensures { OnOk result (all.new.items ≡ all.old.items ++ map (folder_origin patches.now) files.items) }
+) -> Result<(), IndexError>
+    ensures added { OnOk result (all.new.items ≡ all.old.items ++ map (folder_origin patches.now) files.items) }
+    ensures too_many { IfErr result (TellsTooMany (HasLargeFile patches.now files.items)) }
 {
     for f in files {
         let origin = origin_of_file(alloc, patches, f)?;
@@ -131,8 +141,9 @@ fn add_stubs(
     all: &mut Vec<Origin>,
     patches: &Patches<'_>,
     stubs: Vec<StubClass>,
-) -> Result<(), AllocError>
-    ensures { OnOk result (all.new.items ≡ all.old.items ++ map (stub_origin patches.now) stubs.items) }
+) -> Result<(), IndexError>
+    ensures added { OnOk result (all.new.items ≡ all.old.items ++ map (stub_origin patches.now) stubs.items) }
+    ensures too_many { IfErr result (TellsTooMany (HasLargeStub patches.now stubs.items)) }
 {
     for c in stubs {
         let origin = origin_of_stub(alloc, patches, c)?;

@@ -1,12 +1,15 @@
 //! The patches among stubs, found by the name of their class.
 
-ghost use Rattle.std.specs.Prelude.{◌≡◌, ◌<◌, map, length, Some, slice_get, IfOk, OnOk};
-ghost use Rattle.linking.specs.Patching.{patches_for};
+ghost use Rattle.std.specs.Prelude.{◌≡◌, ◌+◌, ◌<◌, ◌≤◌, map, filter, length, Some, slice_get, IfOk, OnOk, IfErr};
+ghost use Rattle.class_index.specs.Limits.{AreTooMany};
+ghost use Rattle.linking.specs.Patching.{is_patch_stub, patch_one, patches_for};
 ghost use Rattle.linking.specs.PatchLists.{lent_lists, PatchGoes, PlaceGoes};
+ghost use Rattle.linking.specs.TooLarge.{TellsTooMany};
 
+use class_index::index_error::IndexError;
 use class_index::text_index::TextIndex;
 use jvm_model::StubClass;
-use std::alloc::{AllocError, Global};
+use std::alloc::Global;
 use std::marker::Model;
 
 /// The patches among stubs. Contracts see the stubs.
@@ -31,8 +34,9 @@ impl<'a> Model for Patches<'a> {
 
 impl<'a> Patches<'a> {
     /// The patches among stubs. The time is linear in the texts of their names.
-    pub fn new(alloc: Global, stubs: &'a [StubClass]) -> Result<Self, AllocError>
-        ensures { IfOk result (λ patches. patches ≡ stubs.entry.now) }
+    pub fn new(alloc: Global, stubs: &'a [StubClass]) -> Result<Self, IndexError>
+        ensures patches { IfOk result (λ patches. patches ≡ stubs.entry.now) }
+        ensures too_many { IfErr result (TellsTooMany (AreTooMany (filter is_patch_stub stubs.entry.now))) }
     {
         let mut names = TextIndex::new(alloc);
         let mut lists = Vec::new(alloc);
@@ -63,9 +67,11 @@ fn add_patch<'a>(
     names: &mut TextIndex,
     lists: &mut Vec<Vec<&'a StubClass>>,
     stub: &'a StubClass,
-) -> Result<(), AllocError>
+) -> Result<(), IndexError>
     requires { length lists.old.items ≡ length names.old }
-    ensures { OnOk result (PatchGoes stub.entry.now names.old (lent_lists lists.old.items) names.new (lent_lists lists.new.items)) }
+    ensures goes { OnOk result (PatchGoes stub.entry.now names.old (lent_lists lists.old.items) names.new (lent_lists lists.new.items)) }
+    ensures count { OnOk result (length names.new ≤ length names.old + length (patch_one stub.entry.now)) }
+    ensures too_many { IfErr result (TellsTooMany (AreTooMany names.old)) }
 {
     if !stub.is_patch {
         return Ok(());
@@ -81,11 +87,13 @@ fn list_of<'a>(
     names: &mut TextIndex,
     lists: &mut Vec<Vec<&'a StubClass>>,
     name: &[u8],
-) -> Result<usize, AllocError>
+) -> Result<usize, IndexError>
     requires { length lists.old.items ≡ length names.old }
     ensures stands { IfOk result (λ place. slice_get names.new place ≡ Some name.now) }
     ensures within { IfOk result (λ place. place < length lists.new.items) }
     ensures kept { OnOk result (PlaceGoes names.old (lent_lists lists.old.items) names.new (lent_lists lists.new.items)) }
+    ensures count { OnOk result (length names.new ≤ length names.old + 1) }
+    ensures too_many { IfErr result (TellsTooMany (AreTooMany names.old)) }
 {
     let place = names.intern(name)? as usize;
     if place == lists.len() {

@@ -1,23 +1,26 @@
 //! What is known of the methods of a class with what patches add to it.
 
-ghost use Rattle.std.specs.Prelude.{◌≡◌, map, flat_map, filter, IfOk, OnOk};
+ghost use Rattle.std.specs.Prelude.{◌≡◌, map, flat_map, filter, IfOk, OnOk, IfErr};
 ghost use Rattle.linking.specs.Patching.{description_of, is_native_in, with_native};
+ghost use Rattle.linking.specs.TooLarge.{AreTooManyDescriptions, AreTooManyNatives, TellsTooMany};
 ghost use Rattle.jvm_model.specs.Linking.{descriptions, with_descriptions, stub_descriptions, native_descriptions};
 
 use crate::descriptions::{Described, Descriptions};
 use crate::natives::Natives;
 use crate::patch_index::Patches;
+use class_index::index_error::IndexError;
 use class_index::texts::class_text;
 use jvm_model::{ClassFile, StubClass};
-use std::alloc::{AllocError, Global};
+use std::alloc::Global;
 
 /// What is known of the methods of a stub that is a class of its own: what it says, and what its patches say.
 pub fn stub_descriptions<'a>(
     alloc: Global,
     patches: &Patches<'a>,
     class: &'a StubClass,
-) -> Result<Descriptions<'a>, AllocError>
-    ensures { IfOk result (λ all. all ≡ stub_descriptions patches.now class.entry.now) }
+) -> Result<Descriptions<'a>, IndexError>
+    ensures all { IfOk result (λ all. all ≡ stub_descriptions patches.now class.entry.now) }
+    ensures too_many { IfErr result (TellsTooMany (AreTooManyDescriptions (stub_descriptions patches.now class.entry.now))) }
 {
     let found = patches.of(class.name.as_slice());
     let mut all = Descriptions::of(alloc, class)?;
@@ -32,8 +35,10 @@ fn add_natives<'a>(
     all: &mut Descriptions<'a>,
     natives: &Natives<'_>,
     patch: &'a StubClass,
-) -> Result<(), AllocError>
-    ensures { OnOk result (all.new ≡ with_descriptions all.old (filter (is_native_in natives.now) (descriptions patch.entry.now))) }
+) -> Result<(), IndexError>
+    ensures added { OnOk result (all.new ≡ with_descriptions all.old (filter (is_native_in natives.now) (descriptions patch.entry.now))) }
+    ensures too_many { IfErr result (TellsTooMany (AreTooManyDescriptions
+        (with_descriptions all.old (filter (is_native_in natives.now) (descriptions patch.entry.now))))) }
 {
     for method in patch.methods.as_slice() {
         let described = Described {
@@ -50,8 +55,10 @@ fn add_patches<'a>(
     all: &mut Descriptions<'a>,
     natives: &Natives<'_>,
     found: &[&'a StubClass],
-) -> Result<(), AllocError>
-    ensures { OnOk result (all.new ≡ with_descriptions all.old (filter (is_native_in natives.now) (flat_map descriptions (map (λ s. s.now) found.now)))) }
+) -> Result<(), IndexError>
+    ensures added { OnOk result (all.new ≡ with_descriptions all.old (filter (is_native_in natives.now) (flat_map descriptions (map (λ s. s.now) found.now)))) }
+    ensures too_many { IfErr result (TellsTooMany (AreTooManyDescriptions
+        (with_descriptions all.old (filter (is_native_in natives.now) (flat_map descriptions (map (λ s. s.now) found.now)))))) }
 {
     for patch in found {
         add_natives(all, natives, patch)?;
@@ -64,8 +71,9 @@ fn add_native<'a>(
     all: &mut Descriptions<'a>,
     natives: &Natives<'_>,
     described: Described<'a>,
-) -> Result<(), AllocError>
-    ensures { OnOk result (all.new ≡ with_native natives.now all.old (description_of described.entry)) }
+) -> Result<(), IndexError>
+    ensures added { OnOk result (all.new ≡ with_native natives.now all.old (description_of described.entry)) }
+    ensures too_many { IfErr result (TellsTooMany (AreTooManyDescriptions (with_native natives.now all.old (description_of described.entry)))) }
 {
     if natives.has(described.method) {
         all.add(described)
@@ -79,8 +87,9 @@ pub fn native_descriptions<'a>(
     alloc: Global,
     patches: &Patches<'a>,
     class: &ClassFile,
-) -> Result<Descriptions<'a>, AllocError>
-    ensures { IfOk result (λ all. all ≡ native_descriptions patches.now class.now) }
+) -> Result<Descriptions<'a>, IndexError>
+    ensures all { IfOk result (λ all. all ≡ native_descriptions patches.now class.now) }
+    ensures too_many { IfErr result (TellsTooMany (AreTooManyNatives patches.now class.now)) }
 {
     let name = class_text(class.pool.as_slice(), class.this_class);
     let found = patches.of(name);

@@ -17,7 +17,7 @@ returns-in_err-check_supers_of_files c =
     let ys = map kind_claim (flat_map supers_of_stub (own_classes c.args.stubs.now)) in
     let end = c.in_err-check_supers_of_files.field-0.0 in
     let flat = All-append IsFlatClaim xs ys (map_flat kind_claim (λ s. tt) (flat_map supers_of_file c.args.files.now)) (map_flat kind_claim (λ s. tt) (flat_map supers_of_stub (own_classes c.args.stubs.now))) in
-    rw (p.1, p.2) (end_same known program (xs ++ ys) end (known_same known program c.requires.known) flat (end_front known xs ys end c.in_err-check_supers_of_files.ensures))
+    rw (p.1, p.2) (end_same ⊥ known program (xs ++ ys) end (known_same known program c.requires.known) flat (end_front ⊥ known xs ys end c.in_err-check_supers_of_files.ensures))
 
 pub returns : goal.returns
 returns c =
@@ -26,5 +26,5 @@ returns c =
     let xs = map kind_claim (flat_map supers_of_file c.args.files.now) in
     let ys = map kind_claim (flat_map supers_of_stub (own_classes c.args.stubs.now)) in
     let flat = All-append IsFlatClaim xs ys (map_flat kind_claim (λ s. tt) (flat_map supers_of_file c.args.files.now)) (map_flat kind_claim (λ s. tt) (flat_map supers_of_stub (own_classes c.args.stubs.now))) in
-    tells_same known program (xs ++ ys) c.check_supers_of_stubs.result (known_same known program c.requires.known) flat
-    (tells_back known xs ys c.check_supers_of_stubs.result c.in_ok-check_supers_of_files.ensures c.check_supers_of_stubs.ensures)
+    tells_same ⊥ known program (xs ++ ys) c.check_supers_of_stubs.result (known_same known program c.requires.known) flat
+    (tells_back ⊥ known xs ys c.check_supers_of_stubs.result c.in_ok-check_supers_of_files.ensures c.check_supers_of_stubs.ensures)

@@ -6,7 +6,8 @@ use Rattle.jvm_model.specs.declared.reason.Reason.TheVariants.{DuplicateClass}
 use Rattle.jvm_model.specs.Linking.{claim, differs}
 use Rattle.jvm_model.specs.Programs.{class_or_none}
 use Rattle.jvm_model.specs.Soundness.{this_class_offset}
-use Rattle.linking.specs.Claims.{TellsClaims, file_name}
+use Rattle.class_index.specs.Limits.{AreTooMany}
+use Rattle.linking.specs.Claims.{TellsClaimsOrLarge, file_name}
 use Rattle.linked_program.specs.LinkEnds.{IsLinkRefusal}
 use Rattle.linking.proofs.ClaimSteps.{one_unmet}
 use Rattle.linking.proofs.ClassNames.{names_told}
@@ -20,7 +21,7 @@ returns-in-Some-clause-told c = λ p names has.
     let name : c.class_text-name.result.now ≡ file_name f = c.class_text-name.ensures ∙ ap (λ (pool : List PoolEntry). class_or_none pool f.class.this_class) c.as_slice.ensures in
     let found = subst (λ (text : List ℕ). Contains names text) name (has.some c.class_text-name.result.now (contains_at c.args.others.now c.in-Some.field-0 c.class_text-name.result.now c.in-Some.ensures.found)) in
     let told = subst (λ (n : ℕ). IsLinkRefusal f.file n DuplicateClass c.refused.result) c.this_class_offset-offset.ensures c.refused.ensures in
-    one_unmet p (claim f.file (this_class_offset f.class) (differs (c.args.earlier.now ++ names) (file_name f))) c.refused.result (λ meets. meets (Contains-append_right c.args.earlier.now names (file_name f) found)) told
+    one_unmet (AreTooMany c.args.earlier.now) p (claim f.file (this_class_offset f.class) (differs (c.args.earlier.now ++ names) (file_name f))) c.refused.result (λ meets. meets (Contains-append_right c.args.earlier.now names (file_name f) found)) told
 
 pub returns-in-None-clause-added : goal.returns-in-None-clause-added
 returns-in-None-clause-added c =
@@ -34,6 +35,6 @@ returns-in-None-clause-told c = λ p names has.
     let text = c.class_text-name.result.now in
     let name : text ≡ file_name f = c.class_text-name.ensures ∙ ap (λ (pool : List PoolEntry). class_or_none pool f.class.this_class) c.as_slice.ensures in
     let absent = has.none text (nowhere_not c.args.others.now text c.in-None.ensures.none) in
-    let told = names_told p f.file _ earlier names text c.add_name.result absent (c.add_name.ensures.told p) in
-    subst (λ (n : List ℕ). TellsClaims p (claim f.file (this_class_offset f.class) (differs (earlier ++ names) n) ∷ []) c.add_name.result) name
-    (subst (λ (n : ℕ). TellsClaims p (claim f.file n (differs (earlier ++ names) text) ∷ []) c.add_name.result) c.this_class_offset-offset.ensures told)
+    let told = names_told (AreTooMany earlier) p f.file _ earlier names text c.add_name.result absent (c.add_name.ensures.told p) in
+    subst (λ (n : List ℕ). TellsClaimsOrLarge (AreTooMany earlier) p (claim f.file (this_class_offset f.class) (differs (earlier ++ names) n) ∷ []) c.add_name.result) name
+    (subst (λ (n : ℕ). TellsClaimsOrLarge (AreTooMany earlier) p (claim f.file n (differs (earlier ++ names) text) ∷ []) c.add_name.result) c.this_class_offset-offset.ensures told)

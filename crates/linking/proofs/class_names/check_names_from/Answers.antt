@@ -1,13 +1,15 @@
-use Rattle.std.proofs.Common.{List, ◌++◌, map, refl, ap}
+use Rattle.std.proofs.Common.{List, ◌+◌, ◌++◌, map, drop, refl, ap}
 use Rattle.std.proofs.lemmas.List.{drop_all}
 use Rattle.std.proofs.lemmas.Result.{err_from_is_err_and}
 use Rattle.jvm_model.specs.declared.stub.StubClass.{StubClass}
 use Rattle.jvm_model.specs.Linking.{stub_claims}
+use Rattle.class_index.specs.Limits.{AreTooMany}
 use Rattle.linking.specs.Claims.{stub_name}
 use Rattle.linking.specs.StubSources.{one_from, own_from}
 use Rattle.linking.proofs.Building.{build_on, build_done}
-use Rattle.linking.proofs.ClaimSteps.{left_all, left_as, left_end}
+use Rattle.linking.proofs.ClaimSteps.{end_more, left_all, left_as, left_end}
 use Rattle.linking.proofs.ClassNames.{next_stub, own_names_from_split, stop_stub}
+use Rattle.linking.proofs.LargeInputs.{many_more}
 use Rattle.linking.proofs.class_names.check_names_from.Goals as goal
 
 pub loop-c-init : goal.loop-c-init
@@ -30,9 +32,17 @@ loop-c-preserved c =
 pub returns-in_err-check_stub_name-clause-told : goal.returns-in_err-check_stub_name-clause-told
 returns-in_err-check_stub_name-clause-told c =
     let q = err_from_is_err_and c.from_residual.result c.from_residual.ensures.1 in
+    let source = c.args.source in
+    let stubs = c.args.stubs.now in
+    let names = λ (cs : List StubClass). map stub_name (own_from source cs) in
+    let first = c.args.earlier.now in
+    let earlier = c.loop-c.earlier in
+    let whole = first ++ names stubs in
+    let end = c.in_err-check_stub_name.field-0.0 in
+    let more : AreTooMany earlier → AreTooMany whole = many_more earlier (names (drop c.loop-c.c-index stubs)) whole c.loop-c.invariant.added in
     λ p. rw (q.1, q.2)
-    (stop_stub p c.args.source c.args.earlier.now c.loop-c.earlier c.loop-c.earlier c.args.stubs.now c.loop-c.c-index c.c-item.result c.loop-c-test.true c.c-item.is (c.loop-c.invariant.left p)
-    c.in_err-check_stub_name.field-0.0 (c.in_err-check_stub_name.ensures.told p))
+    (stop_stub p source first earlier earlier stubs c.loop-c.c-index c.c-item.result c.loop-c-test.true c.c-item.is (c.loop-c.invariant.left p) (AreTooMany whole) end
+    (end_more (AreTooMany earlier) (AreTooMany whole) p (stub_claims earlier (one_from source c.c-item.result)) end more (c.in_err-check_stub_name.ensures.told p)))
 
 pub returns-clause-added : goal.returns-clause-added
 returns-clause-added c =

@@ -1,8 +1,11 @@
-use Rattle.std.proofs.Common.{List, [], ◌∷◌, ◌++◌, map, refl}
+use Rattle.std.proofs.Common.{List, [], ◌∷◌, ◌++◌, map, drop, refl}
+use Rattle.std.proofs.lemmas.Result.{err_from_is_err_and}
 use Rattle.jvm_model.specs.declared.program.NamedClass.{NamedClass}
+use Rattle.class_index.specs.Limits.{AreTooMany}
 use Rattle.linking.specs.Claims.{file_name, file_kind}
 use Rattle.linking.proofs.Building.{build_on, build_done}
 use Rattle.linking.proofs.NewNames.{new_head, new_next}
+use Rattle.linking.proofs.LargeInputs.{error_more, many_more}
 use Rattle.linking.proofs.known.add_files.Goals as goal
 
 pub add_file-requires : goal.add_file-requires
@@ -39,3 +42,12 @@ returns-clause-kinds c =
     let names = λ (ys : List NamedClass). map file_name ys in
     let kinds = λ (ys : List NamedClass). map file_kind ys in
     build_done kinds (c.args.interfaces.now.items ++ kinds xs) refl xs c.loop-f.f-index c.loop-f-test.false c.loop-f.interfaces.items c.loop-f.invariant.kinds
+
+pub returns-in_err-add_file-clause-too_many : goal.returns-in_err-add_file-clause-too_many
+returns-in_err-add_file-clause-too_many c =
+    let q = err_from_is_err_and c.from_residual.result c.from_residual.ensures.1 in
+    let xs = c.args.files.now in
+    let names = c.loop-f.names in
+    let whole = c.args.names.now ++ map file_name xs in
+    rw (q.1, q.2)
+    (error_more (AreTooMany names) (AreTooMany whole) c.in_err-add_file.field-0.0 (many_more names (map file_name (drop c.loop-f.f-index xs)) whole c.loop-f.invariant.names) c.in_err-add_file.ensures.too_many)

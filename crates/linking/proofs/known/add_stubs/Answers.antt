@@ -1,9 +1,12 @@
-use Rattle.std.proofs.Common.{List, ◌++◌, map, refl}
+use Rattle.std.proofs.Common.{List, ◌++◌, map, drop, refl}
+use Rattle.std.proofs.lemmas.Result.{err_from_is_err_and}
 use Rattle.jvm_model.specs.declared.stub.StubClass.{StubClass}
 use Rattle.jvm_model.specs.Linking.{own_classes}
+use Rattle.class_index.specs.Limits.{AreTooMany}
 use Rattle.linking.specs.Claims.{stub_name, stub_kind, own_name, own_kind}
 use Rattle.linking.proofs.Building.{build_on, build_done}
 use Rattle.linking.proofs.NewNames.{new_head, new_next, own_names_split, own_kinds_split}
+use Rattle.linking.proofs.LargeInputs.{error_more, many_more}
 use Rattle.linking.proofs.known.add_stubs.Goals as goal
 
 pub add_stub-requires : goal.add_stub-requires
@@ -40,3 +43,12 @@ returns-clause-kinds c =
     let names = λ (ys : List StubClass). map stub_name (own_classes ys) in
     let kinds = λ (ys : List StubClass). map stub_kind (own_classes ys) in
     build_done kinds (c.args.interfaces.now.items ++ kinds xs) refl xs c.loop-c.c-index c.loop-c-test.false c.loop-c.interfaces.items c.loop-c.invariant.kinds
+
+pub returns-in_err-add_stub-clause-too_many : goal.returns-in_err-add_stub-clause-too_many
+returns-in_err-add_stub-clause-too_many c =
+    let q = err_from_is_err_and c.from_residual.result c.from_residual.ensures.1 in
+    let xs = c.args.stubs.now in
+    let names = c.loop-c.names in
+    let whole = c.args.names.now ++ map stub_name (own_classes xs) in
+    rw (q.1, q.2)
+    (error_more (AreTooMany names) (AreTooMany whole) c.in_err-add_stub.field-0.0 (many_more names (map stub_name (own_classes (drop c.loop-c.c-index xs))) whole c.loop-c.invariant.names) c.in_err-add_stub.ensures.too_many)

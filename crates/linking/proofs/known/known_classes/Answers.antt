@@ -1,7 +1,11 @@
 use Rattle.std.proofs.Common.{◌≡◌, ℕ, Bool, List, [], ◌++◌, map, sym, ◌∙◌, ap, subst}
+use Rattle.std.proofs.lemmas.Result.{err_from_is_err_and}
 use Rattle.jvm_model.specs.Linking.{own_classes}
+use Rattle.class_index.specs.Limits.{AreTooMany}
 use Rattle.linking.specs.Claims.{AreNewNames, file_name, file_kind, stub_name, stub_kind}
+use Rattle.linking.specs.TooLarge.{TellsTooMany}
 use Rattle.linking.proofs.NewNames.{new_front, new_back, knows_all, pairs_long}
+use Rattle.linking.proofs.LargeInputs.{error_more, many_more}
 use Rattle.linking.proofs.known.known_classes.Goals as goal
 
 pub add_files-requires : goal.add_files-requires
@@ -31,8 +35,8 @@ invariant_of-result c =
     last.kinds ∙ ap (λ (bs : List Bool). bs ++ ks) (first.kinds ∙ ap (λ (bs : List Bool). bs ++ fs) c.new-interfaces.ensures.items) in
     pairs_long c.args.files.now c.args.stubs.now c.add_stubs.new.names c.add_stubs.new.interfaces.items names kinds
 
-pub returns : goal.returns
-returns c =
+pub returns-clause-known : goal.returns-clause-known
+returns-clause-known c =
     let xs = map file_name c.args.files.now in
     let ys = map stub_name (own_classes c.args.stubs.now) in
     let fs = map file_kind c.args.files.now in
@@ -44,3 +48,20 @@ returns c =
     let kinds : c.add_stubs.new.interfaces.items ≡ fs ++ ks =
     last.kinds ∙ ap (λ (bs : List Bool). bs ++ ks) (first.kinds ∙ ap (λ (bs : List Bool). bs ++ fs) c.new-interfaces.ensures.items) in
     knows_all c.args.files.now c.args.stubs.now c.add_stubs.new.names c.add_stubs.new.interfaces.items names kinds
+
+pub returns-in_err-add_files-clause-too_many : goal.returns-in_err-add_files-clause-too_many
+returns-in_err-add_files-clause-too_many c =
+    let q = err_from_is_err_and c.from_residual.result c.from_residual.ensures.1 in
+    let xs = map file_name c.args.files.now in
+    let ys = map stub_name (own_classes c.args.stubs.now) in
+    let first = c.new-names.result ++ xs in
+    let more = many_more first ys (xs ++ ys) (ap (λ (ns : List (List ℕ)). (ns ++ xs) ++ ys) c.new-names.ensures) in
+    rw (q.1, q.2) (error_more (AreTooMany first) (AreTooMany (xs ++ ys)) c.in_err-add_files.field-0.0 more c.in_err-add_files.ensures.too_many)
+
+pub returns-in_err-add_stubs-clause-too_many : goal.returns-in_err-add_stubs-clause-too_many
+returns-in_err-add_stubs-clause-too_many c =
+    let q = err_from_is_err_and c.from_residual-in_err-add_stubs.result c.from_residual-in_err-add_stubs.ensures.1 in
+    let xs = map file_name c.args.files.now in
+    let ys = map stub_name (own_classes c.args.stubs.now) in
+    let names = c.in_ok-add_files.ensures.names ∙ ap (λ (ns : List (List ℕ)). ns ++ xs) c.new-names.ensures in
+    rw (q.1, q.2) (subst (λ (ns : List (List ℕ)). TellsTooMany (AreTooMany (ns ++ ys)) c.in_err-add_stubs.field-0.0) names c.in_err-add_stubs.ensures.too_many)

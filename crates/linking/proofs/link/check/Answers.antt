@@ -1,9 +1,14 @@
-use Rattle.std.proofs.Common.{◌++◌}
+use Rattle.std.proofs.Common.{◌++◌, filter}
 use Rattle.std.proofs.lemmas.Result.{err_from_is_err_and}
 use Rattle.jvm_model.specs.Linking.{kind_claims, name_claims, own_classes, there_claims}
-use Rattle.linking.specs.Claims.{unsorted}
-use Rattle.linking.proofs.ClaimSteps.{end_back, end_front, met_append, tells_back}
+use Rattle.class_index.specs.Limits.{AreTooMany}
+use Rattle.linking.specs.Claims.{all_names, unsorted}
+use Rattle.linking.specs.LinkTelling.{flat_claims}
+use Rattle.linking.specs.Patching.{is_patch_stub}
+use Rattle.linking.specs.TooLarge.{IsTooLargeInput, in_classes, in_patches}
+use Rattle.linking.proofs.ClaimSteps.{end_back, end_front, met_append, tells_back, tells_unnumbered}
 use Rattle.linking.proofs.DistinctNames.{names_new}
+use Rattle.linking.proofs.LargeInputs.{error_end, error_more}
 use Rattle.linking.proofs.link.check.Goals as goal
 
 pub returns-in_err-check_names : goal.returns-in_err-check_names
@@ -15,7 +20,8 @@ returns-in_err-check_names c =
     let ns = name_claims files (own_classes stubs) in
     let ts = there_claims files stubs in
     let end = c.in_err-check_names.field-0.0 in
-    rw (q.1, q.2) (end_front p (ns ++ ts) (kind_claims files (own_classes stubs)) end (end_front p ns ts end c.in_err-check_names.ensures))
+    let large = IsTooLargeInput files stubs in
+    rw (q.1, q.2) (end_front large p (ns ++ ts) (kind_claims files (own_classes stubs)) end (end_front large p ns ts end c.in_err-check_names.ensures))
 
 pub known_classes-requires : goal.known_classes-requires
 known_classes-requires c = names_new (unsorted c.args.files.now c.args.stubs.now) c.args.files.now c.args.stubs.now c.in_ok-check_names.ensures
@@ -29,7 +35,8 @@ returns-in_err-check_presence c =
     let ns = name_claims files (own_classes stubs) in
     let ts = there_claims files stubs in
     let end = c.in_err-check_presence.field-0.0 in
-    rw (q.1, q.2) (end_front p (ns ++ ts) (kind_claims files (own_classes stubs)) end (end_back p ns ts end c.in_ok-check_names.ensures c.in_err-check_presence.ensures))
+    let large = IsTooLargeInput files stubs in
+    rw (q.1, q.2) (end_front large p (ns ++ ts) (kind_claims files (own_classes stubs)) end (end_back large p ns ts end c.in_ok-check_names.ensures c.in_err-check_presence.ensures))
 
 pub returns : goal.returns
 returns c =
@@ -38,4 +45,25 @@ returns c =
     let p = unsorted files stubs in
     let ns = name_claims files (own_classes stubs) in
     let ts = there_claims files stubs in
-    tells_back p (ns ++ ts) (kind_claims files (own_classes stubs)) c.check_kinds.result (met_append p ns ts c.in_ok-check_names.ensures c.in_ok-check_presence.ensures) c.check_kinds.ensures
+    let ks = kind_claims files (own_classes stubs) in
+    let large = IsTooLargeInput files stubs in
+    let r = c.check_kinds.result in
+    tells_back large p (ns ++ ts) ks r (met_append p ns ts c.in_ok-check_names.ensures c.in_ok-check_presence.ensures) (tells_unnumbered large p ks r c.check_kinds.ensures)
+
+pub returns-in_err-known : goal.returns-in_err-known
+returns-in_err-known c =
+    let q = err_from_is_err_and c.from_residual-in_err-known.result c.from_residual-in_err-known.ensures.1 in
+    let files = c.args.files.now in
+    let stubs = c.args.stubs.now in
+    let large = IsTooLargeInput files stubs in
+    let e = c.in_err-known.field-0.0 in
+    rw (q.1, q.2) (error_end large (unsorted files stubs) (flat_claims files stubs) e (error_more (AreTooMany (all_names files stubs)) large e (λ many. in_classes many) c.in_err-known.ensures.too_many))
+
+pub returns-in_err-patches : goal.returns-in_err-patches
+returns-in_err-patches c =
+    let q = err_from_is_err_and c.from_residual-in_err-patches.result c.from_residual-in_err-patches.ensures.1 in
+    let files = c.args.files.now in
+    let stubs = c.args.stubs.now in
+    let large = IsTooLargeInput files stubs in
+    let e = c.in_err-patches.field-0.0 in
+    rw (q.1, q.2) (error_end large (unsorted files stubs) (flat_claims files stubs) e (error_more (AreTooMany (filter is_patch_stub stubs)) large e (λ many. in_patches many) c.in_err-patches.ensures.too_many))

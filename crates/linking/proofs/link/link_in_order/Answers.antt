@@ -4,9 +4,10 @@ use Rattle.jvm_model.specs.declared.program.NamedClass.{NamedClass}
 use Rattle.jvm_model.specs.declared.program.Origin.{Origin}
 use Rattle.jvm_model.specs.declared.stub.StubClass.{StubClass}
 use Rattle.jvm_model.specs.Linking.{AreMet, IsOrder}
-use Rattle.linking.specs.Claims.{TellsEnd, unsorted}
+use Rattle.linking.specs.Claims.{TellsEndOrLarge, unsorted}
+use Rattle.linking.specs.TooLarge.{IsTooLargeInput}
 use Rattle.linking.specs.LinkTelling.{flat_claims}
-use Rattle.linking.proofs.LinkSteps.{is_linkable, link_barred, link_told, stubs_told}
+use Rattle.linking.proofs.LinkSteps.{index_barred, is_linkable, link_barred, link_told, stubs_told}
 use Rattle.linking.proofs.SoundOrigins.{sound_order}
 use Rattle.linking.proofs.link.link_in_order.Goals as goal
 
@@ -15,16 +16,21 @@ returns-in_err-check-clause-tells c =
     let q = err_from_is_err_and c.from_residual.result c.from_residual.ensures.1 in
     let end = c.in_err-check.field-0.0 in
     let files = c.args.files.items in
-    let told = subst (λ (fs : List NamedClass). TellsEnd (unsorted fs c.args.stubs.items) (flat_claims fs c.args.stubs.items) end) c.deref.ensures.value
-    (subst (λ (ss : List StubClass). TellsEnd (unsorted c.deref.result.now ss) (flat_claims c.deref.result.now ss) end) c.deref-2.ensures.value c.in_err-check.ensures) in
+    let told = subst (λ (fs : List NamedClass). TellsEndOrLarge (IsTooLargeInput fs c.args.stubs.items) (unsorted fs c.args.stubs.items) (flat_claims fs c.args.stubs.items) end) c.deref.ensures.value
+    (subst (λ (ss : List StubClass). TellsEndOrLarge (IsTooLargeInput c.deref.result.now ss) (unsorted c.deref.result.now ss) (flat_claims c.deref.result.now ss) end) c.deref-2.ensures.value c.in_err-check.ensures) in
     rw (q.1, q.2) (link_barred files c.args.stubs.items end told)
+
+pub returns-in_err-order-clause-tells : goal.returns-in_err-order-clause-tells
+returns-in_err-order-clause-tells c =
+    let q = err_from_is_err_and c.from_residual-in_err-order.result c.from_residual-in_err-order.ensures.1 in
+    rw (q.1, q.2) (index_barred c.args.files.items c.args.stubs.items c.in_err-order.field-0.0 c.in_err-order.ensures.too_many)
 
 pub assemble-requires-clause-sound : goal.assemble-requires-clause-sound
 assemble-requires-clause-sound c =
     let files = c.args.files.items in
     let stubs = c.args.stubs.items in
     let order = c.put_in_order.new.order.items in
-    let is = subst (λ (all : List Origin). IsOrder all order) c.in_ok-order.ensures c.put_in_order.ensures in
+    let is = subst (λ (all : List Origin). IsOrder all order) c.in_ok-order.ensures.all c.put_in_order.ensures in
     sound_order files stubs c.requires.files c.requires.stubs order is
 
 pub assemble-requires-clause-linkable : goal.assemble-requires-clause-linkable
@@ -32,7 +38,7 @@ assemble-requires-clause-linkable c =
     let files = c.args.files.items in
     let stubs = c.args.stubs.items in
     let order = c.put_in_order.new.order.items in
-    let is = subst (λ (all : List Origin). IsOrder all order) c.in_ok-order.ensures c.put_in_order.ensures in
+    let is = subst (λ (all : List Origin). IsOrder all order) c.in_ok-order.ensures.all c.put_in_order.ensures in
     let met = subst (λ (fs : List NamedClass). AreMet (unsorted fs stubs) (flat_claims fs stubs)) c.deref.ensures.value
     (subst (λ (ss : List StubClass). AreMet (unsorted c.deref.result.now ss) (flat_claims c.deref.result.now ss)) c.deref-2.ensures.value c.in_ok-check.ensures) in
     is_linkable files stubs order is met
@@ -42,7 +48,7 @@ returns-clause-tells c =
     let files = c.args.files.items in
     let stubs = c.args.stubs.items in
     let order = c.put_in_order.new.order.items in
-    let is = subst (λ (all : List Origin). IsOrder all order) c.in_ok-order.ensures c.put_in_order.ensures in
+    let is = subst (λ (all : List Origin). IsOrder all order) c.in_ok-order.ensures.all c.put_in_order.ensures in
     let met = subst (λ (fs : List NamedClass). AreMet (unsorted fs stubs) (flat_claims fs stubs)) c.deref.ensures.value
     (subst (λ (ss : List StubClass). AreMet (unsorted c.deref.result.now ss) (flat_claims c.deref.result.now ss)) c.deref-2.ensures.value c.in_ok-check.ensures) in
     link_told files stubs order is met c.assemble.result c.assemble.ensures
@@ -52,7 +58,7 @@ returns-clause-base c =
     let files = c.args.files.items in
     let stubs = c.args.stubs.items in
     let order = c.put_in_order.new.order.items in
-    let is = subst (λ (all : List Origin). IsOrder all order) c.in_ok-order.ensures c.put_in_order.ensures in
+    let is = subst (λ (all : List Origin). IsOrder all order) c.in_ok-order.ensures.all c.put_in_order.ensures in
     let met = subst (λ (fs : List NamedClass). AreMet (unsorted fs stubs) (flat_claims fs stubs)) c.deref.ensures.value
     (subst (λ (ss : List StubClass). AreMet (unsorted c.deref.result.now ss) (flat_claims c.deref.result.now ss)) c.deref-2.ensures.value c.in_ok-check.ensures) in
     stubs_told files stubs order is met c.assemble.result c.assemble.ensures

@@ -1,4 +1,4 @@
-use Rattle.std.proofs.Common.{◌≡◌, [], ◌∷◌, ◌++◌, length, set, Bor, Some, refl, sym, ◌∙◌, ap, subst}
+use Rattle.std.proofs.Common.{◌≡◌, ◌+◌, ◌≤◌, [], ◌∷◌, ◌++◌, length, set, Bor, Some, refl, sym, ◌∙◌, ap, subst, arith}
 use Rattle.std.specs.Global.{Vec}
 use Rattle.std.specs.List.{slice_get}
 use Rattle.std.proofs.lemmas.List.{map-append, map-set}
@@ -6,12 +6,12 @@ use Rattle.std.proofs.lemmas.Option.{slice_get_read}
 use Rattle.jvm_model.specs.declared.stub.StubClass.{StubClass}
 use Rattle.class_index.proofs.ListPlaces.{at_map}
 use Rattle.linking.specs.PatchLists.{lent_stubs, lent_lists, AreListed}
+use Rattle.linking.proofs.LargeInputs.{one_patch}
 use Rattle.linking.proofs.PatchLists.{listed_patch}
 use Rattle.linking.proofs.patch_index.add_patch.Goals as goal
 
--- src/patch_index.rt:61:1
-pub returns : goal.returns
-returns c =
+pub returns-clause-goes : goal.returns-clause-goes
+returns-clause-goes c =
     let f = λ (list : Vec (Bor StubClass)). lent_stubs list.items in
     let s = c.args.stub.now in
     let names = c.list_of.new.names in
@@ -29,3 +29,6 @@ returns c =
           subst (AreListed (stubs ++ s ∷ []) names) (sym is)
           (listed_patch stubs s names (lent_lists lists) place (lent_stubs list.items) c.if-not-stub.false stands (at_map f lists place list at_place) (c.in_ok-place.ensures.kept.same stubs are));
     }
+
+pub returns-clause-count : goal.returns-clause-count
+returns-clause-count c = omega (arith, c.in_ok-place.ensures.count, one_patch c.args.stub.now c.if-not-stub.false)

@@ -17,7 +17,7 @@ returns-in_err-check_superclass c =
     let g = super_claim c.args.rule in
     let end = c.in_err-check_superclass.field-0.0 in
     rw (p.1, p.2)
-    (subst (λ (cs : List Claim). TellsEnd c.args.known.now cs end) (sym (map-append g xs ys)) (end_front c.args.known.now (map g xs) (map g ys) end c.in_err-check_superclass.ensures))
+    (subst (λ (cs : List Claim). TellsEnd c.args.known.now cs end) (sym (map-append g xs ys)) (end_front ⊥ c.args.known.now (map g xs) (map g ys) end c.in_err-check_superclass.ensures))
 
 pub returns : goal.returns
 returns c =
@@ -25,4 +25,4 @@ returns c =
     let ys = interface_places c.args.f.now.file c.args.f.now.class.pool (interfaces_offset c.args.f.now.class) c.args.f.now.class.interfaces in
     let g = super_claim c.args.rule in
     subst (λ (cs : List Claim). TellsClaims c.args.known.now cs c.check_interfaces.result) (sym (map-append g xs ys))
-    (tells_back c.args.known.now (map g xs) (map g ys) c.check_interfaces.result c.in_ok-check_superclass.ensures c.check_interfaces.ensures)
+    (tells_back ⊥ c.args.known.now (map g xs) (map g ys) c.check_interfaces.result c.in_ok-check_superclass.ensures c.check_interfaces.ensures)

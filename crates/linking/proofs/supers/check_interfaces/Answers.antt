@@ -20,7 +20,7 @@ returns-in_err-check_super c =
     let is : c.class_text.result.now ≡ class_or_none f.class.pool (get_or xs i 0) = c.class_text.ensures ∙ ap (λ (pool : List PoolEntry). class_or_none pool (get_or xs i 0)) c.as_slice-pool.ensures in
     let left = at_interface c.args.known.now c.args.rule f.file f.class.pool (claims xs) c.loop-index.offset xs i c.loop-index-test.true c.class_text.result.now is c.loop-index.invariant.left in
     let end = c.in_err-check_super.field-0.0 in
-    let whole = left_stop c.args.known.now (claims xs) (named c.args.known.now c.args.rule f.file f.class.pool (claims xs) c.loop-index.offset xs i c.loop-index-test.true c.class_text.result.now c.class_text.result.now) _ end left c.in_err-check_super.ensures in
+    let whole = left_stop ⊥ c.args.known.now (claims xs) (named c.args.known.now c.args.rule f.file f.class.pool (claims xs) c.loop-index.offset xs i c.loop-index-test.true c.class_text.result.now c.class_text.result.now) _ end left c.in_err-check_super.ensures in
     rw (p.1, p.2) (subst (λ (ys : List ℕ). TellsEnd c.args.known.now (claims ys) end) c.as_slice-index-items.ensures whole)
 
 pub loop-index-preserved : goal.loop-index-preserved

@@ -13,7 +13,7 @@ returns-then-is_interface-as_interface c =
 pub returns-else-is_interface-as_interface : goal.returns-else-is_interface-as_interface
 returns-else-is_interface-as_interface c =
     let wanted = claim c.args.file.now c.args.offset (of_kind c.args.as_interface c.args.name.now) in
-    one_unmet c.args.known.now wanted c.refused.result
+    one_unmet ⊥ c.args.known.now wanted c.refused.result
     (other_kind c.args.known.now c.args.name.now c.in-Some.is_interface c.args.as_interface c.in-Some.ensures.found
     (not_same_bool c.in-Some.is_interface c.args.as_interface c.if-is_interface-as_interface.false))
     c.refused.ensures

@@ -7,7 +7,6 @@ use Rattle.linking.specs.Patching.{patches_for}
 use Rattle.linking.specs.PatchLists.{lent_stubs}
 use Rattle.linking.proofs.patch_index.Patches.of.Goals as goal
 
--- src/patch_index.rt:50:5
 pub returns-in-Some : goal.returns-in-Some
 returns-in-Some c =
     let name = c.args.name.now in
