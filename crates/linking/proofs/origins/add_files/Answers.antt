@@ -28,7 +28,7 @@ returns-in_err-origin-clause-too_many c =
     let q = err_from_is_err_and c.from_residual.result c.from_residual.ensures.1 in
     let all = c.args.files.items in
     let x = c.in-Some.f in
-    let t = YieldsList-turn (YieldsList-from_vec {s = c.into_iter-f-iterator.result} all (search rules) (search rules)) 
+    let t = YieldsList-turn (YieldsList-from_vec {s = c.into_iter-f-iterator.result} all (search rules) (search rules))
     c.loop-f.yielded c.loop-f.f-iterator c.loop-f.yielded_by c.next.result c.next.new.self x c.in-Some.is c.next.ensures.steps in
     let here = AreTooManyNatives c.args.patches.now x.class in
     rw (q.1, q.2)
