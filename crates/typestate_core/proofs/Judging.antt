@@ -33,7 +33,7 @@ use Rattle.property_file.specs.Refusals.{IsBrokenFile, IsPropertyRefusal}
 use Rattle.toml_tables.specs.Documents.{IsNoDocument, too_large}
 use Rattle.typestate_core.specs.declared.verifier.Answer.{Answer}
 use Rattle.typestate_core.specs.Answers.{Says, SaysRefusal, IsReported, IsVerdict, AnswersRun, lines_of}
-use Rattle.typestate_core.specs.Output.{TakesAll, text_of}
+use Rattle.typestate_core.specs.Output.{TakesAll, TakesFront, text_of}
 
 pub if_ok : {A E : Type 0} (r : Result A E) (P Q : A → Type 0) → IfOk r P → ((a : A) → P a → Q a) → IfOk r Q
 if_ok (Ok a) P Q p h = h a p
@@ -299,6 +299,14 @@ written_told (Some files) words status answer lines old new is lines_are reporte
     let outcome = subst (λ (l : List (List ℕ)). Outcome words files answer.status l) lines_are told in
     let P : Status → Type 0 = λ s. AnswersRun words files s old new in
     subst P is (by_status words files lines old new answer.status reported takes outcome)
+
+-- Some of the first bytes of the lines were written, and then writing failed.
+pub front_told : (o : Option (List File)) (words : List (List ℕ)) (answer : Answer) (lines : List (List ℕ)) (old new : Option (List ℕ))
+    → lines_of answer ≡ lines → ToldOfWords o words answer → TakesFront old new (text_of lines)
+    → IfSome o (λ files. AnswersRun words files statuses.WriteFault old new)
+front_told None words answer lines old new lines_are told takes = tt
+front_told (Some files) words answer lines old new lines_are told takes =
+    (answer.status, lines, subst (λ (l : List (List ℕ)). Outcome words files answer.status l) lines_are told, takes)
 
 pub true_of_not : (b : Bool) → false ≡ not b → b ≡ true
 true_of_not true e = refl

@@ -1,6 +1,8 @@
 pub mod Judging
 pub mod WordLists
 pub mod Written
+pub mod Handing
+pub mod HandedRuns
 pub mod OneRequest
 pub mod OneJudgement
 pub mod OneOutcome

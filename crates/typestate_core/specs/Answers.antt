@@ -1,7 +1,8 @@
 -- Public contracts rest on this module.
--- What a run answers, and what the sink has taken then.
+-- What a run answers, what the sink has taken then, and what was handed to it.
 use Rattle.std.specs.Prelude.{◌≡◌, ◌↔◌, ℕ, Bool, List, [], ◌∷◌, map, Option, IsTrue}
 use Rattle.ts_outside.specs.Files.{File}
+use Rattle.ts_outside.specs.Handed.{Handed}
 use Rattle.jvm_model.specs.declared.automaton.Automaton.{Automaton}
 use Rattle.jvm_model.specs.declared.class_file.ClassFile.{ClassFile}
 use Rattle.jvm_model.specs.declared.reason.Reason.TheVariants.{BadToml, BadProperty}
@@ -14,7 +15,7 @@ use Rattle.typestate_core.specs.declared.verifier.Judgement.{Judgement}
 use Rattle.typestate_core.specs.declared.verifier.Judgement.TheVariants as judgements
 use Rattle.typestate_core.specs.Lines.{refused_line}
 use Rattle.typestate_core.specs.Outcomes.{Outcome, IsOfForm, IsJudged, IsRefusedAs}
-use Rattle.typestate_core.specs.Output.{TakesAll, TakesFront, text_of}
+use Rattle.typestate_core.specs.Output.{TakesAll, TakesFront, text_of, Hands}
 use Rattle.prune_stage.specs.StageOne.{IsSafe, events_of}
 
 -- The lines of an answer.
@@ -73,3 +74,16 @@ AnswersRun words files SomeUnproved old new = (lines : List (List ℕ)) × Outco
 AnswersRun words files Refused old new = (lines : List (List ℕ)) × Outcome words files Refused lines × TakesAll old new (text_of lines)
 AnswersRun words files Usage old new = (lines : List (List ℕ)) × Outcome words files Usage lines × TakesAll old new (text_of lines)
 AnswersRun words files RejectedCertificate old new = ⊥
+
+-- The calls of the run hand out the lines of its outcome, each as a piece of its own: all of them, or where writing
+-- fails, up to a rest. Where reading fails or memory runs out, there is no call.
+abbrev pub HandsRun : List (List ℕ) → List File → Status → Option (List Handed) → Option (List Handed) → Type 0
+HandsRun words files ReadFault old new = new ≡ old
+HandsRun words files Memory old new = new ≡ old
+HandsRun words files WriteFault old new =
+    (status : Status) × (lines : List (List ℕ)) × Outcome words files status lines × ((rest : List (List ℕ)) × Hands old new lines rest)
+HandsRun words files AllSafe old new = (lines : List (List ℕ)) × Outcome words files AllSafe lines × Hands old new lines []
+HandsRun words files SomeUnproved old new = (lines : List (List ℕ)) × Outcome words files SomeUnproved lines × Hands old new lines []
+HandsRun words files Refused old new = (lines : List (List ℕ)) × Outcome words files Refused lines × Hands old new lines []
+HandsRun words files Usage old new = (lines : List (List ℕ)) × Outcome words files Usage lines × Hands old new lines []
+HandsRun words files RejectedCertificate old new = ⊥

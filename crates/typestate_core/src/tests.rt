@@ -1,6 +1,6 @@
 //! Whole runs over trees and sinks in memory: the worked cases, and faults of the outside.
 
-ghost use Rattle.std.specs.Prelude.{ℕ, Some};
+ghost use Rattle.std.specs.Prelude.{ℕ, Some, None};
 
 use super::*;
 use std::alloc::{AllocError, Global};
@@ -185,6 +185,8 @@ struct OneByteSink {
 
 impl Sink for OneByteSink {
     ghost taken = { λ s. Some s.sink.bytes };
+
+    ghost handed = { λ _. None };
 
     ghost faults = { λ s. s.sink.faults };
 

@@ -10,7 +10,7 @@ ghost use Rattle.typestate_core.specs.declared.verifier.End.TheVariants.{Memory}
 ghost use Rattle.typestate_core.specs.Lines.{no_file, refused_line, missing_line, site_text, safe_line, unproved_line, summary_line};
 ghost use Rattle.typestate_core.specs.Outcomes.{Outcome, Asks, IsOfForm, entry_site};
 ghost use Rattle.typestate_core.specs.Claims.{KeepsProtocol, WroteLine, safe_text};
-ghost use Rattle.typestate_core.specs.Answers.{Says, SaysRefusal, IsReported, IsSiteVerdict, IsJudgement, AnswersRun, lines_of};
+ghost use Rattle.typestate_core.specs.Answers.{Says, SaysRefusal, IsReported, IsSiteVerdict, IsJudgement, AnswersRun, HandsRun, lines_of};
 
 use crate::lines::{
     Counts, PrintedSite, missing_line, refused_line, safe_line, summary_line, unproved_line,
@@ -72,14 +72,16 @@ impl<T: Drop> From<AllocFailed<T>> for End {
 }
 
 /// Runs the verifier on these words, over a tree of files, and writes what it says to the sink. All
-/// reading and all analysis come before the first write, each line is a piece of its own, and `ReadFault`
-/// and `WriteFault` come only where the tree or the sink counted a fault in this run.
+/// reading and all analysis come before the first write. Each line is handed to the sink as a piece of its own;
+/// where the sink takes a part of a piece, what is left of the line is the next one. `ReadFault` and `WriteFault`
+/// come only where the tree or the sink counted a fault in this run.
 ///
 /// Where the tree tells its files, a line `safe 1 METHOD OFFSET CLASS` that the sink took in this run is true of
 /// the executions of the bytecode: in no state of any of them is an object of that site in the error state. The
 /// same holds of the entry's site where the status is `AllSafe`.
 pub fn run<T: Tree, S: Sink>(alloc: Global, words: &[String], tree: &mut T, out: &mut S) -> Status
     ensures told { IfSome (T.files tree.old) (λ files. AnswersRun (map string_bytes words.now) files result (S.taken out.old) (S.taken out.new)) }
+    ensures pieces { IfSome (T.files tree.old) (λ files. HandsRun (map string_bytes words.now) files result (S.handed out.old) (S.handed out.new)) }
     ensures sound { IfSome (T.files tree.old) (λ files. (site : List ℕ) → WroteLine (S.taken out.old) (S.taken out.new) (safe_text site) → KeepsProtocol (map string_bytes words.now) files site) }
     ensures all_safe { IfSome (T.files tree.old) (λ files. result ≡ Status.AllSafe → (site : List ℕ) × KeepsProtocol (map string_bytes words.now) files site) }
     ensures read_fault { result ≡ Status.ReadFault → Rose (T.faults tree.old) (T.faults tree.new) }
@@ -98,6 +100,7 @@ fn judge_and_write<T: Tree, S: Sink>(
     out: &mut S,
 ) -> Status
     ensures told { IfSome (T.files tree.old) (λ files. AnswersRun (map string_bytes words.now) files result (S.taken out.old) (S.taken out.new)) }
+    ensures pieces { IfSome (T.files tree.old) (λ files. HandsRun (map string_bytes words.now) files result (S.handed out.old) (S.handed out.new)) }
     ensures read_fault { result ≡ Status.ReadFault → Rose (T.faults tree.old) (T.faults tree.new) }
     ensures write_fault { result ≡ Status.WriteFault → Rose (S.faults out.old) (S.faults out.new) }
     ensures silent { result ≡ Status.ReadFault → out.new ≡ out.old }

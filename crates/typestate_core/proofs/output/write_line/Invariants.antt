@@ -1,10 +1,12 @@
 use Rattle.std.proofs.Common.{◌≤◌, length}
+use Rattle.typestate_core.proofs.Handing.{HandedUpTo}
 use Rattle.typestate_core.proofs.Written.{Written}
 use Rattle.typestate_core.proofs.output.write_line.Given as goal
 
 abbrev pub invariant-loop-rest : goal.invariant-loop-rest
 invariant-loop-rest g l = record {
   written : Written (g.S.Sink.taken l.initial.out) (g.S.Sink.taken l.out) l.line l.rest;
+  handed : HandedUpTo (g.S.Sink.handed l.initial.out) (g.S.Sink.handed l.out) l.line l.rest;
   never_falls : g.S.Sink.faults l.initial.out ≤ g.S.Sink.faults l.out;
 }
 
