@@ -1,5 +1,5 @@
 -- More than 32 bits can number: of what an index tells, and of what linking is given.
-use Rattle.std.proofs.Common.{◌≡◌, ◌⊎◌, ℕ, ◌+◌, ◌*◌, ◌<◌, ◌≤◌, Bool, true, false, cond, not, List, [], ◌∷◌, ◌++◌, length, map, filter, drop, get_or, All, Contains, IfErr, Result, Ok, Err, refl, sym, ◌∙◌, ap, subst, inl, inr, arith, length-append}
+use Rattle.std.proofs.Common.{◌≡◌, ℕ, ◌+◌, ◌*◌, ◌<◌, ◌≤◌, Bool, true, false, cond, not, List, [], ◌∷◌, ◌++◌, length, map, filter, drop, get_or, All, Contains, Result, Err, refl, sym, ◌∙◌, ap, subst, inl, inr, arith, length-append}
 use Rattle.std.specs.List.{list_any}
 use Rattle.std.specs.Str.{bytes_eq}
 use Rattle.std.proofs.lemmas.List.{append-nil, length-map, map-append}
@@ -11,7 +11,6 @@ use Rattle.jvm_model.specs.declared.program.NamedClass.{NamedClass}
 use Rattle.jvm_model.specs.declared.stub.StubClass.{StubClass}
 use Rattle.jvm_model.specs.Access.{has_flag}
 use Rattle.jvm_model.specs.Linking.{Claim, Description, is_base_stub, own_classes, stub_descriptions, with_description, with_descriptions}
-use Rattle.jvm_model.specs.Lookups.{Signature}
 use Rattle.jvm_model.specs.Programs.{Program}
 use Rattle.jvm_model.specs.Stubs.{is_same_method}
 use Rattle.class_index.specs.declared.index_error.IndexError.{IndexError}
@@ -40,14 +39,6 @@ error_told Large Memory large = tt
 pub error_more : (Large More : Type 0) (e : IndexError) → (Large → More) → TellsTooMany Large e → TellsTooMany More e
 error_more Large More TooMany more told = more told
 error_more Large More Memory more told = tt
-
-pub result_told : {X : Type 0} (Large : Type 0) (r : Result X IndexError) → (r ≡ Err TooMany → Large) → IfErr r (TellsTooMany Large)
-result_told Large (Ok x) large = tt
-result_told Large (Err e) large = error_told Large e large
-
-pub result_more : {X : Type 0} (Large More : Type 0) (r : Result X IndexError) → (Large → More) → IfErr r (TellsTooMany Large) → IfErr r (TellsTooMany More)
-result_more Large More (Ok x) more told = tt
-result_more Large More (Err e) more told = error_more Large More e more told
 
 -- as an end of linking
 pub error_end : (Large : Type 0) (p : Program) (claims : List Claim) (e : IndexError) → TellsTooMany Large e → TellsEndOrLarge Large p claims (end_of e)

@@ -14,7 +14,7 @@ use Rattle.linked_program.specs.MemberLists.{AreTooManyKeys}
 use Rattle.linking.specs.Claims.{all_names}
 use Rattle.linking.specs.Patching.{is_patch_stub, method_key, native_keys}
 
--- The index tells that there is too much to number, and this is so; or memory ran out.
+-- The error says that there is too much to number, and this is so; or that memory ran out.
 abbrev pub TellsTooMany : Type 0 → IndexError → Type 0
 TellsTooMany Large TooMany = Large
 TellsTooMany Large Memory = Unit {0}
@@ -25,7 +25,7 @@ TellsTooMany Large Memory = Unit {0}
 abbrev pub AreTooManyDescriptions : List Description → Type 0
 AreTooManyDescriptions ds = AreTooManyKeys (map method_key ds)
 
--- So it is of the native methods of a class file, or of what patches say of them.
+-- So it is of the native methods of a class file, or of what patches say of these.
 abbrev pub AreTooManyNatives : List StubClass → ClassFile → Type 0
 AreTooManyNatives stubs c = AreTooManyKeys (native_keys c.pool c.methods) ⊎ AreTooManyDescriptions (native_descriptions stubs c)
 
@@ -42,8 +42,8 @@ pub record HasLargeFile (stubs : List StubClass) (files : List NamedClass) : Typ
 
 -- ---- what linking is given
 
--- Class files and stubs are too many classes; the patches are too many; what stubs say of the methods of one stub or of one class
--- file is too much; or the program of all classes has too much to number.
+-- The classes are too many, of class files and stubs together; or the patches are; or what is said of the methods of one stub, or
+-- of the native methods of one class file; or the program of all classes has too much to number.
 pub data IsTooLargeInput (files : List NamedClass) (stubs : List StubClass) : Type 0 where
   in_classes : AreTooMany (all_names files stubs) → IsTooLargeInput files stubs
   in_patches : AreTooMany (filter is_patch_stub stubs) → IsTooLargeInput files stubs

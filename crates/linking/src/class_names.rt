@@ -54,7 +54,7 @@ fn is_base_stub(c: &StubClass) -> bool
     c.file.as_str() == "-"
 }
 
-/// The names of the stubs that are classes of their own.
+/// The names of the stubs that are classes of their own. The error is `TooMany` only where there are 2^32 - 1 of these or more.
 pub(crate) fn stub_names(alloc: Global, stubs: &[StubClass]) -> Result<TextIndex, IndexError>
     ensures names { IfOk result (λ names. names ≡ with_own_names [] stubs.now) }
     ensures too_many { IfErr result (TellsTooMany (AreTooMany (own_classes stubs.now))) }

@@ -80,7 +80,7 @@ impl<'a> Descriptions<'a> {
     }
 
     /// Adds a description. It takes the place of an earlier one of its name and descriptor, and else comes last. The time is
-    /// linear in these texts.
+    /// linear in these texts. The error is `TooMany` where the descriptions, or the texts in them, have no more numbers.
     pub fn add(&mut self, described: Described<'a>) -> Result<(), IndexError>
         ensures added { OnOk result (self.new ≡ with_description self.old (description_of described.entry)) }
         ensures too_many { IfErr result (TellsTooMany (AreTooManyDescriptions (with_description self.old (description_of described.entry)))) }
@@ -94,7 +94,7 @@ impl<'a> Descriptions<'a> {
         }
     }
 
-    /// Adds all that a stub says, in its order.
+    /// Adds all that a stub says, in its order. The errors are those of `add`.
     pub fn add_all(&mut self, stub: &'a StubClass) -> Result<(), IndexError>
         ensures added { OnOk result (self.new ≡ with_descriptions self.old (descriptions stub.entry.now)) }
         ensures too_many { IfErr result (TellsTooMany (AreTooManyDescriptions (with_descriptions self.old (descriptions stub.entry.now)))) }
@@ -108,7 +108,7 @@ impl<'a> Descriptions<'a> {
         Ok(())
     }
 
-    /// What a stub says, in its order, also where it says it twice.
+    /// What a stub says, in its order, also where it says it twice. The errors are those of `add`.
     pub fn of(alloc: Global, stub: &'a StubClass) -> Result<Self, IndexError>
         ensures all { IfOk result (λ all. all ≡ descriptions stub.entry.now) }
         ensures too_many { IfErr result (TellsTooMany (AreTooManyDescriptions (descriptions stub.entry.now))) }

@@ -44,7 +44,8 @@ impl Known {
     }
 }
 
-/// The classes of class files, and of stubs that are classes of their own.
+/// The classes of class files, and of stubs that are classes of their own. The error is `TooMany` only where there are 2^32 - 1
+/// classes or more.
 pub fn known_classes(
     alloc: Global,
     files: &[NamedClass],

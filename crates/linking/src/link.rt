@@ -36,8 +36,8 @@ use std::cmp::Ordering;
 ///
 /// What is told at a stub's file has the offset 0. `Memory` is reported out of memory.
 ///
-/// `TooMany` is reported where there are 2^32 - 1 or more of what linking numbers: of the classes, of the patches, of the methods or
-/// the fields of the program or their different names and descriptors, or of these in the descriptions of one class.
+/// `TooMany` is reported only where linking has 2^32 - 1 or more items of a kind to number: the classes; the patches; the methods or
+/// the fields of the program; what stubs say of the methods of one class; or the different names and descriptors in these.
 ///
 /// Each stub that is a class of its own is a class of the program, as it describes itself.
 pub fn link(

@@ -104,7 +104,7 @@ fn add_native(
 }
 
 impl<'a> Natives<'a> {
-    /// The native methods of a class file (JVMS 4.6).
+    /// The native methods of a class file (JVMS 4.6). The error is `TooMany` where they, or the texts in them, have no more numbers.
     pub(crate) fn of(alloc: Global, class: &'a ClassFile) -> Result<Self, IndexError>
         ensures natives { IfOk result (λ natives. natives ≡ class.entry.now) }
         ensures too_many { IfErr result (TellsTooMany (AreTooManyKeys (native_keys class.entry.now.pool class.entry.now.methods))) }

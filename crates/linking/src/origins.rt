@@ -21,7 +21,7 @@ struct Parted {
 }
 
 /// Where the classes come from, in the order given: class files, and then stubs that are classes of their own. Class files are
-/// moved; what stubs say of methods is copied.
+/// moved; what stubs say of methods is copied. The error is `TooMany` only where there is too much to number.
 pub fn origins(
     alloc: Global,
     files: Vec<NamedClass>,

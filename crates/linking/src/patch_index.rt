@@ -33,7 +33,8 @@ impl<'a> Model for Patches<'a> {
 }
 
 impl<'a> Patches<'a> {
-    /// The patches among stubs. The time is linear in the texts of their names.
+    /// The patches among stubs. The time is linear in the texts of their names. The error is `TooMany` only where there are 2^32 - 1
+    /// patches or more.
     pub fn new(alloc: Global, stubs: &'a [StubClass]) -> Result<Self, IndexError>
         ensures patches { IfOk result (λ patches. patches ≡ stubs.entry.now) }
         ensures too_many { IfErr result (TellsTooMany (AreTooMany (filter is_patch_stub stubs.entry.now))) }

@@ -13,7 +13,8 @@ use class_index::texts::class_text;
 use jvm_model::{ClassFile, StubClass};
 use std::alloc::Global;
 
-/// What is known of the methods of a stub that is a class of its own: what it says, and what its patches say.
+/// What is known of the methods of a stub that is a class of its own: what it says, and what its patches say. The errors are
+/// those of adding a description.
 pub fn stub_descriptions<'a>(
     alloc: Global,
     patches: &Patches<'a>,
@@ -82,7 +83,7 @@ fn add_native<'a>(
     }
 }
 
-/// What patches say of native methods of a class file.
+/// What patches say of native methods of a class file. The errors are those of adding a description, or a native method.
 pub fn native_descriptions<'a>(
     alloc: Global,
     patches: &Patches<'a>,

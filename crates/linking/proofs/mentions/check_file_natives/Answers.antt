@@ -1,6 +1,6 @@
 use Rattle.std.proofs.Common.{List, ◌∙◌, subst}
 use Rattle.std.proofs.lemmas.Result.{err_from_is_err_and}
-use Rattle.jvm_model.specs.Linking.{Description, description_claims, native_claims, native_descriptions}
+use Rattle.jvm_model.specs.Linking.{Description, description_claims, native_claims}
 use Rattle.linking.specs.Claims.{TellsClaims}
 use Rattle.linking.specs.TooLarge.{AreTooManyNatives}
 use Rattle.linking.proofs.ClaimSteps.{tells_unnumbered}

@@ -1,9 +1,9 @@
-use Rattle.std.proofs.Common.{◌≡◌, List, map, filter, sym, ◌∙◌, ap, subst, inl, inr, Bor}
+use Rattle.std.proofs.Common.{◌≡◌, List, map, filter, ◌∙◌, ap, subst, inl, inr, Bor}
 use Rattle.std.specs.List.{flat_map}
 use Rattle.std.proofs.lemmas.Result.{err_from_is_err_and}
 use Rattle.jvm_model.specs.declared.pool.PoolEntry.{PoolEntry}
 use Rattle.jvm_model.specs.declared.stub.StubClass.{StubClass}
-use Rattle.jvm_model.specs.Linking.{Description, descriptions, native_descriptions, with_descriptions}
+use Rattle.jvm_model.specs.Linking.{descriptions, native_descriptions, with_descriptions}
 use Rattle.jvm_model.specs.Programs.{name_of, class_or_none}
 use Rattle.linked_program.specs.MemberLists.{AreTooManyKeys}
 use Rattle.linking.specs.Patching.{native_keys, patches_for, is_native_in}
