@@ -1,0 +1,92 @@
+//! The code of a method, as text.
+
+ghost use Rattle.std.specs.Prelude.{◌≡◌, ◌<◌, ◌^◌, length, IsTrue};
+ghost use Rattle.std.specs.List.{list_any};
+ghost use Rattle.jvm_model.specs.Layout.{HasCodeAttribute};
+ghost use Rattle.jvm_model.specs.Soundness.{is_code, IsSoundClass};
+ghost use Rattle.jvm_model.specs.Spelling.{spell};
+
+use code_reader::read_code;
+use jvm_model::layout::is_code;
+use jvm_model::{Attribute, ClassFile, Code, Handler, PlacedInstruction, PoolEntry, ReadRefusal};
+use std::alloc::{AllocError, Global};
+
+/// What the code of the first method tells, if it has one.
+pub fn told_code(alloc: Global, class: &ClassFile) -> Result<String, ReadRefusal>
+    requires sound { IsSoundClass class.now }
+    requires size { length (spell class.now) < 2 ^ 32 }
+{
+    if !has_code(class) {
+        return Ok(format!(in alloc; "no code")?);
+    }
+    let code = read_code(alloc, class, 0)?;
+    Ok(told(alloc, &code)?)
+}
+
+/// Whether the first method has code.
+pub fn has_code(class: &ClassFile) -> bool
+    ensures { IsTrue result → HasCodeAttribute class.now 0 }
+{
+    match class.methods.as_slice().get(0) {
+        Some(method) => any_code(class.pool.as_slice(), method.attributes.as_slice()),
+        None => false,
+    }
+}
+
+/// Whether one of the attributes is named Code.
+fn any_code(pool: &[PoolEntry], attributes: &[Attribute]) -> bool
+    ensures { result ≡ list_any (is_code pool.now) attributes.now }
+{
+    attributes.iter().any(|attribute| is_code(pool, attribute))
+}
+
+/// Where the code stands, its limits, its instructions, and its handlers.
+fn told(alloc: Global, code: &Code) -> Result<String, AllocError> {
+    let mut text = String::new(alloc);
+    write!(text, "at {} stack {}", code.at, code.max_stack)?;
+    write!(text, " locals {}", code.max_locals)?;
+    tell_instructions(&mut text, code.instructions.as_slice())?;
+    for handler in code.handlers.as_slice() {
+        tell_handler(&mut text, handler)?;
+    }
+    Ok(text)
+}
+
+/// Adds how many instructions there are, and each but the `nop` that follow another.
+fn tell_instructions(
+    text: &mut String,
+    instructions: &[PlacedInstruction],
+) -> Result<(), AllocError> {
+    write!(text, " instructions {}:", instructions.len())?;
+    let mut after_nop = false;
+    for placed in instructions {
+        let is_nop = placed.instruction.opcode == 0;
+        if !(is_nop && after_nop) {
+            tell_instruction(text, placed)?;
+        }
+        after_nop = is_nop;
+    }
+    Ok(())
+}
+
+/// Adds an instruction: its offset and its opcode; its operand and its dimensions, if they are not 0; and its targets.
+fn tell_instruction(text: &mut String, placed: &PlacedInstruction) -> Result<(), AllocError> {
+    let given = &placed.instruction;
+    write!(text, " {}:{:02x}", placed.offset, given.opcode)?;
+    if given.operand != 0 {
+        write!(text, "#{}", given.operand)?;
+    }
+    if given.dimensions != 0 {
+        write!(text, "x{}", given.dimensions)?;
+    }
+    for target in given.targets.as_slice() {
+        write!(text, ">{target}")?;
+    }
+    Ok(())
+}
+
+/// Adds a handler: what it covers, where it begins, and the class that it takes.
+fn tell_handler(text: &mut String, handler: &Handler) -> Result<(), AllocError> {
+    write!(text, " handler {}-{}", handler.start, handler.finish)?;
+    write!(text, ">{} takes {}", handler.target, handler.catch_type)
+}

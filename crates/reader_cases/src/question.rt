@@ -1,0 +1,51 @@
+//! What the rows of a case ask of a class file, and the answer: what was read, or where and why it is refused.
+
+use crate::class_answer::told_class;
+use crate::code_answer::told_code;
+use crate::graph_answer::told_graph;
+use classfile_reader::read_class;
+use jvm_model::{ReadRefusal, reason_word};
+use std::alloc::{AllocError, Global};
+
+/// What is asked of a class file.
+#[derive(Clone, Copy, Debug)]
+pub enum Question {
+    /// The class file itself.
+    Class,
+    /// The code of its first method.
+    Code,
+    /// The flow graph of its first method.
+    Graph,
+}
+
+/// The question of a word.
+pub fn question_of(word: &str) -> Option<Question> {
+    match word {
+        "class" => Some(Question::Class),
+        "code" => Some(Question::Code),
+        "graph" => Some(Question::Graph),
+        _ => None,
+    }
+}
+
+/// The answer to a question on a class file of these bytes.
+pub fn answer(alloc: Global, question: Question, bytes: &[u8]) -> Result<String, AllocError> {
+    match told(alloc, question, bytes) {
+        Ok(text) => Ok(text),
+        Err(ReadRefusal::Refused { offset, reason }) => {
+            let word = reason_word(reason);
+            format!(in alloc; "refused {offset} {word}")
+        }
+        Err(ReadRefusal::Memory) => Err(AllocError),
+    }
+}
+
+/// What was read.
+fn told(alloc: Global, question: Question, bytes: &[u8]) -> Result<String, ReadRefusal> {
+    let class = read_class(alloc, bytes)?;
+    match question {
+        Question::Class => Ok(told_class(alloc, &class)?),
+        Question::Code => told_code(alloc, &class),
+        Question::Graph => told_graph(alloc, &class),
+    }
+}
