@@ -1,142 +1,87 @@
-//! Bodies of Code attributes that are spelled by hand, and what reading each tells: what JVMS 4.7.3, 4.9.1 and 6.5 say of
-//! it. A body stands at the file offset 92 here, so that its code begins at 100.
+//! A call of each public function, on a method that is made by hand. The program `reader_cases` tells what reading tells of others.
 
-mod class;
-mod cuts;
-mod faults;
-mod handlers;
-mod indices;
-mod locals;
-mod opcodes;
-mod switches;
-mod targets;
+ghost use Rattle.std.specs.Prelude.{codes, ◌≡◌, ◌∷◌, [], ◌<◌, ◌^◌, length, IfOk};
+ghost use Rattle.jvm_model.specs.declared.pool.PoolEntry.TheVariants as entries;
+ghost use Rattle.jvm_model.specs.Layout.{HasCodeAttribute};
+ghost use Rattle.jvm_model.specs.Soundness.{IsSoundClass};
+ghost use Rattle.jvm_model.specs.Spelling.{spell};
 
-use crate::body::read_body;
-use jvm_model::{Code, PoolEntry, ReadRefusal, Reason, Sequence};
+use crate::{method_offset, read_code, read_code_at};
+use jvm_model::{Attribute, Bytes, ClassFile, Member, PoolEntry, Sequence};
 use std::alloc::{AllocError, Global};
-use std::process::Abort;
 use std::test::*;
 
-/// Where the body stands in the file.
-const PLACE: u32 = 92;
-
-/// What stands after the code, if there are no handlers and no attributes.
-const NOTHING_AFTER: &[u8] = &[0, 0, 0, 0];
-
-fn text(alloc: Global, bytes: &[u8]) -> Result<PoolEntry, AllocError> {
-    let bytes = Vec::from_slice(alloc, bytes)?;
-    Ok(PoolEntry::Utf8(Sequence::from_vec(bytes)))
+/// A copy of a text.
+fn copied(alloc: Global, text: &[u8]) -> Result<Bytes, AllocError>
+    ensures { IfOk result (λ copy. copy ≡ text.now) }
+{
+    Ok(Sequence::from_vec(Vec::from_slice(alloc, text)?))
 }
 
-/// A pool with an entry of each kind, of which 2 is a class, 4 an array of two dimensions, and 19 is past its end.
-fn pool(alloc: Global) -> Result<Vec<PoolEntry>, AllocError> {
-    Ok(vec![in alloc;
-        text(alloc, b"A")?,
-        PoolEntry::Class(1),
-        text(alloc, b"[[I")?,
-        PoolEntry::Class(3),
-        PoolEntry::Integer(7),
-        PoolEntry::Float(7),
-        PoolEntry::Str(1),
-        PoolEntry::Long(7),
-        PoolEntry::Taken,
-        PoolEntry::Double(7),
-        PoolEntry::Taken,
-        PoolEntry::Fieldref {
-            class: 2,
-            member: 15
-        },
-        PoolEntry::Methodref {
-            class: 2,
-            member: 15
-        },
-        PoolEntry::InterfaceMethodref {
-            class: 2,
-            member: 15
-        },
-        PoolEntry::NameAndType {
-            name: 1,
-            descriptor: 1
-        },
-        PoolEntry::MethodHandle {
-            kind: 1,
-            reference: 12
-        },
-        PoolEntry::MethodType(1),
-        PoolEntry::InvokeDynamic {
-            bootstrap: 0,
-            member: 15
-        },
-    ]?)
+/// The constant pool of a class A: the names of code, of the class and of a method, a descriptor, and the class.
+fn entries(alloc: Global) -> Result<Sequence<PoolEntry>, AllocError>
+    ensures { IfOk result (λ pool. pool ≡ entries.Utf8 (codes "Code") ∷ entries.Utf8 (codes "A") ∷ entries.Utf8 (codes "m") ∷ entries.Utf8 (codes "()V") ∷ entries.Class 2 ∷ []) }
+{
+    let entries = vec![in alloc;
+        PoolEntry::Utf8(copied(alloc, b"Code")?),
+        PoolEntry::Utf8(copied(alloc, b"A")?),
+        PoolEntry::Utf8(copied(alloc, b"m")?),
+        PoolEntry::Utf8(copied(alloc, b"()V")?),
+        PoolEntry::Class(2),
+    ]?;
+    Ok(Sequence::from_vec(entries))
 }
 
-/// A body with this code, and with these bytes after it.
-fn body_of(
-    alloc: Global,
-    max_locals: u16,
-    code: &[u8],
-    after: &[u8],
-) -> Result<Vec<u8>, AllocError> {
-    let long = u32::try_from(code.len()).unwrap_or(0);
-    let mut body = Vec::from_slice(alloc, &[0, 2])?;
-    body.extend_from_slice(&max_locals.to_be_bytes())?;
-    body.extend_from_slice(&long.to_be_bytes())?;
-    body.extend_from_slice(code)?;
-    body.extend_from_slice(after)?;
-    Ok(body)
+/// A static method whose code has this body.
+fn method(alloc: Global, body: &[u8]) -> Result<Member, AllocError>
+    ensures { IfOk result (λ m. m ≡ record { flags = 8; name = 3; descriptor = 4; attributes = record { name = 1; body = body.now } ∷ [] }) }
+{
+    let code = Attribute {
+        name: 1,
+        body: copied(alloc, body)?,
+    };
+    Ok(Member {
+        flags: 8,
+        name: 3,
+        descriptor: 4,
+        attributes: Sequence::from_vec(vec![in alloc; code]?),
+    })
 }
 
-/// What a body tells, in a method whose parameters take so many local variables.
-fn read(alloc: Global, parameters: u16, body: &[u8]) -> Result<Code, ReadRefusal> {
-    if 1_000_000 < body.len() {
-        return Err(ReadRefusal::Memory);
-    }
-    let pool = pool(alloc)?;
-    read_body(alloc, &pool, parameters, PLACE, body)
+/// A class with one method, whose code has this body.
+fn class_of(alloc: Global, body: &[u8]) -> Result<ClassFile, AllocError>
+    requires { length body.now < 2 ^ 16 }
+    ensures sound { IfOk result IsSoundClass }
+    ensures size { IfOk result (λ c. length (spell c) < 2 ^ 32) }
+    ensures code { IfOk result (λ c. HasCodeAttribute c 0) }
+{
+    let pool = entries(alloc)?;
+    let method = method(alloc, body)?;
+    Ok(ClassFile {
+        minor: 0,
+        major: 52,
+        pool,
+        flags: 0,
+        this_class: 5,
+        super_class: 5,
+        interfaces: Sequence::from_vec(Vec::new(alloc)),
+        fields: Sequence::from_vec(Vec::new(alloc)),
+        methods: Sequence::from_vec(vec![in alloc; method]?),
+        attributes: Sequence::from_vec(Vec::new(alloc)),
+    })
 }
 
-/// The first fault of a body, in a method without parameters.
-fn fault_in(alloc: Global, body: &[u8]) -> Option<(u32, Reason)> {
-    fault_of(&read(alloc, 0, body))
-}
+/// Code with `nop` and `return`, without handlers and attributes.
+const BODY: [u8; 14] = [0, 2, 0, 1, 0, 0, 0, 2, 0, 177, 0, 0, 0, 0];
 
-/// What a code array tells where each local variable is there.
-fn read_code_array(alloc: Global, code: &[u8]) -> Result<Code, ReadRefusal> {
-    let body = body_of(alloc, 65_535, code, NOTHING_AFTER)?;
-    read(alloc, 0, &body)
-}
-
-/// A code array, and where and why it is refused.
-type Refused = (&'static str, &'static [u8], u32, Reason);
-
-/// Reads each of these code arrays, where each local variable is there.
-fn check_refused(rt: &impl Abort, alloc: Global, rows: &[Refused]) -> Result<(), AllocError> {
-    for (title, code, offset, reason) in rows {
-        let body = body_of(alloc, 65_535, code, NOTHING_AFTER)?;
-        assert_eq!(rt; fault_in(alloc, &body), Some((*offset, *reason)), "{title}");
+#[test]
+fn the_code_of_a_method_is_read(rt: HostRuntime) -> Result<(), Fail> {
+    let class = class_of(rt.alloc(), &BODY)?;
+    let code = read_code(rt.alloc(), &class, 0)?;
+    let again = read_code_at(rt.alloc(), &class, 0, method_offset(&class, 0))?;
+    for told in [&code, &again] {
+        assert_eq!(rt; (told.at, told.max_stack, told.max_locals), (68, 2, 1));
+        assert_eq!(rt; (told.instructions.len(), told.handlers.len()), (2, 0));
     }
     Ok(())
-}
-
-/// The first fault that was found.
-fn fault_of(read: &Result<Code, ReadRefusal>) -> Option<(u32, Reason)> {
-    match read {
-        Err(ReadRefusal::Refused { offset, reason }) => Some((*offset, *reason)),
-        _ => None,
-    }
-}
-
-/// An instruction: its offset, its opcode, its operand and its dimensions.
-fn said(code: &Code, number: usize) -> Option<(u32, u8, u32, u8)> {
-    let placed = code.instructions.as_slice().get(number)?;
-    let given = &placed.instruction;
-    Some((placed.offset, given.opcode, given.operand, given.dimensions))
-}
-
-/// The targets of an instruction.
-fn targets_of(code: &Code, number: usize) -> &[u32] {
-    match code.instructions.as_slice().get(number) {
-        Some(placed) => placed.instruction.targets.as_slice(),
-        None => &[],
-    }
 }
