@@ -9,7 +9,7 @@
 use crate::notation::{NotationEnd, Pieces, bytes_of, values_in};
 use crate::question::{Question, answer, question_of};
 use crate::sweep::{Label, Sweep};
-use anyhow::{Result, bail};
+use anyhow::{Context, Result, bail};
 use std::alloc::Global;
 
 /// What the rows ask, the class file in which their bytes stand, and the bytes that have names.
@@ -28,8 +28,9 @@ pub fn tell_case<R: Print>(rt: &R, alloc: Global, lines: &str) -> Result<()> {
         frame: format!(in alloc; "$row")?,
     };
     for line in lines.lines() {
-        if let Some((word, rest)) = line.split_once(' ') {
-            tell_line(rt, alloc, &mut sheet, word, rest)?;
+        if !line.is_empty() {
+            let (word, rest) = parts(line, " ").context(format_args!("{line}"))?;
+            tell_line(rt, alloc, &mut sheet, word, rest).context(format_args!("{line}"))?;
         }
     }
     Ok(())
@@ -65,7 +66,7 @@ fn tell_line<R: Print>(
             let (title, bytes) = parts(rest, ": ")?;
             tell_cuts(rt, alloc, sheet, title, bytes)
         }
-        _ => bail!("no such line: {word} {rest}"),
+        _ => bail!("there are no such lines"),
     }
 }
 
