@@ -8,7 +8,7 @@
 
 use crate::notation::{NotationEnd, Pieces, bytes_of, values_in};
 use crate::question::{Question, answer, question_of};
-use crate::sweep::{Label, Sweep};
+use crate::sweep::Sweep;
 use anyhow::{Context, Result, bail};
 use std::alloc::Global;
 
@@ -101,7 +101,7 @@ fn tell_row<R: Print>(
     for value in first..=last {
         let bytes = bytes_of(alloc, &sheet.pieces, line, value)?;
         let answer = answer_to(alloc, sheet, bytes)?;
-        sweep.add(rt, Label::Value(value), answer)?;
+        sweep.add(rt, format!(in alloc; "{value:02x}")?, answer)?;
     }
     sweep.print(rt)
 }
@@ -120,7 +120,7 @@ fn tell_cuts<R: Print>(
     for kept in 0..whole.len() {
         let front = Vec::from_slice(alloc, &whole[..kept])?;
         let answer = answer_to(alloc, sheet, front)?;
-        sweep.add(rt, Label::Kept(kept), answer)?;
+        sweep.add(rt, format!(in alloc; "{kept}")?, answer)?;
     }
     sweep.print(rt)
 }

@@ -8,28 +8,18 @@
 //! - `{00-ff}` adds one byte, which takes each value from the first to the last.
 
 use std::alloc::{AllocError, AllocFailed, Global};
-use std::error::Error;
-use std::fmt;
+use thiserror::Error;
 
 /// Why a line of a case gives no bytes.
-#[derive(Debug, Drop)]
+#[derive(Debug, Drop, Error)]
 pub enum NotationEnd {
     /// A word is none of the notation, or names nothing.
+    #[error("a word is none of the notation, or names nothing")]
     Word,
     /// Memory ran out.
+    #[error("memory ran out")]
     Memory,
 }
-
-impl fmt::Display for NotationEnd {
-    fn fmt<W: fmt::Write>(&self, f: &mut fmt::Formatter<W>) -> fmt::Result {
-        match self {
-            NotationEnd::Word => write!(f, "a word is none of the notation"),
-            NotationEnd::Memory => write!(f, "memory ran out"),
-        }
-    }
-}
-
-impl Error for NotationEnd {}
 
 impl From<AllocError> for NotationEnd {
     fn from(_error: AllocError) -> NotationEnd {
