@@ -14,6 +14,7 @@ use Rattle.jvm_model.specs.Selection.{SelectsSpecial}
 use Rattle.jvm_model.specs.Table.{Row, UnitKind, any_kind, primitive, reference, Action, plain, load_constant, load_element, store_element, probe_element, probe_array, probe_object, get_static, put_static, get_field, put_field, invoke_virtual, invoke_special, invoke_static, invoke_interface, make_object, make_array, throw_object, cast, leave_method, refused}
 use Rattle.op_model.specs.declared.op.CallKind.{CallKind}
 use Rattle.op_model.specs.declared.op.CallKind.TheVariants.{Virtual, Special, Static, Interface}
+use Rattle.op_model.specs.declared.op.Move.{Move}
 use Rattle.op_model.specs.declared.op.Op.{Op}
 use Rattle.op_model.specs.declared.op.Op.TheVariants.{Assign, Load, Store, LoadElement, StoreElement, LoadStatic, StoreStatic, New, NewArray, Constant, Call, Return, Throw, Cast, Probe}
 use Rattle.bytecode_machine.specs.Machine.{NamesField, NamesMethod, NamesClass, NamesArrays}

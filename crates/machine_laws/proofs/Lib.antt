@@ -1,0 +1,3 @@
+mod Heaps
+mod Steps
+mod Errors
