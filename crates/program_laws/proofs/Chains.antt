@@ -21,7 +21,7 @@ one_chain p (Some name) (c ∷ a) (d ∷ b) x y =
     ap (λ (e : Class). e ∷ a) first ∙ ap (λ (chain : List Class). d ∷ chain) (one_chain p c.super_class a b x.1 rest)
 
 -- what is below a class is below what that class is below
-upward : (p : Program) (top middle name : List ℕ) → IsSubtype p middle name → IsSubtype p top middle → IsSubtype p top name
+pub upward : (p : Program) (top middle name : List ℕ) → IsSubtype p middle name → IsSubtype p top middle → IsSubtype p top name
 upward p top middle name (same n e) h = subst (λ (x : List ℕ). IsSubtype p top x) (sym e) h
 upward p top middle name (below n c super named direct rest) h = below n c super named direct (upward p top middle super rest h)
 

@@ -1,5 +1,8 @@
+pub mod ArrayNames
 pub mod Calls
 pub mod Chains
+pub mod Choices
+pub mod Decided
 pub mod Defaults
 pub mod FieldSearch
 pub mod FirstUnmet
@@ -8,4 +11,5 @@ pub mod Members
 pub mod NameClaims
 pub mod Orders
 pub mod Outcomes
+pub mod Paths
 pub mod SpecialCalls

@@ -44,7 +44,7 @@ this_or_other n q = by (cases_Bool (bytes_eq n q))
 
 -- ---- what stands in a list
 
-none_there : {X : Type 0} (y : X) → Contains [] y → ⊥
+pub none_there : {X : Type 0} (y : X) → Contains [] y → ⊥
 none_there y there = let few = there.1 in omega arith
 
 pub first_there : {X : Type 0} (x : X) (xs : List X) → Contains (x ∷ xs) x
