@@ -20,7 +20,7 @@ use Rattle.jvm_model.specs.Resolution.{Resolves, FindsField}
 use Rattle.jvm_model.specs.Selection.{IsInstance, Selects, SelectsSpecial}
 use Rattle.jvm_model.specs.Soundness.{plain_descriptor, is_array}
 use Rattle.jvm_model.specs.Subtypes.{IsSubtype, Fits, array_of}
-use Rattle.jvm_model.specs.Table.{Row, UnitKind, any_kind, primitive, reference, UnitSource, popped, the_local, a_null, a_primitive, the_made, Operands, type_code, pool_2, any_class, pool_2_and_dimensions, Flow, onward, jump, branch, branch_if_null, branch_if_object, branch_if_same, branch_if_other, leave, subroutine, Action, plain, load_constant, load_element, store_element, probe_element, probe_array, probe_object, get_static, put_static, get_field, put_field, invoke_virtual, invoke_special, invoke_static, invoke_interface, make_object, make_array, throw_object, cast, leave_method, refused, is_selecting, is_call, is_trigger, Raise, null_pointer, array_index, array_store, arithmetic, class_cast, negative_size}
+use Rattle.jvm_model.specs.Table.{Row, UnitKind, any_kind, primitive, reference, UnitSource, popped, the_local, a_null, a_primitive, the_made, Operands, type_code, pool_2, any_class, pool_2_and_dimensions, Flow, onward, jump, branch, branch_if_null, branch_if_object, branch_if_same, branch_if_other, leave, subroutine, Action, plain, load_constant, load_element, store_element, probe_element, probe_array, probe_object, get_static, put_static, get_field, put_field, invoke_virtual, invoke_special, invoke_static, invoke_interface, make_object, make_array, throw_object, cast, leave_method, refused, is_selecting, is_trigger, Raise, null_pointer, array_index, array_store, arithmetic, class_cast, negative_size}
 use Rattle.bytecode_machine.specs.Described.{GivesResult, ThrowsListed}
 use Rattle.bytecode_machine.specs.Events.{HasEvents}
 use Rattle.bytecode_machine.specs.Objects.{Subject, Refers, IsOf, ReadsField, WritesField, IsArray, IsArrayOf, ReadsElement, WritesElement, MakesObject, MakesArrays, string_name, IsConstant, Passes, FailsCast}

@@ -12,6 +12,7 @@ ghost use Rattle.code_reader.specs.Places.{method_offset};
 use crate::body::read_body;
 use crate::place::{found_code, method_offset};
 use jvm_model::descriptor::units_of;
+use jvm_model::layout::{ATTRIBUTE_BODY, MEMBER_ATTRIBUTES};
 use jvm_model::sound::member_signature;
 use jvm_model::{
     AccessFlag, ClassFile, Code, Descriptor, Member, ReadRefusal, Signature, descriptor_of,
@@ -68,7 +69,7 @@ pub fn read_code_at(
     let owner = &class.methods.as_slice()[method];
     let pool = class.pool.as_slice();
     let found = found_code(pool, owner.attributes.as_slice());
-    let place = offset + 8 + found.before + 6;
+    let place = offset + MEMBER_ATTRIBUTES + found.before + ATTRIBUTE_BODY;
     let parameters = locals_taken(alloc, class, owner)?;
     read_body(alloc, pool, parameters, place, found.code.body.as_slice())
 }

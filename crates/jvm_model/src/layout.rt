@@ -11,6 +11,27 @@ use crate::class_file::{Attribute, ClassFile, Member};
 use crate::lookup::text_at;
 use crate::pool::PoolEntry;
 
+/// How many bytes an index takes (JVMS 4.1).
+pub const INDEX: u32 = 2;
+
+/// Where the index of the class stands, from the flags on (JVMS 4.1).
+pub const THIS_CLASS: u32 = 2;
+
+/// Where the index of the superclass stands, from the flags on (JVMS 4.1).
+pub const SUPER_CLASS: u32 = 4;
+
+/// Where the first interface stands, from the flags on, after the count of the interfaces (JVMS 4.1).
+pub const INTERFACES: u32 = 8;
+
+/// Where the name of a field or a method stands in it, after its flags; its descriptor is the next index (JVMS 4.5, 4.6).
+pub const MEMBER_NAME: u32 = 2;
+
+/// Where the first attribute of a field or a method stands in it, after the count of the attributes (JVMS 4.5, 4.6).
+pub const MEMBER_ATTRIBUTES: u32 = 8;
+
+/// Where the body of an attribute stands in it, after its name and its length (JVMS 4.7).
+pub const ATTRIBUTE_BODY: u32 = 6;
+
 /// How many bytes an entry of the constant pool takes, its tag included (JVMS 4.4). Taken has none.
 pub fn entry_length(entry: &PoolEntry) -> u32
     requires { length (spelling.entry entry.now) < 2 ^ 32 }
@@ -52,7 +73,7 @@ pub fn attribute_length(attribute: &Attribute) -> u32
     requires { length (spelling.attribute attribute.now) < 2 ^ 32 }
     ensures { result ≡ length (spelling.attribute attribute.now) }
 {
-    attribute.body.len() as u32 + 6
+    attribute.body.len() as u32 + ATTRIBUTE_BODY
 }
 
 /// How many bytes attributes take, without their count (JVMS 4.7).
@@ -73,7 +94,7 @@ pub fn member_length(member: &Member) -> u32
     requires { length (spelling.member member.now) < 2 ^ 32 }
     ensures { result ≡ length (spelling.member member.now) }
 {
-    attributes_length(member.attributes.as_slice()) + 8
+    attributes_length(member.attributes.as_slice()) + MEMBER_ATTRIBUTES
 }
 
 /// How many bytes fields or methods take, without their count (JVMS 4.5, 4.6).
@@ -101,7 +122,7 @@ pub fn this_class_offset(class: &ClassFile) -> u32
     requires { length (spelling.spell class.now) < 2 ^ 32 }
     ensures { result ≡ this_class_offset class.now }
 {
-    flags_offset(class) + 2
+    flags_offset(class) + THIS_CLASS
 }
 
 /// The file offset of the index of the superclass, after that of the class itself (JVMS 4.1).
@@ -109,7 +130,7 @@ pub fn super_class_offset(class: &ClassFile) -> u32
     requires { length (spelling.spell class.now) < 2 ^ 32 }
     ensures { result ≡ super_class_offset class.now }
 {
-    flags_offset(class) + 4
+    flags_offset(class) + SUPER_CLASS
 }
 
 /// The file offset of the first interface (JVMS 4.1): the flags, the class, its superclass and the count of
@@ -118,7 +139,7 @@ pub fn interfaces_offset(class: &ClassFile) -> u32
     requires { length (spelling.spell class.now) < 2 ^ 32 }
     ensures { result ≡ interfaces_offset class.now }
 {
-    flags_offset(class) + 8
+    flags_offset(class) + INTERFACES
 }
 
 /// The file offset of the first field, after the interfaces and the count of the fields (JVMS 4.1, 4.5).
@@ -126,7 +147,7 @@ pub fn fields_offset(class: &ClassFile) -> u32
     requires { length (spelling.spell class.now) < 2 ^ 32 }
     ensures { result ≡ fields_offset class.now }
 {
-    interfaces_offset(class) + 2 * class.interfaces.len() as u32 + 2
+    interfaces_offset(class) + INDEX * class.interfaces.len() as u32 + 2
 }
 
 /// The file offset of the first method, after the fields and the count of the methods (JVMS 4.1, 4.6).
@@ -184,7 +205,7 @@ pub fn code_place(class: &ClassFile, method: usize) -> u32
     let attributes = methods[method].attributes.as_slice();
     let earlier_methods = members_length(&methods[..method]);
     let earlier_attributes = length_before_code(class.pool.as_slice(), attributes);
-    methods_offset(class) + earlier_methods + 8 + earlier_attributes + 6
+    methods_offset(class) + earlier_methods + MEMBER_ATTRIBUTES + earlier_attributes + ATTRIBUTE_BODY
 }
 
 #[cfg(test)]

@@ -6,7 +6,7 @@ ghost use Rattle.jvm_model.specs.Spelling.{spell};
 ghost use Rattle.classfile_reader.specs.FirstPlace.{IsFirstBreach};
 
 use crate::soundness::uses::{at_offset, class_reason, superclass_reason};
-use jvm_model::layout::{flags_offset, interfaces_offset};
+use jvm_model::layout::{INDEX, SUPER_CLASS, THIS_CLASS, flags_offset, interfaces_offset};
 use jvm_model::{ClassFile, PoolEntry, Reason};
 
 /// The first fault of the interfaces, which begin at an offset.
@@ -20,7 +20,7 @@ fn interfaces_fault(pool: &[PoolEntry], start: u32, interfaces: &[u16]) -> Optio
         if let Some(fault) = at_offset(offset, reason) {
             return Some(fault);
         }
-        offset += 2;
+        offset += INDEX;
     }
     None
 }
@@ -33,11 +33,11 @@ pub(crate) fn header_fault(class: &ClassFile) -> Option<(u32, Reason)>
     let pool = class.pool.as_slice();
     let flags = flags_offset(class);
     let reason = class_reason(pool, class.this_class);
-    if let Some(fault) = at_offset(flags + 2, reason) {
+    if let Some(fault) = at_offset(flags + THIS_CLASS, reason) {
         return Some(fault);
     }
     let reason = superclass_reason(pool, class.this_class, class.super_class);
-    if let Some(fault) = at_offset(flags + 4, reason) {
+    if let Some(fault) = at_offset(flags + SUPER_CLASS, reason) {
         return Some(fault);
     }
     let interfaces = class.interfaces.as_slice();

@@ -12,7 +12,7 @@ use crate::soundness::attribute::{attributes_fault, code_fault, code_reason};
 use crate::soundness::known::KnownTexts;
 use crate::soundness::repeats::repeats;
 use crate::soundness::uses::{at_offset, text_reason};
-use jvm_model::layout::member_length;
+use jvm_model::layout::{INDEX, MEMBER_ATTRIBUTES, MEMBER_NAME, member_length};
 use jvm_model::{Grammar, Member, PoolEntry, Reason};
 use std::alloc::{AllocError, Global};
 
@@ -65,7 +65,7 @@ fn names_fault(
         return Ok(Some(fault));
     }
     let reason = text_reason(pool, known, grammars.1, member.descriptor)?;
-    Ok(at_offset(offset + 2, reason))
+    Ok(at_offset(offset + INDEX, reason))
 }
 
 /// The first fault of a field, which begins at an offset.
@@ -83,10 +83,21 @@ fn field_fault(
     ensures known { AreKnown pool.now known.new }
 {
     let grammars = (Grammar::FieldName, Grammar::FieldDescriptor);
-    if let Some(fault) = names_fault(pool, known, grammars, offset + 2, field, is_repeat)? {
+    if let Some(fault) = names_fault(
+        pool,
+        known,
+        grammars,
+        offset + MEMBER_NAME,
+        field,
+        is_repeat,
+    )? {
         return Ok(Some(fault));
     }
-    Ok(attributes_fault(pool, offset + 8, field.attributes.as_slice()))
+    Ok(attributes_fault(
+        pool,
+        offset + MEMBER_ATTRIBUTES,
+        field.attributes.as_slice(),
+    ))
 }
 
 /// The first fault of a method, which begins at an offset.
@@ -107,10 +118,17 @@ fn method_fault(
         return Ok(Some(fault));
     }
     let grammars = (Grammar::MethodName, Grammar::MethodDescriptor);
-    if let Some(fault) = names_fault(pool, known, grammars, offset + 2, method, is_repeat)? {
+    if let Some(fault) = names_fault(
+        pool,
+        known,
+        grammars,
+        offset + MEMBER_NAME,
+        method,
+        is_repeat,
+    )? {
         return Ok(Some(fault));
     }
-    Ok(code_fault(pool, offset + 8, method))
+    Ok(code_fault(pool, offset + MEMBER_ATTRIBUTES, method))
 }
 
 /// The first fault of a field or a method, which begins at an offset.
