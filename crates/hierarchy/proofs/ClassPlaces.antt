@@ -1,9 +1,9 @@
 -- The classes of a program by number and by name.
-use Rattle.std.proofs.Common.{◌≡◌, ◌≢◌, ℕ, zero, suc, ◌<◌, Bool, true, false, cond, List, [], ◌∷◌, length, Option, Some, refl, sym, ◌∙◌, ap, subst, arith, inl, inr}
+use Rattle.std.proofs.Common.{◌≡◌, ◌≢◌, ℕ, zero, suc, ◌<◌, Bool, true, false, cond, List, [], ◌∷◌, length, Option, Some, refl, sym, ◌∙◌, ap, subst, arith, inl, inr, eqb}
 use Rattle.std.specs.List.{slice_get, find, Contains}
 use Rattle.std.specs.Option.{option_map, unwrap_or}
 use Rattle.std.specs.Str.{bytes_eq}
-use Rattle.std.proofs.lemmas.Bool.{cases_lt}
+use Rattle.std.proofs.lemmas.Bool.{cases_lt, eqb-false}
 use Rattle.std.proofs.lemmas.List.Elements.{All-contains}
 use Rattle.std.proofs.lemmas.Option.{slice_get_within, slice_get-get_or, get_or_from_slice_get, same_Some, none-some}
 use Rattle.std.proofs.lemmas.Slice.Eq.{bytes_eq-Decides}
@@ -111,6 +111,9 @@ same_number p program i j lt_i lt_j same =
     let c = class_of_number p program i lt_i in
     let d = class_of_number p program j lt_j in
     same_place p program i j c.0 d.0 c.1.stands d.1.stands (sym c.1.name ∙ same ∙ d.1.name)
+
+pub names_differ : (p : Program) → IsProgram p → (i j : ℕ) → IsClassNumber p i → IsClassNumber p j → eqb i j ≡ false → name_at p i ≢ name_at p j
+names_differ p program i j within_i within_j other same = eqb-false i j other (same_number p program i j within_i within_j same)
 
 pub contained : {X : Type 0} (xs : List X) (k : ℕ) (x : X) → slice_get xs k ≡ Some x → Contains xs x
 contained xs k x e = (k, slice_get_within xs k x e, get_or_from_slice_get xs k x x e)

@@ -8,14 +8,15 @@ use Rattle.jvm_model.specs.Lookups.{Signature}
 use Rattle.jvm_model.specs.Programs.{Class, Method, Program, object_name, is_public}
 use Rattle.jvm_model.specs.Resolution.{Declares, HasSignature, IsFirst, IsFound, IsPublicWith}
 use Rattle.jvm_model.specs.Selection.{IsInstance}
+use Rattle.jvm_model.specs.declared.number.MethodNo.{MethodNo}
 use Rattle.hierarchy.specs.Searches.{Finds, IsSuch}
 use Rattle.hierarchy.specs.Upward.{AnswersFirst, IsFirstUpward}
 use Rattle.hierarchy.proofs.Chains.{chain_same}
 
 -- what is found for one fact is what is found for another that holds of the same numbers
-pub finds_same : (Q R : ℕ → Type 0) (found : Option ℕ) → ((n : ℕ) → Q n → R n) → ((n : ℕ) → R n → Q n) → Finds Q found → Finds R found
+pub finds_same : (Q R : ℕ → Type 0) (found : Option MethodNo) → ((n : ℕ) → Q n → R n) → ((n : ℕ) → R n → Q n) → Finds Q found → Finds R found
 finds_same Q R None to back finds = λ n h. finds n (back n h)
-finds_same Q R (Some number) to back finds = to number finds
+finds_same Q R (Some method) to back finds = to method.0 finds
 
 pub such_declares : {p : Program} {s : Signature} {Takes : ℕ → Method → Type 0} {class : List ℕ} {n : ℕ} → Declares p (IsSuch s Takes) class n → Declares p (HasSignature s) class n
 such_declares d = record { method = d.method; stands = d.stands; of_class = d.of_class; is = d.is.0 }
@@ -29,7 +30,7 @@ declared_taken p members s Takes class number n found d =
     subst (λ (k : ℕ). Takes k found.method) number_is (subst (Takes n) method_is d.is.1)
 
 -- what a walk finds that looks for a method
-first_found : (p : Program) (Is : ℕ → Method → Type 0) (chain : List Class) (found : Option ℕ) → AnswersFirst (λ c. Finds (Declares p Is c.name)) chain found
+first_found : (p : Program) (Is : ℕ → Method → Type 0) (chain : List Class) (found : Option MethodNo) → AnswersFirst (λ c. Finds (Declares p Is c.name)) chain found
     → Finds (IsFirst p Is chain) found
 first_found p Is [] (Some number) h = h
 first_found p Is [] None h = λ n first. first
@@ -37,7 +38,7 @@ first_found p Is (c ∷ chain) (Some number) (inl here) = inl here
 first_found p Is (c ∷ chain) (Some number) (inr h) = inr (h.0, first_found p Is chain (Some number) h.1)
 first_found p Is (c ∷ chain) None h = λ n first. elim first [ inl here ↦ h.0 n here | inr above ↦ first_found p Is chain None h.1 n above.1 ]
 
-pub walk_found : (p : Program) (Is : ℕ → Method → Type 0) (start : List ℕ) (found : Option ℕ) → IsFirstUpward p (λ c. Finds (Declares p Is c.name)) start found
+pub walk_found : (p : Program) (Is : ℕ → Method → Type 0) (start : List ℕ) (found : Option MethodNo) → IsFirstUpward p (λ c. Finds (Declares p Is c.name)) start found
     → Finds (IsFound p start Is) found
 walk_found p Is start found walk =
     finds_same (IsFirst p Is walk.chain) (IsFound p start Is) found (λ n first. record { chain = walk.chain; of_start = walk.of_start; first = first })
@@ -45,7 +46,7 @@ walk_found p Is start found walk =
     (first_found p Is walk.chain found walk.first)
 
 -- the public instance method of java/lang/Object
-pub object_declares : (p : Program) (s : Signature) (name : List ℕ) (found : Option ℕ) → name ≡ object_name
+pub object_declares : (p : Program) (s : Signature) (name : List ℕ) (found : Option MethodNo) → name ≡ object_name
     → Finds (Declares p (IsSuch s (λ n m. IsTrue (is_public m) × IsInstance m)) name) found → Finds (Declares p (IsPublicWith s) object_name) found
 object_declares p s name found same =
     finds_same (Declares p (IsSuch s (λ n m. IsTrue (is_public m) × IsInstance m)) name) (Declares p (IsPublicWith s) object_name) found

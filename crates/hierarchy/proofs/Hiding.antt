@@ -10,10 +10,11 @@ use Rattle.jvm_model.specs.Lookups.{Signature, MemberReference}
 use Rattle.jvm_model.specs.Programs.{Class, Method, Program}
 use Rattle.jvm_model.specs.Subtypes.{IsChain}
 use Rattle.jvm_model.specs.Selection.{StandsBelow, IsPackageOverridden, IsPackagePrivate, IsSuperCall, StartsSearch, at_super, at_named}
+use Rattle.jvm_model.specs.declared.number.ClassNo.{ClassNo}
 use Rattle.linked_program.specs.Numbers.{name_at}
-use Rattle.hierarchy.specs.Searches.{Finds, IsReachedUpward, Hides, HidesAlong, AnswersHidden, IsHidden}
+use Rattle.hierarchy.specs.Searches.{IsReachedUpward, Hides, HidesAlong, AnswersHidden, AnswersNamed, IsHidden}
 use Rattle.hierarchy.specs.Upward.{AnswersFirst, IsFirstUpward}
-use Rattle.hierarchy.proofs.Walks.{HasAlong, first_along}
+use Rattle.hierarchy.proofs.Walks.{HasAlong}
 use Rattle.hierarchy.proofs.Chains.{IsTop, chain_same}
 
 -- ---- hiding
@@ -116,22 +117,31 @@ above_named [] k above name number lt at named = absurd (omega (arith, lt))
 above_named (c ∷ chain) zero above name number lt at named = inl (ap (λ (x : Class). x.name) at ∙ named)
 above_named (c ∷ chain) (suc k) above name number lt at named = inr (above_named chain k above name number (omega (arith, lt)) at named)
 
--- what a walk finds that looks for a class by its name
-pub reached_found : (p : Program) (start name : List ℕ) (found : Option ℕ) → IsFirstUpward p (λ c. Finds (λ n. c.name ≡ name)) start found
-    → (IsTrue (is_some found) → IsReachedUpward p start name) × (IsReachedUpward p start name → IsTrue (is_some found))
-reached_found p start name (Some number) walk = (
-  λ t.
-      let above = named_above walk.chain name number (first_along (λ c n. c.name ≡ name) walk.chain (Some number) walk.first) in
-      record { chain = walk.chain; of_start = walk.of_start; above = above.0; stands = above.1; named = above.2 },
-  λ h. refl,
-)
-reached_found p start name None walk = (
+-- whether one is found along a chain
+named_first : (name : List ℕ) (chain : List Class) (found : Option ClassNo) → AnswersFirst (AnswersNamed name) chain found
+    → (IsTrue (is_some found) → HasAlong (λ c n. c.name ≡ name) chain 0) × (HasAlong (λ c n. c.name ≡ name) chain 0 → IsTrue (is_some found))
+named_first name [] (Some number) first = absurd first
+named_first name [] None first = (λ t. absurd (false≢true t), λ along. absurd along)
+named_first name (c ∷ chain) (Some number) (inl here) = (λ t. inl here, λ along. refl)
+named_first name (c ∷ chain) (Some number) (inr above) = (λ t. inr ((named_first name chain (Some number) above.1).0 refl), λ along. refl)
+named_first name (c ∷ chain) None first = (
   λ t. absurd (false≢true t),
-  λ h.
-      let same = chain_same p (Some start) h.chain walk.chain h.of_start walk.of_start in
-      let along = above_named h.chain h.stands.0 h.above name 0 h.stands.1 h.stands.2 h.named in
-      absurd (first_along (λ c n. c.name ≡ name) walk.chain None walk.first 0 (subst (λ (list : List Class). HasAlong (λ c n. c.name ≡ name) list 0) same along)),
+  λ along. elim along [ inl here ↦ absurd (first.0 here) | inr above ↦ (named_first name chain None first.1).1 above ],
 )
+
+-- what a walk finds that looks for a class by its name
+pub reached_found : (p : Program) (start name : List ℕ) (found : Option ClassNo) → IsFirstUpward p (AnswersNamed name) start found
+    → (IsTrue (is_some found) → IsReachedUpward p start name) × (IsReachedUpward p start name → IsTrue (is_some found))
+reached_found p start name found walk =
+    let first = named_first name walk.chain found walk.first in (
+      λ t.
+          let above = named_above walk.chain name 0 (first.0 t) in
+          record { chain = walk.chain; of_start = walk.of_start; above = above.0; stands = above.1; named = above.2 },
+      λ h.
+          let same = chain_same p (Some start) h.chain walk.chain h.of_start walk.of_start in
+          let along = above_named h.chain h.stands.0 h.above name 0 h.stands.1 h.stands.2 h.named in
+          first.1 (subst (λ (list : List Class). HasAlong (λ c n. c.name ≡ name) list 0) same along),
+    )
 
 -- a class without a superclass is the only one that is reached from it
 pub reached_top : (p : Program) (n : ℕ) (name : List ℕ) → IsTop p n → IsReachedUpward p (name_at p n) name → name_at p n ≡ name
@@ -157,11 +167,11 @@ starts_same p current m x y (at_super c call named super) (at_named none is) = a
 starts_same p current m x y (at_named none is) (at_super d also named super) = absurd (none also)
 starts_same p current m x y (at_named none is) (at_named none_too is_too) = is ∙ sym is_too
 
--- what hides a method is told by its class and signature
-pub hidden_told : (p : Program) (class owner : List ℕ) (s : Signature) (resolved : ℕ) (m : Method) (answer : Bool) → slice_get p.methods resolved ≡ Some m → IsPackagePrivate m
+-- whether a method is hidden is whether the method of its class and signature is
+pub hidden_iff : (p : Program) (class owner : List ℕ) (s : Signature) (resolved : ℕ) (m : Method) (answer : Bool) → slice_get p.methods resolved ≡ Some m → IsPackagePrivate m
     → m.class ≡ owner → m.signature ≡ s → (IsTrue answer → IsHidden p class owner s) → (IsHidden p class owner s → IsTrue answer)
     → (IsTrue answer → IsPackageOverridden p class resolved) × (IsPackageOverridden p class resolved → IsTrue answer)
-hidden_told p class owner s resolved m answer stands private owner_is s_is to back = (
+hidden_iff p class owner s resolved m answer stands private owner_is s_is to back = (
   λ t. hidden_overridden p class resolved m stands private
       (subst (λ (o : List ℕ). IsHidden p class o m.signature) (sym owner_is) (subst (λ (x : Signature). IsHidden p class owner x) (sym s_is) (to t))),
   λ h. back (subst (λ (x : Signature). IsHidden p class owner x) s_is (subst (λ (o : List ℕ). IsHidden p class o m.signature) owner_is (overridden_hidden p class resolved m stands h))),

@@ -10,10 +10,11 @@ use Rattle.jvm_model.specs.LinkedPrograms.{IsProgram}
 use Rattle.jvm_model.specs.Programs.{Class, Method, Program}
 use Rattle.jvm_model.specs.Resolution.{Declares}
 use Rattle.jvm_model.specs.Subtypes.{class_named, IsChain, IsSubtype, same, below}
+use Rattle.jvm_model.specs.declared.number.MethodNo.{MethodNo}
 use Rattle.linked_program.specs.Numbers.{name_at, IsClassNumber}
 use Rattle.linked_program.specs.Ranks.{IsRanked}
 use Rattle.linked_program.specs.Whole.{IsThroughInterface}
-use Rattle.hierarchy.specs.Searches.{Finds, IsSuch, IsInheritable, IsOffered, IsOfferedAmong, OffersThrough, InheritsSuch}
+use Rattle.hierarchy.specs.Searches.{Finds, IsSuch, IsInheritable, IsOffered, OffersThrough, InheritsSuch}
 use Rattle.hierarchy.specs.Upward.{IsFirstUpward}
 use Rattle.hierarchy.proofs.Chains.{rank_falls}
 use Rattle.hierarchy.proofs.ClassPlaces.{number_named, named_at, supers_of, name_at-at, class_there, class_within}
@@ -23,7 +24,7 @@ use Rattle.hierarchy.proofs.Walks.{HasAlong, first_along}
 -- ---- what an interface offers
 
 -- an interface offers what it declares
-pub offered_declared : (p : Program) (s : Signature) (Takes : ℕ → Method → Type 0) (i : ℕ) (found : Option ℕ) → IsClassNumber p i
+pub offered_declared : (p : Program) (s : Signature) (Takes : ℕ → Method → Type 0) (i : ℕ) (found : Option MethodNo) → IsClassNumber p i
     → ((c : Class) → slice_get p.classes i ≡ Some c → c.is_interface ≡ true) → Finds (Declares p (IsSuch s (IsInheritable Takes)) (name_at p i)) found
     → Finds (IsOffered p s Takes i) found
 offered_declared p s Takes i found within kind =
@@ -34,35 +35,36 @@ offered_declared p s Takes i found within kind =
     (λ n d. record { class = there.0; at = there.1; kind = kind there.0 there.1; declares = subst (λ (x : List ℕ). Declares p Is x n) name d })
     (λ n o. subst (λ (x : List ℕ). Declares p Is x n) (sym (name_at-at p i o.class o.at)) o.declares)
 
--- No interface before a place has such a number.
-pub record NoneBefore (P : ℕ → ℕ → Type 0) (interfaces : List ℕ) (count : ℕ) : Type 0 where
-  pub none : (k : ℕ) → k < count → (n : ℕ) → P (get_or interfaces k 0) n → ⊥
+-- No interface before a place offers such a method.
+pub record NoneBefore (p : Program) (s : Signature) (Takes : ℕ → Method → Type 0) (interfaces : List ℕ) (count : ℕ) : Type 0 where
+  pub none : (k : ℕ) → k < count → (n : ℕ) → IsOffered p s Takes (get_or interfaces k 0) n → ⊥
 
-pub none_more : (P : ℕ → ℕ → Type 0) (interfaces : List ℕ) (count : ℕ) → NoneBefore P interfaces count → ((n : ℕ) → P (get_or interfaces count 0) n → ⊥) → NoneBefore P interfaces (count + 1)
-none_more P interfaces count before here = record { none = below_more (λ k. (n : ℕ) → P (get_or interfaces k 0) n → ⊥) count before.none here }
+pub none_more : (p : Program) (s : Signature) (Takes : ℕ → Method → Type 0) (interfaces : List ℕ) (count : ℕ) → NoneBefore p s Takes interfaces count
+    → ((n : ℕ) → IsOffered p s Takes (get_or interfaces count 0) n → ⊥) → NoneBefore p s Takes interfaces (count + 1)
+none_more p s Takes interfaces count before here = record { none = below_more (λ k. (n : ℕ) → IsOffered p s Takes (get_or interfaces k 0) n → ⊥) count before.none here }
 
-pub none_all : (P : ℕ → ℕ → Type 0) (interfaces : List ℕ) (count i n : ℕ) → length interfaces ≤ count → NoneBefore P interfaces count → Contains interfaces i → P i n → ⊥
-none_all P interfaces count i n all before among has =
+-- what one of the interfaces of a class offers is offered through them
+pub through_here : (p : Program) (s : Signature) (Takes : ℕ → Method → Type 0) (c : Class) (interfaces : List ℕ) (count n : ℕ) → count < length interfaces
+    → ((k : ℕ) → IsClassNumber p k → (Contains interfaces k → IsThroughInterface p c k) × (IsThroughInterface p c k → Contains interfaces k))
+    → IsOffered p s Takes (get_or interfaces count 0) n → OffersThrough p s Takes c n
+through_here p s Takes c interfaces count n lt exact offered =
+    let interface = get_or interfaces count 0 in
+    record {
+      interface = interface;
+      through = (exact interface (class_within p interface offered.class offered.at)).0 (count, lt, get_or_from_slice_get interfaces count interface interface (slice_get-get_or interfaces count 0 lt));
+      offered = offered;
+    }
+
+-- if none of them offers one, there is none
+pub none_through : (p : Program) (s : Signature) (Takes : ℕ → Method → Type 0) (c : Class) (interfaces : List ℕ) (count n : ℕ) → length interfaces ≤ count
+    → ((k : ℕ) → IsClassNumber p k → (Contains interfaces k → IsThroughInterface p c k) × (IsThroughInterface p c k → Contains interfaces k))
+    → NoneBefore p s Takes interfaces count → OffersThrough p s Takes c n → ⊥
+none_through p s Takes c interfaces count n all exact before through =
+    let i = through.interface in
+    let among = (exact i (class_within p i through.offered.class through.offered.at)).1 through.through in
     let lt = among.1 in
     let is : get_or interfaces among.0 0 ≡ i = get_or_from_slice_get interfaces among.0 i 0 (slice_get-get_or interfaces among.0 i among.1 ∙ ap (λ v. Some v) among.2) in
-    before.none among.0 (omega (arith, lt, all)) n (subst (λ (x : ℕ). P x n) (sym is) has)
-
--- what the interfaces of a class offer is offered through them
-pub offered_through : (p : Program) (s : Signature) (Takes : ℕ → Method → Type 0) (c : Class) (interfaces : List ℕ) (found : Option ℕ)
-    → ((n : ℕ) → IsClassNumber p n → (Contains interfaces n → IsThroughInterface p c n) × (IsThroughInterface p c n → Contains interfaces n))
-    → Finds (IsOfferedAmong p s Takes interfaces) found → Finds (OffersThrough p s Takes c) found
-offered_through p s Takes c interfaces found exact =
-    finds_same (IsOfferedAmong p s Takes interfaces) (OffersThrough p s Takes c) found
-    (λ n among. record {
-      interface = among.interface;
-      through = (exact among.interface (class_within p among.interface among.offered.class among.offered.at)).0 among.among;
-      offered = among.offered;
-    })
-    (λ n through. record {
-      interface = through.interface;
-      among = (exact through.interface (class_within p through.interface through.offered.class through.offered.at)).1 through.through;
-      offered = through.offered;
-    })
+    before.none among.0 (omega (arith, lt, all)) n (subst (λ (x : ℕ). IsOffered p s Takes x n) (sym is) through.offered)
 
 -- ---- inherited methods are those that are offered along the chain
 
@@ -189,7 +191,7 @@ along_inherited p program ranked s Takes name chain number is along =
     }
 
 -- what a walk finds that looks for an inherited method
-pub inherited_found : (p : Program) → IsProgram p → IsRanked p → (s : Signature) (Takes : ℕ → Method → Type 0) (start : List ℕ) (found : Option ℕ)
+pub inherited_found : (p : Program) → IsProgram p → IsRanked p → (s : Signature) (Takes : ℕ → Method → Type 0) (start : List ℕ) (found : Option MethodNo)
     → IsFirstUpward p (λ c. Finds (OffersThrough p s Takes c)) start found → Finds (InheritsSuch p start s Takes) found
 inherited_found p program ranked s Takes start found walk =
     finds_same (HasAlong (OffersThrough p s Takes) walk.chain) (InheritsSuch p start s Takes) found

@@ -9,6 +9,7 @@ use Rattle.jvm_model.specs.Programs.{Class, Method, Program}
 use Rattle.jvm_model.specs.Resolution.{HasSignature, IsInstanceWith, IsFound, IsFoundIn, IsFoundInInterface, declared_there, of_object, IsLeastInherited, IsOnlyDefault, ResolvesFrom, itself, by_default, by_name, Resolves}
 use Rattle.jvm_model.specs.Selection.{SelectsFrom, upward, by_default as by_only_default, StartsSearch, SelectsSpecial}
 use Rattle.jvm_model.specs.Subtypes.{class_named}
+use Rattle.jvm_model.specs.declared.number.MethodNo.{MethodNo}
 use Rattle.linked_program.specs.Numbers.{IsMethodNumber}
 use Rattle.hierarchy.specs.Searches.{Finds, SelectsInstance}
 use Rattle.hierarchy.proofs.Declaring.{finds_same}
@@ -36,7 +37,7 @@ resolves_how : (p : Program) (name : List ℕ) (s : Signature) (n : ℕ) (c : Cl
 resolves_how p name s n c named r = subst (λ (x : Class). ResolvesFrom p name s (IsFoundIn p (HasSignature s) s x) n) (same_Some r.class c (sym r.named ∙ named)) r.search
 
 -- neither the search of the class itself nor the defaults give any
-pub resolves_least : (p : Program) (name : List ℕ) (s : Signature) (c : Class) (found : Option ℕ) → class_named p name ≡ Some c → ((other : ℕ) → IsFoundIn p (HasSignature s) s c other → ⊥)
+pub resolves_least : (p : Program) (name : List ℕ) (s : Signature) (c : Class) (found : Option MethodNo) → class_named p name ≡ Some c → ((other : ℕ) → IsFoundIn p (HasSignature s) s c other → ⊥)
     → ((other : ℕ) → IsOnlyDefault p name s other → ⊥) → Finds (IsLeastInherited p name s) found → Finds (Resolves p (record { class = name; signature = s })) found
 resolves_least p name s c found named none no_default =
     finds_same (IsLeastInherited p name s) (Resolves p (record { class = name; signature = s })) found
@@ -49,7 +50,7 @@ instance_how : (p : Program) (start : List ℕ) (s : Signature) (n : ℕ) (c : C
     → SelectsFrom p start s (IsFoundIn p (IsInstanceWith s) s c) n
 instance_how p start s n c named r = subst (λ (x : Class). SelectsFrom p start s (IsFoundIn p (IsInstanceWith s) s x) n) (same_Some r.class c (sym r.named ∙ named)) r.chosen
 
-pub instance_default : (p : Program) (start : List ℕ) (s : Signature) (c : Class) (found : Option ℕ) → class_named p start ≡ Some c
+pub instance_default : (p : Program) (start : List ℕ) (s : Signature) (c : Class) (found : Option MethodNo) → class_named p start ≡ Some c
     → ((other : ℕ) → IsFoundIn p (IsInstanceWith s) s c other → ⊥) → Finds (IsOnlyDefault p start s) found → Finds (SelectsInstance p start s) found
 instance_default p start s c found named none =
     finds_same (IsOnlyDefault p start s) (SelectsInstance p start s) found (λ n only. record { class = c; named = named; chosen = by_only_default none only })

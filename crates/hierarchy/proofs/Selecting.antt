@@ -10,6 +10,7 @@ use Rattle.jvm_model.specs.Resolution.{Declares, HasSignature, IsFirst, IsFound,
 use Rattle.jvm_model.specs.Selection.{IsInstance, Overrides, IsSelectable, SelectsFrom, upward, by_default, is_direct, Selects}
 use Rattle.hierarchy.specs.declared.choice.Choice.{Choice}
 use Rattle.hierarchy.specs.declared.choice.Choice.TheVariants.{Nothing, One, Several}
+use Rattle.jvm_model.specs.declared.number.MethodNo.{MethodNo}
 use Rattle.linked_program.specs.Numbers.{IsMethodNumber}
 use Rattle.hierarchy.specs.Searches.{Finds, IsSuch, HasOwnSignature, AreDefaults, IsChosen}
 use Rattle.hierarchy.proofs.Declaring.{finds_same}
@@ -48,7 +49,7 @@ same_found_in p Is Js s c n alike = split c.is_interface
     split false = same_found p Is Js c.name n alike
 
 -- each method of a signature
-pub finds_any : (p : Program) (s : Signature) (c : Class) (found : Option ℕ) → Finds (IsFoundIn p (IsSuch s (λ n m. Unit {0})) s c) found → Finds (IsFoundIn p (HasSignature s) s c) found
+pub finds_any : (p : Program) (s : Signature) (c : Class) (found : Option MethodNo) → Finds (IsFoundIn p (IsSuch s (λ n m. Unit {0})) s c) found → Finds (IsFoundIn p (HasSignature s) s c) found
 finds_any p s c found =
     let alike : AreSame p (IsSuch s (λ n m. Unit {0})) (HasSignature s) = record { to = λ n m stands h. h.0; back = λ n m stands h. (h, tt) } in
     finds_same (IsFoundIn p (IsSuch s (λ n m. Unit {0})) s c) (IsFoundIn p (HasSignature s) s c) found (λ n. same_found_in p (IsSuch s (λ k m. Unit {0})) (HasSignature s) s c n alike)
@@ -64,12 +65,12 @@ own_signature : (p : Program) (s : Signature) (resolved : ℕ) (r : Method) → 
 own_signature p s resolved r own stands = sym own.same_call ∙ ap (λ (x : Method). x.signature) (same_Some own.method r (sym own.stands ∙ stands))
 
 -- of an instance method, by the kind of the call
-pub target_told : (p : Program) (by_interface : Bool) (resolved n : ℕ) (m : Method) (answer : Bool) → HasOwnSignature p m.signature resolved → IsInstance m → (by_interface ≡ true → IsTrue answer)
+pub target_iff : (p : Program) (by_interface : Bool) (resolved n : ℕ) (m : Method) (answer : Bool) → HasOwnSignature p m.signature resolved → IsInstance m → (by_interface ≡ true → IsTrue answer)
     → (by_interface ≡ false → (r : Method) → slice_get p.methods resolved ≡ Some r → m.signature ≡ r.signature
     → (IsTrue answer → (n ≡ resolved) ⊎ Overrides p m r) × (((n ≡ resolved) ⊎ Overrides p m r) → IsTrue answer))
     → (IsTrue answer → IsTargetOf p by_interface resolved n m) × (IsTargetOf p by_interface resolved n m → IsTrue answer)
-target_told p true resolved n m answer own instance of_interface of_class = (λ t r stands. (own_signature p m.signature resolved r own stands, instance), λ h. of_interface refl)
-target_told p false resolved n m answer own instance of_interface of_class = (
+target_iff p true resolved n m answer own instance of_interface of_class = (λ t r stands. (own_signature p m.signature resolved r own stands, instance), λ h. of_interface refl)
+target_iff p false resolved n m answer own instance of_interface of_class = (
   λ t r stands. (instance, (of_class refl r stands (own_signature p m.signature resolved r own stands)).0 t),
   λ h. (of_class refl own.method own.stands (sym own.same_call)).1 (h own.method own.stands).1,
 )
@@ -167,7 +168,7 @@ chosen_default p by_interface class resolved m Nothing stands searched finds def
           defaults clashes.first (subst (λ (s : Signature). IsDefault p class s clashes.first) signature clashes.first_default);
     }
 chosen_default p by_interface class resolved m (One target) stands searched finds defaults =
-    selects_searched p by_interface class resolved target m stands searched (by_default finds.none defaults)
+    selects_searched p by_interface class resolved target.0 m stands searched (by_default finds.none defaults)
 chosen_default p by_interface class resolved m Several stands searched finds defaults =
     record {
       method = m;

@@ -4,6 +4,7 @@ use Rattle.std.specs.List.{slice_get}
 use Rattle.jvm_model.specs.LinkedPrograms.{IsProgram}
 use Rattle.jvm_model.specs.Programs.{Class, Program}
 use Rattle.jvm_model.specs.Subtypes.{IsChain}
+use Rattle.jvm_model.specs.declared.number.MethodNo.{MethodNo}
 use Rattle.linked_program.specs.Numbers.{name_at, IsClassNumber}
 use Rattle.linked_program.specs.Ranks.{IsRanked}
 use Rattle.hierarchy.specs.Searches.{Finds}
@@ -51,7 +52,7 @@ abbrev pub HasAlong : (Class → ℕ → Type 0) → List Class → ℕ → Type
 HasAlong Q [] number = ⊥
 HasAlong Q (c ∷ chain) number = Q c number ⊎ HasAlong Q chain number
 
-pub first_along : (Q : Class → ℕ → Type 0) (chain : List Class) (found : Option ℕ) → AnswersFirst (λ c. Finds (Q c)) chain found → Finds (HasAlong Q chain) found
+pub first_along : (Q : Class → ℕ → Type 0) (chain : List Class) (found : Option MethodNo) → AnswersFirst (λ c. Finds (Q c)) chain found → Finds (HasAlong Q chain) found
 first_along Q [] (Some number) h = h
 first_along Q [] None h = λ number along. along
 first_along Q (c ∷ chain) (Some number) (inl here) = inl here

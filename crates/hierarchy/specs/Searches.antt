@@ -1,18 +1,22 @@
 -- Public contracts rest on this module.
 -- What searches for methods and fields give, and what they pass.
-use Rattle.std.specs.Prelude.{◌≡◌, ◌≢◌, ◌⊎◌, ℕ, ◌<◌, Bool, true, false, List, [], ◌∷◌, Option, Some, None, length, slice_get, Contains, IsTrue}
+use Rattle.std.specs.Prelude.{◌≡◌, ◌≢◌, ◌⊎◌, ℕ, Bool, true, false, List, [], ◌∷◌, Option, Some, None, slice_get, Contains, IsTrue}
 use Rattle.jvm_model.specs.Lookups.{Signature}
 use Rattle.jvm_model.specs.Programs.{Class, Method, Program, is_private, is_static, is_abstract}
 use Rattle.jvm_model.specs.Resolution.{Declares, DeclaresField, FindsAmong, HasSignature, IsInstanceWith, IsFoundIn, IsInherited, IsDefault, IsOnlyDefault}
 use Rattle.jvm_model.specs.Selection.{Selects, SelectsFrom, Clashes, package_of}
 use Rattle.jvm_model.specs.Subtypes.{class_named, IsChain, IsProperSubtype}
+use Rattle.jvm_model.specs.declared.number.ClassNo.{ClassNo}
+use Rattle.jvm_model.specs.declared.number.FieldNo.{FieldNo}
+use Rattle.jvm_model.specs.declared.number.MethodNo.{MethodNo}
+use Rattle.linked_program.specs.Numbers.{IsFieldNumber}
 use Rattle.linked_program.specs.Whole.{IsThroughInterface}
 use Rattle.hierarchy.specs.declared.choice.Choice.{Choice}
 use Rattle.hierarchy.specs.declared.choice.Choice.TheVariants.{Nothing, One, Several}
 
--- The number, if there is one, is one of which the fact holds; there is none only where it holds of none.
-abbrev pub Finds : (ℕ → Type 0) → Option ℕ → Type 0
-Finds Q (Some number) = Q number
+-- The method, if there is one, has a number of which the fact holds; there is none only where it holds of none.
+abbrev pub Finds : (ℕ → Type 0) → Option MethodNo → Type 0
+Finds Q (Some method) = Q method.0
 Finds Q None = (number : ℕ) → Q number → ⊥
 
 -- ---- methods that a class declares
@@ -40,12 +44,6 @@ pub record IsOffered (p : Program) (s : Signature) (Takes : ℕ → Method → T
   pub kind : IsTrue class.is_interface
   pub declares : Declares p (IsSuch s (IsInheritable Takes)) class.name number
 
--- One of the listed interfaces does.
-pub record IsOfferedAmong (p : Program) (s : Signature) (Takes : ℕ → Method → Type 0) (interfaces : List ℕ) (number : ℕ) : Type 0 where
-  pub interface : ℕ
-  pub among : Contains interfaces interface
-  pub offered : IsOffered p s Takes interface number
-
 -- A supertype of the class through one of its superinterfaces does.
 pub record OffersThrough (p : Program) (s : Signature) (Takes : ℕ → Method → Type 0) (c : Class) (number : ℕ) : Type 0 where
   pub interface : ℕ
@@ -66,8 +64,8 @@ abbrev pub IsLowestConcrete : Program → List ℕ → Signature → Method → 
 IsLowestConcrete p class s m = (is_abstract m ≡ false) × InheritsNoneBelow p class s m.class
 
 -- It is not the one that is left out, either.
-abbrev pub IsOtherDefault : Program → List ℕ → Signature → Option ℕ → ℕ → Method → Type 0
-IsOtherDefault p class s except number m = (except ≢ Some number) × IsLowestConcrete p class s m
+abbrev pub IsOtherDefault : Program → List ℕ → Signature → Option MethodNo → ℕ → Method → Type 0
+IsOtherDefault p class s except number m = (except ≢ Some (record { 0 = number })) × IsLowestConcrete p class s m
 
 -- ---- answers
 
@@ -82,7 +80,7 @@ pub record HasTwoDefaults (p : Program) (class : List ℕ) (s : Signature) : Typ
 -- Which methods of superinterfaces are maximally specific and not abstract: none, one, or more.
 abbrev pub AreDefaults : Program → List ℕ → Signature → Choice → Type 0
 AreDefaults p class s Nothing = (number : ℕ) → IsDefault p class s number → ⊥
-AreDefaults p class s (One number) = IsOnlyDefault p class s number
+AreDefaults p class s (One method) = IsOnlyDefault p class s method.0
 AreDefaults p class s Several = HasTwoDefaults p class s
 
 -- A call of a resolved method on an object of the class goes nowhere, and not for a clash.
@@ -93,7 +91,7 @@ pub record SelectsNothing (p : Program) (by_interface : Bool) (class : List ℕ)
 -- Where a call of a resolved method on an object of the class goes: nowhere, to one method, or to none for a clash.
 abbrev pub IsChosen : Program → Bool → List ℕ → ℕ → Choice → Type 0
 IsChosen p by_interface class resolved Nothing = SelectsNothing p by_interface class resolved
-IsChosen p by_interface class resolved (One target) = Selects p by_interface class resolved target
+IsChosen p by_interface class resolved (One target) = Selects p by_interface class resolved target.0
 IsChosen p by_interface class resolved Several = Clashes p by_interface class resolved
 
 -- ---- chains of superclasses
@@ -130,15 +128,25 @@ AnswersHidden p owner s c (Some true) = (c.name ≢ owner) × Hides p owner s c.
 AnswersHidden p owner s c (Some false) = c.name ≡ owner
 AnswersHidden p owner s c None = (c.name ≢ owner) × (Hides p owner s c.name → ⊥)
 
+-- What a class answers to whether it is the one of a name: that it is, or nothing.
+abbrev pub AnswersNamed : List ℕ → Class → Option ClassNo → Type 0
+AnswersNamed name c (Some number) = c.name ≡ name
+AnswersNamed name c None = c.name ≢ name
+
 -- ---- fields
+
+-- A field that is found, as a plain number.
+abbrev pub plain_field : Option FieldNo → Option ℕ
+plain_field (Some field) = Some field.0
+plain_field None = None
 
 -- The class declares no field of the signature.
 abbrev pub DeclaresNoField : Program → Signature → Class → Type 0
 DeclaresNoField p s c = (number : ℕ) → DeclaresField p s c.name number → ⊥
 
 -- What the search for a field finds in a class and in its superinterfaces, before it goes on to the superclass.
-abbrev pub FindsBelow : Program → Signature → Class → Option ℕ → Type 0
-FindsBelow p s c (Some number) = (DeclaresField p s c.name number ⊎ (DeclaresNoField p s c × FindsAmong p s c.interfaces (Some number))) × (number < length p.fields)
+abbrev pub FindsBelow : Program → Signature → Class → Option FieldNo → Type 0
+FindsBelow p s c (Some field) = (DeclaresField p s c.name field.0 ⊎ (DeclaresNoField p s c × FindsAmong p s c.interfaces (Some field.0))) × IsFieldNumber p field.0
 FindsBelow p s c None = DeclaresNoField p s c × FindsAmong p s c.interfaces None
 
 -- ---- special calls

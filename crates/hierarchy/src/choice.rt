@@ -1,12 +1,14 @@
 //! What a search among several methods gives.
 
-/// None, one or more methods; of one its number.
+use jvm_model::MethodNo;
+
+/// No method, one, or several; of one its number.
 #[derive(Clone, Copy, Debug, PartialEq, Eq)]
 pub(crate) enum Choice {
     /// No method.
     Nothing,
     /// One method.
-    One(u32),
+    One(MethodNo),
     /// Several methods.
     Several,
 }

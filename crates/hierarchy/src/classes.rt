@@ -28,21 +28,21 @@ pub fn is_subtype(program: &Program, lower: ClassNo, upper: ClassNo) -> bool
 }
 
 /// Whether the class is a subtype of another one (JVMS 4.10.1.2).
-pub(crate) fn is_proper_subtype(program: &Program, lower: u32, upper: u32) -> bool
-    requires lower { IsClassNumber program.now lower }
-    requires upper { IsClassNumber program.now upper }
-    ensures { IsTrue result ↔ IsProperSubtype program.now (name_at program.now lower) (name_at program.now upper) }
+pub(crate) fn is_proper_subtype(program: &Program, lower: ClassNo, upper: ClassNo) -> bool
+    requires lower { IsClassNumber program.now lower.0 }
+    requires upper { IsClassNumber program.now upper.0 }
+    ensures { IsTrue result ↔ IsProperSubtype program.now (name_at program.now lower.0) (name_at program.now upper.0) }
 {
     program.well_formed();
-    lower != upper && program.is_at_or_above(ClassNo(lower), ClassNo(upper))
+    lower != upper && is_subtype(program, lower, upper)
 }
 
 /// The reason if a class that is named with a member has none: this one for a class of the folder, and `NoStub` for another one.
-pub(crate) fn missing_member(program: &Program, class: u32, reason: Reason) -> Reason
-    requires { IsClassNumber program.now class }
-    ensures { (c : Class) → slice_get program.now.classes class ≡ Some c → result ≡ missing c reason }
+pub(crate) fn missing_member(program: &Program, class: ClassNo, reason: Reason) -> Reason
+    requires { IsClassNumber program.now class.0 }
+    ensures { (c : Class) → slice_get program.now.classes class.0 ≡ Some c → result ≡ missing c reason }
 {
-    if program.is_folder(ClassNo(class)) {
+    if program.is_folder(class) {
         reason
     } else {
         Reason::NoStub

@@ -13,24 +13,24 @@ use crate::classes::is_proper_subtype;
 use crate::methods::{class_of, is_abstract};
 use crate::sought::Sought;
 use crate::superinterfaces::first_inherited;
-use jvm_model::Signature;
+use jvm_model::{ClassNo, MethodNo, Signature};
 use linked_program::program::Program;
 
 /// A method of a proper subtype of a class.
 #[derive(Clone, Copy)]
 struct InSubtype {
-    upper: u32,
+    upper: ClassNo,
 }
 
 impl Sought for InSubtype {
     ghost use Rattle.jvm_model.specs.Subtypes.{IsProperSubtype};
 
-    ghost fits = { λ x p s. IsClassNumber p x.upper };
+    ghost fits = { λ x p s. IsClassNumber p x.upper.0 };
 
-    ghost takes = { λ x p n m. IsProperSubtype p m.class (name_at p x.upper) };
+    ghost takes = { λ x p n m. IsProperSubtype p m.class (name_at p x.upper.0) };
 
-    fn accepts(&self, program: &Program, number: u32) -> bool {
-        is_proper_subtype(program, class_of(program, number), self.upper)
+    fn accepts(&self, program: &Program, method: MethodNo) -> bool {
+        is_proper_subtype(program, class_of(program, method), self.upper)
     }
 }
 
@@ -38,37 +38,42 @@ impl Sought for InSubtype {
 /// may be left out.
 #[derive(Clone, Copy)]
 struct LowestConcrete<'a> {
-    class: u32,
+    class: ClassNo,
     signature: Signature<'a>,
-    except: Option<u32>,
+    except: Option<MethodNo>,
 }
 
 impl Sought for LowestConcrete<'_> {
     ghost use Rattle.hierarchy.specs.Searches.{IsOtherDefault};
 
-    ghost fits = { λ x p s. IsClassNumber p x.class };
+    ghost fits = { λ x p s. IsClassNumber p x.class.0 };
 
-    ghost takes = { λ x p. IsOtherDefault p (name_at p x.class) (lent_signature x.signature) x.except };
+    ghost takes = { λ x p. IsOtherDefault p (name_at p x.class.0) (lent_signature x.signature) x.except };
 
-    fn accepts(&self, program: &Program, number: u32) -> bool {
-        self.except != Some(number)
-            && is_lowest_concrete(program, self.class, self.signature, number)
+    fn accepts(&self, program: &Program, method: MethodNo) -> bool {
+        self.except != Some(method)
+            && is_lowest_concrete(program, self.class, self.signature, method)
     }
 }
 
 /// Whether a method is not abstract, and no method of the name and descriptor that the class inherits is declared in a subtype of
 /// its class.
-fn is_lowest_concrete(program: &Program, class: u32, signature: Signature<'_>, number: u32) -> bool
-    requires class { IsClassNumber program.now class }
-    requires number { IsMethodNumber program.now number }
-    ensures { (m : Method) → slice_get program.now.methods number ≡ Some m
-        → IsTrue result ↔ IsLowestConcrete program.now (name_at program.now class) (lent_signature signature.entry) m }
+fn is_lowest_concrete(
+    program: &Program,
+    class: ClassNo,
+    signature: Signature<'_>,
+    method: MethodNo,
+) -> bool
+    requires class { IsClassNumber program.now class.0 }
+    requires method { IsMethodNumber program.now method.0 }
+    ensures { (m : Method) → slice_get program.now.methods method.0 ≡ Some m
+        → IsTrue result ↔ IsLowestConcrete program.now (name_at program.now class.0) (lent_signature signature.entry) m }
 {
-    if is_abstract(program, number) {
+    if is_abstract(program, method) {
         return false;
     }
     let below = InSubtype {
-        upper: class_of(program, number),
+        upper: class_of(program, method),
     };
     first_inherited(program, class, signature, &below).is_none()
 }
@@ -77,9 +82,9 @@ fn is_lowest_concrete(program: &Program, class: u32, signature: Signature<'_>, n
 /// (JVMS 5.4.3.3).
 ///
 /// Time is linear in the superinterfaces for each of their methods of the name and descriptor that is not abstract.
-pub(crate) fn find_defaults(program: &Program, class: u32, signature: Signature<'_>) -> Choice
-    requires { IsClassNumber program.now class }
-    ensures { AreDefaults program.now (name_at program.now class) (lent_signature signature.entry) result }
+pub(crate) fn find_defaults(program: &Program, class: ClassNo, signature: Signature<'_>) -> Choice
+    requires { IsClassNumber program.now class.0 }
+    ensures { AreDefaults program.now (name_at program.now class.0) (lent_signature signature.entry) result }
 {
     let any = LowestConcrete {
         class,
@@ -101,12 +106,16 @@ pub(crate) fn find_defaults(program: &Program, class: u32, signature: Signature<
 }
 
 /// The only method of superinterfaces of a class that is maximally specific and not abstract (JVMS 5.4.3.3).
-pub(crate) fn only_default(program: &Program, class: u32, signature: Signature<'_>) -> Option<u32>
-    requires { IsClassNumber program.now class }
-    ensures { Finds (IsOnlyDefault program.now (name_at program.now class) (lent_signature signature.entry)) result }
+pub(crate) fn only_default(
+    program: &Program,
+    class: ClassNo,
+    signature: Signature<'_>,
+) -> Option<MethodNo>
+    requires { IsClassNumber program.now class.0 }
+    ensures { Finds (IsOnlyDefault program.now (name_at program.now class.0) (lent_signature signature.entry)) result }
 {
     match find_defaults(program, class, signature) {
-        Choice::One(number) => Some(number),
+        Choice::One(method) => Some(method),
         Choice::Nothing => None,
         Choice::Several => None,
     }
@@ -115,7 +124,7 @@ pub(crate) fn only_default(program: &Program, class: u32, signature: Signature<'
 /// A method with a lower number.
 #[derive(Clone, Copy)]
 struct Lower {
-    than: u32,
+    than: MethodNo,
 }
 
 impl Sought for Lower {
@@ -123,17 +132,17 @@ impl Sought for Lower {
 
     ghost fits = { λ x p s. Unit {0} };
 
-    ghost takes = { λ x p n m. n < x.than };
+    ghost takes = { λ x p n m. n < x.than.0 };
 
-    fn accepts(&self, _program: &Program, number: u32) -> bool {
-        number < self.than
+    fn accepts(&self, _program: &Program, method: MethodNo) -> bool {
+        method < self.than
     }
 }
 
 /// The method with the least number of those of its name and descriptor that a class inherits.
 #[derive(Clone, Copy)]
 struct Least<'a> {
-    class: u32,
+    class: ClassNo,
     signature: Signature<'a>,
 }
 
@@ -141,12 +150,12 @@ impl Sought for Least<'_> {
     ghost use Rattle.std.specs.Prelude.{ℕ, ◌<◌};
     ghost use Rattle.hierarchy.specs.Searches.{InheritsSuch};
 
-    ghost fits = { λ x p s. IsClassNumber p x.class };
+    ghost fits = { λ x p s. IsClassNumber p x.class.0 };
 
-    ghost takes = { λ x p n m. (other : ℕ) → InheritsSuch p (name_at p x.class) (lent_signature x.signature) (λ k o. k < n) other → ⊥ };
+    ghost takes = { λ x p n m. (other : ℕ) → InheritsSuch p (name_at p x.class.0) (lent_signature x.signature) (λ k o. k < n) other → ⊥ };
 
-    fn accepts(&self, program: &Program, number: u32) -> bool {
-        let lower = Lower { than: number };
+    fn accepts(&self, program: &Program, method: MethodNo) -> bool {
+        let lower = Lower { than: method };
         first_inherited(program, self.class, self.signature, &lower).is_none()
     }
 }
@@ -156,11 +165,11 @@ impl Sought for Least<'_> {
 /// Time is linear in the superinterfaces for each of their methods of the name and descriptor.
 pub(crate) fn least_inherited(
     program: &Program,
-    class: u32,
+    class: ClassNo,
     signature: Signature<'_>,
-) -> Option<u32>
-    requires { IsClassNumber program.now class }
-    ensures { Finds (IsLeastInherited program.now (name_at program.now class) (lent_signature signature.entry)) result }
+) -> Option<MethodNo>
+    requires { IsClassNumber program.now class.0 }
+    ensures { Finds (IsLeastInherited program.now (name_at program.now class.0) (lent_signature signature.entry)) result }
 {
     first_inherited(program, class, signature, &Least { class, signature })
 }

@@ -5,56 +5,56 @@ ghost use Rattle.jvm_model.specs.Lookups.{lent_signature};
 ghost use Rattle.jvm_model.specs.Programs.{Method, is_abstract, is_private, is_public, is_static};
 ghost use Rattle.linked_program.specs.Numbers.{name_at, IsClassNumber, IsMethodNumber};
 
-use jvm_model::{AccessFlag, MethodNo, Signature};
+use jvm_model::{AccessFlag, ClassNo, MethodNo, Signature};
 use linked_program::program::Program;
 
 /// The class of a method.
-pub(crate) fn class_of(program: &Program, number: u32) -> u32
-    requires { IsMethodNumber program.now number }
-    ensures below { IsClassNumber program.now result }
-    ensures class { (m : Method) → slice_get program.now.methods number ≡ Some m → m.class ≡ name_at program.now result }
+pub(crate) fn class_of(program: &Program, method: MethodNo) -> ClassNo
+    requires { IsMethodNumber program.now method.0 }
+    ensures below { IsClassNumber program.now result.0 }
+    ensures class { (m : Method) → slice_get program.now.methods method.0 ≡ Some m → m.class ≡ name_at program.now result.0 }
 {
-    program.method(MethodNo(number)).class.0
+    program.method(method).class
 }
 
 /// The name and the descriptor of a method.
-pub(crate) fn signature_of(program: &Program, number: u32) -> Signature<'_>
-    requires { IsMethodNumber program.now number }
-    ensures { (m : Method) → slice_get program.now.methods number ≡ Some m → m.signature ≡ lent_signature result }
+pub(crate) fn signature_of(program: &Program, method: MethodNo) -> Signature<'_>
+    requires { IsMethodNumber program.now method.0 }
+    ensures { (m : Method) → slice_get program.now.methods method.0 ≡ Some m → m.signature ≡ lent_signature result }
 {
-    program.method(MethodNo(number)).signature
+    program.method(method).signature
 }
 
 /// Whether a method is abstract.
-pub(crate) fn is_abstract(program: &Program, number: u32) -> bool
-    requires { IsMethodNumber program.now number }
-    ensures { (m : Method) → slice_get program.now.methods number ≡ Some m → result ≡ is_abstract m }
+pub(crate) fn is_abstract(program: &Program, method: MethodNo) -> bool
+    requires { IsMethodNumber program.now method.0 }
+    ensures { (m : Method) → slice_get program.now.methods method.0 ≡ Some m → result ≡ is_abstract m }
 {
-    AccessFlag::Abstract.is_set_in(program.method(MethodNo(number)).flags)
+    AccessFlag::Abstract.is_set_in(program.method(method).flags)
 }
 
 /// Whether a method is public.
-pub(crate) fn is_public(program: &Program, number: u32) -> bool
-    requires { IsMethodNumber program.now number }
-    ensures { (m : Method) → slice_get program.now.methods number ≡ Some m → result ≡ is_public m }
+pub(crate) fn is_public(program: &Program, method: MethodNo) -> bool
+    requires { IsMethodNumber program.now method.0 }
+    ensures { (m : Method) → slice_get program.now.methods method.0 ≡ Some m → result ≡ is_public m }
 {
-    AccessFlag::Public.is_set_in(program.method(MethodNo(number)).flags)
+    AccessFlag::Public.is_set_in(program.method(method).flags)
 }
 
 /// Whether a method is private.
-pub(crate) fn is_private(program: &Program, number: u32) -> bool
-    requires { IsMethodNumber program.now number }
-    ensures { (m : Method) → slice_get program.now.methods number ≡ Some m → result ≡ is_private m }
+pub(crate) fn is_private(program: &Program, method: MethodNo) -> bool
+    requires { IsMethodNumber program.now method.0 }
+    ensures { (m : Method) → slice_get program.now.methods method.0 ≡ Some m → result ≡ is_private m }
 {
-    AccessFlag::Private.is_set_in(program.method(MethodNo(number)).flags)
+    AccessFlag::Private.is_set_in(program.method(method).flags)
 }
 
 /// Whether a method is static: it has the flag, or is the initialiser of its class, which counts as static whatever its flags
 /// are (JVMS 2.9).
-pub(crate) fn is_static(program: &Program, number: u32) -> bool
-    requires { IsMethodNumber program.now number }
-    ensures { (m : Method) → slice_get program.now.methods number ≡ Some m → result ≡ is_static m }
+pub(crate) fn is_static(program: &Program, method: MethodNo) -> bool
+    requires { IsMethodNumber program.now method.0 }
+    ensures { (m : Method) → slice_get program.now.methods method.0 ≡ Some m → result ≡ is_static m }
 {
-    AccessFlag::Static.is_set_in(program.method(MethodNo(number)).flags)
-        || signature_of(program, number).is_class_initialiser()
+    AccessFlag::Static.is_set_in(program.method(method).flags)
+        || signature_of(program, method).is_class_initialiser()
 }

@@ -30,27 +30,27 @@ pub fn resolve_method(
     ensures resolution { (c : Class) → slice_get program.now.classes class.0 ≡ Some c
         → MethodResolution program.now c interface (lent_signature signature.entry) (method_number result) }
 {
-    let Some(number) = resolved(program, class.0, signature) else {
-        return Err(missing_member(program, class.0, Reason::MissingMethod));
+    let Some(method) = resolved(program, class, signature) else {
+        return Err(missing_member(program, class, Reason::MissingMethod));
     };
     if program.is_interface(class) == interface {
-        Ok(MethodNo(number))
+        Ok(method)
     } else {
         Err(Reason::KindMismatch)
     }
 }
 
 /// The method that a reference resolves to, whatever it takes the class for.
-fn resolved(program: &Program, class: u32, signature: Signature<'_>) -> Option<u32>
-    requires { IsClassNumber program.now class }
-    ensures { Finds (Resolves program.now (record { class = name_at program.now class; signature = lent_signature signature.entry })) result }
+fn resolved(program: &Program, class: ClassNo, signature: Signature<'_>) -> Option<MethodNo>
+    requires { IsClassNumber program.now class.0 }
+    ensures { Finds (Resolves program.now (record { class = name_at program.now class.0; signature = lent_signature signature.entry })) result }
 {
     program.well_formed();
-    if let Some(number) = found_in(program, class, signature, &Any) {
-        return Some(number);
+    if let Some(method) = found_in(program, class, signature, &Any) {
+        return Some(method);
     }
-    if let Some(number) = only_default(program, class, signature) {
-        return Some(number);
+    if let Some(method) = only_default(program, class, signature) {
+        return Some(method);
     }
     least_inherited(program, class, signature)
 }

@@ -1,13 +1,13 @@
 //! Resolution of references to fields (JVMS 5.4.3.2).
 
-ghost use Rattle.std.specs.Prelude.{◌≡◌, ◌<◌, length, Some, slice_get, All, IfOk, IfSome};
+ghost use Rattle.std.specs.Prelude.{◌≡◌, Some, slice_get, IfOk, IfSome};
 ghost use Rattle.jvm_model.specs.Access.{has_flag};
 ghost use Rattle.jvm_model.specs.Lookups.{lent_signature};
 ghost use Rattle.jvm_model.specs.Programs.{Class, Field};
 ghost use Rattle.jvm_model.specs.Resolution.{FieldResolution, FindsField};
 ghost use Rattle.jvm_model.specs.declared.access.AccessFlag.TheVariants.{Static};
-ghost use Rattle.linked_program.specs.FieldSearches.{IsFirstField};
 ghost use Rattle.linked_program.specs.Numbers.{name_at, IsClassNumber, IsFieldNumber, field_number};
+ghost use Rattle.hierarchy.specs.Searches.{plain_field};
 
 use crate::classes::missing_member;
 use crate::upward::{Step, first_upward};
@@ -29,22 +29,22 @@ pub fn resolve_field(
     ensures resolution { (c : Class) → slice_get program.now.classes class.0 ≡ Some c
         → FieldResolution program.now c (lent_signature signature.entry) is_static (field_number result) }
 {
-    let Some(number) = found_field(program, class.0, signature) else {
-        return Err(missing_member(program, class.0, Reason::MissingField));
+    let Some(field) = found_field(program, class, signature) else {
+        return Err(missing_member(program, class, Reason::MissingField));
     };
-    if is_static_field(program, number) == is_static {
-        Ok(FieldNo(number))
+    if is_static_field(program, field) == is_static {
+        Ok(field)
     } else {
         Err(Reason::KindMismatch)
     }
 }
 
 /// Whether a field is static.
-fn is_static_field(program: &Program, number: u32) -> bool
-    requires { number < length program.now.fields }
-    ensures { (f : Field) → slice_get program.now.fields number ≡ Some f → result ≡ has_flag f.flags Static }
+fn is_static_field(program: &Program, field: FieldNo) -> bool
+    requires { IsFieldNumber program.now field.0 }
+    ensures { (f : Field) → slice_get program.now.fields field.0 ≡ Some f → result ≡ has_flag f.flags Static }
 {
-    AccessFlag::Static.is_set_in(program.field(FieldNo(number)).flags)
+    AccessFlag::Static.is_set_in(program.field(field).flags)
 }
 
 /// A field of a name and a descriptor, looked for upward: in each class, and then in its superinterfaces.
@@ -57,43 +57,31 @@ impl Step for FieldSearch<'_> {
     ghost use Rattle.jvm_model.specs.Lookups.{lent_signature};
     ghost use Rattle.hierarchy.specs.Searches.{FindsBelow};
 
-    type Answer = u32;
+    type Answer = FieldNo;
 
     ghost fits = { λ x p. Unit {0} };
 
     ghost answers = { λ x p. FindsBelow p (lent_signature x.signature) };
 
-    fn at(&self, program: &Program, class: u32) -> Option<u32> {
-        let signature = self.signature;
-        if let Some(field) = program.declared_field(ClassNo(class), signature) {
-            return Some(field.0);
+    fn at(&self, program: &Program, class: ClassNo) -> Option<FieldNo> {
+        if let Some(field) = program.declared_field(class, self.signature) {
+            return Some(field);
         }
-        first_field(
-            program,
-            program.through_interfaces(ClassNo(class)),
-            signature,
-        )
+        let interfaces = program.through_interfaces(class);
+        for interface in interfaces {
+            if let Some(field) = program.declared_field(ClassNo(*interface), self.signature) {
+                return Some(field);
+            }
+        }
+        None
     }
 }
 
 /// The field that the search from a class finds.
-fn found_field(program: &Program, class: u32, signature: Signature<'_>) -> Option<u32>
-    requires { IsClassNumber program.now class }
-    ensures finds { FindsField program.now (lent_signature signature.entry) (name_at program.now class) result }
-    ensures within { IfSome result (λ n. n < length program.now.fields) }
+fn found_field(program: &Program, class: ClassNo, signature: Signature<'_>) -> Option<FieldNo>
+    requires { IsClassNumber program.now class.0 }
+    ensures finds { FindsField program.now (lent_signature signature.entry) (name_at program.now class.0) (plain_field result) }
+    ensures within { IfSome result (λ f. IsFieldNumber program.now f.0) }
 {
     first_upward(program, class, &FieldSearch { signature })
-}
-
-/// The field of the first of the classes that declares one of the name and descriptor.
-fn first_field(program: &Program, classes: &[u32], signature: Signature<'_>) -> Option<u32>
-    requires { All (IsClassNumber program.now) classes.now }
-    ensures { IsFirstField program.now (lent_signature signature.entry) classes.now result }
-{
-    for class in classes {
-        if let Some(field) = program.declared_field(ClassNo(*class), signature) {
-            return Some(field.0);
-        }
-    }
-    None
 }

@@ -9,24 +9,24 @@ ghost use Rattle.hierarchy.specs.Searches.{Finds, IsSuch};
 
 use crate::sought::{PublicInstance, Sought};
 use crate::upward::{Step, first_upward};
-use jvm_model::{ClassNo, Signature};
+use jvm_model::{ClassNo, MethodNo, Signature};
 use linked_program::program::Program;
 
 /// The method of the name and descriptor that a class declares, if it is looked for.
 pub(crate) fn declared<S: Sought>(
     program: &Program,
-    class: u32,
+    class: ClassNo,
     signature: Signature<'_>,
     sought: &S,
-) -> Option<u32>
-    requires class { IsClassNumber program.now class }
+) -> Option<MethodNo>
+    requires class { IsClassNumber program.now class.0 }
     requires fits { S.fits sought.now program.now (lent_signature signature) }
-    ensures { Finds (Declares program.now (IsSuch (lent_signature signature.entry) (S.takes sought.now program.now)) (name_at program.now class)) result }
+    ensures { Finds (Declares program.now (IsSuch (lent_signature signature.entry) (S.takes sought.now program.now)) (name_at program.now class.0)) result }
 {
     program.well_formed();
-    let method = program.declared_method(ClassNo(class), signature)?;
-    if sought.accepts(program, method.0) {
-        Some(method.0)
+    let method = program.declared_method(class, signature)?;
+    if sought.accepts(program, method) {
+        Some(method)
     } else {
         None
     }
@@ -44,13 +44,13 @@ impl<S: Sought> Step for MethodSearch<'_, S> {
     ghost use Rattle.jvm_model.specs.Resolution.{Declares};
     ghost use Rattle.hierarchy.specs.Searches.{Finds, IsSuch};
 
-    type Answer = u32;
+    type Answer = MethodNo;
 
     ghost fits = { λ x p. S.fits x.sought.now p (lent_signature x.signature) };
 
     ghost answers = { λ x p c. Finds (Declares p (IsSuch (lent_signature x.signature) (S.takes x.sought.now p)) c.name) };
 
-    fn at(&self, program: &Program, class: u32) -> Option<u32> {
+    fn at(&self, program: &Program, class: ClassNo) -> Option<MethodNo> {
         declared(program, class, self.signature, self.sought)
     }
 }
@@ -58,13 +58,13 @@ impl<S: Sought> Step for MethodSearch<'_, S> {
 /// The first method of the name and descriptor that is looked for, from a class upward through its superclasses (JVMS 5.4.3.3).
 pub(crate) fn found_upward<S: Sought>(
     program: &Program,
-    class: u32,
+    class: ClassNo,
     signature: Signature<'_>,
     sought: &S,
-) -> Option<u32>
-    requires class { IsClassNumber program.now class }
+) -> Option<MethodNo>
+    requires class { IsClassNumber program.now class.0 }
     requires fits { S.fits sought.now program.now (lent_signature signature) }
-    ensures { Finds (IsFound program.now (name_at program.now class) (IsSuch (lent_signature signature.entry) (S.takes sought.now program.now))) result }
+    ensures { Finds (IsFound program.now (name_at program.now class.0) (IsSuch (lent_signature signature.entry) (S.takes sought.now program.now))) result }
 {
     first_upward(program, class, &MethodSearch { signature, sought })
 }
@@ -73,29 +73,29 @@ pub(crate) fn found_upward<S: Sought>(
 /// interface its own, and failing that a public instance method of java/lang/Object (JVMS 5.4.3.3, 5.4.3.4).
 pub(crate) fn found_in<S: Sought>(
     program: &Program,
-    class: u32,
+    class: ClassNo,
     signature: Signature<'_>,
     sought: &S,
-) -> Option<u32>
-    requires class { IsClassNumber program.now class }
+) -> Option<MethodNo>
+    requires class { IsClassNumber program.now class.0 }
     requires fits { S.fits sought.now program.now (lent_signature signature) }
-    ensures { (c : Class) → slice_get program.now.classes class ≡ Some c
+    ensures { (c : Class) → slice_get program.now.classes class.0 ≡ Some c
         → Finds (IsFoundIn program.now (IsSuch (lent_signature signature.entry) (S.takes sought.now program.now)) (lent_signature signature.entry) c) result }
 {
-    if !program.is_interface(ClassNo(class)) {
+    if !program.is_interface(class) {
         return found_upward(program, class, signature, sought);
     }
-    if let Some(number) = declared(program, class, signature, sought) {
-        return Some(number);
+    if let Some(method) = declared(program, class, signature, sought) {
+        return Some(method);
     }
     of_object(program, signature)
 }
 
 /// The public instance method of java/lang/Object.
-fn of_object(program: &Program, signature: Signature<'_>) -> Option<u32>
+fn of_object(program: &Program, signature: Signature<'_>) -> Option<MethodNo>
     ensures { Finds (Declares program.now (IsPublicWith (lent_signature signature.entry)) object_name) result }
 {
     program.well_formed();
     let object = program.find(b"java/lang/Object")?;
-    declared(program, object.0, signature, &PublicInstance)
+    declared(program, object, signature, &PublicInstance)
 }

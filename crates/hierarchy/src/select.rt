@@ -35,26 +35,26 @@ pub fn select(
     ensures selection { Selection program.now interface (name_at program.now receiver.0) resolved.0 (method_number result) }
 {
     program.well_formed();
-    match chosen(program, resolved.0, receiver.0, interface) {
+    match chosen(program, resolved, receiver, interface) {
         Choice::Nothing => Err(Reason::NoImplementation),
         Choice::Several => Err(Reason::ClashingDefaults),
         Choice::One(target) => {
             if is_abstract(program, target) {
                 return Err(Reason::NoImplementation);
             }
-            if is_package_overridden(program, receiver.0, resolved.0) {
+            if is_package_overridden(program, receiver, resolved) {
                 return Err(Reason::PackageOverride);
             }
-            Ok(MethodNo(target))
+            Ok(target)
         }
     }
 }
 
 /// The method that is selected, whether it is abstract or not.
-fn chosen(program: &Program, resolved: u32, receiver: u32, interface: bool) -> Choice
-    requires resolved { IsMethodNumber program.now resolved }
-    requires receiver { IsClassNumber program.now receiver }
-    ensures { IsChosen program.now interface (name_at program.now receiver) resolved result }
+fn chosen(program: &Program, resolved: MethodNo, receiver: ClassNo, interface: bool) -> Choice
+    requires resolved { IsMethodNumber program.now resolved.0 }
+    requires receiver { IsClassNumber program.now receiver.0 }
+    ensures { IsChosen program.now interface (name_at program.now receiver.0) resolved.0 result }
 {
     if is_direct(program, resolved, interface) {
         return Choice::One(resolved);
@@ -71,9 +71,9 @@ fn chosen(program: &Program, resolved: u32, receiver: u32, interface: bool) -> C
 }
 
 /// Whether the resolved method is private, and the call is none of an interface's method.
-fn is_direct(program: &Program, resolved: u32, interface: bool) -> bool
-    requires { IsMethodNumber program.now resolved }
-    ensures { (m : Method) → slice_get program.now.methods resolved ≡ Some m → result ≡ is_direct interface m }
+fn is_direct(program: &Program, resolved: MethodNo, interface: bool) -> bool
+    requires { IsMethodNumber program.now resolved.0 }
+    ensures { (m : Method) → slice_get program.now.methods resolved.0 ≡ Some m → result ≡ is_direct interface m }
 {
     if interface {
         return false;
@@ -83,10 +83,10 @@ fn is_direct(program: &Program, resolved: u32, interface: bool) -> bool
 
 /// Whether a method that is visible in its package alone has, from the class upward to below its own, a method of its name and
 /// descriptor in another package.
-fn is_package_overridden(program: &Program, class: u32, resolved: u32) -> bool
-    requires class { IsClassNumber program.now class }
-    requires resolved { IsMethodNumber program.now resolved }
-    ensures { IsTrue result ↔ IsPackageOverridden program.now (name_at program.now class) resolved }
+fn is_package_overridden(program: &Program, class: ClassNo, resolved: MethodNo) -> bool
+    requires class { IsClassNumber program.now class.0 }
+    requires resolved { IsMethodNumber program.now resolved.0 }
+    ensures { IsTrue result ↔ IsPackageOverridden program.now (name_at program.now class.0) resolved.0 }
 {
     if !is_package_private(program, resolved) {
         return false;
@@ -100,11 +100,11 @@ fn is_package_overridden(program: &Program, class: u32, resolved: u32) -> bool
 }
 
 /// Whether a method has no flag of access.
-fn is_package_private(program: &Program, number: u32) -> bool
-    requires { IsMethodNumber program.now number }
-    ensures { (m : Method) → slice_get program.now.methods number ≡ Some m → IsTrue result ↔ IsPackagePrivate m }
+fn is_package_private(program: &Program, method: MethodNo) -> bool
+    requires { IsMethodNumber program.now method.0 }
+    ensures { (m : Method) → slice_get program.now.methods method.0 ≡ Some m → IsTrue result ↔ IsPackagePrivate m }
 {
-    let flags = program.method(MethodNo(number)).flags;
+    let flags = program.method(method).flags;
     if AccessFlag::Public.is_set_in(flags) {
         return false;
     }
@@ -117,7 +117,7 @@ fn is_package_private(program: &Program, number: u32) -> bool
 /// A class that hides a method of the owner, looked for upward to below the owner.
 #[derive(Clone, Copy)]
 struct Hiding<'a> {
-    owner: u32,
+    owner: ClassNo,
     signature: Signature<'a>,
 }
 
@@ -128,11 +128,11 @@ impl Step for Hiding<'_> {
 
     type Answer = bool;
 
-    ghost fits = { λ x p. IsClassNumber p x.owner };
+    ghost fits = { λ x p. IsClassNumber p x.owner.0 };
 
-    ghost answers = { λ x p. AnswersHidden p (name_at p x.owner) (lent_signature x.signature) };
+    ghost answers = { λ x p. AnswersHidden p (name_at p x.owner.0) (lent_signature x.signature) };
 
-    fn at(&self, program: &Program, class: u32) -> Option<bool> {
+    fn at(&self, program: &Program, class: ClassNo) -> Option<bool> {
         program.well_formed();
         if class == self.owner {
             return Some(false);
@@ -146,23 +146,20 @@ impl Step for Hiding<'_> {
 
 /// Whether, from the class upward to below another one, a class in another package than that one has a method of the name and
 /// descriptor.
-fn is_hidden(program: &Program, class: u32, owner: u32, signature: Signature<'_>) -> bool
-    requires class { IsClassNumber program.now class }
-    requires owner { IsClassNumber program.now owner }
-    ensures { IsTrue result ↔ IsHidden program.now (name_at program.now class) (name_at program.now owner) (lent_signature signature.entry) }
+fn is_hidden(program: &Program, class: ClassNo, owner: ClassNo, signature: Signature<'_>) -> bool
+    requires class { IsClassNumber program.now class.0 }
+    requires owner { IsClassNumber program.now owner.0 }
+    ensures { IsTrue result ↔ IsHidden program.now (name_at program.now class.0) (name_at program.now owner.0) (lent_signature signature.entry) }
 {
     first_upward(program, class, &Hiding { owner, signature }).unwrap_or(false)
 }
 
 /// Whether a class in another package than the owner has a method of the name and descriptor.
-fn hides(program: &Program, class: u32, owner: u32, signature: Signature<'_>) -> bool
-    requires class { IsClassNumber program.now class }
-    requires owner { IsClassNumber program.now owner }
-    ensures { IsTrue result ↔ Hides program.now (name_at program.now owner) (lent_signature signature.entry) (name_at program.now class) }
+fn hides(program: &Program, class: ClassNo, owner: ClassNo, signature: Signature<'_>) -> bool
+    requires class { IsClassNumber program.now class.0 }
+    requires owner { IsClassNumber program.now owner.0 }
+    ensures { IsTrue result ↔ Hides program.now (name_at program.now owner.0) (lent_signature signature.entry) (name_at program.now class.0) }
 {
-    program.declared_method(ClassNo(class), signature).is_some()
-        && !is_same_package(
-            program.class_name(ClassNo(class)),
-            program.class_name(ClassNo(owner)),
-        )
+    program.declared_method(class, signature).is_some()
+        && !is_same_package(program.class_name(class), program.class_name(owner))
 }

@@ -6,6 +6,7 @@ ghost use Rattle.jvm_model.specs.Programs.{Method, Program as LinkedProgram};
 ghost use Rattle.linked_program.specs.Numbers.{IsMethodNumber};
 
 use crate::methods::{is_public, is_static};
+use jvm_model::MethodNo;
 use linked_program::program::Program;
 
 /// A test of the methods of a name and a descriptor.
@@ -16,11 +17,11 @@ pub(crate) trait Sought {
     /// Whether the method, which has this number, is one that is looked for.
     ghost takes: { Self → LinkedProgram → ℕ → Method → Type 0 };
 
-    /// Whether the method of a number is one that is looked for.
-    fn accepts(&self, program: &Program, number: u32) -> bool
-        requires number { IsMethodNumber program.now number }
-        requires fits { (m : Method) → slice_get program.now.methods number ≡ Some m → fits self.now program.now m.signature }
-        ensures { (m : Method) → slice_get program.now.methods number ≡ Some m → IsTrue result ↔ takes self.now program.now number m };
+    /// Whether a method is one that is looked for.
+    fn accepts(&self, program: &Program, method: MethodNo) -> bool
+        requires method { IsMethodNumber program.now method.0 }
+        requires fits { (m : Method) → slice_get program.now.methods method.0 ≡ Some m → fits self.now program.now m.signature }
+        ensures { (m : Method) → slice_get program.now.methods method.0 ≡ Some m → IsTrue result ↔ takes self.now program.now method.0 m };
 }
 
 /// Each method.
@@ -32,7 +33,7 @@ impl Sought for Any {
 
     ghost takes = { λ x p n m. Unit {0} };
 
-    fn accepts(&self, _program: &Program, _number: u32) -> bool {
+    fn accepts(&self, _program: &Program, _method: MethodNo) -> bool {
         true
     }
 }
@@ -48,8 +49,8 @@ impl Sought for Instance {
 
     ghost takes = { λ x p n. IsInstance };
 
-    fn accepts(&self, program: &Program, number: u32) -> bool {
-        !is_static(program, number)
+    fn accepts(&self, program: &Program, method: MethodNo) -> bool {
+        !is_static(program, method)
     }
 }
 
@@ -65,7 +66,7 @@ impl Sought for PublicInstance {
 
     ghost takes = { λ x p n m. IsTrue (is_public m) × IsInstance m };
 
-    fn accepts(&self, program: &Program, number: u32) -> bool {
-        is_public(program, number) && !is_static(program, number)
+    fn accepts(&self, program: &Program, method: MethodNo) -> bool {
+        is_public(program, method) && !is_static(program, method)
     }
 }

@@ -32,23 +32,28 @@ pub fn special_target(
     ensures selection { (m : Method) → slice_get program.now.methods resolved.0 ≡ Some m
         → SpecialSelection program.now (name_at program.now current.0) (record { class = name_at program.now named.0; signature = m.signature }) (method_number result) }
 {
-    let signature = signature_of(program, resolved.0);
-    let start = search_start(program, current.0, named.0, signature);
+    let signature = signature_of(program, resolved);
+    let start = search_start(program, current, named, signature);
     let Some(target) = selected_from(program, start, signature) else {
         return Err(Reason::NoImplementation);
     };
     if is_abstract(program, target) {
         return Err(Reason::NoImplementation);
     }
-    Ok(MethodNo(target))
+    Ok(target)
 }
 
 /// The class at which the search begins: at a call of a superclass's method, the superclass of the current class.
-fn search_start(program: &Program, current: u32, named: u32, signature: Signature<'_>) -> u32
-    requires current { IsClassNumber program.now current }
-    requires named { IsClassNumber program.now named }
-    ensures class { IsClassNumber program.now result }
-    ensures start { StartsSearch program.now (name_at program.now current) (record { class = name_at program.now named; signature = lent_signature signature.entry }) (name_at program.now result) }
+fn search_start(
+    program: &Program,
+    current: ClassNo,
+    named: ClassNo,
+    signature: Signature<'_>,
+) -> ClassNo
+    requires current { IsClassNumber program.now current.0 }
+    requires named { IsClassNumber program.now named.0 }
+    ensures class { IsClassNumber program.now result.0 }
+    ensures start { StartsSearch program.now (name_at program.now current.0) (record { class = name_at program.now named.0; signature = lent_signature signature.entry }) (name_at program.now result.0) }
 {
     program.well_formed();
     if is_constructor(signature.name) {
@@ -60,8 +65,8 @@ fn search_start(program: &Program, current: u32, named: u32, signature: Signatur
     if !is_upward(program, current, named) {
         return named;
     }
-    match program.super_class(ClassNo(current)) {
-        Some(above) => above.0,
+    match program.super_class(current) {
+        Some(above) => above,
         None => named,
     }
 }
@@ -73,22 +78,23 @@ fn is_constructor(name: &[u8]) -> bool
     name == b"<init>".as_slice()
 }
 
-/// The class of a number, looked for upward.
+/// A class, looked for upward.
 #[derive(Clone, Copy)]
 struct Reached {
-    upper: u32,
+    upper: ClassNo,
 }
 
 impl Step for Reached {
     ghost use Rattle.linked_program.specs.Numbers.{name_at, IsClassNumber};
+    ghost use Rattle.hierarchy.specs.Searches.{AnswersNamed};
 
-    type Answer = u32;
+    type Answer = ClassNo;
 
-    ghost fits = { λ x p. IsClassNumber p x.upper };
+    ghost fits = { λ x p. IsClassNumber p x.upper.0 };
 
-    ghost answers = { λ x p c. Finds (λ n. c.name ≡ name_at p x.upper) };
+    ghost answers = { λ x p. AnswersNamed (name_at p x.upper.0) };
 
-    fn at(&self, program: &Program, class: u32) -> Option<u32> {
+    fn at(&self, program: &Program, class: ClassNo) -> Option<ClassNo> {
         program.well_formed();
         if class == self.upper {
             Some(class)
@@ -99,18 +105,18 @@ impl Step for Reached {
 }
 
 /// Whether a class is another one, or among the superclasses of it.
-fn is_upward(program: &Program, class: u32, upper: u32) -> bool
-    requires class { IsClassNumber program.now class }
-    requires upper { IsClassNumber program.now upper }
-    ensures { IsTrue result ↔ IsReachedUpward program.now (name_at program.now class) (name_at program.now upper) }
+fn is_upward(program: &Program, class: ClassNo, upper: ClassNo) -> bool
+    requires class { IsClassNumber program.now class.0 }
+    requires upper { IsClassNumber program.now upper.0 }
+    ensures { IsTrue result ↔ IsReachedUpward program.now (name_at program.now class.0) (name_at program.now upper.0) }
 {
     first_upward(program, class, &Reached { upper }).is_some()
 }
 
 /// The instance method of the name and descriptor that a search from a class finds, upward or as the only default.
-fn selected_from(program: &Program, start: u32, signature: Signature<'_>) -> Option<u32>
-    requires { IsClassNumber program.now start }
-    ensures { Finds (SelectsInstance program.now (name_at program.now start) (lent_signature signature.entry)) result }
+fn selected_from(program: &Program, start: ClassNo, signature: Signature<'_>) -> Option<MethodNo>
+    requires { IsClassNumber program.now start.0 }
+    ensures { Finds (SelectsInstance program.now (name_at program.now start.0) (lent_signature signature.entry)) result }
 {
     program.well_formed();
     if let Some(target) = found_in(program, start, signature, &Instance) {

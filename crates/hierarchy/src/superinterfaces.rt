@@ -1,15 +1,14 @@
 //! The search for a method in the superinterfaces of a class, direct or not.
 
-ghost use Rattle.std.specs.Prelude.{All};
 ghost use Rattle.jvm_model.specs.Lookups.{lent_signature};
 ghost use Rattle.linked_program.specs.Numbers.{name_at, IsClassNumber};
-ghost use Rattle.hierarchy.specs.Searches.{Finds, InheritsSuch, IsOffered, IsOfferedAmong};
+ghost use Rattle.hierarchy.specs.Searches.{Finds, InheritsSuch, IsOffered};
 
 use crate::methods::{is_private, is_static};
 use crate::search::declared;
 use crate::sought::Sought;
 use crate::upward::{Step, first_upward};
-use jvm_model::{ClassNo, Signature};
+use jvm_model::{ClassNo, MethodNo, Signature};
 use linked_program::program::Program;
 
 /// A method that subtypes inherit from an interface, and that is looked for: it is neither private nor static.
@@ -25,51 +24,32 @@ impl<S: Sought> Sought for Inheritable<'_, S> {
 
     ghost takes = { λ x p. IsInheritable (S.takes x.sought.now p) };
 
-    fn accepts(&self, program: &Program, number: u32) -> bool {
-        if is_private(program, number) {
+    fn accepts(&self, program: &Program, method: MethodNo) -> bool {
+        if is_private(program, method) {
             return false;
         }
-        if is_static(program, number) {
+        if is_static(program, method) {
             return false;
         }
-        self.sought.accepts(program, number)
+        self.sought.accepts(program, method)
     }
 }
 
 /// The method of the name and descriptor that an interface declares and its subtypes inherit, if it is looked for.
 fn offered<S: Sought>(
     program: &Program,
-    interface: u32,
+    interface: ClassNo,
     signature: Signature<'_>,
     sought: &S,
-) -> Option<u32>
-    requires class { IsClassNumber program.now interface }
+) -> Option<MethodNo>
+    requires class { IsClassNumber program.now interface.0 }
     requires fits { S.fits sought.now program.now (lent_signature signature) }
-    ensures { Finds (IsOffered program.now (lent_signature signature.entry) (S.takes sought.now program.now) interface) result }
+    ensures { Finds (IsOffered program.now (lent_signature signature.entry) (S.takes sought.now program.now) interface.0) result }
 {
-    if !program.is_interface(ClassNo(interface)) {
+    if !program.is_interface(interface) {
         return None;
     }
     declared(program, interface, signature, &Inheritable { sought })
-}
-
-/// The first method that one of the interfaces offers, and that is looked for.
-fn first_among<S: Sought>(
-    program: &Program,
-    interfaces: &[u32],
-    signature: Signature<'_>,
-    sought: &S,
-) -> Option<u32>
-    requires below { All (IsClassNumber program.now) interfaces.now }
-    requires fits { S.fits sought.now program.now (lent_signature signature) }
-    ensures { Finds (IsOfferedAmong program.now (lent_signature signature.entry) (S.takes sought.now program.now) interfaces.now) result }
-{
-    for interface in interfaces {
-        if let Some(number) = offered(program, *interface, signature, sought) {
-            return Some(number);
-        }
-    }
-    None
 }
 
 /// A method of superinterfaces, looked for upward: in those of each class.
@@ -83,19 +63,25 @@ impl<S: Sought> Step for InterfaceSearch<'_, S> {
     ghost use Rattle.jvm_model.specs.Lookups.{lent_signature};
     ghost use Rattle.hierarchy.specs.Searches.{Finds, OffersThrough};
 
-    type Answer = u32;
+    type Answer = MethodNo;
 
     ghost fits = { λ x p. S.fits x.sought.now p (lent_signature x.signature) };
 
     ghost answers = { λ x p c. Finds (OffersThrough p (lent_signature x.signature) (S.takes x.sought.now p) c) };
 
-    fn at(&self, program: &Program, class: u32) -> Option<u32> {
-        first_among(
-            program,
-            program.through_interfaces(ClassNo(class)),
-            self.signature,
-            self.sought,
-        )
+    fn at(&self, program: &Program, class: ClassNo) -> Option<MethodNo> {
+        let interfaces = program.through_interfaces(class);
+        for interface in interfaces {
+            if let Some(method) = offered(
+                program,
+                ClassNo(*interface),
+                self.signature,
+                self.sought,
+            ) {
+                return Some(method);
+            }
+        }
+        None
     }
 }
 
@@ -103,13 +89,13 @@ impl<S: Sought> Step for InterfaceSearch<'_, S> {
 /// interfaces from the class upward, at each as often as a superclass has it above.
 pub(crate) fn first_inherited<S: Sought>(
     program: &Program,
-    class: u32,
+    class: ClassNo,
     signature: Signature<'_>,
     sought: &S,
-) -> Option<u32>
-    requires class { IsClassNumber program.now class }
+) -> Option<MethodNo>
+    requires class { IsClassNumber program.now class.0 }
     requires fits { S.fits sought.now program.now (lent_signature signature) }
-    ensures { Finds (InheritsSuch program.now (name_at program.now class) (lent_signature signature.entry) (S.takes sought.now program.now)) result }
+    ensures { Finds (InheritsSuch program.now (name_at program.now class.0) (lent_signature signature.entry) (S.takes sought.now program.now)) result }
 {
     program.well_formed();
     first_upward(program, class, &InterfaceSearch { signature, sought })

@@ -20,17 +20,21 @@ pub(crate) trait Step {
     ghost answers: { Self → LinkedProgram → Class → Option Self.Answer → Type 0 };
 
     /// What the class answers, if it does.
-    fn at(&self, program: &Program, class: u32) -> Option<Self::Answer>
-        requires class { IsClassNumber program.now class }
+    fn at(&self, program: &Program, class: ClassNo) -> Option<Self::Answer>
+        requires class { IsClassNumber program.now class.0 }
         requires fits { fits self.now program.now }
-        ensures { (c : Class) → slice_get program.now.classes class ≡ Some c → answers self.now program.now c result };
+        ensures { (c : Class) → slice_get program.now.classes class.0 ≡ Some c → answers self.now program.now c result };
 }
 
 /// What the first class answers that does, from a class upward through its superclasses; `None` if no class answers.
-pub(crate) fn first_upward<S: Step>(program: &Program, class: u32, step: &S) -> Option<S::Answer>
-    requires class { IsClassNumber program.now class }
+pub(crate) fn first_upward<S: Step>(
+    program: &Program,
+    class: ClassNo,
+    step: &S,
+) -> Option<S::Answer>
+    requires class { IsClassNumber program.now class.0 }
     requires fits { S.fits step.now program.now }
-    ensures { IsFirstUpward program.now (S.answers step.now program.now) (name_at program.now class) result }
+    ensures { IsFirstUpward program.now (S.answers step.now program.now) (name_at program.now class.0) result }
 {
     program.well_formed();
     let mut current = class;
@@ -38,10 +42,10 @@ pub(crate) fn first_upward<S: Step>(program: &Program, class: u32, step: &S) -> 
         if let Some(answer) = step.at(program, current) {
             return Some(answer);
         }
-        let Some(above) = program.super_class(ClassNo(current)) else {
+        let Some(above) = program.super_class(current) else {
             return None;
         };
-        current = above.0;
+        current = above;
     }
     unreachable!()
 }

@@ -21,7 +21,7 @@ returns-then-is_interface-interface-clause-resolution c = λ class stands.
     let p = c.args.program.now in
     let s = lent_signature c.args.signature in
     let name = name_at-at p c.args.class.0 class stands in
-    found c.in-Some.number (subst (λ (x : List ℕ). Resolves p (record { class = x; signature = s }) c.in-Some.number) name c.in-Some.ensures)
+    found c.in-Some.method.0 (subst (λ (x : List ℕ). Resolves p (record { class = x; signature = s }) c.in-Some.method.0) name c.in-Some.ensures)
     (sym (c.is_interface.ensures class stands) ∙ same_kind c.is_interface.result c.args.interface c.if-is_interface-interface.true) refl
 
 pub returns-else-is_interface-interface-clause-resolution : goal.returns-else-is_interface-interface-clause-resolution
@@ -29,10 +29,10 @@ returns-else-is_interface-interface-clause-resolution c = λ class stands.
     let p = c.args.program.now in
     let s = lent_signature c.args.signature in
     let name = name_at-at p c.args.class.0 class stands in
-    other_kind c.in-Some.number (subst (λ (x : List ℕ). Resolves p (record { class = x; signature = s }) c.in-Some.number) name c.in-Some.ensures)
+    other_kind c.in-Some.method.0 (subst (λ (x : List ℕ). Resolves p (record { class = x; signature = s }) c.in-Some.method.0) name c.in-Some.ensures)
     (λ e. other_kind_of c.is_interface.result c.args.interface c.if-is_interface-interface.false (c.is_interface.ensures class stands ∙ e)) refl
 
 pub returns-then-is_interface-interface-clause-below : goal.returns-then-is_interface-interface-clause-below
 returns-then-is_interface-interface-clause-below c =
     let p = c.args.program.now in
-    resolves_within p (name_at p c.args.class.0) (lent_signature c.args.signature) c.in-Some.number c.in-Some.ensures
+    resolves_within p (name_at p c.args.class.0) (lent_signature c.args.signature) c.in-Some.method.0 c.in-Some.ensures

@@ -10,6 +10,6 @@ returns c =
     let s = lent_signature c.args.signature in
     let walk = c.first_upward.ensures in
     record {
-      finds = field_first p s (Some (name_at p c.args.class)) walk.chain c.first_upward.result walk.of_start walk.first;
+      finds = field_first p s (Some (name_at p c.args.class.0)) walk.chain c.first_upward.result walk.of_start walk.first;
       within = field_within p s walk.chain c.first_upward.result walk.first;
     }

@@ -13,8 +13,8 @@ returns-then-is_static_field-is_static-clause-resolution c = λ class stands.
     let p = c.args.program.now in
     let s = lent_signature c.args.signature in
     let name = name_at-at p c.args.class.0 class stands in
-    let field = place_there p.fields c.in-Some.number c.in-Some.ensures.within in
-    found c.in-Some.number field.0 (subst (λ (x : List ℕ). FindsField p s x (Some c.in-Some.number)) name c.in-Some.ensures.finds) field.1
+    let field = place_there p.fields c.in-Some.field.0 c.in-Some.ensures.within in
+    found c.in-Some.field.0 field.0 (subst (λ (x : List ℕ). FindsField p s x (Some c.in-Some.field.0)) name c.in-Some.ensures.finds) field.1
     (sym (c.is_static_field.ensures field.0 field.1) ∙ same_kind c.is_static_field.result c.args.is_static c.if-is_static_field-is_static.true) refl
 
 pub returns-else-is_static_field-is_static-clause-resolution : goal.returns-else-is_static_field-is_static-clause-resolution
@@ -22,8 +22,8 @@ returns-else-is_static_field-is_static-clause-resolution c = λ class stands.
     let p = c.args.program.now in
     let s = lent_signature c.args.signature in
     let name = name_at-at p c.args.class.0 class stands in
-    let field = place_there p.fields c.in-Some.number c.in-Some.ensures.within in
-    other_kind c.in-Some.number field.0 (subst (λ (x : List ℕ). FindsField p s x (Some c.in-Some.number)) name c.in-Some.ensures.finds) field.1
+    let field = place_there p.fields c.in-Some.field.0 c.in-Some.ensures.within in
+    other_kind c.in-Some.field.0 field.0 (subst (λ (x : List ℕ). FindsField p s x (Some c.in-Some.field.0)) name c.in-Some.ensures.finds) field.1
     (λ e. other_kind_of c.is_static_field.result c.args.is_static c.if-is_static_field-is_static.false (c.is_static_field.ensures field.0 field.1 ∙ e)) refl
 
 pub returns-then-is_static_field-is_static-clause-below : goal.returns-then-is_static_field-is_static-clause-below

@@ -5,4 +5,4 @@ use Rattle.hierarchy.proofs.special.is_upward.Goals as goal
 pub returns : goal.returns
 returns c =
     let p = c.args.program.now in
-    rw c.is_some.ensures (reached_found p (name_at p c.args.class) (name_at p c.args.upper) c.first_upward.result c.first_upward.ensures)
+    rw c.is_some.ensures (reached_found p (name_at p c.args.class.0) (name_at p c.args.upper.0) c.first_upward.result c.first_upward.ensures)

@@ -7,11 +7,11 @@ use Rattle.hierarchy.proofs.special.selected_from.Goals as goal
 
 pub returns-in-Some : goal.returns-in-Some
 returns-in-Some c =
-    let class = class_of_number c.args.program.now c.well_formed-2.ensures.program c.args.start c.requires in
+    let class = class_of_number c.args.program.now c.well_formed-2.ensures.program c.args.start.0 c.requires in
     record { class = class.0; named = class.1.named; chosen = upward (c.in-Some.ensures class.0 class.1.stands) }
 
 pub returns : goal.returns
 returns c =
     let p = c.args.program.now in
-    let class = class_of_number p c.well_formed-2.ensures.program c.args.start c.requires in
-    instance_default p (name_at p c.args.start) (lent_signature c.args.signature) class.0 c.only_default.result class.1.named (c.in_default.ensures class.0 class.1.stands) c.only_default.ensures
+    let class = class_of_number p c.well_formed-2.ensures.program c.args.start.0 c.requires in
+    instance_default p (name_at p c.args.start.0) (lent_signature c.args.signature) class.0 c.only_default.result class.1.named (c.in_default.ensures class.0 class.1.stands) c.only_default.ensures

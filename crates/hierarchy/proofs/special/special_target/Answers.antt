@@ -11,22 +11,22 @@ returns-in_default-clause-selection c = λ m stands.
     let p = c.args.program.now in
     let s = lent_signature c.signature_of-signature.result in
     nothing (λ target selects. c.in_default.ensures target
-    (special_instance p (name_at p c.args.current.0) (name_at p c.args.named.0) s m.signature (name_at p c.search_start-start.result) target
+    (special_instance p (name_at p c.args.current.0) (name_at p c.args.named.0) s m.signature (name_at p c.search_start-start.result.0) target
     (c.signature_of-signature.ensures m stands) c.search_start-start.ensures.start selects)) refl
 
 pub is_abstract-requires : goal.is_abstract-requires
 is_abstract-requires c =
     let p = c.args.program.now in
-    instance_within p (name_at p c.search_start-start.result) (lent_signature c.signature_of-signature.result) c.in-Some.target c.in-Some.ensures
+    instance_within p (name_at p c.search_start-start.result.0) (lent_signature c.signature_of-signature.result) c.in-Some.target.0 c.in-Some.ensures
 
 pub returns-then-is_abstract-clause-selection : goal.returns-then-is_abstract-clause-selection
 returns-then-is_abstract-clause-selection c = λ m stands.
     let p = c.args.program.now in
     let s = lent_signature c.signature_of-signature.result in
-    let start = name_at p c.search_start-start.result in
-    let target = method_there p c.in-Some.target (instance_within p start s c.in-Some.target c.in-Some.ensures) in
-    no_code c.in-Some.target target.0
-    (special_from p (name_at p c.args.current.0) (name_at p c.args.named.0) s m.signature start c.in-Some.target (c.signature_of-signature.ensures m stands)
+    let start = name_at p c.search_start-start.result.0 in
+    let target = method_there p c.in-Some.target.0 (instance_within p start s c.in-Some.target.0 c.in-Some.ensures) in
+    no_code c.in-Some.target.0 target.0
+    (special_from p (name_at p c.args.current.0) (name_at p c.args.named.0) s m.signature start c.in-Some.target.0 (c.signature_of-signature.ensures m stands)
     c.search_start-start.ensures.start c.in-Some.ensures)
     target.1 (sym (c.is_abstract.ensures target.0 target.1) ∙ c.if-is_abstract.true) refl
 
@@ -34,14 +34,14 @@ pub returns-clause-selection : goal.returns-clause-selection
 returns-clause-selection c = λ m stands.
     let p = c.args.program.now in
     let s = lent_signature c.signature_of-signature.result in
-    let start = name_at p c.search_start-start.result in
-    let target = method_there p c.in-Some.target (instance_within p start s c.in-Some.target c.in-Some.ensures) in
-    selected c.in-Some.target target.0
-    (special_from p (name_at p c.args.current.0) (name_at p c.args.named.0) s m.signature start c.in-Some.target (c.signature_of-signature.ensures m stands)
+    let start = name_at p c.search_start-start.result.0 in
+    let target = method_there p c.in-Some.target.0 (instance_within p start s c.in-Some.target.0 c.in-Some.ensures) in
+    selected c.in-Some.target.0 target.0
+    (special_from p (name_at p c.args.current.0) (name_at p c.args.named.0) s m.signature start c.in-Some.target.0 (c.signature_of-signature.ensures m stands)
     c.search_start-start.ensures.start c.in-Some.ensures)
     target.1 (sym (c.is_abstract.ensures target.0 target.1) ∙ c.if-is_abstract.false) refl
 
 pub returns-clause-below : goal.returns-clause-below
 returns-clause-below c =
     let p = c.args.program.now in
-    instance_within p (name_at p c.search_start-start.result) (lent_signature c.signature_of-signature.result) c.in-Some.target c.in-Some.ensures
+    instance_within p (name_at p c.search_start-start.result.0) (lent_signature c.signature_of-signature.result) c.in-Some.target.0 c.in-Some.ensures

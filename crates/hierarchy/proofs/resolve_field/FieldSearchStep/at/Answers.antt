@@ -1,13 +1,17 @@
-use Rattle.std.proofs.Common.{ℕ, List, subst}
 use Rattle.jvm_model.specs.Lookups.{lent_signature}
-use Rattle.jvm_model.specs.Resolution.{DeclaresField}
-use Rattle.hierarchy.proofs.ClassPlaces.{name_at-at}
-use Rattle.hierarchy.proofs.FieldWalks.{interfaces_found}
+use Rattle.hierarchy.proofs.FieldWalks.{field_here, found_among, none_among}
 use Rattle.hierarchy.proofs.resolve_field.FieldSearchStep.at.Goals as goal
+
+pub returns-in-Some : goal.returns-in-Some
+returns-in-Some c = λ class stands. field_here c.args.program.now (lent_signature c.args.self.now.signature) c.args.class.0 class c.in-Some.field stands c.in-Some.ensures.found
+
+pub returns-in-Some-declared_field : goal.returns-in-Some-declared_field
+returns-in-Some-declared_field c = λ class stands.
+    found_among c.args.program.now (lent_signature c.args.self.now.signature) c.args.class.0 class c.through_interfaces-interfaces.result.now c.loop-interface.interface-index
+    c.in-Some-declared_field.field stands (c.through_interfaces-interfaces.ensures.order class stands) c.in_default.ensures.none c.loop-interface.invariant
+    c.loop-interface-test.true c.in-Some-declared_field.ensures.found
 
 pub returns : goal.returns
 returns c = λ class stands.
-    let p = c.args.program.now in
-    let s = lent_signature c.args.self.now.signature in
-    let none = subst (λ (x : List ℕ). (n : ℕ) → DeclaresField p s x n → ⊥) (name_at-at p c.args.class class stands) c.in_default.ensures.none in
-    interfaces_found p s class c.through_interfaces.result.now c.first_field.result (c.through_interfaces.ensures.order class stands) none c.first_field.ensures
+    none_among c.args.program.now (lent_signature c.args.self.now.signature) c.args.class.0 class c.through_interfaces-interfaces.result.now c.loop-interface.interface-index
+    stands (c.through_interfaces-interfaces.ensures.order class stands) c.in_default.ensures.none c.loop-interface.invariant c.loop-interface-test.false

@@ -9,4 +9,4 @@ pub returns : goal.returns
 returns g c = λ class stands.
     let p = c.args.program.now in
     let Is = IsSuch (lent_signature c.args.self.now.signature) (g.S.Sought.takes c.args.self.now.sought.now p) in
-    subst (λ (x : List ℕ). Finds (Declares p Is x) c.declared.result) (name_at-at p c.args.class class stands) c.declared.ensures
+    subst (λ (x : List ℕ). Finds (Declares p Is x) c.declared.result) (name_at-at p c.args.class.0 class stands) c.declared.ensures
