@@ -98,7 +98,7 @@ offered_along p program s Takes number upper interface upper_named kind offered 
           })
     ]
 
-inherited_along : (p : Program) → IsProgram p → (s : Signature) (Takes : ℕ → Method → Type 0) (name : List ℕ) (chain : List Class) (number : ℕ) → IsChain p (Some name) chain
+pub inherited_along : (p : Program) → IsProgram p → (s : Signature) (Takes : ℕ → Method → Type 0) (name : List ℕ) (chain : List Class) (number : ℕ) → IsChain p (Some name) chain
     → InheritsSuch p name s Takes number → HasAlong (OffersThrough p s Takes) chain number
 inherited_along p program s Takes name chain number is such =
     let inherited = such.inherited in
@@ -162,7 +162,7 @@ lower_from p ranked s Takes number (Some name) (c ∷ chain) is (inr later) = ab
         let more = h.less in
         record { interface = h.interface; offered = h.offered; sub = below name c up is.0 (inl e) h.sub; less = omega (arith, less, more) }
 
-along_inherited : (p : Program) → IsProgram p → IsRanked p → (s : Signature) (Takes : ℕ → Method → Type 0) (name : List ℕ) (chain : List Class) (number : ℕ) → IsChain p (Some name) chain
+pub along_inherited : (p : Program) → IsProgram p → IsRanked p → (s : Signature) (Takes : ℕ → Method → Type 0) (name : List ℕ) (chain : List Class) (number : ℕ) → IsChain p (Some name) chain
     → HasAlong (OffersThrough p s Takes) chain number → InheritsSuch p name s Takes number
 along_inherited p program ranked s Takes name chain number is along =
     let lower = lower_from p ranked s Takes number (Some name) chain is along in

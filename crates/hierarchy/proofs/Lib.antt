@@ -8,5 +8,6 @@ pub mod Selecting
 pub mod Hiding
 pub mod FoundIn
 pub mod Specific
+pub mod LeastMethods
 pub mod Resolving
 pub mod FieldWalks

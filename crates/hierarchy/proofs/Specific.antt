@@ -1,14 +1,13 @@
--- Methods that are maximally specific and not abstract, and the least of those that are inherited.
-use Rattle.std.proofs.Common.{◌≡◌, ◌≢◌, ℕ, ◌<◌, Bool, false, not, List, Option, Some, None, sym, ◌∙◌, subst, arith, inl, inr}
+-- Methods that are maximally specific and not abstract.
+use Rattle.std.proofs.Common.{◌≡◌, ◌≢◌, ℕ, Bool, false, not, List, Option, Some, None, sym, ◌∙◌, subst}
 use Rattle.std.specs.Bool.{IsTrue}
 use Rattle.std.specs.Option.{is_some}
-use Rattle.std.proofs.lemmas.Bool.{false≢true, cases_lt, not-true, not-false}
+use Rattle.std.proofs.lemmas.Bool.{false≢true, not-true, not-false}
 use Rattle.jvm_model.specs.Lookups.{Signature}
 use Rattle.jvm_model.specs.Programs.{Method, Program, is_abstract}
-use Rattle.jvm_model.specs.Resolution.{IsDefault, IsOnlyDefault, IsLeastInherited}
+use Rattle.jvm_model.specs.Resolution.{IsDefault, IsOnlyDefault}
 use Rattle.jvm_model.specs.declared.number.MethodNo.{MethodNo}
 use Rattle.hierarchy.specs.Searches.{Finds, HasTwoDefaults, InheritsSuch, InheritsNoneBelow, IsLowestConcrete, IsOtherDefault}
-use Rattle.hierarchy.proofs.Declaring.{finds_same}
 
 -- ---- whether a search finds none
 
@@ -41,21 +40,3 @@ default_such p class s except n differs default =
 -- of two defaults none is the only one
 pub two_not_only : (p : Program) (class : List ℕ) (s : Signature) (n : ℕ) → HasTwoDefaults p class s → IsOnlyDefault p class s n → ⊥
 two_not_only p class s n two only = two.differ (only.only two.first two.first_default ∙ sym (only.only two.second two.second_default))
-
--- ---- the least number
-
--- No method of the signature that the class inherits has a lower number.
-abbrev pub HasNoLower : Program → List ℕ → Signature → ℕ → Method → Type 0
-HasNoLower p class s number m = (other : ℕ) → InheritsSuch p class s (λ k o. k < number) other → ⊥
-
-pub least_found : (p : Program) (class : List ℕ) (s : Signature) (found : Option MethodNo) → Finds (InheritsSuch p class s (HasNoLower p class s)) found → Finds (IsLeastInherited p class s) found
-least_found p class s found =
-    finds_same (InheritsSuch p class s (HasNoLower p class s)) (IsLeastInherited p class s) found
-    (λ n such. record { inherited = such.inherited; least = λ other o. elim (cases_lt other n) [ inl lt ↦ absurd (such.taken other (record { inherited = o; taken = lt })) | inr le ↦ le ] })
-    (λ n least. record {
-      inherited = least.inherited;
-      taken = λ other such.
-          let lt = such.taken in
-          let le = least.least other such.inherited in
-          omega (arith, lt, le);
-    })

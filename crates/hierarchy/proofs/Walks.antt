@@ -1,5 +1,5 @@
 -- A walk up the superclasses, by one step, and at its ends.
-use Rattle.std.proofs.Common.{◌≡◌, ◌⊎◌, ℕ, List, [], ◌∷◌, Option, Some, None, sym, subst, inl, inr}
+use Rattle.std.proofs.Common.{◌≡◌, ◌⊎◌, ℕ, List, [], ◌∷◌, Option, Some, None, refl, sym, subst, inl, inr}
 use Rattle.std.specs.List.{slice_get}
 use Rattle.jvm_model.specs.LinkedPrograms.{IsProgram}
 use Rattle.jvm_model.specs.Programs.{Class, Program}
@@ -8,7 +8,7 @@ use Rattle.jvm_model.specs.declared.number.MethodNo.{MethodNo}
 use Rattle.linked_program.specs.Numbers.{name_at, IsClassNumber}
 use Rattle.linked_program.specs.Ranks.{IsRanked}
 use Rattle.hierarchy.specs.Searches.{Finds}
-use Rattle.hierarchy.specs.Upward.{AnswersFirst, IsFirstUpward}
+use Rattle.hierarchy.specs.Upward.{AnswersFirst, IsFirstUpward, IsFoldedUpward}
 use Rattle.hierarchy.proofs.ClassPlaces.{class_of_number}
 use Rattle.hierarchy.proofs.Chains.{IsStep, IsTop, chain_above}
 
@@ -43,6 +43,30 @@ walk_ends p Answers n top none =
       chain = top.class ∷ [];
       of_start = (top.at.named, subst (λ (v : Option (List ℕ)). IsChain p v []) (sym top.super) tt);
       first = (none top.class top.at.stands, tt);
+    }
+
+-- ---- what classes make of a value
+
+-- The class of a number makes the second value of the first.
+abbrev pub MakesAt : {A : Type 0} → Program → (Class → A → A → Type 0) → ℕ → A → A → Type 0
+MakesAt p Makes n start next = (c : Class) → slice_get p.classes n ≡ Some c → Makes c start next
+
+pub fold_above : {A : Type 0} (p : Program) (Makes : Class → A → A → Type 0) (n up : ℕ) (start next value : A) → IsStep p n up → MakesAt p Makes n start next
+    → IsFoldedUpward p Makes (name_at p up) next value → IsFoldedUpward p Makes (name_at p n) start value
+fold_above p Makes n up start next value step here above =
+    record {
+      chain = step.class ∷ above.chain;
+      of_class = (step.at.named, subst (λ (v : Option (List ℕ)). IsChain p v above.chain) (sym step.super) above.of_class);
+      makes = (next, here step.class step.at.stands, above.makes);
+    }
+
+pub fold_ends : {A : Type 0} (p : Program) (Makes : Class → A → A → Type 0) (n : ℕ) (start value : A) → IsTop p n → MakesAt p Makes n start value
+    → IsFoldedUpward p Makes (name_at p n) start value
+fold_ends p Makes n start value top here =
+    record {
+      chain = top.class ∷ [];
+      of_class = (top.at.named, subst (λ (v : Option (List ℕ)). IsChain p v []) (sym top.super) tt);
+      makes = (value, here top.class top.at.stands, refl);
     }
 
 -- ---- what is found along a chain

@@ -1,6 +1,6 @@
 -- Public contracts rest on this module.
 -- What searches for methods and fields give, and what they pass.
-use Rattle.std.specs.Prelude.{◌≡◌, ◌≢◌, ◌⊎◌, ℕ, Bool, true, false, List, [], ◌∷◌, Option, Some, None, slice_get, Contains, IsTrue}
+use Rattle.std.specs.Prelude.{◌≡◌, ◌≢◌, ◌⊎◌, ℕ, ◌≤◌, Bool, true, false, List, [], ◌∷◌, Option, Some, None, slice_get, Contains, IsTrue}
 use Rattle.jvm_model.specs.Lookups.{Signature}
 use Rattle.jvm_model.specs.Programs.{Class, Method, Program, is_private, is_static, is_abstract}
 use Rattle.jvm_model.specs.Resolution.{Declares, DeclaresField, FindsAmong, HasSignature, IsInstanceWith, IsFoundIn, IsInherited, IsDefault, IsOnlyDefault}
@@ -18,6 +18,16 @@ use Rattle.hierarchy.specs.declared.choice.Choice.TheVariants.{Nothing, One, Sev
 abbrev pub Finds : (ℕ → Type 0) → Option MethodNo → Type 0
 Finds Q (Some method) = Q method.0
 Finds Q None = (number : ℕ) → Q number → ⊥
+
+-- The number is that of the method, if there is one.
+abbrev pub IsNumberOf : Option MethodNo → ℕ → Type 0
+IsNumberOf (Some method) number = method.0 ≡ number
+IsNumberOf None number = ⊥
+
+-- The method has the least number of which the fact holds; there is none only where it holds of none.
+abbrev pub IsLeast : (ℕ → Type 0) → Option MethodNo → Type 0
+IsLeast Q (Some method) = Q method.0 × ((other : ℕ) → Q other → method.0 ≤ other)
+IsLeast Q None = (number : ℕ) → Q number → ⊥
 
 -- ---- methods that a class declares
 

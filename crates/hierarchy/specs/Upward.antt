@@ -1,6 +1,6 @@
 -- Only the proofs of this crate rest on this module.
--- Walks up the superclasses of a class: what the first class gives that answers.
-use Rattle.std.specs.Prelude.{◌⊎◌, ℕ, List, [], ◌∷◌, Option, Some, None}
+-- Walks up the superclasses of a class: what the first class gives that answers; and what all of them make of a value.
+use Rattle.std.specs.Prelude.{◌≡◌, ◌⊎◌, ℕ, List, [], ◌∷◌, Option, Some, None}
 use Rattle.jvm_model.specs.Programs.{Class, Program}
 use Rattle.jvm_model.specs.Subtypes.{IsChain}
 
@@ -16,3 +16,14 @@ pub record IsFirstUpward {A : Type 0} (p : Program) (Answers : Class → Option 
   pub chain : List Class
   pub of_start : IsChain p (Some start) chain
   pub first : AnswersFirst Answers chain found
+
+-- The classes of the chain, one after the other, make the last value of the first.
+abbrev pub MakesAlong : {A : Type 0} → (Class → A → A → Type 0) → List Class → A → A → Type 0
+MakesAlong Makes [] start value = start ≡ value
+MakesAlong {A} Makes (c ∷ chain) start value = (next : A) × Makes c start next × MakesAlong Makes chain next value
+
+-- The classes from that of a name on, upward through its superclasses, make the last value of the first.
+pub record IsFoldedUpward {A : Type 0} (p : Program) (Makes : Class → A → A → Type 0) (class : List ℕ) (start value : A) : Type 0 where
+  pub chain : List Class
+  pub of_class : IsChain p (Some class) chain
+  pub makes : MakesAlong Makes chain start value

@@ -1,10 +1,9 @@
-//! The methods of superinterfaces: those that are maximally specific and not abstract, and the one with the least number (JVMS
-//! 5.4.3.3).
+//! The methods of superinterfaces that are maximally specific and not abstract (JVMS 5.4.3.3).
 
 ghost use Rattle.std.specs.Prelude.{◌≡◌, ◌↔◌, Some, slice_get, IsTrue};
 ghost use Rattle.jvm_model.specs.Lookups.{lent_signature};
 ghost use Rattle.jvm_model.specs.Programs.{Method};
-ghost use Rattle.jvm_model.specs.Resolution.{IsLeastInherited, IsOnlyDefault};
+ghost use Rattle.jvm_model.specs.Resolution.{IsOnlyDefault};
 ghost use Rattle.linked_program.specs.Numbers.{name_at, IsClassNumber, IsMethodNumber};
 ghost use Rattle.hierarchy.specs.Searches.{Finds, AreDefaults, IsLowestConcrete};
 
@@ -119,57 +118,4 @@ pub(crate) fn only_default(
         Choice::Nothing => None,
         Choice::Several => None,
     }
-}
-
-/// A method with a lower number.
-#[derive(Clone, Copy)]
-struct Lower {
-    than: MethodNo,
-}
-
-impl Sought for Lower {
-    ghost use Rattle.std.specs.Prelude.{◌<◌};
-
-    ghost fits = { λ x p s. Unit {0} };
-
-    ghost takes = { λ x p n m. n < x.than.0 };
-
-    fn accepts(&self, _program: &Program, method: MethodNo) -> bool {
-        method < self.than
-    }
-}
-
-/// The method with the least number of those of its name and descriptor that a class inherits.
-#[derive(Clone, Copy)]
-struct Least<'a> {
-    class: ClassNo,
-    signature: Signature<'a>,
-}
-
-impl Sought for Least<'_> {
-    ghost use Rattle.std.specs.Prelude.{ℕ, ◌<◌};
-    ghost use Rattle.hierarchy.specs.Searches.{InheritsSuch};
-
-    ghost fits = { λ x p s. IsClassNumber p x.class.0 };
-
-    ghost takes = { λ x p n m. (other : ℕ) → InheritsSuch p (name_at p x.class.0) (lent_signature x.signature) (λ k o. k < n) other → ⊥ };
-
-    fn accepts(&self, program: &Program, method: MethodNo) -> bool {
-        let lower = Lower { than: method };
-        first_inherited(program, self.class, self.signature, &lower).is_none()
-    }
-}
-
-/// Of the methods that a class inherits from its superinterfaces the one with the least number.
-///
-/// Time is linear in the superinterfaces for each of their methods of the name and descriptor.
-pub(crate) fn least_inherited(
-    program: &Program,
-    class: ClassNo,
-    signature: Signature<'_>,
-) -> Option<MethodNo>
-    requires { IsClassNumber program.now class.0 }
-    ensures { Finds (IsLeastInherited program.now (name_at program.now class.0) (lent_signature signature.entry)) result }
-{
-    first_inherited(program, class, signature, &Least { class, signature })
 }

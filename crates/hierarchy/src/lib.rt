@@ -5,6 +5,7 @@
 mod choice;
 pub mod classes;
 mod defaults;
+mod least;
 mod methods;
 mod overriding;
 mod package;

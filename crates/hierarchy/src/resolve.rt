@@ -8,7 +8,8 @@ ghost use Rattle.linked_program.specs.Numbers.{name_at, IsClassNumber, IsMethodN
 ghost use Rattle.hierarchy.specs.Searches.{Finds};
 
 use crate::classes::missing_member;
-use crate::defaults::{least_inherited, only_default};
+use crate::defaults::only_default;
+use crate::least::least_inherited;
 use crate::search::found_in;
 use crate::sought::Any;
 use jvm_model::{ClassNo, MethodNo, Reason, Signature};

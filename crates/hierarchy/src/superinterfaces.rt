@@ -36,7 +36,7 @@ impl<S: Sought> Sought for Inheritable<'_, S> {
 }
 
 /// The method of the name and descriptor that an interface declares and its subtypes inherit, if it is looked for.
-fn offered<S: Sought>(
+pub(crate) fn offered<S: Sought>(
     program: &Program,
     interface: ClassNo,
     signature: Signature<'_>,

@@ -1,0 +1,7 @@
+use Rattle.jvm_model.specs.Lookups.{lent_signature}
+use Rattle.hierarchy.proofs.LeastMethods.{IsLeastBefore}
+use Rattle.hierarchy.proofs.least.LeastOfferedFold.at.Given as goal
+
+-- the least so far
+abbrev pub invariant-loop-interface : goal.invariant-loop-interface
+invariant-loop-interface l = IsLeastBefore l.program (lent_signature l.self.signature) l.interfaces l.interface-index l.fn.value l.least

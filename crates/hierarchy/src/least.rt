@@ -1,0 +1,70 @@
+//! The method with the least number of those that a class inherits from its superinterfaces (JVMS 5.4.3.3).
+
+ghost use Rattle.std.specs.Prelude.{◌⊎◌};
+ghost use Rattle.jvm_model.specs.Lookups.{lent_signature};
+ghost use Rattle.jvm_model.specs.Resolution.{IsLeastInherited};
+ghost use Rattle.linked_program.specs.Numbers.{name_at, IsClassNumber};
+ghost use Rattle.hierarchy.specs.Searches.{Finds, IsLeast, IsNumberOf};
+
+use crate::sought::Any;
+use crate::superinterfaces::offered;
+use crate::upward::{Fold, fold_upward};
+use jvm_model::{ClassNo, MethodNo, Signature};
+use linked_program::program::Program;
+
+/// The method with the lower number of two; the only one where there is one.
+fn lower(one: Option<MethodNo>, other: Option<MethodNo>) -> Option<MethodNo>
+    ensures { IsLeast (λ n. IsNumberOf one n ⊎ IsNumberOf other n) result }
+{
+    let Some(first) = one else {
+        return other;
+    };
+    let Some(second) = other else {
+        return one;
+    };
+    if second < first { other } else { one }
+}
+
+/// The least of a method and of those of a name and a descriptor that the superinterfaces of each class offer.
+#[derive(Clone, Copy)]
+struct LeastOffered<'a> {
+    signature: Signature<'a>,
+}
+
+impl Fold for LeastOffered<'_> {
+    ghost use Rattle.std.specs.Prelude.{◌⊎◌};
+    ghost use Rattle.jvm_model.specs.Lookups.{lent_signature};
+    ghost use Rattle.hierarchy.specs.Searches.{IsLeast, IsNumberOf, OffersThrough};
+
+    type Value = Option<MethodNo>;
+
+    ghost makes = { λ x p c value. IsLeast (λ n. IsNumberOf value n ⊎ OffersThrough p (lent_signature x.signature) (λ k m. Unit {0}) c n) };
+
+    fn at(&self, program: &Program, class: ClassNo, value: Option<MethodNo>) -> Option<MethodNo> {
+        program.well_formed();
+        let mut least = value;
+        let interfaces = program.through_interfaces(class);
+        for interface in interfaces {
+            least = lower(
+                least,
+                offered(program, ClassNo(*interface), self.signature, &Any),
+            );
+        }
+        least
+    }
+}
+
+/// Of the methods that a class inherits from its superinterfaces the one with the least number.
+///
+/// It looks once at each superinterface of each class upward, so time is linear in them.
+pub(crate) fn least_inherited(
+    program: &Program,
+    class: ClassNo,
+    signature: Signature<'_>,
+) -> Option<MethodNo>
+    requires { IsClassNumber program.now class.0 }
+    ensures { Finds (IsLeastInherited program.now (name_at program.now class.0) (lent_signature signature.entry)) result }
+{
+    program.well_formed();
+    fold_upward(program, class, &LeastOffered { signature }, None)
+}
