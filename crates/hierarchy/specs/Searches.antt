@@ -1,4 +1,4 @@
--- Public contracts rest on this module.
+-- Only the proofs of this crate rest on this module.
 -- What searches for methods and fields give, and what they pass.
 use Rattle.std.specs.Prelude.{◌≡◌, ◌≢◌, ◌⊎◌, ℕ, ◌≤◌, Bool, true, false, List, [], ◌∷◌, Option, Some, None, slice_get, Contains, IsTrue}
 use Rattle.jvm_model.specs.Lookups.{Signature}

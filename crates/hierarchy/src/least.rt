@@ -12,7 +12,7 @@ use crate::upward::{Fold, fold_upward};
 use jvm_model::{ClassNo, MethodNo, Signature};
 use linked_program::program::Program;
 
-/// The method with the lower number of two; the only one where there is one.
+/// Of two methods the one with the lower number; where there is only one, that one.
 fn lower(one: Option<MethodNo>, other: Option<MethodNo>) -> Option<MethodNo>
     ensures { IsLeast (λ n. IsNumberOf one n ⊎ IsNumberOf other n) result }
 {
@@ -25,7 +25,7 @@ fn lower(one: Option<MethodNo>, other: Option<MethodNo>) -> Option<MethodNo>
     if second < first { other } else { one }
 }
 
-/// The least of a method and of those of a name and a descriptor that the superinterfaces of each class offer.
+/// The method with the least number of those of a name and a descriptor that superinterfaces offer, class by class.
 #[derive(Clone, Copy)]
 struct LeastOffered<'a> {
     signature: Signature<'a>,
@@ -44,11 +44,9 @@ impl Fold for LeastOffered<'_> {
         program.well_formed();
         let mut least = value;
         let interfaces = program.through_interfaces(class);
-        for interface in interfaces {
-            least = lower(
-                least,
-                offered(program, ClassNo(*interface), self.signature, &Any),
-            );
+        for number in interfaces {
+            let interface = ClassNo(*number);
+            least = lower(least, offered(program, interface, self.signature, &Any));
         }
         least
     }

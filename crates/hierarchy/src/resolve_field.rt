@@ -68,8 +68,9 @@ impl Step for FieldSearch<'_> {
             return Some(field);
         }
         let interfaces = program.through_interfaces(class);
-        for interface in interfaces {
-            if let Some(field) = program.declared_field(ClassNo(*interface), self.signature) {
+        for number in interfaces {
+            let interface = ClassNo(*number);
+            if let Some(field) = program.declared_field(interface, self.signature) {
                 return Some(field);
             }
         }

@@ -71,13 +71,9 @@ impl<S: Sought> Step for InterfaceSearch<'_, S> {
 
     fn at(&self, program: &Program, class: ClassNo) -> Option<MethodNo> {
         let interfaces = program.through_interfaces(class);
-        for interface in interfaces {
-            if let Some(method) = offered(
-                program,
-                ClassNo(*interface),
-                self.signature,
-                self.sought,
-            ) {
+        for number in interfaces {
+            let interface = ClassNo(*number);
+            if let Some(method) = offered(program, interface, self.signature, self.sought) {
                 return Some(method);
             }
         }

@@ -3,5 +3,5 @@ use Rattle.hierarchy.proofs.LeastMethods.{IsLeastBefore}
 use Rattle.hierarchy.proofs.least.LeastOfferedFold.at.Given as goal
 
 -- the least so far
-abbrev pub invariant-loop-interface : goal.invariant-loop-interface
-invariant-loop-interface l = IsLeastBefore l.program (lent_signature l.self.signature) l.interfaces l.interface-index l.fn.value l.least
+abbrev pub invariant-loop-number : goal.invariant-loop-number
+invariant-loop-number l = IsLeastBefore l.program (lent_signature l.self.signature) l.interfaces l.number-index l.fn.value l.least

@@ -3,6 +3,6 @@ use Rattle.hierarchy.proofs.Inheriting.{NoneBefore}
 use Rattle.hierarchy.proofs.superinterfaces.InterfaceSearchStep.at.Given as goal
 
 -- no interface so far offers a method that is looked for
-abbrev pub invariant-loop-interface : goal.invariant-loop-interface
-invariant-loop-interface g l =
-    NoneBefore l.program (lent_signature l.self.signature) (g.S.Sought.takes l.self.sought.now l.program) l.interfaces l.interface-index
+abbrev pub invariant-loop-number : goal.invariant-loop-number
+invariant-loop-number g l =
+    NoneBefore l.program (lent_signature l.self.signature) (g.S.Sought.takes l.self.sought.now l.program) l.interfaces l.number-index
