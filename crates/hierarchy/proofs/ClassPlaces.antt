@@ -106,7 +106,7 @@ pub class_within : (p : Program) (n : ℕ) (c : Class) → slice_get p.classes n
 class_within p n c e = slice_get_within p.classes n c e
 
 -- two numbers of one name are the same
-pub same_number : (p : Program) → IsProgram p → (i j : ℕ) → IsClassNumber p i → IsClassNumber p j → name_at p i ≡ name_at p j → i ≡ j
+same_number : (p : Program) → IsProgram p → (i j : ℕ) → IsClassNumber p i → IsClassNumber p j → name_at p i ≡ name_at p j → i ≡ j
 same_number p program i j lt_i lt_j same =
     let c = class_of_number p program i lt_i in
     let d = class_of_number p program j lt_j in

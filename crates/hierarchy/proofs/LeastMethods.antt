@@ -19,7 +19,7 @@ use Rattle.hierarchy.proofs.Walks.{HasAlong}
 
 -- ---- the least of which a fact holds
 
-pub least_same : (Q R : ℕ → Type 0) (found : Option MethodNo) → ((n : ℕ) → Q n → R n) → ((n : ℕ) → R n → Q n) → IsLeast Q found → IsLeast R found
+least_same : (Q R : ℕ → Type 0) (found : Option MethodNo) → ((n : ℕ) → Q n → R n) → ((n : ℕ) → R n → Q n) → IsLeast Q found → IsLeast R found
 least_same Q R None to back least = λ n h. least n (back n h)
 least_same Q R (Some method) to back least = (to method.0 least.0, λ n h. least.1 n (back n h))
 
