@@ -3,8 +3,9 @@
 mod small;
 
 use crate::{CLASS_FILE_LIMIT, read_class};
+use failure::Failure;
 use jvm_model::pool::PoolEntry;
-use jvm_model::reason::{ReadRefusal, Reason};
+use jvm_model::reason::{Fault, Reason};
 use std::alloc::{AllocError, Global};
 use std::test::*;
 
@@ -76,7 +77,7 @@ fn field_of(byte: usize) -> u32 {
 
 fn refusal(alloc: Global, bytes: &[u8]) -> Option<(u32, Reason)> {
     match read_class(alloc, bytes) {
-        Err(ReadRefusal::Refused { offset, reason }) => Some((offset, reason)),
+        Err(Failure::Cause(Fault { offset, reason })) => Some((offset, reason)),
         _ => None,
     }
 }
