@@ -1,9 +1,10 @@
 -- Reading items one after the other, as a loop does.
 use Rattle.std.proofs.Common.{◌≡◌, ℕ, suc, ◌-◌, ◌+◌, ◌≤◌, ◌<◌, List, [], ◌∷◌, ◌++◌, Result, Ok, Err, refl, sym, ap, ◌∙◌, append_assoc, arith}
 use Rattle.std.proofs.lemmas.List.{append-nil}
-use Rattle.jvm_model.specs.declared.reason.ReadRefusal.{ReadRefusal}
-use Rattle.jvm_model.specs.declared.reason.ReadRefusal.TheVariants as refusals
-use Rattle.byte_reader.specs.Reading.{Place, Fault, ◌>>=◌, Fails, items_at}
+use Rattle.failure.specs.declared.Failure.{Failure}
+use Rattle.jvm_model.specs.declared.reason.Fault.{Fault}
+use Rattle.failure.specs.declared.Failure.TheVariants.{Cause, OutOfMemory}
+use Rattle.byte_reader.specs.Reading.{Place, ◌>>=◌, Fails, items_at}
 
 -- what was read before, and what is still read
 abbrev pub with_front : {X : Type 0} → List X → Result (List X × Place) Fault → Result (List X × Place) Fault
@@ -23,13 +24,13 @@ goes_on item_at front count i place item stopped total lt h so_far =
     let one : with_front front (items_at item_at (count - i) place) ≡ with_front (front ++ item ∷ []) (items_at item_at (count - (i + 1)) stopped) = rw (k, h) (regroup front item (items_at item_at (count - (i + 1)) stopped)) in
     sym one ∙ so_far
 
-pub ends : {X : Type 0} (item_at : Place → Result (X × Place) Fault) (e : ReadRefusal) (front : List X) (count i : ℕ) (place : Place) (total : Result (List X × Place) Fault) → i < count → Fails e (item_at place)
+pub ends : {X : Type 0} (item_at : Place → Result (X × Place) Fault) (e : Failure Fault) (front : List X) (count i : ℕ) (place : Place) (total : Result (List X × Place) Fault) → i < count → Fails e (item_at place)
     → with_front front (items_at item_at (count - i) place) ≡ total → Fails e total
 unfolding items_at
-ends item_at refusals.Memory front count i place total lt h so_far = tt
-ends item_at (refusals.Refused offset reason) front count i place total lt h so_far =
+ends item_at OutOfMemory front count i place total lt h so_far = tt
+ends item_at (Cause fault) front count i place total lt h so_far =
     let k : count - i ≡ suc (count - (i + 1)) = omega arith in
-    let one : with_front front (items_at item_at (count - i) place) ≡ Err (record { offset = offset; reason = reason }) = rw (k, h) refl in
+    let one : with_front front (items_at item_at (count - i) place) ≡ Err fault = rw (k, h) refl in
     sym so_far ∙ one
 
 pub is_done : {X : Type 0} (item_at : Place → Result (X × Place) Fault) (front : List X) (count i : ℕ) (place : Place) (total : Result (List X × Place) Fault) → count ≤ i → with_front front (items_at item_at (count - i) place) ≡ total → total ≡ Ok (front, place)

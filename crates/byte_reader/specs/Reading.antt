@@ -4,18 +4,14 @@ use Rattle.std.specs.Prelude.{◌≡◌, ℕ, zero, suc, ◌+◌, List, [], ◌�
 use Rattle.std.specs.Int.{Width, w16, byte_len, from_be_bytes}
 use Rattle.jvm_model.specs.declared.reason.Reason.{Reason}
 use Rattle.jvm_model.specs.declared.reason.Reason.TheVariants.{Truncated}
-use Rattle.jvm_model.specs.declared.reason.ReadRefusal.{ReadRefusal}
-use Rattle.jvm_model.specs.declared.reason.ReadRefusal.TheVariants as refusals
+use Rattle.failure.specs.declared.Failure.{Failure}
+use Rattle.jvm_model.specs.declared.reason.Fault.{Fault}
+use Rattle.failure.specs.declared.Failure.TheVariants.{Cause, OutOfMemory}
 
 -- A place in a file: how many bytes are before it, and the bytes from there on.
 pub record Place : Type 0 where
   pub offset : ℕ
   pub rest : List ℕ
-
--- What is wrong with a file, and at which offset.
-pub record Fault : Type 0 where
-  pub offset : ℕ
-  pub reason : Reason
 
 -- One reading after the other, up to the first fault.
 infixl 10 ◌>>=◌
@@ -27,27 +23,27 @@ abbrev pub ◌>>=◌ : {A B : Type 0} → Result A Fault → (A → Result B Fau
 abbrev pub fault_at : {A : Type 0} → Place → Reason → Result A Fault
 fault_at place reason = Err (record { offset = place.offset; reason = reason })
 
--- A refusal is the fault that reading tells, unless memory ran out.
-abbrev pub Fails : {Y : Type 0} → ReadRefusal → Result Y Fault → Type 0
-Fails refusals.Memory read = Unit {0}
-Fails (refusals.Refused offset reason) read = read ≡ Err (record { offset = offset; reason = reason })
+-- A failure is the fault that reading gives, or out of memory.
+abbrev pub Fails : {Y : Type 0} → Failure Fault → Result Y Fault → Type 0
+Fails OutOfMemory read = Unit {0}
+Fails (Cause fault) read = read ≡ Err fault
 
--- A failure that takes nothing: it is no want of memory, and the place after it is the one before it.
-abbrev pub FailsUnmoved : Place → Place → ReadRefusal → Type 0
-FailsUnmoved old new refusals.Memory = ⊥
-FailsUnmoved old new (refusals.Refused offset reason) = new ≡ old
+-- A failure that takes nothing: it is not out of memory, and the place after it is the one before it.
+abbrev pub FailsUnmoved : Place → Place → Failure Fault → Type 0
+FailsUnmoved old new OutOfMemory = ⊥
+FailsUnmoved old new (Cause _) = new ≡ old
 
 -- What a function returned, seen by view, and where it stopped, is what reading gives.
-abbrev pub Gives : {X Y : Type 0} → (X → Y) → Result X ReadRefusal → Place → Result (Y × Place) Fault → Type 0
+abbrev pub Gives : {X Y : Type 0} → (X → Y) → Result X (Failure Fault) → Place → Result (Y × Place) Fault → Type 0
 Gives view (Ok x) stopped read = read ≡ Ok (view x, stopped)
 Gives view (Err e) stopped read = Fails e read
 
 -- The same of a value that is seen as it is.
-abbrev pub Reads : {X : Type 0} → Result X ReadRefusal → Place → Result (X × Place) Fault → Type 0
+abbrev pub Reads : {X : Type 0} → Result X (Failure Fault) → Place → Result (X × Place) Fault → Type 0
 Reads result stopped read = Gives (λ x. x) result stopped read
 
 -- What a function returned is what all of the bytes give.
-abbrev pub Tells : {X : Type 0} → Result X ReadRefusal → Result X Fault → Type 0
+abbrev pub Tells : {X : Type 0} → Result X (Failure Fault) → Result X Fault → Type 0
 Tells (Ok x) read = read ≡ Ok x
 Tells (Err e) read = Fails e read
 

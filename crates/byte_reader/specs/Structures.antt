@@ -4,7 +4,8 @@ use Rattle.std.specs.Prelude.{Result, Ok}
 use Rattle.std.specs.Int.{w16, w32}
 use Rattle.jvm_model.specs.declared.class_file.Member.{Member}
 use Rattle.jvm_model.specs.declared.class_file.Attribute.{Attribute}
-use Rattle.byte_reader.specs.Reading.{Place, Fault, ◌>>=◌, number_at, bytes_at, table_at}
+use Rattle.jvm_model.specs.declared.reason.Fault.{Fault}
+use Rattle.byte_reader.specs.Reading.{Place, ◌>>=◌, number_at, bytes_at, table_at}
 
 -- An attribute: its name, the length of its body, and the body, which is one field (JVMS 4.7).
 unfoldable pub attribute_at : Place → Result (Attribute × Place) Fault

@@ -4,7 +4,8 @@ ghost use Rattle.std.specs.Prelude.{◌≡◌, ◌↔◌, ◌+◌, ◌<◌, ◌^
 ghost use Rattle.std.specs.Int.{w16, w32, w64};
 ghost use Rattle.byte_reader.specs.Reading.{Place, Gives, Reads, FailsUnmoved, number_at, byte_at, bytes_at};
 
-use jvm_model::reason::{ReadRefusal, Reason};
+use failure::Failure;
+use jvm_model::reason::{Fault, ReadFailure, Reason};
 use std::marker::Model;
 
 /// The bytes that are left, and how many were before them. Where a field is cut off, none of its bytes is taken.
@@ -62,15 +63,15 @@ impl<'a> Input<'a> {
     }
 
     /// That many bytes, as one field: where fewer are left, none is taken.
-    pub fn take(&mut self, count: usize) -> Result<&'a [u8], ReadRefusal>
+    pub fn take(&mut self, count: usize) -> Result<&'a [u8], ReadFailure>
         ensures reads { Gives (λ bytes. bytes.now) result self.new (bytes_at count self.old) }
         ensures unmoved { IfErr result (FailsUnmoved self.old self.new) }
     {
         if self.rest.len() < count {
-            return Err(ReadRefusal::Refused {
+            return Err(Failure::Cause(Fault {
                 offset: self.offset,
                 reason: Reason::Truncated,
-            });
+            }));
         }
         let (front, rest) = self.rest.split_at(count);
         self.rest = rest;
@@ -79,7 +80,7 @@ impl<'a> Input<'a> {
     }
 
     /// A number of one byte.
-    pub fn u1(&mut self) -> Result<u8, ReadRefusal>
+    pub fn u1(&mut self) -> Result<u8, ReadFailure>
         ensures reads { Reads result self.new (byte_at self.old) }
         ensures unmoved { IfErr result (FailsUnmoved self.old self.new) }
     {
@@ -88,7 +89,7 @@ impl<'a> Input<'a> {
     }
 
     /// A number of two bytes.
-    pub fn u2(&mut self) -> Result<u16, ReadRefusal>
+    pub fn u2(&mut self) -> Result<u16, ReadFailure>
         ensures reads { Reads result self.new (number_at w16 self.old) }
         ensures unmoved { IfErr result (FailsUnmoved self.old self.new) }
     {
@@ -97,7 +98,7 @@ impl<'a> Input<'a> {
     }
 
     /// A number of four bytes.
-    pub fn u4(&mut self) -> Result<u32, ReadRefusal>
+    pub fn u4(&mut self) -> Result<u32, ReadFailure>
         ensures reads { Reads result self.new (number_at w32 self.old) }
         ensures unmoved { IfErr result (FailsUnmoved self.old self.new) }
     {
@@ -106,7 +107,7 @@ impl<'a> Input<'a> {
     }
 
     /// A number of eight bytes.
-    pub fn u8(&mut self) -> Result<u64, ReadRefusal>
+    pub fn u8(&mut self) -> Result<u64, ReadFailure>
         ensures reads { Reads result self.new (number_at w64 self.old) }
         ensures unmoved { IfErr result (FailsUnmoved self.old self.new) }
     {

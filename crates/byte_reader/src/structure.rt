@@ -2,10 +2,11 @@
 
 ghost use Rattle.std.specs.Int.{w16};
 ghost use Rattle.std.specs.Prelude.{Result};
-ghost use Rattle.byte_reader.specs.Reading.{Place, Fault, Reads, number_at, items_at, table_at};
+ghost use Rattle.jvm_model.specs.declared.reason.Fault.{Fault};
+ghost use Rattle.byte_reader.specs.Reading.{Place, Reads, number_at, items_at, table_at};
 
 use crate::input::Input;
-use jvm_model::reason::ReadRefusal;
+use jvm_model::reason::ReadFailure;
 use jvm_model::sequence::Sequence;
 use std::alloc::Global;
 
@@ -14,7 +15,7 @@ pub trait Structure: Drop {
     ghost reading: { Place → Result (Self × Place) Fault };
 
     /// The structure at the front of the input.
-    fn read(input: &mut Input, alloc: Global) -> Result<Self, ReadRefusal>
+    fn read(input: &mut Input, alloc: Global) -> Result<Self, ReadFailure>
         ensures { Reads result input.new (reading input.old) };
 }
 
@@ -22,14 +23,14 @@ pub trait Structure: Drop {
 impl Structure for u16 {
     ghost reading = { number_at w16 };
 
-    fn read(input: &mut Input, _alloc: Global) -> Result<u16, ReadRefusal> {
+    fn read(input: &mut Input, _alloc: Global) -> Result<u16, ReadFailure> {
         input.u2()
     }
 }
 
 /// A table and its count.
 #[tactic(auto, unfolding(crate::specs::Reading::table_at))]
-pub fn table<X: Structure>(input: &mut Input, alloc: Global) -> Result<Sequence<X>, ReadRefusal>
+pub fn table<X: Structure>(input: &mut Input, alloc: Global) -> Result<Sequence<X>, ReadFailure>
     ensures { Reads result input.new (table_at X.reading input.old) }
 {
     let count = input.u2()?;
@@ -41,7 +42,7 @@ fn items<X: Structure>(
     input: &mut Input,
     alloc: Global,
     count: u16,
-) -> Result<Sequence<X>, ReadRefusal>
+) -> Result<Sequence<X>, ReadFailure>
     ensures { Reads result input.new (items_at X.reading count input.old) }
 {
     let mut items = Vec::new(alloc);

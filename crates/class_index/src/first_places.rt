@@ -1,11 +1,11 @@
 //! A list of keys that may have one more than once, in which the first place of a key is found by hashing.
 
 ghost use Rattle.std.specs.Prelude.{◌≡◌, ◌<◌, ◌^◌, ◌↔◌, [], ◌∷◌, ◌++◌, length, Err, IfSome, IfNone, OnOk, OnErr};
-ghost use Rattle.class_index.specs.declared.index_error.IndexError.TheVariants.{TooMany};
+ghost use Rattle.failure.specs.declared.Failure.TheVariants.{Cause};
 ghost use Rattle.class_index.specs.FirstPlaces.{IsFirstPlace, StandsNowhere};
-ghost use Rattle.class_index.specs.Limits.{AreTooMany};
+ghost use Rattle.class_index.specs.Limits.{AreTooMany, too_many};
 
-use crate::index_error::IndexError;
+use crate::index_failure::IndexFailure;
 use crate::numbered_key::NumberedKey;
 use crate::text_index::next_number;
 use indexmap::IndexMap;
@@ -50,11 +50,11 @@ impl FirstPlaces {
         self.keys.len()
     }
 
-    /// Adds a key last. The error is `TooMany` where there are 2^32 - 1 keys; and else it is `Memory`.
-    pub fn push(&mut self, key: NumberedKey) -> Result<(), IndexError>
+    /// Adds a key last. The failure is `TooMany` where there are 2^32 - 1 keys, and else out of memory.
+    pub fn push(&mut self, key: NumberedKey) -> Result<(), IndexFailure>
         ensures ok { OnOk result (self.new ≡ self.old ++ key ∷ []) }
         ensures err { OnErr result (self.new ≡ self.old) }
-        ensures too_many { (result ≡ Err TooMany) ↔ AreTooMany self.old }
+        ensures too_many { (result ≡ Err (Cause too_many)) ↔ AreTooMany self.old }
     {
         let place = next_number(self.keys.len())?;
         self.keys.push(key)?;
@@ -63,7 +63,7 @@ impl FirstPlaces {
         }
         if let Err(full) = self.places.insert(key, place) {
             self.keys.pop();
-            return Err(IndexError::from(full));
+            return Err(IndexFailure::from(full));
         }
         Ok(())
     }

@@ -6,7 +6,7 @@
 pub mod above;
 pub mod class_set;
 pub mod first_places;
-pub mod index_error;
+pub mod index_failure;
 pub mod member_index;
 pub mod member_key;
 pub mod numbered_key;

@@ -1,15 +1,15 @@
 //! Members by class, name and descriptor: from the key of a member to its place in a list.
 
 ghost use Rattle.std.specs.Prelude.{◌≡◌, ◌⊎◌, ◌<◌, ◌^◌, ◌↔◌, [], ◌∷◌, ◌++◌, length, All, Err, Some, IsTrue, IfSome, IfNone, OnOk, OnErr};
-ghost use Rattle.class_index.specs.declared.index_error.IndexError.TheVariants.{TooMany};
+ghost use Rattle.failure.specs.declared.Failure.TheVariants.{Cause};
 ghost use Rattle.class_index.specs.FirstPlaces.{IsFirstPlace, StandsNowhere};
 ghost use Rattle.class_index.specs.KeyPlaces.{HasTexts, IsSpelledLast};
 ghost use Rattle.class_index.specs.MemberKeys.{key_of, key_texts};
-ghost use Rattle.class_index.specs.Limits.{AreTooMany};
+ghost use Rattle.class_index.specs.Limits.{AreTooMany, too_many};
 ghost use Rattle.class_index.specs.TextNumbers.{different, with_texts, Extends};
 
 use crate::first_places::FirstPlaces;
-use crate::index_error::IndexError;
+use crate::index_failure::IndexFailure;
 use crate::member_key::MemberKey;
 use crate::numbered_key::NumberedKey;
 use crate::text_index::TextIndex;
@@ -63,11 +63,11 @@ impl MemberIndex {
 
     /// Adds a member last, whose place is the number of members before. Its texts are copied, if no member before has them.
     ///
-    /// The error is `TooMany` where there are 2^32 - 1 members, or as many texts; and else it is `Memory`.
-    pub fn push(&mut self, key: MemberKey<'_>) -> Result<(), IndexError>
+    /// The failure is `TooMany` where there are 2^32 - 1 members, or as many texts, and else out of memory.
+    pub fn push(&mut self, key: MemberKey<'_>) -> Result<(), IndexFailure>
         ensures ok { OnOk result (self.new ≡ self.old ++ key_of key.entry ∷ []) }
         ensures err { OnErr result (self.new ≡ self.old) }
-        ensures too_many { result ≡ Err TooMany
+        ensures too_many { result ≡ Err (Cause too_many)
             → AreTooMany self.old ⊎ AreTooMany (different (key_texts (self.old ++ key_of key.entry ∷ []))) }
     {
         let count = self.texts.len();
@@ -98,13 +98,13 @@ fn add_spelled(
     texts: &mut TextIndex,
     places: &mut FirstPlaces,
     key: MemberKey<'_>,
-) -> Result<(), IndexError>
+) -> Result<(), IndexFailure>
     requires { All (HasTexts texts.old) places.old }
     ensures texts { OnOk result (texts.new ≡ with_texts texts.old (key.entry.signature.name.now ∷ key.entry.signature.descriptor.now ∷ [])) }
     ensures places { OnOk result (IsSpelledLast texts.new places.old places.new (key_of key.entry)) }
     ensures extends { Extends texts.old texts.new }
     ensures err { OnErr result (places.new ≡ places.old) }
-    ensures too_many { result ≡ Err TooMany → AreTooMany places.old
+    ensures too_many { result ≡ Err (Cause too_many) → AreTooMany places.old
         ⊎ AreTooMany (with_texts texts.old (key.entry.signature.name.now ∷ key.entry.signature.descriptor.now ∷ [])) }
 {
     let name = texts.intern(key.signature.name)?;
@@ -133,7 +133,7 @@ mod tests {
         }
     }
 
-    fn of_two_classes(alloc: Global) -> Result<MemberIndex, IndexError> {
+    fn of_two_classes(alloc: Global) -> Result<MemberIndex, IndexFailure> {
         let mut index = MemberIndex::new(alloc);
         index.push(key(0, b"run"))?;
         index.push(key(1, b"run"))?;

@@ -1,12 +1,13 @@
 //! Texts by number. A text is found by its bytes, and its number is its place in the order of insertion.
 
 ghost use Rattle.std.specs.Prelude.{◌≡◌, ℕ, ◌+◌, ◌<◌, ◌≤◌, ◌^◌, ◌↔◌, [], length, take, Err, Some, slice_get, option_copied, IsErr, IsTrue, IfErr, IfOk, IfSome, IfNone, OnOk, OnErr};
-ghost use Rattle.class_index.specs.declared.index_error.IndexError.TheVariants.{TooMany};
-ghost use Rattle.class_index.specs.Limits.{AreTooMany};
+ghost use Rattle.failure.specs.declared.Failure.TheVariants.{Cause};
+ghost use Rattle.class_index.specs.Limits.{AreTooMany, too_many};
 ghost use Rattle.class_index.specs.TextNumbers.{AreDistinct, with_text, Extends};
 ghost use Rattle.class_index.specs.FirstPlaces.{StandsNowhere};
 
-use crate::index_error::IndexError;
+use crate::index_failure::{IndexFailure, TooMany};
+use failure::Failure;
 use indexmap::IndexSet;
 use std::alloc::Global;
 use std::marker::Model;
@@ -58,13 +59,13 @@ impl TextIndex {
 
     /// The number of a text, which goes last if it is not there yet. Its bytes are copied then.
     ///
-    /// The error is `TooMany` where the text is new and there are 2^32 - 1 texts; and else it is `Memory`.
-    pub fn intern(&mut self, text: &[u8]) -> Result<u32, IndexError>
+    /// The failure is `TooMany` where the text is new and there are 2^32 - 1 texts, and else out of memory.
+    pub fn intern(&mut self, text: &[u8]) -> Result<u32, IndexFailure>
         ensures stands { IfOk result (λ number. slice_get self.new number ≡ Some text.now) }
         ensures ok { OnOk result (self.new ≡ with_text self.old text.now) }
         ensures extends { Extends self.old self.new }
         ensures err { OnErr result (self.new ≡ self.old) }
-        ensures too_many { (result ≡ Err TooMany) ↔ (StandsNowhere self.old text.now × AreTooMany self.old) }
+        ensures too_many { (result ≡ Err (Cause too_many)) ↔ (StandsNowhere self.old text.now × AreTooMany self.old) }
     {
         if let Some(number) = self.find(text) {
             return Ok(number);
@@ -101,17 +102,17 @@ impl TextIndex {
     }
 }
 
-/// The number of the next item after so many. The error is `TooMany`, and comes exactly where there are 2^32 - 1 or more.
-pub fn next_number(count: usize) -> Result<u32, IndexError>
+/// The number of the next item after so many. The failure is `TooMany`, and comes exactly where there are 2^32 - 1 or more.
+pub fn next_number(count: usize) -> Result<u32, IndexFailure>
     ensures number { IfOk result (λ number. number ≡ count) }
     ensures room { IfOk result (λ number. number + 1 < 2 ^ 32) }
     ensures err { IsErr result ↔ (2 ^ 32 ≤ count + 1) }
-    ensures too_many { IfErr result (λ e. e ≡ TooMany) }
+    ensures too_many { IfErr result (λ e. e ≡ Cause too_many) }
 {
     if count < u32::MAX as usize {
         Ok(count as u32)
     } else {
-        Err(IndexError::TooMany)
+        Err(Failure::Cause(TooMany))
     }
 }
 

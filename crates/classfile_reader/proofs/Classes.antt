@@ -10,8 +10,9 @@ use Rattle.jvm_model.specs.declared.pool.PoolEntry.{PoolEntry}
 use Rattle.jvm_model.specs.Spelling.{u2, u4, attribute, member, table, pool, spell, AttributeFits, MemberFits, ClassFits}
 use Rattle.classfile_reader.specs.declared.limit.TheConstants.{CLASS_FILE_LIMIT}
 use Rattle.std.specs.Prelude.{IfOk}
-use Rattle.jvm_model.specs.declared.reason.ReadRefusal.{ReadRefusal}
-use Rattle.byte_reader.specs.Reading.{Place, Fault, ◌>>=◌, Tells, number_at, table_at}
+use Rattle.failure.specs.declared.Failure.{Failure}
+use Rattle.jvm_model.specs.declared.reason.Fault.{Fault}
+use Rattle.byte_reader.specs.Reading.{Place, ◌>>=◌, Tells, number_at, table_at}
 use Rattle.classfile_reader.specs.PoolReading.{pool_at}
 use Rattle.classfile_reader.specs.ClassReading.{magic_at, major_at, class_at, class_of, SpellsReadable}
 use Rattle.byte_reader.specs.Structures.{attribute_at, member_at}
@@ -295,7 +296,7 @@ class_of_again bytes c h =
     let read : class_at (record { offset = 0; rest = bytes }) ≡ Ok (c, record { offset = t.0; rest = [] }) = ap (λ (b : List ℕ). class_at (record { offset = 0; rest = b })) regrouped ∙ t.1 in
     rw small (goes_on_with _ _ _ _ read refl)
 
-pub is_found : (bytes : List ℕ) (r : Result ClassFile ReadRefusal) → IsBytes bytes → Tells r (class_of bytes) → IfOk r (SpellsReadable bytes)
+pub is_found : (bytes : List ℕ) (r : Result ClassFile (Failure Fault)) → IsBytes bytes → Tells r (class_of bytes) → IfOk r (SpellsReadable bytes)
 is_found bytes (Ok c) fits tells = class_of_takes bytes c fits tells
 is_found bytes (Err e) fits tells = tt
 

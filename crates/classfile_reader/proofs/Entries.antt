@@ -8,7 +8,8 @@ use Rattle.jvm_model.specs.declared.reason.Reason.TheVariants.{BadTag}
 use Rattle.jvm_model.specs.declared.pool.PoolEntry.{PoolEntry}
 use Rattle.jvm_model.specs.declared.pool.PoolEntry.TheVariants.{Utf8, Integer, Float, Long, Double, Class, Str, Fieldref, Methodref, InterfaceMethodref, NameAndType, MethodHandle, MethodType, InvokeDynamic, Taken}
 use Rattle.jvm_model.specs.Spelling.{u2, u4, u8, entry, pool, EntryFits, is_wide, is_taken, IsPairedAfter}
-use Rattle.byte_reader.specs.Reading.{Place, Fault}
+use Rattle.jvm_model.specs.declared.reason.Fault.{Fault}
+use Rattle.byte_reader.specs.Reading.{Place}
 use Rattle.classfile_reader.specs.PoolReading.{one_at, pair_at, two_at, utf8_at, handle_at, contents_at, tagged_at, as_field, entry_at, wide_at, index_at, indices_at, pool_at}
 use Rattle.byte_reader.proofs.Fields.{IsBytes, bind_ok, ok_is, chosen, unless_ok, goes_on_with, Takes, Takes-then, IsSpelledBy, IsReadBack, IsWide, wide16, wide32, wide64, number_takes, number_again, byte_takes, byte_again, bytes_take, bytes_again}
 

@@ -5,7 +5,7 @@ use Rattle.jvm_model.specs.declared.class_file.ClassFile.{ClassFile}
 use Rattle.jvm_model.specs.declared.reason.Reason.{Reason}
 use Rattle.jvm_model.specs.Soundness.{places_of, IsSoundClass}
 use Rattle.classfile_reader.specs.declared.limit.TheConstants.{CLASS_FILE_LIMIT}
-use Rattle.byte_reader.specs.Reading.{Fault}
+use Rattle.jvm_model.specs.declared.reason.Fault.{Fault}
 use Rattle.classfile_reader.specs.ClassReading.{class_of, SpellsReadable}
 use Rattle.classfile_reader.specs.Faults.{IsFaulty, by_spelling, by_use}
 use Rattle.classfile_reader.specs.FirstPlace.{IsFirstBreach}

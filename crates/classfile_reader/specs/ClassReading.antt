@@ -5,7 +5,8 @@ use Rattle.std.specs.Int.{w16, w32}
 use Rattle.jvm_model.specs.declared.reason.Reason.TheVariants.{BadMagic, BadVersion, TrailingBytes, ClassTooLarge}
 use Rattle.jvm_model.specs.declared.class_file.ClassFile.{ClassFile}
 use Rattle.classfile_reader.specs.declared.limit.TheConstants.{CLASS_FILE_LIMIT}
-use Rattle.byte_reader.specs.Reading.{Place, Fault, ◌>>=◌, fault_at, number_at, table_at}
+use Rattle.jvm_model.specs.declared.reason.Fault.{Fault}
+use Rattle.byte_reader.specs.Reading.{Place, ◌>>=◌, fault_at, number_at, table_at}
 use Rattle.byte_reader.specs.Structures.{attribute_at, member_at}
 use Rattle.classfile_reader.specs.PoolReading.{pool_at}
 use Rattle.jvm_model.specs.Spelling.{IsSpelling}

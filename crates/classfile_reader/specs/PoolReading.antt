@@ -6,7 +6,8 @@ use Rattle.jvm_model.specs.declared.reason.Reason.TheVariants.{BadTag, BadIndex}
 use Rattle.jvm_model.specs.declared.pool.PoolEntry.{PoolEntry}
 use Rattle.jvm_model.specs.declared.pool.PoolEntry.TheVariants.{Utf8, Integer, Float, Long, Double, Class, Str, Fieldref, Methodref, InterfaceMethodref, NameAndType, MethodHandle, MethodType, InvokeDynamic, Taken}
 use Rattle.jvm_model.specs.Spelling.{is_wide}
-use Rattle.byte_reader.specs.Reading.{Place, Fault, ◌>>=◌, fault_at, number_at, byte_at, bytes_at}
+use Rattle.jvm_model.specs.declared.reason.Fault.{Fault}
+use Rattle.byte_reader.specs.Reading.{Place, ◌>>=◌, fault_at, number_at, byte_at, bytes_at}
 
 -- An entry that has one number.
 unfoldable pub one_at : Width → (ℕ → PoolEntry) → Place → Result (PoolEntry × Place) Fault
@@ -66,7 +67,7 @@ tagged_at place = do
   tag ← byte_at place
   contents_at tag.0 tag.1
 
--- The whole is one field: whatever is wrong inside it is told at its first byte.
+-- The whole is one field: whatever is wrong inside it is reported at its first byte.
 abbrev pub as_field : {A : Type 0} → Place → Result A Fault → Result A Fault
 as_field place (Ok x) = Ok x
 as_field place (Err e) = fault_at place e.reason

@@ -8,8 +8,9 @@ ghost use Rattle.classfile_reader.specs.ClassReading.{magic_at, major_at, class_
 use crate::limit::CLASS_FILE_LIMIT;
 use crate::pool::pool;
 use byte_reader::{Input, table};
+use failure::Failure;
 use jvm_model::class_file::ClassFile;
-use jvm_model::reason::{ReadRefusal, Reason};
+use jvm_model::reason::{Fault, ReadFailure, Reason};
 use std::alloc::Global;
 
 /// The number that each class file begins with.
@@ -22,39 +23,39 @@ const NEWEST_MAJOR: u16 = 52;
 
 /// The magic number.
 #[tactic(auto, unfolding(crate::specs::ClassReading::magic_at))]
-fn magic(input: &mut Input) -> Result<u32, ReadRefusal>
+fn magic(input: &mut Input) -> Result<u32, ReadFailure>
     ensures { Reads result input.new (magic_at input.old) }
 {
     let start = input.offset();
     let magic = input.u4()?;
     if magic != MAGIC {
-        return Err(ReadRefusal::Refused {
+        return Err(Failure::Cause(Fault {
             offset: start,
             reason: Reason::BadMagic,
-        });
+        }));
     }
     Ok(magic)
 }
 
 /// The major version.
 #[tactic(auto, unfolding(crate::specs::ClassReading::major_at))]
-fn major(input: &mut Input) -> Result<u16, ReadRefusal>
+fn major(input: &mut Input) -> Result<u16, ReadFailure>
     ensures { Reads result input.new (major_at input.old) }
 {
     let start = input.offset();
     let major = input.u2()?;
     if major < OLDEST_MAJOR || major > NEWEST_MAJOR {
-        return Err(ReadRefusal::Refused {
+        return Err(Failure::Cause(Fault {
             offset: start,
             reason: Reason::BadVersion,
-        });
+        }));
     }
     Ok(major)
 }
 
 /// A class file, at the front of the input.
 #[tactic(auto, unfolding(crate::specs::ClassReading::class_at))]
-fn class(input: &mut Input, alloc: Global) -> Result<ClassFile, ReadRefusal>
+fn class(input: &mut Input, alloc: Global) -> Result<ClassFile, ReadFailure>
     ensures { Reads result input.new (class_at input.old) }
 {
     magic(input)?;
@@ -84,28 +85,28 @@ fn class(input: &mut Input, alloc: Global) -> Result<ClassFile, ReadRefusal>
 
 /// A class file and no byte after it.
 #[tactic(auto, unfolding(crate::specs::ClassReading::class_of))]
-fn whole(alloc: Global, bytes: &[u8]) -> Result<ClassFile, ReadRefusal>
+fn whole(alloc: Global, bytes: &[u8]) -> Result<ClassFile, ReadFailure>
     ensures { Tells result (class_of bytes.now) }
 {
     if bytes.len() > CLASS_FILE_LIMIT as usize {
-        return Err(ReadRefusal::Refused {
+        return Err(Failure::Cause(Fault {
             offset: CLASS_FILE_LIMIT,
             reason: Reason::ClassTooLarge,
-        });
+        }));
     }
     let mut input = Input::new(bytes);
     let class = class(&mut input, alloc)?;
     if !input.is_empty() {
-        return Err(ReadRefusal::Refused {
+        return Err(Failure::Cause(Fault {
             offset: input.offset(),
             reason: Reason::TrailingBytes,
-        });
+        }));
     }
     Ok(class)
 }
 
 /// The class file that the bytes spell, in a version and a size that are read, or the first fault of its spelling.
-pub(crate) fn spelled_class(alloc: Global, bytes: &[u8]) -> Result<ClassFile, ReadRefusal>
+pub(crate) fn spelled_class(alloc: Global, bytes: &[u8]) -> Result<ClassFile, ReadFailure>
     // Which class file it is, and which fault.
     ensures exact { Tells result (class_of bytes.now) }
 

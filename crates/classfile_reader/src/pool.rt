@@ -7,14 +7,15 @@ ghost use Rattle.byte_reader.specs.Reading.{Reads, Gives};
 ghost use Rattle.classfile_reader.specs.PoolReading.{pair_at, utf8_at, handle_at, contents_at, tagged_at, entry_at, index_at, indices_at, pool_at};
 
 use byte_reader::Input;
+use failure::Failure;
 use jvm_model::pool::PoolEntry;
-use jvm_model::reason::{ReadRefusal, Reason};
+use jvm_model::reason::{Fault, ReadFailure, Reason};
 use jvm_model::sequence::{Bytes, Sequence};
 use std::alloc::Global;
 
 /// Two numbers of two bytes.
 #[tactic(auto, unfolding(crate::specs::PoolReading::pair_at))]
-fn pair(input: &mut Input) -> Result<(u16, u16), ReadRefusal>
+fn pair(input: &mut Input) -> Result<(u16, u16), ReadFailure>
     ensures { Reads result input.new (pair_at input.old) }
 {
     let first = input.u2()?;
@@ -24,7 +25,7 @@ fn pair(input: &mut Input) -> Result<(u16, u16), ReadRefusal>
 
 /// A text, behind its tag.
 #[tactic(auto, unfolding(crate::specs::PoolReading::utf8_at))]
-fn text(input: &mut Input, alloc: Global) -> Result<PoolEntry, ReadRefusal>
+fn text(input: &mut Input, alloc: Global) -> Result<PoolEntry, ReadFailure>
     ensures { Reads result input.new (utf8_at input.old) }
 {
     let len = input.u2()?;
@@ -35,7 +36,7 @@ fn text(input: &mut Input, alloc: Global) -> Result<PoolEntry, ReadRefusal>
 
 /// A method handle, behind its tag.
 #[tactic(auto, unfolding(crate::specs::PoolReading::handle_at))]
-fn handle(input: &mut Input) -> Result<PoolEntry, ReadRefusal>
+fn handle(input: &mut Input) -> Result<PoolEntry, ReadFailure>
     ensures { Reads result input.new (handle_at input.old) }
 {
     let kind = input.u1()?;
@@ -45,7 +46,7 @@ fn handle(input: &mut Input) -> Result<PoolEntry, ReadRefusal>
 
 /// What a tag calls for.
 #[tactic(auto, unfolding(crate::specs::PoolReading::contents_at, crate::specs::PoolReading::one_at, crate::specs::PoolReading::two_at))]
-fn contents(input: &mut Input, alloc: Global, tag: u8) -> Result<PoolEntry, ReadRefusal>
+fn contents(input: &mut Input, alloc: Global, tag: u8) -> Result<PoolEntry, ReadFailure>
     ensures { Reads result input.new (contents_at tag input.old) }
 {
     match tag {
@@ -78,35 +79,35 @@ fn contents(input: &mut Input, alloc: Global, tag: u8) -> Result<PoolEntry, Read
             let (bootstrap, member) = pair(input)?;
             Ok(PoolEntry::InvokeDynamic { bootstrap, member })
         }
-        _ => Err(ReadRefusal::Refused {
+        _ => Err(Failure::Cause(Fault {
             offset: input.offset(),
             reason: Reason::BadTag,
-        }),
+        })),
     }
 }
 
 /// A tag, and what it calls for.
 #[tactic(auto, unfolding(crate::specs::PoolReading::tagged_at))]
-fn tagged(input: &mut Input, alloc: Global) -> Result<PoolEntry, ReadRefusal>
+fn tagged(input: &mut Input, alloc: Global) -> Result<PoolEntry, ReadFailure>
     ensures { Reads result input.new (tagged_at input.old) }
 {
     let tag = input.u1()?;
     contents(input, alloc, tag)
 }
 
-/// An entry. Whatever is wrong inside it is told at its tag.
+/// An entry. Whatever is wrong inside it is reported at its tag.
 #[tactic(auto, unfolding(crate::specs::PoolReading::entry_at))]
-fn entry(input: &mut Input, alloc: Global) -> Result<PoolEntry, ReadRefusal>
+fn entry(input: &mut Input, alloc: Global) -> Result<PoolEntry, ReadFailure>
     ensures { Reads result input.new (entry_at input.old) }
 {
     let start = input.offset();
     match tagged(input, alloc) {
         Ok(entry) => Ok(entry),
-        Err(ReadRefusal::Refused { reason, .. }) => Err(ReadRefusal::Refused {
+        Err(Failure::Cause(Fault { reason, .. })) => Err(Failure::Cause(Fault {
             offset: start,
             reason,
-        }),
-        Err(ReadRefusal::Memory) => Err(ReadRefusal::Memory),
+        })),
+        Err(Failure::OutOfMemory) => Err(Failure::OutOfMemory),
     }
 }
 
@@ -124,7 +125,7 @@ fn index(
     input: &mut Input,
     alloc: Global,
     wide: Option<u32>,
-) -> Result<(PoolEntry, Option<u32>), ReadRefusal>
+) -> Result<(PoolEntry, Option<u32>), ReadFailure>
     ensures { Reads result input.new (index_at wide input.old) }
 {
     if wide.is_some() {
@@ -137,7 +138,7 @@ fn index(
 }
 
 /// The entries of that many indices. Nothing is reserved for them, since a count is only a promise.
-fn indices(input: &mut Input, alloc: Global, count: u16) -> Result<Sequence<PoolEntry>, ReadRefusal>
+fn indices(input: &mut Input, alloc: Global, count: u16) -> Result<Sequence<PoolEntry>, ReadFailure>
     ensures { Reads result input.new (indices_at count None input.old) }
 {
     let mut entries = Vec::new(alloc);
@@ -149,25 +150,25 @@ fn indices(input: &mut Input, alloc: Global, count: u16) -> Result<Sequence<Pool
     }
     match wide {
         None => Ok(Sequence::from_vec(entries)),
-        Some(tag) => Err(ReadRefusal::Refused {
+        Some(tag) => Err(Failure::Cause(Fault {
             offset: tag,
             reason: Reason::BadIndex,
-        }),
+        })),
     }
 }
 
 /// The constant pool, behind its count.
 #[tactic(auto, unfolding(crate::specs::PoolReading::pool_at))]
-pub(crate) fn pool(input: &mut Input, alloc: Global) -> Result<Sequence<PoolEntry>, ReadRefusal>
+pub(crate) fn pool(input: &mut Input, alloc: Global) -> Result<Sequence<PoolEntry>, ReadFailure>
     ensures { Reads result input.new (pool_at input.old) }
 {
     let start = input.offset();
     let count = input.u2()?;
     if count == 0 {
-        return Err(ReadRefusal::Refused {
+        return Err(Failure::Cause(Fault {
             offset: start,
             reason: Reason::BadIndex,
-        });
+        }));
     }
     indices(input, alloc, count - 1)
 }

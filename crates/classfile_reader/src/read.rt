@@ -9,15 +9,16 @@ ghost use Rattle.classfile_reader.specs.Faults.{IsClassFileRefusal};
 
 use crate::class::spelled_class;
 use crate::soundness::first_fault;
+use failure::Failure;
 use jvm_model::class_file::ClassFile;
-use jvm_model::reason::ReadRefusal;
+use jvm_model::reason::{Fault, ReadFailure};
 use std::alloc::Global;
 
 /// The class file that the bytes spell (JVMS 4.1 to 4.7), all of them, if it is sound; or the first fault with its file
 /// offset.
 ///
 /// A file of more than `CLASS_FILE_LIMIT` bytes is `ClassTooLarge`, at the limit. Otherwise the fields are read in
-/// the order of the standard, and the first fault is told:
+/// the order of the standard, and the first fault is reported:
 ///
 /// - `Truncated` at the first byte of the field that the file cuts off, where an entry of the constant pool and
 ///   the body of an attribute are one field each;
@@ -28,7 +29,7 @@ use std::alloc::Global;
 /// - `TrailingBytes` at the first byte after the last attribute.
 ///
 /// What is spelled so is then judged: the places where it uses an index, a text or a name are walked in the order of
-/// the file, and the first one that does not hold is told, with the lower reason where two stand at one offset:
+/// the file, and the first one that does not hold is reported, with the lower reason where two stand at one offset:
 ///
 /// - `BadIndex` for an index that does not lead to an entry of the right kind (4.1 to 4.7, 4.4.1 to 4.4.10);
 /// - `BadUtf8` for a text with a byte 0, or one from 0xF0 on (4.4.7);
@@ -39,7 +40,7 @@ use std::alloc::Global;
 /// A fault of an entry stands at its tag, one of a member's or a class's index at that index, `CodeMissing` at the flags
 /// of the method, and a fault of an attribute at its first byte. The time taken is linear in the number of bytes, but
 /// for sorting the texts of the constant pool, and a count that promises more than the file holds reserves nothing for it.
-pub fn read_class(alloc: Global, bytes: &[u8]) -> Result<ClassFile, ReadRefusal>
+pub fn read_class(alloc: Global, bytes: &[u8]) -> Result<ClassFile, ReadFailure>
     // What is read is spelled so, in a version and a size that are read.
     ensures found { IfOk result (SpellsReadable bytes.now) }
 
@@ -54,7 +55,7 @@ pub fn read_class(alloc: Global, bytes: &[u8]) -> Result<ClassFile, ReadRefusal>
 {
     let class = spelled_class(alloc, bytes)?;
     match first_fault(alloc, &class)? {
-        Some((offset, reason)) => Err(ReadRefusal::Refused { offset, reason }),
+        Some((offset, reason)) => Err(Failure::Cause(Fault { offset, reason })),
         None => Ok(class),
     }
 }

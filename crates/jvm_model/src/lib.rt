@@ -34,7 +34,7 @@ pub use name::Name;
 pub use number::{ClassNo, FieldNo, MethodNo, SiteNo};
 pub use pool::{EntryKind, PoolEntry};
 pub use program::{NamedClass, Origin};
-pub use reason::{ReadRefusal, Reason, Refusal, reason_word};
+pub use reason::{Fault, ReadFailure, Reason, Refusal, reason_word};
 pub use sequence::{Bytes, Sequence};
 pub use site::{Site, SiteKind};
 pub use stub::{StubArgument, StubClass, StubField, StubMethod, StubResult};

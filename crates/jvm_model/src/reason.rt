@@ -2,14 +2,14 @@
 
 ghost use Rattle.std.specs.Prelude.{◌≡◌};
 ghost use Rattle.jvm_model.specs.Words.{word_of};
-ghost use Rattle.jvm_model.specs.declared.reason.ReadRefusal.TheVariants.{Memory};
 
 use crate::name::Name;
-use std::alloc::{AllocError, AllocFailed};
+use failure::Failure;
 use thiserror::Error;
 
 /// The reason of a refusal, in the order in which reasons at one offset are named; in code `BadIndex` comes last.
-#[derive(Clone, Copy, Debug, PartialEq, Eq, PartialOrd, Ord, Hash)]
+#[derive(Clone, Copy, Debug, PartialEq, Eq, PartialOrd, Ord, Hash, Error)]
+#[error("{}", reason_word(*self))]
 pub enum Reason {
     /// The file ends before or inside a field.
     Truncated,
@@ -135,29 +135,13 @@ pub struct Refusal {
     pub reason: Reason,
 }
 
+/// What is wrong with a class file, and at which offset, counted from its first byte.
+#[derive(Clone, Copy, Debug, PartialEq, Eq, Error)]
+#[error("refused at offset {offset}: {reason}")]
+pub struct Fault {
+    pub offset: u32,
+    pub reason: Reason,
+}
+
 /// Why a class file is not read.
-#[derive(Debug, Drop, Error)]
-pub enum ReadRefusal {
-    /// The file is refused at this offset, counted from its first byte.
-    #[error("refused at offset {offset}: {reason:?}")]
-    Refused { offset: u32, reason: Reason },
-    /// Out of memory.
-    #[error("out of memory")]
-    Memory,
-}
-
-impl From<AllocError> for ReadRefusal {
-    ghost from_gives = { λ _ e. e ≡ Memory };
-
-    fn from(_error: AllocError) -> ReadRefusal {
-        ReadRefusal::Memory
-    }
-}
-
-impl<T: Drop> From<AllocFailed<T>> for ReadRefusal {
-    ghost from_gives = { λ _ e. e ≡ Memory };
-
-    fn from(_error: AllocFailed<T>) -> ReadRefusal {
-        ReadRefusal::Memory
-    }
-}
+pub type ReadFailure = Failure<Fault>;

@@ -22,10 +22,12 @@ use Rattle.jvm_model.specs.Linking.{AreMet, IsFirstUnmet, Meets, Claim, Demand, 
 use Rattle.jvm_model.specs.LinkedPrograms.{class_names, HasSupers, IsProgram}
 use Rattle.jvm_model.specs.Programs.{Class, Program}
 use Rattle.jvm_model.specs.Subtypes.{class_named, IsCyclic}
-use Rattle.linked_program.specs.declared.link_end.LinkEnd.{LinkEnd}
-use Rattle.linked_program.specs.declared.link_end.LinkEnd.TheVariants.{Refused, TooMany, Memory}
+use Rattle.failure.specs.declared.Failure.{Failure}
+use Rattle.linked_program.specs.declared.link_failure.LinkFault.{LinkFault}
+use Rattle.failure.specs.declared.Failure.TheVariants.{Cause, OutOfMemory}
+use Rattle.linked_program.specs.declared.link_failure.LinkFault.TheVariants.{Refused, TooMany}
 use Rattle.class_index.specs.declared.parents.Parents.{Parents}
-use Rattle.linked_program.specs.Assembling.{Assembles, IsCycleEnd}
+use Rattle.linked_program.specs.Assembling.{Assembles, IsCycleFailure}
 use Rattle.linked_program.specs.ByteOrder.{IsAscending}
 use Rattle.linked_program.specs.Numbering.{name_in, AreParents, HasNames, IsParents}
 use Rattle.linked_program.specs.Origins.{IsSoundOrigin}
@@ -167,10 +169,10 @@ module _ (order : List Origin) (parents : List Parents) (differ : AllPairs (λ x
   }
 
   -- the refusal of the least class on a cycle is the first
-  pub cycle_told : (k : ℕ) (o : Origin) → slice_get order k ≡ Some o → IsLeastOnCycle parents k → (end : LinkEnd) → IsCycleEnd o end → Assembles order (Err end)
-  cycle_told k o e least (Refused refusal) is = first_cycle k o e least refusal is
-  cycle_told k o e least TooMany is = absurd is
-  cycle_told k o e least Memory is = tt
+  pub cycle_told : (k : ℕ) (o : Origin) → slice_get order k ≡ Some o → IsLeastOnCycle parents k → (end : Failure LinkFault) → IsCycleFailure o end → Assembles order (Err end)
+  cycle_told k o e least (Cause (Refused refusal)) is = first_cycle k o e least refusal is
+  cycle_told k o e least (Cause TooMany) is = absurd is
+  cycle_told k o e least OutOfMemory is = tt
 
 pub supers_all : (order : List Origin) → IsLinkable order → All (λ (o : Origin). HasNames (names order) (class_from o)) order
 supers_all order l = all_from (λ (o : Origin). HasNames (names order) (class_from o)) order (supers_named order l)

@@ -11,4 +11,4 @@ pub mod Whole
 pub mod Indexes
 pub mod Assembling
 pub mod FieldSearches
-pub mod LinkEnds
+pub mod LinkFailures

@@ -2,7 +2,7 @@
 //! numbers; the definitions that contracts cite stand in jvm_model and in specs/.
 #![tactic(auto)]
 
-pub mod link_end;
+pub mod link_failure;
 pub mod member_kind;
 pub mod member_table;
 pub mod member_view;
@@ -12,4 +12,4 @@ pub mod origin;
 pub mod program;
 pub mod sorted;
 
-pub use link_end::LinkEnd;
+pub use link_failure::{LinkFailure, LinkFault};

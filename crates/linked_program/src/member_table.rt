@@ -5,14 +5,15 @@ ghost use Rattle.std.specs.Prelude.{◌≡◌, ◌≢◌, ◌⊎◌, ℕ, ◌+�
 ghost use Rattle.jvm_model.specs.LinkedPrograms.{class_names};
 ghost use Rattle.jvm_model.specs.Linking.{program_from};
 ghost use Rattle.jvm_model.specs.Lookups.{lent_signature};
-ghost use Rattle.class_index.specs.declared.index_error.IndexError.TheVariants.{TooMany};
+ghost use Rattle.failure.specs.declared.Failure.TheVariants.{Cause};
+ghost use Rattle.class_index.specs.Limits.{too_many};
 ghost use Rattle.linked_program.specs.Declarations.{Declaration, IsDeclared, IsMemberView};
 ghost use Rattle.linked_program.specs.MemberLists.{IsTable, AreTooManyKeys, AreTooManyMembers, key_in, places_in};
 ghost use Rattle.linked_program.specs.Numbers.{name_at, IsClassNumber};
 
 use crate::member_kind::MemberKind;
 use crate::member_view::MemberView;
-use class_index::index_error::IndexError;
+use class_index::index_failure::IndexFailure;
 use class_index::member_index::MemberIndex;
 use class_index::member_key::MemberKey;
 use class_index::text_index::next_number;
@@ -37,11 +38,11 @@ pub struct MemberTable {
 impl MemberTable {
     /// The members of the classes, which have their numbers by their places in the order.
     ///
-    /// The error is `TooMany` where the members, or their different texts, are 2^32 - 1 or more; and else it is `Memory`.
-    pub fn of<K: MemberKind>(alloc: Global, order: &[Origin]) -> Result<MemberTable, IndexError>
+    /// The failure is `TooMany` where the members, or their different texts, are 2^32 - 1 or more, and else out of memory.
+    pub fn of<K: MemberKind>(alloc: Global, order: &[Origin]) -> Result<MemberTable, IndexFailure>
         requires { length order.now < 2 ^ 32 }
         ensures table { IfOk result (IsTable K.members order.now) }
-        ensures too_many { result ≡ Err TooMany → AreTooManyMembers (flat_map K.members order.now) }
+        ensures too_many { result ≡ Err (Cause too_many) → AreTooManyMembers (flat_map K.members order.now) }
     {
         let mut table = MemberTable {
             index: MemberIndex::new(alloc),
@@ -54,10 +55,14 @@ impl MemberTable {
     }
 
     /// Adds the members of a class last.
-    fn add_all<K: MemberKind>(&mut self, origin: &Origin, class: ClassNo) -> Result<(), IndexError>
+    fn add_all<K: MemberKind>(
+        &mut self,
+        origin: &Origin,
+        class: ClassNo,
+    ) -> Result<(), IndexFailure>
         ensures keys { OnOk result (self.new.index ≡ self.old.index ++ map (key_in class.0) (K.members origin.now)) }
         ensures places { OnOk result (self.new.places.items ≡ self.old.places.items ++ places_in class.0 (length (K.members origin.now))) }
-        ensures too_many { result ≡ Err TooMany → AreTooManyKeys (self.old.index ++ map (key_in class.0) (K.members origin.now)) }
+        ensures too_many { result ≡ Err (Cause too_many) → AreTooManyKeys (self.old.index ++ map (key_in class.0) (K.members origin.now)) }
     {
         for place in 0..K::count(origin) {
             self.add(K::view(origin, place, class), place)?;
@@ -66,11 +71,11 @@ impl MemberTable {
     }
 
     /// Adds a member last, which stands at a place of its class.
-    fn add(&mut self, member: MemberView<'_>, place: usize) -> Result<(), IndexError>
+    fn add(&mut self, member: MemberView<'_>, place: usize) -> Result<(), IndexFailure>
         ensures key { OnOk result (self.new.index ≡ self.old.index
             ++ record { class = member.entry.class.0; signature = lent_signature member.entry.signature } ∷ []) }
         ensures place { OnOk result (self.new.places.items ≡ self.old.places.items ++ record { class = member.entry.class; place = place } ∷ []) }
-        ensures too_many { result ≡ Err TooMany → (2 ^ 32 ≤ place + 1) ⊎ AreTooManyKeys (self.old.index
+        ensures too_many { result ≡ Err (Cause too_many) → (2 ^ 32 ≤ place + 1) ⊎ AreTooManyKeys (self.old.index
             ++ record { class = member.entry.class.0; signature = lent_signature member.entry.signature } ∷ []) }
     {
         let number = next_number(place)?;

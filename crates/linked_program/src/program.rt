@@ -10,11 +10,11 @@ ghost use Rattle.linked_program.specs.Bodies.{IsBodyView};
 ghost use Rattle.linked_program.specs.FieldSearches.{IsSearchOrder};
 ghost use Rattle.linked_program.specs.Numbers.{name_at, IsClassNumber, IsFieldNumber, IsMethodNumber, IsNumber};
 ghost use Rattle.linked_program.specs.Ranks.{IsRanked};
-ghost use Rattle.linked_program.specs.Assembling.{Assembles, IsCycleEnd};
+ghost use Rattle.linked_program.specs.Assembling.{Assembles, IsCycleFailure};
 ghost use Rattle.linked_program.specs.Origins.{IsSoundOrigin};
 ghost use Rattle.linked_program.specs.Whole.{IsLinkable, IsThroughInterface, IsMethodView, IsFieldView};
 
-use crate::link_end::{LinkEnd, refused};
+use crate::link_failure::{LinkFailure, LinkFault, refused};
 use crate::member_kind::{Fields, Methods};
 use crate::member_table::MemberTable;
 use crate::member_view::MemberView;
@@ -25,6 +25,7 @@ use crate::sorted::find_in_order;
 use class_index::above::{above_lists, is_at_or_above, sorted_lists};
 use class_index::order::upward_order;
 use class_index::parents::Parents;
+use failure::Failure;
 use jvm_model::layout::this_class_offset;
 use jvm_model::lookup::Signature;
 use jvm_model::{Bytes, ClassNo, FieldNo, MethodNo, Name, Origin, Reason};
@@ -59,15 +60,15 @@ impl Model for Program {
 impl Program {
     /// The program of classes in byte order of their names; or `Cycle` at the first of them that is above itself (JVMS 5.3.5).
     ///
-    /// The error is `TooMany` where there are 2^32 - 1 classes, methods, fields or texts of them, or more.
-    pub fn assemble(alloc: Global, order: Vec<Origin>) -> Result<Program, LinkEnd>
+    /// The failure is `TooMany` where there are 2^32 - 1 classes, methods, fields or texts of them, or more.
+    pub fn assemble(alloc: Global, order: Vec<Origin>) -> Result<Program, LinkFailure>
         requires sound { All IsSoundOrigin order.items }
         requires linkable { IsLinkable order.items }
         ensures { Assembles order.items result }
     {
         let names = names_of(alloc, &order)?;
         if names.len() >= u32::MAX as usize {
-            return Err(LinkEnd::TooMany);
+            return Err(Failure::Cause(LinkFault::TooMany));
         }
         let parents = parents_of_all(alloc, &names, &order)?;
         let upward = match upward_order(alloc, &parents)? {
@@ -76,8 +77,8 @@ impl Program {
         };
         let above = above_lists(alloc, &parents, &upward)?;
         let sorted = sorted_lists(alloc, &above)?;
-        let methods = MemberTable::of::<Methods>(alloc, &order)?;
-        let fields = MemberTable::of::<Fields>(alloc, &order)?;
+        let methods = MemberTable::of::<Methods>(alloc, &order).map_err(Failure::widen)?;
+        let fields = MemberTable::of::<Fields>(alloc, &order).map_err(Failure::widen)?;
         Ok(Program {
             origins: order,
             names,
@@ -235,9 +236,9 @@ impl Program {
 }
 
 /// The refusal of a class that is above itself.
-fn cycle_at(alloc: Global, class: &Origin) -> LinkEnd
+fn cycle_at(alloc: Global, class: &Origin) -> LinkFailure
     requires { IsSoundOrigin class.now }
-    ensures { IsCycleEnd class.now result }
+    ensures { IsCycleFailure class.now result }
 {
     match class {
         Origin::Folder { file, .. } => {

@@ -9,8 +9,10 @@ use Rattle.toml_tables.specs.Tables.{other_keys, HasOnly, IsLeast}
 use Rattle.toml_tables.proofs.Keys.{IsLeast-same}
 use Rattle.toml_tables.proofs.OneDocument.{never_both, IsDocument-same}
 use Rattle.toml_tables.proofs.Values.{text_same}
-use Rattle.property_file.specs.declared.refusal.PropertyRefusal.{PropertyRefusal}
-use Rattle.property_file.specs.declared.refusal.PropertyRefusal.TheVariants.{BadToml, BadProperty, Memory}
+use Rattle.failure.specs.declared.Failure.{Failure}
+use Rattle.property_file.specs.declared.property_failure.PropertyFault.{PropertyFault}
+use Rattle.failure.specs.declared.Failure.TheVariants.{Cause, OutOfMemory}
+use Rattle.property_file.specs.declared.property_failure.PropertyFault.TheVariants.{BadToml, BadProperty}
 use Rattle.property_file.specs.Rules.{GivesVersion, GivesClass, GivesStates, GivesInitial, GivesError, GivesEvents}
 use Rattle.property_file.specs.PropertyFile.{file_keys, GivesAutomaton, IsPropertyFile}
 use Rattle.property_file.specs.Refusals.{IsBroken, version, class, states, initial, error, event, other, IsBrokenFile, IsPropertyRefusal}
@@ -131,40 +133,40 @@ IsBrokenFile-not bytes key a b p =
     IsBroken-not p.members a key p.gives (subst (λ (ms : Members). IsBroken ms key) members b.broken)
 
 -- at most one refusal, and none beside an automaton
-pub IsRefusal-same : (bytes : List ℕ) (r s : PropertyRefusal) → r ≢ Memory → s ≢ Memory → IsPropertyRefusal bytes r → IsPropertyRefusal bytes s → r ≡ s
-IsRefusal-same bytes BadToml BadToml m n a b = refl
-IsRefusal-same bytes BadToml (BadProperty l) m n a b = absurd (IsNoDocument-not_broken bytes l a b)
-IsRefusal-same bytes (BadProperty k) BadToml m n a b = absurd (IsNoDocument-not_broken bytes k b a)
-IsRefusal-same bytes (BadProperty k) (BadProperty l) m n a b =
+pub IsRefusal-same : (bytes : List ℕ) (r s : Failure PropertyFault) → r ≢ OutOfMemory → s ≢ OutOfMemory → IsPropertyRefusal bytes r → IsPropertyRefusal bytes s → r ≡ s
+IsRefusal-same bytes (Cause BadToml) (Cause BadToml) m n a b = refl
+IsRefusal-same bytes (Cause BadToml) (Cause (BadProperty l)) m n a b = absurd (IsNoDocument-not_broken bytes l a b)
+IsRefusal-same bytes (Cause (BadProperty k)) (Cause BadToml) m n a b = absurd (IsNoDocument-not_broken bytes k b a)
+IsRefusal-same bytes (Cause (BadProperty k)) (Cause (BadProperty l)) m n a b =
     let members = IsDocument-same bytes a.members b.members a.document b.document in
-    ap BadProperty (IsBroken-same b.members k l (subst (λ (ms : Members). IsBroken ms k) members a.broken) b.broken)
-IsRefusal-same bytes Memory s m n a b = absurd (m refl)
-IsRefusal-same bytes r Memory m n a b = absurd (n refl)
+    ap (λ (name : List ℕ). Cause (BadProperty name)) (IsBroken-same b.members k l (subst (λ (ms : Members). IsBroken ms k) members a.broken) b.broken)
+IsRefusal-same bytes OutOfMemory s m n a b = absurd (m refl)
+IsRefusal-same bytes r OutOfMemory m n a b = absurd (n refl)
 
-pub IsRefusal-not : (bytes : List ℕ) (a : Automaton) (r : PropertyRefusal) → r ≢ Memory → IsPropertyFile bytes a → IsPropertyRefusal bytes r → ⊥
-IsRefusal-not bytes a BadToml m p bad = IsNoDocument-not bytes a bad p
-IsRefusal-not bytes a (BadProperty key) m p b = IsBrokenFile-not bytes key a b p
-IsRefusal-not bytes a Memory m p u = absurd (m refl)
+pub IsRefusal-not : (bytes : List ℕ) (a : Automaton) (r : Failure PropertyFault) → r ≢ OutOfMemory → IsPropertyFile bytes a → IsPropertyRefusal bytes r → ⊥
+IsRefusal-not bytes a (Cause BadToml) m p bad = IsNoDocument-not bytes a bad p
+IsRefusal-not bytes a (Cause (BadProperty key)) m p b = IsBrokenFile-not bytes key a b p
+IsRefusal-not bytes a OutOfMemory m p u = absurd (m refl)
 
 -- what a reader answers where the table gives an automaton
-only_that : (ms : Members) (a : Automaton) (r : Result Automaton PropertyRefusal) → IfOk r (GivesAutomaton ms) → IfErr r (IsTableRefusal ms) → GivesAutomaton ms a → (r ≡ Ok a) ⊎ (r ≡ Err Memory)
+only_that : (ms : Members) (a : Automaton) (r : Result Automaton (Failure PropertyFault)) → IfOk r (GivesAutomaton ms) → IfErr r (IsTableRefusal ms) → GivesAutomaton ms a → (r ≡ Ok a) ⊎ (r ≡ Err OutOfMemory)
 only_that ms a (Ok b) found refused g = inl (ap Ok (GivesParts-unique ms b a found.parts g.parts))
-only_that ms a (Err BadToml) found refused g = absurd refused
-only_that ms a (Err (BadProperty key)) found refused g = absurd (IsBroken-not ms a key g refused)
-only_that ms a (Err Memory) found refused g = inr refl
+only_that ms a (Err (Cause BadToml)) found refused g = absurd refused
+only_that ms a (Err (Cause (BadProperty key))) found refused g = absurd (IsBroken-not ms a key g refused)
+only_that ms a (Err OutOfMemory) found refused g = inr refl
 
 -- a refusal that names the broken key
-pub named : (ms : Members) (key : List ℕ) (r : PropertyRefusal) → NamesKey key r → IsBroken ms key → IsTableRefusal ms r
-named ms key BadToml n b = absurd n
-named ms key (BadProperty name) n b = subst (IsBroken ms) (sym n) b
-named ms key Memory n b = tt
+pub named : (ms : Members) (key : List ℕ) (r : Failure PropertyFault) → NamesKey key r → IsBroken ms key → IsTableRefusal ms r
+named ms key (Cause BadToml) n b = absurd n
+named ms key (Cause (BadProperty name)) n b = subst (IsBroken ms) (sym n) b
+named ms key OutOfMemory n b = tt
 
-pub only_read : (bytes : List ℕ) (ms : Members) (r : Result Automaton PropertyRefusal) → IsDocument bytes ms → IfOk r (GivesAutomaton ms) → IfErr r (IsTableRefusal ms)
-    → (a : Automaton) → IsPropertyFile bytes a → (r ≡ Ok a) ⊎ (r ≡ Err Memory)
+pub only_read : (bytes : List ℕ) (ms : Members) (r : Result Automaton (Failure PropertyFault)) → IsDocument bytes ms → IfOk r (GivesAutomaton ms) → IfErr r (IsTableRefusal ms)
+    → (a : Automaton) → IsPropertyFile bytes a → (r ≡ Ok a) ⊎ (r ≡ Err OutOfMemory)
 only_read bytes ms r document found refused a p =
     let members : p.members ≡ ms = IsDocument-same bytes p.members ms p.document document in
     only_that ms a r found refused (subst (λ (ns : Members). GivesAutomaton ns a) members p.gives)
 
-pub sound_read : (ms : Members) (r : Result Automaton PropertyRefusal) → IfOk r (GivesAutomaton ms) → IfOk r IsAutomaton
+pub sound_read : (ms : Members) (r : Result Automaton (Failure PropertyFault)) → IfOk r (GivesAutomaton ms) → IfOk r IsAutomaton
 sound_read ms (Ok a) g = GivesParts-sound ms a g.parts
 sound_read ms (Err e) g = tt

@@ -5,8 +5,10 @@ use Rattle.toml.specs.declared.value.Value.{Value}
 use Rattle.toml.specs.Data.{string, table, Members}
 use Rattle.toml.specs.View.{view}
 use Rattle.jvm_model.specs.declared.automaton.Event.{Event}
-use Rattle.property_file.specs.declared.refusal.PropertyRefusal.{PropertyRefusal}
-use Rattle.property_file.specs.declared.refusal.PropertyRefusal.TheVariants.{BadToml, BadProperty, Memory}
+use Rattle.failure.specs.declared.Failure.{Failure}
+use Rattle.property_file.specs.declared.property_failure.PropertyFault.{PropertyFault}
+use Rattle.failure.specs.declared.Failure.TheVariants.{Cause, OutOfMemory}
+use Rattle.property_file.specs.declared.property_failure.PropertyFault.TheVariants.{BadToml, BadProperty}
 use Rattle.property_file.specs.Rules.{GivesEvent}
 use Rattle.property_file.specs.Refusals.{IsBroken}
 
@@ -26,14 +28,14 @@ pub record IsEventTable (states : List (List ℕ)) (error : ℕ) (value : Value)
   pub is_table : view value ≡ table members
   pub gives : GivesEvent states error members event
 
--- The refusal names the key, unless memory ran out.
-abbrev pub NamesKey : List ℕ → PropertyRefusal → Type 0
-NamesKey key BadToml = ⊥
-NamesKey key (BadProperty name) = name ≡ key
-NamesKey key Memory = Unit {0}
+-- The failure names the key, or is out of memory.
+abbrev pub NamesKey : List ℕ → Failure PropertyFault → Type 0
+NamesKey key (Cause BadToml) = ⊥
+NamesKey key (Cause (BadProperty name)) = name ≡ key
+NamesKey key OutOfMemory = Unit {0}
 
 -- What the refusal of a document says of its table.
-abbrev pub IsTableRefusal : Members → PropertyRefusal → Type 0
-IsTableRefusal ms BadToml = ⊥
-IsTableRefusal ms (BadProperty key) = IsBroken ms key
-IsTableRefusal ms Memory = Unit {0}
+abbrev pub IsTableRefusal : Members → Failure PropertyFault → Type 0
+IsTableRefusal ms (Cause BadToml) = ⊥
+IsTableRefusal ms (Cause (BadProperty key)) = IsBroken ms key
+IsTableRefusal ms OutOfMemory = Unit {0}

@@ -4,8 +4,10 @@ use Rattle.std.specs.Prelude.{codes, ◌≡◌, ℕ, List}
 use Rattle.toml.specs.Data.{Members}
 use Rattle.jvm_model.specs.declared.automaton.Automaton.{Automaton}
 use Rattle.jvm_model.specs.declared.automaton.Event.{Event}
-use Rattle.property_file.specs.declared.refusal.PropertyRefusal.{PropertyRefusal}
-use Rattle.property_file.specs.declared.refusal.PropertyRefusal.TheVariants.{BadToml, BadProperty, Memory}
+use Rattle.failure.specs.declared.Failure.{Failure}
+use Rattle.property_file.specs.declared.property_failure.PropertyFault.{PropertyFault}
+use Rattle.failure.specs.declared.Failure.TheVariants.{Cause, OutOfMemory}
+use Rattle.property_file.specs.declared.property_failure.PropertyFault.TheVariants.{BadToml, BadProperty}
 use Rattle.toml_tables.specs.Documents.{IsDocument, IsNoDocument}
 use Rattle.toml_tables.specs.Tables.{other_keys, IsLeast}
 use Rattle.property_file.specs.Rules.{GivesVersion, GivesClass, GivesStates, GivesInitial, GivesError, GivesEvents}
@@ -41,7 +43,7 @@ pub record IsBrokenFile (bytes : List ℕ) (key : List ℕ) : Type 0 where
   pub broken : IsBroken members key
 
 -- What a refusal says of the bytes.
-abbrev pub IsPropertyRefusal : List ℕ → PropertyRefusal → Type 0
-IsPropertyRefusal bytes BadToml = IsNoDocument bytes
-IsPropertyRefusal bytes (BadProperty key) = IsBrokenFile bytes key
-IsPropertyRefusal bytes Memory = Unit {0}
+abbrev pub IsPropertyRefusal : List ℕ → Failure PropertyFault → Type 0
+IsPropertyRefusal bytes (Cause BadToml) = IsNoDocument bytes
+IsPropertyRefusal bytes (Cause (BadProperty key)) = IsBrokenFile bytes key
+IsPropertyRefusal bytes OutOfMemory = Unit {0}

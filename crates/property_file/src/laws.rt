@@ -3,8 +3,9 @@
 ghost use Rattle.std.specs.Prelude.{◌≡◌, ◌≢◌, ℕ, List};
 ghost use Rattle.jvm_model.specs.declared.automaton.Automaton.{Automaton};
 ghost use Rattle.jvm_model.specs.Automata.{IsAutomaton};
-ghost use Rattle.property_file.specs.declared.refusal.PropertyRefusal.{PropertyRefusal};
-ghost use Rattle.property_file.specs.declared.refusal.PropertyRefusal.TheVariants.{Memory};
+ghost use Rattle.failure.specs.declared.Failure.{Failure};
+ghost use Rattle.property_file.specs.declared.property_failure.PropertyFault.{PropertyFault};
+ghost use Rattle.failure.specs.declared.Failure.TheVariants.{OutOfMemory};
 ghost use Rattle.property_file.specs.PropertyFile.{IsPropertyFile};
 ghost use Rattle.property_file.specs.Refusals.{IsPropertyRefusal};
 
@@ -20,10 +21,10 @@ pub fn one_automaton()
 
 /// Bytes have at most one refusal but that for memory: no document, or one key.
 pub fn one_refusal()
-    ensures { (bytes : List ℕ) (r s : PropertyRefusal) → r ≢ Memory → s ≢ Memory → IsPropertyRefusal bytes r → IsPropertyRefusal bytes s → r ≡ s }
+    ensures { (bytes : List ℕ) (r s : Failure PropertyFault) → r ≢ OutOfMemory → s ≢ OutOfMemory → IsPropertyRefusal bytes r → IsPropertyRefusal bytes s → r ≡ s }
 {}
 
 /// The bytes of a property file have no refusal but that for memory.
 pub fn automaton_or_refusal()
-    ensures { (bytes : List ℕ) (a : Automaton) (r : PropertyRefusal) → r ≢ Memory → IsPropertyFile bytes a → IsPropertyRefusal bytes r → ⊥ }
+    ensures { (bytes : List ℕ) (a : Automaton) (r : Failure PropertyFault) → r ≢ OutOfMemory → IsPropertyFile bytes a → IsPropertyRefusal bytes r → ⊥ }
 {}

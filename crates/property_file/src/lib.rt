@@ -5,13 +5,13 @@
 
 mod event_list;
 mod laws;
+mod property_failure;
 mod reading;
-mod refusal;
 mod state_list;
 
 pub use laws::{automaton_or_refusal, one_automaton, one_refusal, property_is_sound};
+pub use property_failure::{PropertyFailure, PropertyFault};
 pub use reading::read_property;
-pub use refusal::PropertyRefusal;
 
 #[cfg(test)]
 mod tests;

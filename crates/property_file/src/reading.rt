@@ -7,43 +7,45 @@ ghost use Rattle.jvm_model.specs.declared.automaton.Automaton.{Automaton};
 ghost use Rattle.jvm_model.specs.Automata.{all_differ, IsAutomaton};
 ghost use Rattle.toml_tables.specs.Documents.{document_limit};
 ghost use Rattle.toml_tables.specs.Tables.{Finds, FindsOtherKey};
-ghost use Rattle.property_file.specs.declared.refusal.PropertyRefusal.TheVariants.{BadToml, Memory};
+ghost use Rattle.failure.specs.declared.Failure.TheVariants.{Cause, OutOfMemory};
+ghost use Rattle.property_file.specs.declared.property_failure.PropertyFault.TheVariants.{BadToml};
 ghost use Rattle.property_file.specs.PropertyFile.{file_keys, GivesAutomaton, IsPropertyFile};
 ghost use Rattle.property_file.specs.Reading.{IsTableRefusal};
 ghost use Rattle.property_file.specs.Refusals.{IsPropertyRefusal};
 ghost use Rattle.property_file.specs.Rules.{GivesVersion, GivesClass, GivesError};
 
 use crate::event_list::events_at;
-use crate::refusal::{PropertyRefusal, refusal_of, required};
+use crate::property_failure::{PropertyFailure, PropertyFault, refusal_of, required};
 use crate::state_list::{state_at, states_at};
+use failure::Failure;
 use jvm_model::grammar::is_class_name;
 use jvm_model::{Automaton, Bytes, Name};
 use std::alloc::{AllocError, Global};
 use toml::Table;
-use toml_tables::{TableFailure, bytes_of, integer_at, other_key, read_table, text_at};
+use toml_tables::{NoDocument, bytes_of, integer_at, other_key, read_table, text_at};
 
 /// Reads the bytes of a property file: the automaton that its table gives.
 ///
 /// It answers `BadToml` where the bytes are too many or are no TOML document, `BadProperty` with the first key whose
-/// rule is broken, and `Memory` where an allocation fails. Every answer but `Memory` is determined by the bytes.
-pub fn read_property(alloc: Global, bytes: &[u8]) -> Result<Automaton, PropertyRefusal>
+/// rule is broken, and `OutOfMemory` where an allocation fails. Every answer but `OutOfMemory` is determined by the bytes.
+pub fn read_property(alloc: Global, bytes: &[u8]) -> Result<Automaton, PropertyFailure>
     ensures found { IfOk result (IsPropertyFile bytes.now) }
     ensures sound { IfOk result IsAutomaton }
-    ensures only { (a : Automaton) → IsPropertyFile bytes.now a → (result ≡ Ok a) ⊎ (result ≡ Err Memory) }
+    ensures only { (a : Automaton) → IsPropertyFile bytes.now a → (result ≡ Ok a) ⊎ (result ≡ Err OutOfMemory) }
     ensures refused { IfErr result (IsPropertyRefusal bytes.now) }
 
     // Such bytes are not even read.
-    ensures large { document_limit < length bytes.now → result ≡ Err BadToml }
+    ensures large { document_limit < length bytes.now → result ≡ Err (Cause BadToml) }
 {
     match read_table(alloc, bytes) {
         Ok(table) => automaton_in(alloc, &table),
-        Err(TableFailure::NoDocument) => Err(PropertyRefusal::BadToml),
-        Err(TableFailure::OutOfMemory) => Err(PropertyRefusal::Memory),
+        Err(Failure::Cause(NoDocument)) => Err(Failure::Cause(PropertyFault::BadToml)),
+        Err(Failure::OutOfMemory) => Err(Failure::OutOfMemory),
     }
 }
 
 /// The automaton of a table, or the key that is named in its refusal.
-fn automaton_in(alloc: Global, table: &Table) -> Result<Automaton, PropertyRefusal>
+fn automaton_in(alloc: Global, table: &Table) -> Result<Automaton, PropertyFailure>
     ensures found { IfOk result (GivesAutomaton (table_view table.now)) }
     ensures refused { IfErr result (IsTableRefusal (table_view table.now)) }
 {

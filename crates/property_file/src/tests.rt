@@ -2,7 +2,8 @@
 
 mod edits;
 
-use crate::{PropertyRefusal, read_property};
+use crate::{PropertyFault, read_property};
+use failure::Failure;
 use jvm_model::Name;
 use std::alloc::{AllocError, Global};
 use std::process::Abort;
@@ -28,9 +29,11 @@ next = [\"closed\", \"closed\", \"error\"]
 fn answer(alloc: Global, bytes: &[u8]) -> Result<Name, AllocError> {
     match read_property(alloc, bytes) {
         Ok(_) => Ok(Name::from_string(String::from_str(alloc, "read")?)),
-        Err(PropertyRefusal::BadToml) => Ok(Name::from_string(String::from_str(alloc, "BadToml")?)),
-        Err(PropertyRefusal::BadProperty(key)) => Ok(key),
-        Err(PropertyRefusal::Memory) => Err(AllocError),
+        Err(Failure::Cause(PropertyFault::BadToml)) => Ok(Name::from_string(String::from_str(
+            alloc, "BadToml",
+        )?)),
+        Err(Failure::Cause(PropertyFault::BadProperty(key))) => Ok(key),
+        Err(Failure::OutOfMemory) => Err(AllocError),
     }
 }
 
@@ -204,7 +207,7 @@ fn tells_a_refusal_in_words(rt: HostRuntime) -> Result<(), Fail> {
         text.as_str(),
         "the key version breaks a rule of property files"
     );
-    let text = format!(in rt.alloc(); "{}", PropertyRefusal::BadToml)?;
+    let text = format!(in rt.alloc(); "{}", Failure::Cause(PropertyFault::BadToml))?;
     assert_eq!(rt;
         text.as_str(),
         "the property file is no TOML document of at most 1048576 bytes"

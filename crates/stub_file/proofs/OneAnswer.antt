@@ -3,8 +3,10 @@ use Rattle.std.proofs.Common.{◌≡◌, ◌⊎◌, inl, inr, ℕ, ◌<◌, List
 use Rattle.std.proofs.lemmas.List.Elements.{All-head, All-tail}
 use Rattle.toml.specs.Data.{Members}
 use Rattle.jvm_model.specs.declared.stub.StubClass.{StubClass}
-use Rattle.stub_file.specs.declared.refusal.StubRefusal.{StubRefusal}
-use Rattle.stub_file.specs.declared.refusal.StubRefusal.TheVariants.{BadToml, BadStub, Memory}
+use Rattle.failure.specs.declared.Failure.{Failure}
+use Rattle.stub_file.specs.declared.stub_failure.StubFault.{StubFault}
+use Rattle.failure.specs.declared.Failure.TheVariants.{Cause, OutOfMemory}
+use Rattle.stub_file.specs.declared.stub_failure.StubFault.TheVariants.{BadToml, BadStub}
 use Rattle.toml_tables.proofs.OneDocument.{never_both, IsDocument-same}
 use Rattle.stub_file.specs.StubFile.{GivesClass, IsFirstBreach, IsStubRefusal, IsStubFile, IsTableRefusal, SpellsFile}
 use Rattle.stub_file.proofs.Whole.{for_memory, HasOuterKeys-unique, SpellsFile-unique}
@@ -35,7 +37,7 @@ one_number n m below above = omega (arith, below, above)
 first_unique : (file : List ℕ) (ts : List Members) (n m : ℕ) → IsFirstBreach file ts n → IsFirstBreach file ts m → n ≡ m
 first_unique file ts n m p q = one_number n m (not_before file ts n m p q) (not_before file ts m n q p)
 
-one_class : (file : List ℕ) (ms : Members) (a b : Option ℕ) → IsTableRefusal file ms (BadStub a) → IsTableRefusal file ms (BadStub b) → a ≡ b
+one_class : (file : List ℕ) (ms : Members) (a b : Option ℕ) → IsTableRefusal file ms (Cause (BadStub a)) → IsTableRefusal file ms (Cause (BadStub b)) → a ≡ b
 one_class file ms None None p q = refl
 one_class file ms None (Some m) p q = absurd (p q.0 q.1)
 one_class file ms (Some n) None p q = absurd (q p.0 p.1)
@@ -43,20 +45,20 @@ one_class file ms (Some n) (Some m) p q =
     let same : p.0 ≡ q.0 = HasOuterKeys-unique ms p.0 q.0 p.1 q.1 in
     ap Some (first_unique file q.0 n m (subst (λ (ts : List Members). IsFirstBreach file ts n) same p.2) q.2)
 
-pub one_reason : (file bytes : List ℕ) (r s : StubRefusal) → IsStubRefusal file bytes r → IsStubRefusal file bytes s → ((r ≡ Memory) ⊎ (s ≡ Memory)) ⊎ (r ≡ s)
-one_reason file bytes Memory s p q = inl (inl refl)
-one_reason file bytes BadToml BadToml p q = inr refl
-one_reason file bytes BadToml (BadStub b) p q = absurd (never_both bytes q.members q.document p)
-one_reason file bytes BadToml Memory p q = inl (inr refl)
-one_reason file bytes (BadStub a) BadToml p q = absurd (never_both bytes p.members p.document q)
-one_reason file bytes (BadStub a) (BadStub b) p q =
+pub one_reason : (file bytes : List ℕ) (r s : Failure StubFault) → IsStubRefusal file bytes r → IsStubRefusal file bytes s → ((r ≡ OutOfMemory) ⊎ (s ≡ OutOfMemory)) ⊎ (r ≡ s)
+one_reason file bytes OutOfMemory s p q = inl (inl refl)
+one_reason file bytes (Cause BadToml) (Cause BadToml) p q = inr refl
+one_reason file bytes (Cause BadToml) (Cause (BadStub b)) p q = absurd (never_both bytes q.members q.document p)
+one_reason file bytes (Cause BadToml) OutOfMemory p q = inl (inr refl)
+one_reason file bytes (Cause (BadStub a)) (Cause BadToml) p q = absurd (never_both bytes p.members p.document q)
+one_reason file bytes (Cause (BadStub a)) (Cause (BadStub b)) p q =
     let same : p.members ≡ q.members = IsDocument-same bytes p.members q.members p.document q.document in
-    inr (ap BadStub (one_class file q.members a b (subst (λ (ms : Members). IsTableRefusal file ms (BadStub a)) same p.refused) q.refused))
-one_reason file bytes (BadStub a) Memory p q = inl (inr refl)
+    inr (ap (λ (class : Option ℕ). Cause (BadStub class)) (one_class file q.members a b (subst (λ (ms : Members). IsTableRefusal file ms (Cause (BadStub a))) same p.refused) q.refused))
+one_reason file bytes (Cause (BadStub a)) OutOfMemory p q = inl (inr refl)
 
-pub not_both : (file bytes : List ℕ) (cs : List StubClass) (r : StubRefusal) → IsStubFile file bytes cs → IsStubRefusal file bytes r → r ≡ Memory
-not_both file bytes cs BadToml is refused = absurd (never_both bytes is.members is.document refused)
-not_both file bytes cs (BadStub a) is refused =
+pub not_both : (file bytes : List ℕ) (cs : List StubClass) (r : Failure StubFault) → IsStubFile file bytes cs → IsStubRefusal file bytes r → r ≡ OutOfMemory
+not_both file bytes cs (Cause BadToml) is refused = absurd (never_both bytes is.members is.document refused)
+not_both file bytes cs (Cause (BadStub a)) is refused =
     let same : is.members ≡ refused.members = IsDocument-same bytes is.members refused.members is.document refused.document in
-    for_memory file refused.members cs (BadStub a) (subst (λ (ms : Members). SpellsFile file ms cs) same is.spells) refused.refused
-not_both file bytes cs Memory is refused = refl
+    for_memory file refused.members cs (Cause (BadStub a)) (subst (λ (ms : Members). SpellsFile file ms cs) same is.spells) refused.refused
+not_both file bytes cs OutOfMemory is refused = refl

@@ -8,8 +8,10 @@ use Rattle.toml.specs.declared.value.Value.{Value}
 use Rattle.toml.specs.Data.{Data, string, integer, float, boolean, datetime, array, table, as_table, Members}
 use Rattle.toml.specs.View.{view, items_view}
 use Rattle.jvm_model.specs.declared.stub.StubClass.{StubClass}
-use Rattle.stub_file.specs.declared.refusal.StubRefusal.{StubRefusal}
-use Rattle.stub_file.specs.declared.refusal.StubRefusal.TheVariants.{BadToml, BadStub, Memory}
+use Rattle.failure.specs.declared.Failure.{Failure}
+use Rattle.stub_file.specs.declared.stub_failure.StubFault.{StubFault}
+use Rattle.failure.specs.declared.Failure.TheVariants.{Cause, OutOfMemory}
+use Rattle.stub_file.specs.declared.stub_failure.StubFault.TheVariants.{BadToml, BadStub}
 use Rattle.toml_tables.specs.Documents.{tables, IsDocument}
 use Rattle.toml_tables.proofs.Lists.{AllZip-more, AllZip-unique}
 use Rattle.toml_tables.proofs.OneDocument.{IsDocument-same}
@@ -63,11 +65,11 @@ IsFirstBreach-at file ts cs i d here sofar none =
       breaks = λ c gives. none c (subst (λ (x : Data). SpellsTable (GivesClass file) x c) (sym here.is) gives);
     }
 
-pub breach_told : (file : List ℕ) (ts : List Members) (n : ℕ) (r : StubRefusal) → IsBreachAt n r → IsFirstBreach file ts n → IsListRefusal file ts r
-breach_told file ts n BadToml named first = named
-breach_told file ts n (BadStub None) named first = named
-breach_told file ts n (BadStub (Some m)) named first = subst (λ (k : ℕ). IsFirstBreach file ts k) (sym named) first
-breach_told file ts n Memory named first = tt
+pub breach_told : (file : List ℕ) (ts : List Members) (n : ℕ) (r : Failure StubFault) → IsBreachAt n r → IsFirstBreach file ts n → IsListRefusal file ts r
+breach_told file ts n (Cause BadToml) named first = named
+breach_told file ts n (Cause (BadStub None)) named first = named
+breach_told file ts n (Cause (BadStub (Some m))) named first = subst (λ (k : ℕ). IsFirstBreach file ts k) (sym named) first
+breach_told file ts n OutOfMemory named first = tt
 
 -- one more class
 pub classes_more : (file : List ℕ) (ts : List Members) (cs : List StubClass) (i : ℕ) (d : Data) (c : StubClass) → TableAt ts i d → AllZip (GivesClass file) (take i ts) cs → SpellsTable (GivesClass file) d c → AllZip (GivesClass file) (take (i + 1) ts) (cs ++ c ∷ [])
@@ -127,17 +129,17 @@ no_breach file ts n cs first each =
     first.breaks gives.0 gives.1
 
 -- a table that spells a file is refused for memory alone
-pub for_memory : (file : List ℕ) (ms : Members) (cs : List StubClass) (r : StubRefusal) → SpellsFile file ms cs → IsTableRefusal file ms r → r ≡ Memory
-for_memory file ms cs BadToml spells told = absurd told
-for_memory file ms cs (BadStub None) spells told = absurd (told spells.class_tables spells.outer)
-for_memory file ms cs (BadStub (Some n)) spells told =
+pub for_memory : (file : List ℕ) (ms : Members) (cs : List StubClass) (r : Failure StubFault) → SpellsFile file ms cs → IsTableRefusal file ms r → r ≡ OutOfMemory
+for_memory file ms cs (Cause BadToml) spells told = absurd told
+for_memory file ms cs (Cause (BadStub None)) spells told = absurd (told spells.class_tables spells.outer)
+for_memory file ms cs (Cause (BadStub (Some n))) spells told =
     let same : spells.class_tables ≡ told.0 = HasOuterKeys-unique ms spells.class_tables told.0 spells.outer told.1 in
     absurd (no_breach file told.0 n cs told.2 (subst (λ (ts : List Members). AllZip (GivesClass file) ts cs) same spells.each))
-for_memory file ms cs Memory spells told = refl
+for_memory file ms cs OutOfMemory spells told = refl
 
 -- what a reader of the table answers, where it spells a file
-pub read_only : (file bytes : List ℕ) (ms : Members) (r : Result (Vec StubClass Global) StubRefusal) → IsDocument bytes ms → IfOk r (λ read. SpellsFile file ms read.items) → IfErr r (IsTableRefusal file ms)
-    → (cs : List StubClass) → IsStubFile file bytes cs → MatchResult r (λ read. read.items ≡ cs) (λ refusal. refusal ≡ Memory)
+pub read_only : (file bytes : List ℕ) (ms : Members) (r : Result (Vec StubClass Global) (Failure StubFault)) → IsDocument bytes ms → IfOk r (λ read. SpellsFile file ms read.items) → IfErr r (IsTableRefusal file ms)
+    → (cs : List StubClass) → IsStubFile file bytes cs → MatchResult r (λ read. read.items ≡ cs) (λ refusal. refusal ≡ OutOfMemory)
 read_only file bytes ms (Ok read) document found refused cs is =
     let same : is.members ≡ ms = IsDocument-same bytes is.members ms is.document document in
     SpellsFile-unique file ms read.items cs found (subst (λ (ns : Members). SpellsFile file ns cs) same is.spells)

@@ -6,8 +6,10 @@ use Rattle.toml.specs.Data.{integer, array, Members, get_member}
 use Rattle.jvm_model.specs.declared.stub.StubClass.{StubClass}
 use Rattle.toml_tables.specs.Documents.{tables, IsDocument, IsNoDocument}
 use Rattle.toml_tables.specs.Tables.{HasOnly}
-use Rattle.stub_file.specs.declared.refusal.StubRefusal.{StubRefusal}
-use Rattle.stub_file.specs.declared.refusal.StubRefusal.TheVariants.{BadToml, BadStub, Memory}
+use Rattle.failure.specs.declared.Failure.{Failure}
+use Rattle.stub_file.specs.declared.stub_failure.StubFault.{StubFault}
+use Rattle.failure.specs.declared.Failure.TheVariants.{Cause, OutOfMemory}
+use Rattle.stub_file.specs.declared.stub_failure.StubFault.TheVariants.{BadToml, BadStub}
 use Rattle.jvm_model.specs.StubRules.{IsSoundStub}
 use Rattle.stub_file.specs.StubSpelling.{SpellsClass}
 
@@ -48,21 +50,21 @@ pub record IsFirstBreach (file : List ℕ) (class_tables : List Members) (number
   pub breaks : (c : StubClass) → GivesClass file fault c → ⊥
 
 -- Why a table is refused: a key outside the classes breaks a rule; or none does, and a class is the first that breaks one.
-abbrev pub IsTableRefusal : List ℕ → Members → StubRefusal → Type 0
-IsTableRefusal file _ BadToml = ⊥
-IsTableRefusal file members (BadStub None) = (class_tables : List Members) → HasOuterKeys members class_tables → ⊥
-IsTableRefusal file members (BadStub (Some number)) =
+abbrev pub IsTableRefusal : List ℕ → Members → Failure StubFault → Type 0
+IsTableRefusal file _ (Cause BadToml) = ⊥
+IsTableRefusal file members (Cause (BadStub None)) = (class_tables : List Members) → HasOuterKeys members class_tables → ⊥
+IsTableRefusal file members (Cause (BadStub (Some number))) =
     (class_tables : List Members) × HasOuterKeys members class_tables × IsFirstBreach file class_tables number
-IsTableRefusal file _ Memory = Unit {0}
+IsTableRefusal file _ OutOfMemory = Unit {0}
 
 -- The bytes are a document whose table is refused for this.
-pub record IsRefusedDocument (file bytes : List ℕ) (refusal : StubRefusal) : Type 0 where
+pub record IsRefusedDocument (file bytes : List ℕ) (refusal : Failure StubFault) : Type 0 where
   pub members : Members
   pub document : IsDocument bytes members
   pub refused : IsTableRefusal file members refusal
 
--- Why bytes are refused: they are no document; the document's table is refused; or memory ran out.
-abbrev pub IsStubRefusal : List ℕ → List ℕ → StubRefusal → Type 0
-IsStubRefusal file bytes BadToml = IsNoDocument bytes
-IsStubRefusal file bytes (BadStub class) = IsRefusedDocument file bytes (BadStub class)
-IsStubRefusal file bytes Memory = Unit {0}
+-- Why bytes are refused: they are no document; the document's table is refused; or out of memory.
+abbrev pub IsStubRefusal : List ℕ → List ℕ → Failure StubFault → Type 0
+IsStubRefusal file bytes (Cause BadToml) = IsNoDocument bytes
+IsStubRefusal file bytes (Cause (BadStub class)) = IsRefusedDocument file bytes (Cause (BadStub class))
+IsStubRefusal file bytes OutOfMemory = Unit {0}

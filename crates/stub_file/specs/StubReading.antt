@@ -13,8 +13,10 @@ use Rattle.jvm_model.specs.declared.stub.StubClass.{StubClass}
 use Rattle.jvm_model.specs.Automata.{all_differ}
 use Rattle.jvm_model.specs.Names.{is_method_name, IsClassName}
 use Rattle.toml_tables.specs.Documents.{tables}
-use Rattle.stub_file.specs.declared.refusal.StubRefusal.{StubRefusal}
-use Rattle.stub_file.specs.declared.refusal.StubRefusal.TheVariants.{BadToml, BadStub, Memory}
+use Rattle.failure.specs.declared.Failure.{Failure}
+use Rattle.stub_file.specs.declared.stub_failure.StubFault.{StubFault}
+use Rattle.failure.specs.declared.Failure.TheVariants.{Cause, OutOfMemory}
+use Rattle.stub_file.specs.declared.stub_failure.StubFault.TheVariants.{BadToml, BadStub}
 use Rattle.stub_file.specs.StubFile.{IsFirstBreach}
 use Rattle.jvm_model.specs.Stubs.{is_same_field, is_same_method}
 use Rattle.jvm_model.specs.StubRules.{is_object_argument, lists_outcomes, patches_methods_alone, HasSuper, IsSoundField, IsSoundMethod, MayReturn}
@@ -64,16 +66,16 @@ pub record GivesTables (members : Members) (values : List Value) : Type 0 where
   pub class : get_member (codes "class") members ≡ Some (array (items_view values))
   pub each : AreTables values
 
--- Why a list of tables is refused: a class is the first that breaks a rule, or memory ran out.
-abbrev pub IsListRefusal : List ℕ → List Members → StubRefusal → Type 0
-IsListRefusal file class_tables BadToml = ⊥
-IsListRefusal file class_tables (BadStub None) = ⊥
-IsListRefusal file class_tables (BadStub (Some number)) = IsFirstBreach file class_tables number
-IsListRefusal file class_tables Memory = Unit {0}
+-- Why a list of tables is refused: a class is the first that breaks a rule; or out of memory.
+abbrev pub IsListRefusal : List ℕ → List Members → Failure StubFault → Type 0
+IsListRefusal file class_tables (Cause BadToml) = ⊥
+IsListRefusal file class_tables (Cause (BadStub None)) = ⊥
+IsListRefusal file class_tables (Cause (BadStub (Some number))) = IsFirstBreach file class_tables number
+IsListRefusal file class_tables OutOfMemory = Unit {0}
 
--- The refusal names the class with this number, or says that memory ran out.
-abbrev pub IsBreachAt : ℕ → StubRefusal → Type 0
-IsBreachAt number BadToml = ⊥
-IsBreachAt number (BadStub None) = ⊥
-IsBreachAt number (BadStub (Some named)) = named ≡ number
-IsBreachAt number Memory = Unit {0}
+-- The failure names the class with this number, or is out of memory.
+abbrev pub IsBreachAt : ℕ → Failure StubFault → Type 0
+IsBreachAt number (Cause BadToml) = ⊥
+IsBreachAt number (Cause (BadStub None)) = ⊥
+IsBreachAt number (Cause (BadStub (Some named))) = named ≡ number
+IsBreachAt number OutOfMemory = Unit {0}

@@ -20,7 +20,7 @@ use jvm_model::StubClass;
 use std::alloc::{AllocError, Global};
 
 /// The classes of the library that are there without any stub file: the most common ones of `java/lang`, `java/io` and
-/// `java/util`, and exceptions. The name of their file is `-`. An error says that memory ran out.
+/// `java/util`, and exceptions. The name of their file is `-`. It fails only out of memory.
 pub fn base_stubs(alloc: Global) -> Result<Vec<StubClass>, AllocError>
     ensures table { IfOk result (λ classes. classes.items ≡ base_classes) }
 {

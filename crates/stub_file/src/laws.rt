@@ -2,20 +2,21 @@
 
 ghost use Rattle.std.specs.Prelude.{◌≡◌, ◌⊎◌, ℕ, List};
 ghost use Rattle.jvm_model.specs.declared.stub.StubClass.{StubClass};
-ghost use Rattle.stub_file.specs.declared.refusal.StubRefusal.{StubRefusal};
-ghost use Rattle.stub_file.specs.declared.refusal.StubRefusal.TheVariants.{Memory};
+ghost use Rattle.failure.specs.declared.Failure.{Failure};
+ghost use Rattle.stub_file.specs.declared.stub_failure.StubFault.{StubFault};
+ghost use Rattle.failure.specs.declared.Failure.TheVariants.{OutOfMemory};
 ghost use Rattle.stub_file.specs.BaseLaws.{IsClosedTable};
 ghost use Rattle.stub_file.specs.BaseStubs.{base_classes};
 ghost use Rattle.stub_file.specs.StubFile.{IsStubRefusal, IsStubFile};
 
-/// Bytes are at most one stub file, are refused for at most one reason but for want of memory, and never both.
+/// Bytes are at most one stub file, are refused for at most one reason, memory aside, and never both.
 pub fn one_answer()
     ensures file { (file bytes : List ℕ) (classes others : List StubClass)
         → IsStubFile file bytes classes → IsStubFile file bytes others → classes ≡ others }
-    ensures reason { (file bytes : List ℕ) (refusal other : StubRefusal) → IsStubRefusal file bytes refusal → IsStubRefusal file bytes other
-        → ((refusal ≡ Memory) ⊎ (other ≡ Memory)) ⊎ (refusal ≡ other) }
-    ensures not_both { (file bytes : List ℕ) (classes : List StubClass) (refusal : StubRefusal)
-        → IsStubFile file bytes classes → IsStubRefusal file bytes refusal → refusal ≡ Memory }
+    ensures reason { (file bytes : List ℕ) (refusal other : Failure StubFault) → IsStubRefusal file bytes refusal → IsStubRefusal file bytes other
+        → ((refusal ≡ OutOfMemory) ⊎ (other ≡ OutOfMemory)) ⊎ (refusal ≡ other) }
+    ensures not_both { (file bytes : List ℕ) (classes : List StubClass) (refusal : Failure StubFault)
+        → IsStubFile file bytes classes → IsStubRefusal file bytes refusal → refusal ≡ OutOfMemory }
 {}
 
 /// The base stubs keep the rules of a stub file, no two have one name, and each class that one of them mentions, as a

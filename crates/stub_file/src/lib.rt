@@ -8,16 +8,16 @@ mod class_table;
 mod laws;
 mod member_table;
 mod reader;
-mod refusal;
 mod rules;
 mod signature;
 mod spelled;
+mod stub_failure;
 mod words;
 
 pub use base_table::base_stubs;
 pub use laws::{base_stubs_are_closed, one_answer};
 pub use reader::read_stubs;
-pub use refusal::StubRefusal;
+pub use stub_failure::{StubFailure, StubFault};
 
 #[cfg(test)]
 mod tests;

@@ -6,7 +6,7 @@ mod class_faults;
 mod method_faults;
 mod outer_faults;
 
-use crate::{StubRefusal, read_stubs};
+use crate::{StubFailure, read_stubs};
 use std::alloc::{AllocError, Global};
 
 /// Three classes: one with a method that lists all it may and a field, one with a method of each kind, and a patch.
@@ -51,7 +51,7 @@ throws = [\"lib/E\"]
 ";
 
 /// Why the library is refused where a text of it, in its first place, is replaced by another one.
-fn refusal_after(alloc: Global, old: &str, new: &str) -> Result<Option<StubRefusal>, AllocError> {
+fn refusal_after(alloc: Global, old: &str, new: &str) -> Result<Option<StubFailure>, AllocError> {
     let text = LIBRARY.replacen(alloc, old, new, 1)?;
     Ok(read_stubs(alloc, "s.toml", text.as_bytes()).err())
 }

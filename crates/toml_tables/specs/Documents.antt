@@ -4,6 +4,7 @@ use Rattle.std.specs.Prelude.{◌≡◌, ℕ, ◌<◌, ◌≤◌, List, [], ◌�
 use Rattle.std.specs.Str.{IsUtf8}
 use Rattle.toml.specs.Data.{string, table, Items, no_items, item, Members}
 use Rattle.toml.specs.Parse.{parse_document}
+use Rattle.toml_tables.specs.declared.table_failure.NoDocument.{NoDocument}
 
 -- The most bytes of a document.
 abbrev pub document_limit : ℕ
@@ -20,6 +21,10 @@ pub data IsNoDocument (bytes : List ℕ) : Type 0 where
   too_large : document_limit < length bytes → IsNoDocument bytes
   no_text : (IsUtf8 bytes → ⊥) → IsNoDocument bytes
   no_toml : parse_document bytes ≡ None → IsNoDocument bytes
+
+-- The cause that names this.
+abbrev pub no_document : NoDocument
+no_document = record {}
 
 -- The values of an array: texts, or tables.
 abbrev pub texts : List (List ℕ) → Items

@@ -3,17 +3,17 @@
 #![tactic(auto)]
 
 mod document;
-mod failure;
 mod laws;
 mod table_access;
+mod table_failure;
 
 pub use document::{DOCUMENT_LIMIT, read_table};
-pub use failure::TableFailure;
 pub use laws::one_document;
 pub use table_access::{
     array_at, bytes_at, bytes_of, flag_at, has_only, integer_at, optional_bytes_at, other_key,
     text_at, value_at,
 };
+pub use table_failure::{NoDocument, TableFailure};
 
 #[cfg(test)]
 mod tests;

@@ -86,7 +86,7 @@ pub fn flag_at(table: &Table, key: &str) -> Option<bool>
     }
 }
 
-/// The bytes of the text at a key, if a text stands there. An error says that memory ran out.
+/// The bytes of the text at a key, if a text stands there. It fails only out of memory.
 pub fn bytes_at(alloc: Global, table: &Table, key: &str) -> Result<Option<Bytes>, AllocError>
     ensures { IfOk result (Finds (IsTextAt key.now (table_view table.now))) }
 {
@@ -96,8 +96,8 @@ pub fn bytes_at(alloc: Global, table: &Table, key: &str) -> Result<Option<Bytes>
     }
 }
 
-/// The bytes of the text at a key, `Some(None)` without the key, and `None` if something else stands there. An error
-/// says that memory ran out.
+/// The bytes of the text at a key, `Some(None)` without the key, and `None` if something else stands there. It fails only
+/// out of memory.
 pub fn optional_bytes_at(
     alloc: Global,
     table: &Table,
@@ -114,7 +114,7 @@ pub fn optional_bytes_at(
     }
 }
 
-/// A copy of a text's bytes. An error says that memory ran out.
+/// A copy of a text's bytes. It fails only out of memory.
 pub fn bytes_of(alloc: Global, text: &str) -> Result<Bytes, AllocError>
     ensures { IfOk result (λ bytes. bytes ≡ text.now) }
 {

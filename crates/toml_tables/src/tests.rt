@@ -1,9 +1,10 @@
 //! One document with a value of each kind: what stands at its keys, and which keys it has.
 
 use crate::{
-    TableFailure, array_at, bytes_at, bytes_of, flag_at, has_only, integer_at, one_document,
+    NoDocument, array_at, bytes_at, bytes_of, flag_at, has_only, integer_at, one_document,
     optional_bytes_at, other_key, read_table, text_at, value_at,
 };
+use failure::Failure;
 use std::test::Fail;
 
 /// A value of each kind.
@@ -51,9 +52,9 @@ fn refuses_what_is_no_document(rt: HostRuntime) -> Result<(), Fail> {
     one_document();
     for bytes in [b"name =".as_slice(), b"# \xff".as_slice()] {
         let failure = read_table(rt.alloc(), bytes).err();
-        assert_eq!(rt; failure, Some(TableFailure::NoDocument));
+        assert_eq!(rt; failure, Some(Failure::Cause(NoDocument)));
     }
-    let text = format!(in rt.alloc(); "{}", TableFailure::NoDocument)?;
+    let text = format!(in rt.alloc(); "{NoDocument}")?;
     assert_eq!(rt; text.as_str(), "no TOML document of at most 1048576 bytes");
     Ok(())
 }

@@ -1,6 +1,7 @@
 //! Files that a program holds in memory, as pairs of a name and the bytes: whether their names differ, the
 //! listing of their class files, and the first bytes of one of them. The trees in memory share these.
 ghost use Rattle.std.specs.Prelude.{◌≡◌, ◌≢◌, ◌↔◌, map, string_bytes, take, option_map, IfOk};
+ghost use Rattle.failure.specs.declared.Failure.TheVariants.{Cause};
 ghost use Rattle.std.specs.List.{list_any};
 ghost use Rattle.std.specs.Option.{option_copied};
 ghost use Rattle.std.specs.Str.{bytes_eq};
@@ -8,7 +9,8 @@ ghost use Rattle.ts_outside.specs.Files.{file_at, class_names, IsListing};
 ghost use Rattle.ts_outside.specs.Files as definitions;
 ghost use Rattle.ts_outside.specs.Held.{files_of, names_of};
 
-use crate::TreeEnd;
+use crate::{TreeFailure, TreeFault};
+use failure::Failure;
 use std::alloc::{AllocError, Global};
 
 /// Whether no two of the files have the same name. The trees in memory require it of the files that they
@@ -91,13 +93,13 @@ pub(crate) fn read(
     files: &[(String, Vec<u8>)],
     name: &str,
     limit: u32,
-) -> Result<Vec<u8>, TreeEnd>
+) -> Result<Vec<u8>, TreeFailure>
     ensures bytes { IfOk result (λ read. option_map (take limit) (file_at (files_of files.now) name.now) ≡ Some read.items) }
-    ensures missing { (result ≡ Err TreeEnd.Missing) ↔ (file_at (files_of files.now) name.now ≡ None) }
-    ensures not_failed { result ≢ Err TreeEnd.Failed }
+    ensures missing { (result ≡ Err (Cause TreeFault.Missing)) ↔ (file_at (files_of files.now) name.now ≡ None) }
+    ensures not_failed { result ≢ Err (Cause TreeFault.Failed) }
 {
     let Some(bytes) = find(files, name) else {
-        return Err(TreeEnd::Missing);
+        return Err(Failure::Cause(TreeFault::Missing));
     };
     Ok(first_bytes(alloc, bytes, limit)?)
 }

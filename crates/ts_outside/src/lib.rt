@@ -1,5 +1,5 @@
 //! The outside: where files come from and where output goes, as two traits whose contracts say which
-//! bytes are told and when a fault was counted. The layers above read only through `Tree` and write
+//! bytes are given and when a fault was counted. The layers above read only through `Tree` and write
 //! only through `Sink`; the real folder and standard output are the two implementations that are trusted.
 #![tactic(auto)]
 
@@ -22,7 +22,7 @@ pub use memory_sink::MemorySink;
 pub use memory_tree::MemoryTree;
 pub use real_sink::RealSink;
 pub use real_tree::RealTree;
-pub use sink::{Sink, SinkFailed};
+pub use sink::{Sink, SinkFailure};
 pub use steady_sink::SteadySink;
 pub use steady_tree::SteadyTree;
-pub use tree::{Tree, TreeEnd};
+pub use tree::{Tree, TreeFailure, TreeFault};

@@ -4,7 +4,7 @@ ghost use Rattle.ts_outside.specs.Counts.{Rose};
 ghost use Rattle.ts_outside.specs.Memory.{room, sink_fails, sink_after};
 
 use crate::counts::{is_failing, raised};
-use crate::{Sink, SinkFailed};
+use crate::{Sink, SinkFailure};
 use std::alloc::{AllocError, Global};
 use std::marker::Model;
 
@@ -67,7 +67,7 @@ impl Sink for MemorySink {
 
     ghost faults = { λ sink. sink.faults };
 
-    fn write(&mut self, piece: &[u8]) -> Result<usize, SinkFailed>
+    fn write(&mut self, piece: &[u8]) -> Result<usize, SinkFailure>
         requires { 0 < length piece.now }
         ensures some { IfOk result (λ count. (0 < count) × (count ≤ length piece.now)) }
         ensures takes { IfOk result (λ count. self.new.bytes ≡ self.old.bytes ++ take count piece.now) }
@@ -86,7 +86,7 @@ impl Sink for MemorySink {
         let count = piece.len().min(self.capacity - self.bytes.len());
         if fails || count == 0 || self.bytes.extend_from_slice(&piece[..count]).is_err() {
             self.faults = raised(self.faults, 1);
-            return Err(SinkFailed);
+            return Err(SinkFailure);
         }
         Ok(count)
     }

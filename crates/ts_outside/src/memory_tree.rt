@@ -1,12 +1,14 @@
 //! A tree that holds its files in memory, and of which given calls fail.
 ghost use Rattle.std.specs.Prelude.{◌≡◌, ◌≢◌, ◌↔◌, ◌≤◌, map, string_bytes, take, option_map, IsErrOf, IfOk, IsTrue, IsFalse};
+ghost use Rattle.failure.specs.declared.Failure.TheVariants.{Cause};
 ghost use Rattle.ts_outside.specs.Counts.{Rose};
 ghost use Rattle.ts_outside.specs.Files.{file_at, names_differ, IsListing};
 ghost use Rattle.ts_outside.specs.Held.{files_of, names_of};
 ghost use Rattle.ts_outside.specs.Memory.{tree_fails, tree_after};
 
 use crate::counts::{is_failing, raised};
-use crate::{Tree, TreeEnd, held};
+use crate::{Tree, TreeFailure, TreeFault, held};
+use failure::Failure;
 use std::alloc::Global;
 use std::marker::Model;
 
@@ -71,39 +73,39 @@ impl Tree for MemoryTree {
 
     ghost faults = { λ tree. tree.faults };
 
-    fn list(&mut self, alloc: Global) -> Result<Vec<String>, TreeEnd>
+    fn list(&mut self, alloc: Global) -> Result<Vec<String>, TreeFailure>
         ensures listing { IfOk result (λ names. IsListing self.old.files (map string_bytes names.items)) }
-        ensures failed { IsErrOf result TreeEnd.Failed → Rose self.old.faults self.new.faults }
-        ensures not_missing { result ≢ Err TreeEnd.Missing }
+        ensures failed { IsErrOf result (Cause TreeFault.Failed) → Rose self.old.faults self.new.faults }
+        ensures not_missing { result ≢ Err (Cause TreeFault.Missing) }
         ensures same_files { self.new.files ≡ self.old.files }
         ensures never_falls { self.old.faults ≤ self.new.faults }
 
         // A call fails exactly where its number is one of those that are to fail.
-        ensures fails { IsErrOf result TreeEnd.Failed ↔ IsTrue (tree_fails self.old) }
+        ensures fails { IsErrOf result (Cause TreeFault.Failed) ↔ IsTrue (tree_fails self.old) }
         ensures after { self.new ≡ tree_after self.old }
     {
         if self.count_call() {
-            return Err(TreeEnd::Failed);
+            return Err(Failure::Cause(TreeFault::Failed));
         }
         Ok(held::list(alloc, self.files.as_slice())?)
     }
 
-    fn read(&mut self, alloc: Global, name: &str, limit: u32) -> Result<Vec<u8>, TreeEnd>
+    fn read(&mut self, alloc: Global, name: &str, limit: u32) -> Result<Vec<u8>, TreeFailure>
         ensures bytes { IfOk result (λ read.
             option_map (take limit) (file_at self.old.files name.now) ≡ Some read.items) }
-        ensures missing { IsErrOf result TreeEnd.Missing → file_at self.old.files name.now ≡ None }
-        ensures failed { IsErrOf result TreeEnd.Failed → Rose self.old.faults self.new.faults }
+        ensures missing { IsErrOf result (Cause TreeFault.Missing) → file_at self.old.files name.now ≡ None }
+        ensures failed { IsErrOf result (Cause TreeFault.Failed) → Rose self.old.faults self.new.faults }
         ensures same_files { self.new.files ≡ self.old.files }
         ensures never_falls { self.old.faults ≤ self.new.faults }
 
         // A call fails exactly where its number is one of those that are to fail, and one that does not
         // fail misses the file exactly where no file of the name is held.
-        ensures fails { IsErrOf result TreeEnd.Failed ↔ IsTrue (tree_fails self.old) }
-        ensures misses { IsErrOf result TreeEnd.Missing ↔ (IsFalse (tree_fails self.old) × (file_at self.old.files name.now ≡ None)) }
+        ensures fails { IsErrOf result (Cause TreeFault.Failed) ↔ IsTrue (tree_fails self.old) }
+        ensures misses { IsErrOf result (Cause TreeFault.Missing) ↔ (IsFalse (tree_fails self.old) × (file_at self.old.files name.now ≡ None)) }
         ensures after { self.new ≡ tree_after self.old }
     {
         if self.count_call() {
-            return Err(TreeEnd::Failed);
+            return Err(Failure::Cause(TreeFault::Failed));
         }
         held::read(alloc, self.files.as_slice(), name, limit)
     }

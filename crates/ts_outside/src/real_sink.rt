@@ -4,7 +4,7 @@ ghost use Rattle.ts_outside.specs.Counts.{Rose};
 ghost use Rattle.ts_outside.specs.Counts as counts;
 
 use crate::counts::raised;
-use crate::{Sink, SinkFailed};
+use crate::{Sink, SinkFailure};
 use std::marker::Model;
 
 /// Standard output as a sink. It tells nothing of content, and counts each error and each write that took
@@ -41,7 +41,7 @@ impl<R: Print + Clone + Drop> Sink for RealSink<R> {
 
     ghost faults = { λ faults. faults };
 
-    fn write(&mut self, piece: &[u8]) -> Result<usize, SinkFailed>
+    fn write(&mut self, piece: &[u8]) -> Result<usize, SinkFailure>
         requires { 0 < length piece.now }
         ensures some { IfOk result (λ count. (0 < count) × (count ≤ length piece.now)) }
         ensures failed { OnErr result (Rose self.old self.new) }
@@ -53,7 +53,7 @@ impl<R: Print + Clone + Drop> Sink for RealSink<R> {
             Ok(count) if count > 0 => Ok(count),
             _ => {
                 self.faults = raised(self.faults, 1);
-                Err(SinkFailed)
+                Err(SinkFailure)
             }
         }
     }

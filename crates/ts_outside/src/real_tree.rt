@@ -1,5 +1,6 @@
 //! A real folder as a tree.
 ghost use Rattle.std.specs.Prelude.{◌≡◌, ◌≢◌, ◌≤◌, map, string_bytes, IfOk, IsErrOf, IsFalse};
+ghost use Rattle.failure.specs.declared.Failure.TheVariants.{Cause};
 ghost use Rattle.ts_outside.specs.Counts.{Rose};
 ghost use Rattle.ts_outside.specs.Counts as counts;
 ghost use Rattle.ts_outside.specs.Names.{IsClassList};
@@ -7,7 +8,8 @@ ghost use Rattle.ts_outside.specs.Names as definitions;
 
 use crate::counts::raised;
 use crate::walk::{class_names, end_of, joined};
-use crate::{Tree, TreeEnd};
+use crate::{Tree, TreeFailure, TreeFault};
+use failure::Failure;
 use std::alloc::{AllocError, Global};
 use std::io::{ErrorKind, Read};
 use std::marker::Model;
@@ -47,14 +49,14 @@ impl<R: Files + Clone + Drop> RealTree<R> {
     }
 
     /// The outcome, which is counted as a fault if it is a failure.
-    fn counted<T>(&mut self, outcome: Result<T, TreeEnd>) -> Result<T, TreeEnd>
+    fn counted<T>(&mut self, outcome: Result<T, TreeFailure>) -> Result<T, TreeFailure>
         ensures same { result ≡ outcome }
-        ensures fault { IsErrOf outcome TreeEnd.Failed → self.new ≡ counts.raised self.old 1 }
-        ensures no_fault { outcome ≢ Err TreeEnd.Failed → self.new ≡ self.old }
-        ensures failed { IsErrOf outcome TreeEnd.Failed → Rose self.old self.new }
+        ensures fault { IsErrOf outcome (Cause TreeFault.Failed) → self.new ≡ counts.raised self.old 1 }
+        ensures no_fault { outcome ≢ Err (Cause TreeFault.Failed) → self.new ≡ self.old }
+        ensures failed { IsErrOf outcome (Cause TreeFault.Failed) → Rose self.old self.new }
         ensures never_falls { self.old ≤ self.new }
     {
-        if let Err(TreeEnd::Failed) = &outcome {
+        if let Err(Failure::Cause(TreeFault::Failed)) = &outcome {
             self.faults = raised(self.faults, 1);
         }
         outcome
@@ -68,24 +70,24 @@ impl<R: Files + Clone + Drop> Tree for RealTree<R> {
 
     ghost faults = { λ faults. faults };
 
-    fn list(&mut self, alloc: Global) -> Result<Vec<String>, TreeEnd>
-        ensures failed { IsErrOf result TreeEnd.Failed → Rose self.old self.new }
-        ensures not_missing { result ≢ Err TreeEnd.Missing }
+    fn list(&mut self, alloc: Global) -> Result<Vec<String>, TreeFailure>
+        ensures failed { IsErrOf result (Cause TreeFault.Failed) → Rose self.old self.new }
+        ensures not_missing { result ≢ Err (Cause TreeFault.Missing) }
         ensures never_falls { self.old ≤ self.new }
-        ensures fault { IsErrOf result TreeEnd.Failed → self.new ≡ counts.raised self.old 1 }
-        ensures no_fault { result ≢ Err TreeEnd.Failed → self.new ≡ self.old }
+        ensures fault { IsErrOf result (Cause TreeFault.Failed) → self.new ≡ counts.raised self.old 1 }
+        ensures no_fault { result ≢ Err (Cause TreeFault.Failed) → self.new ≡ self.old }
         ensures class_names { IfOk result (λ names. IsClassList (map string_bytes names.items)) }
     {
         let listing = list(&self.rt, alloc, self.dir.as_str());
         self.counted(listing)
     }
 
-    fn read(&mut self, alloc: Global, name: &str, limit: u32) -> Result<Vec<u8>, TreeEnd>
-        ensures failed { IsErrOf result TreeEnd.Failed → Rose self.old self.new }
+    fn read(&mut self, alloc: Global, name: &str, limit: u32) -> Result<Vec<u8>, TreeFailure>
+        ensures failed { IsErrOf result (Cause TreeFault.Failed) → Rose self.old self.new }
         ensures never_falls { self.old ≤ self.new }
-        ensures fault { IsErrOf result TreeEnd.Failed → self.new ≡ counts.raised self.old 1 }
-        ensures no_fault { result ≢ Err TreeEnd.Failed → self.new ≡ self.old }
-        ensures no_walk { IsFalse (definitions.is_walked_name name.now) → IsErrOf result TreeEnd.Missing }
+        ensures fault { IsErrOf result (Cause TreeFault.Failed) → self.new ≡ counts.raised self.old 1 }
+        ensures no_fault { result ≢ Err (Cause TreeFault.Failed) → self.new ≡ self.old }
+        ensures no_walk { IsFalse (definitions.is_walked_name name.now) → IsErrOf result (Cause TreeFault.Missing) }
     {
         let bytes = read(&self.rt, alloc, self.dir.as_str(), name, limit);
         self.counted(bytes)
@@ -102,8 +104,8 @@ fn folder_path(alloc: Global, dir: &str) -> Result<String, AllocError> {
 }
 
 /// The names of the class files of the folder, in byte order.
-fn list<R: Files>(rt: &R, alloc: Global, dir: &str) -> Result<Vec<String>, TreeEnd>
-    ensures not_missing { result ≢ Err TreeEnd.Missing }
+fn list<R: Files>(rt: &R, alloc: Global, dir: &str) -> Result<Vec<String>, TreeFailure>
+    ensures not_missing { result ≢ Err (Cause TreeFault.Missing) }
     ensures class_names { IfOk result (λ names. IsClassList (map string_bytes names.items)) }
 {
     let path = folder_path(alloc, dir)?;
@@ -126,9 +128,9 @@ fn is_walked_name(name: &str) -> bool
 }
 
 /// The end of a call that an error ended where it looked for a file.
-fn end_of_search(error: io::Error) -> TreeEnd {
+fn end_of_search(error: io::Error) -> TreeFailure {
     match error.kind() {
-        ErrorKind::NotFound | ErrorKind::NotADirectory => TreeEnd::Missing,
+        ErrorKind::NotFound | ErrorKind::NotADirectory => Failure::Cause(TreeFault::Missing),
         _ => end_of(error),
     }
 }
@@ -140,17 +142,17 @@ fn read<R: Files>(
     dir: &str,
     name: &str,
     limit: u32,
-) -> Result<Vec<u8>, TreeEnd>
-    ensures { IsFalse (definitions.is_walked_name name.now) → IsErrOf result TreeEnd.Missing }
+) -> Result<Vec<u8>, TreeFailure>
+    ensures { IsFalse (definitions.is_walked_name name.now) → IsErrOf result (Cause TreeFault.Missing) }
 {
     if !is_walked_name(name) {
-        return Err(TreeEnd::Missing);
+        return Err(Failure::Cause(TreeFault::Missing));
     }
     let mut path = folder_path(alloc, dir)?;
     path.push_str(name)?;
     let metadata = fs::metadata(rt, path.as_str()).map_err(end_of_search)?;
     if !metadata.is_file() {
-        return Err(TreeEnd::Failed);
+        return Err(Failure::Cause(TreeFault::Failed));
     }
     let file = fs::open(rt, path.as_str()).map_err(end_of_search)?;
     let mut bytes = Vec::new(alloc);

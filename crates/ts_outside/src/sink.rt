@@ -4,9 +4,12 @@ ghost use Rattle.std.specs.Prelude.{◌≡◌, ℕ, ◌<◌, ◌≤◌, ◌++◌
 ghost use Rattle.ts_outside.specs.Counts.{Rose};
 ghost use Rattle.ts_outside.specs.Handed.{Handed, and_then};
 
+use thiserror::Error;
+
 /// A write took nothing, and the sink counted a fault.
-#[derive(Clone, Copy, Debug, PartialEq, Eq)]
-pub struct SinkFailed;
+#[derive(Clone, Copy, Debug, PartialEq, Eq, Error)]
+#[error("the sink takes nothing")]
+pub struct SinkFailure;
 
 /// A place where output goes.
 ///
@@ -21,7 +24,7 @@ pub trait Sink {
     ghost faults: { Self → ℕ };
 
     /// Takes some of the first bytes of the piece, and answers how many.
-    fn write(&mut self, piece: &[u8]) -> Result<usize, SinkFailed>
+    fn write(&mut self, piece: &[u8]) -> Result<usize, SinkFailure>
         requires { 0 < length piece.now }
         ensures some { IfOk result (λ count. (0 < count) × (count ≤ length piece.now)) }
         ensures takes { IfOk result (λ count. taken self.new ≡ option_map (λ bytes. bytes ++ take count piece.now) (taken self.old)) }

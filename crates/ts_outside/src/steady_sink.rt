@@ -3,7 +3,7 @@ ghost use Rattle.std.specs.Prelude.{◌≡◌, ◌<◌, ◌≤◌, length, Ok, I
 ghost use Rattle.ts_outside.specs.Counts as counts;
 
 use crate::counts::raised;
-use crate::{Sink, SinkFailed};
+use crate::{Sink, SinkFailure};
 use std::marker::Model;
 
 /// A sink of which no call fails. It takes each piece whole, keeps only the number of bytes, which stays at
@@ -46,7 +46,7 @@ impl Sink for SteadySink {
 
     ghost faults = { λ _. 0 };
 
-    fn write(&mut self, piece: &[u8]) -> Result<usize, SinkFailed>
+    fn write(&mut self, piece: &[u8]) -> Result<usize, SinkFailure>
         requires { 0 < length piece.now }
         ensures some { IfOk result (λ count. (0 < count) × (count ≤ length piece.now)) }
         ensures whole { result ≡ Ok (length piece.now) }

@@ -1,9 +1,10 @@
 //! A tree that holds its files in memory, and of which no call fails.
 ghost use Rattle.std.specs.Prelude.{◌≡◌, ◌≢◌, ◌↔◌, map, string_bytes, take, option_map, IsErrOf, IfOk, IsTrue};
+ghost use Rattle.failure.specs.declared.Failure.TheVariants.{Cause};
 ghost use Rattle.ts_outside.specs.Files.{file_at, names_differ, IsListing};
 ghost use Rattle.ts_outside.specs.Held.{files_of, names_of};
 
-use crate::{Tree, TreeEnd, held};
+use crate::{Tree, TreeFailure, TreeFault, held};
 use std::alloc::Global;
 use std::marker::Model;
 
@@ -42,23 +43,23 @@ impl Tree for SteadyTree {
 
     ghost faults = { λ _. 0 };
 
-    fn list(&mut self, alloc: Global) -> Result<Vec<String>, TreeEnd>
+    fn list(&mut self, alloc: Global) -> Result<Vec<String>, TreeFailure>
         ensures listing { IfOk result (λ names. IsListing self.old (map string_bytes names.items)) }
-        ensures not_missing { result ≢ Err TreeEnd.Missing }
+        ensures not_missing { result ≢ Err (Cause TreeFault.Missing) }
         ensures same_files { self.new ≡ self.old }
-        ensures not_failed { result ≢ Err TreeEnd.Failed }
+        ensures not_failed { result ≢ Err (Cause TreeFault.Failed) }
     {
         Ok(held::list(alloc, self.files.as_slice())?)
     }
 
-    fn read(&mut self, alloc: Global, name: &str, limit: u32) -> Result<Vec<u8>, TreeEnd>
+    fn read(&mut self, alloc: Global, name: &str, limit: u32) -> Result<Vec<u8>, TreeFailure>
         ensures bytes { IfOk result (λ read. option_map (take limit) (file_at self.old name.now) ≡ Some read.items) }
-        ensures missing { IsErrOf result TreeEnd.Missing → file_at self.old name.now ≡ None }
+        ensures missing { IsErrOf result (Cause TreeFault.Missing) → file_at self.old name.now ≡ None }
         ensures same_files { self.new ≡ self.old }
 
         // It misses the file exactly where no file of the name is held.
-        ensures misses { IsErrOf result TreeEnd.Missing ↔ (file_at self.old name.now ≡ None) }
-        ensures not_failed { result ≢ Err TreeEnd.Failed }
+        ensures misses { IsErrOf result (Cause TreeFault.Missing) ↔ (file_at self.old name.now ≡ None) }
+        ensures not_failed { result ≢ Err (Cause TreeFault.Failed) }
     {
         held::read(alloc, self.files.as_slice(), name, limit)
     }

@@ -1,9 +1,10 @@
 //! Each public call once on its happy path, and what no clause says: that calls succeed, and what the real
 //! folder and standard output do.
 use super::{
-    MemorySink, MemoryTree, RealSink, RealTree, Sink, SinkFailed, SteadySink, SteadyTree, Tree,
-    TreeEnd, names_differ,
+    MemorySink, MemoryTree, RealSink, RealTree, Sink, SinkFailure, SteadySink, SteadyTree, Tree,
+    TreeFault, names_differ,
 };
+use failure::Failure;
 use std::alloc::{AllocError, Global};
 use std::rt::Files;
 use std::test::Fail;
@@ -44,15 +45,21 @@ fn memory_tree_lists_reads_and_fails(rt: HostRuntime) -> Result<(), Fail> {
         tree.read(alloc, "x.txt", 100)?.as_slice(),
         b"x.txt".as_slice()
     );
-    assert_eq!(rt; tree.list(alloc).err(), Some(TreeEnd::Failed));
+    assert_eq!(rt;
+        tree.list(alloc).err(),
+        Some(Failure::Cause(TreeFault::Failed))
+    );
     assert_eq!(rt;
         tree.read(alloc, "a/c.class", 3)?.as_slice(),
         b"a/c".as_slice()
     );
-    assert_eq!(rt; tree.read(alloc, "a.class", 3).err(), Some(TreeEnd::Failed));
+    assert_eq!(rt;
+        tree.read(alloc, "a.class", 3).err(),
+        Some(Failure::Cause(TreeFault::Failed))
+    );
     assert_eq!(rt;
         tree.read(alloc, "c.class", 3).err(),
-        Some(TreeEnd::Missing)
+        Some(Failure::Cause(TreeFault::Missing))
     );
     Ok(())
 }
@@ -69,7 +76,10 @@ fn steady_tree_lists_and_reads(rt: HostRuntime) -> Result<(), Fail> {
         "a.class a/c.class b.class "
     );
     assert_eq!(rt; tree.read(alloc, "b.class", 1)?.as_slice(), b"b".as_slice());
-    assert_eq!(rt; tree.read(alloc, "", 1).err(), Some(TreeEnd::Missing));
+    assert_eq!(rt;
+        tree.read(alloc, "", 1).err(),
+        Some(Failure::Cause(TreeFault::Missing))
+    );
     Ok(())
 }
 
@@ -88,10 +98,10 @@ fn same_names_are_found(rt: HostRuntime) -> Result<(), Fail> {
 fn memory_sink_takes_what_fits(rt: HostRuntime) -> Result<(), Fail> {
     let mut sink = MemorySink::new(rt.alloc(), 5, Vec::from_slice(rt.alloc(), &[1])?)?;
     assert_eq!(rt; sink.write(b"abc"), Ok(3));
-    assert_eq!(rt; sink.write(b"de"), Err(SinkFailed));
+    assert_eq!(rt; sink.write(b"de"), Err(SinkFailure));
     assert_eq!(rt; sink.taken(), b"abc".as_slice());
     assert_eq!(rt; sink.write(b"defg"), Ok(2));
-    assert_eq!(rt; sink.write(b"h"), Err(SinkFailed));
+    assert_eq!(rt; sink.write(b"h"), Err(SinkFailure));
     assert_eq!(rt; sink.taken(), b"abcde".as_slice());
     Ok(())
 }
@@ -141,23 +151,29 @@ fn real_tree_walks_a_folder(rt: HostRuntime) -> Result<(), Fail> {
     );
     assert_eq!(rt;
         tree.read(alloc, "p/b.class", 3).err(),
-        Some(TreeEnd::Missing)
+        Some(Failure::Cause(TreeFault::Missing))
     );
     assert_eq!(rt;
         tree.read(alloc, "b.class/a", 3).err(),
-        Some(TreeEnd::Missing)
+        Some(Failure::Cause(TreeFault::Missing))
     );
     assert_eq!(rt;
         tree.read(alloc, "p/../b.class", 3).err(),
-        Some(TreeEnd::Missing)
+        Some(Failure::Cause(TreeFault::Missing))
     );
     assert_eq!(rt;
         tree.read(alloc, "/b.class", 3).err(),
-        Some(TreeEnd::Missing)
+        Some(Failure::Cause(TreeFault::Missing))
     );
-    assert_eq!(rt; tree.read(alloc, "p", 3).err(), Some(TreeEnd::Failed));
+    assert_eq!(rt;
+        tree.read(alloc, "p", 3).err(),
+        Some(Failure::Cause(TreeFault::Failed))
+    );
     fs::remove_dir_all(&rt, path.as_str())?;
-    assert_eq!(rt; tree.list(alloc).err(), Some(TreeEnd::Failed));
+    assert_eq!(rt;
+        tree.list(alloc).err(),
+        Some(Failure::Cause(TreeFault::Failed))
+    );
     Ok(())
 }
 

@@ -1,38 +1,27 @@
 //! A tree of files, as a trait.
 
 ghost use Rattle.std.specs.Prelude.{◌≡◌, ◌≢◌, ℕ, ◌≤◌, List, take, map, string_bytes, Option, option_map, IsErrOf, IfOk, IfSome};
+ghost use Rattle.failure.specs.declared.Failure.TheVariants.{Cause};
 ghost use Rattle.ts_outside.specs.Counts.{Rose};
 ghost use Rattle.ts_outside.specs.Files.{File, file_at, IsListing};
-ghost use Rattle.ts_outside.specs.declared.tree.TreeEnd.TheVariants.{Memory};
 
-use std::alloc::{AllocError, AllocFailed, Global};
+use failure::Failure;
+use std::alloc::Global;
+use thiserror::Error;
 
-/// Why a call of a tree gives nothing.
-#[derive(Clone, Copy, Debug, PartialEq, Eq)]
-pub enum TreeEnd {
+/// Why a tree does not answer.
+#[derive(Clone, Copy, Debug, PartialEq, Eq, Error)]
+pub enum TreeFault {
     /// Listing or reading failed, and the tree counted a fault.
+    #[error("the folder or the file cannot be read")]
     Failed,
     /// The tree holds no file of the name.
+    #[error("there is no file of the name")]
     Missing,
-    /// Memory ran out.
-    Memory,
 }
 
-impl From<AllocError> for TreeEnd {
-    ghost from_gives = { λ _ e. e ≡ Memory };
-
-    fn from(_error: AllocError) -> TreeEnd {
-        TreeEnd::Memory
-    }
-}
-
-impl<T: Drop> From<AllocFailed<T>> for TreeEnd {
-    ghost from_gives = { λ _ e. e ≡ Memory };
-
-    fn from(_error: AllocFailed<T>) -> TreeEnd {
-        TreeEnd::Memory
-    }
-}
+/// Why a call of a tree gives nothing.
+pub type TreeFailure = Failure<TreeFault>;
 
 /// A tree of files.
 ///
@@ -44,19 +33,19 @@ pub trait Tree {
     ghost faults: { Self → ℕ };
 
     /// The names of the files that end in `.class`, in byte order.
-    fn list(&mut self, alloc: Global) -> Result<Vec<String>, TreeEnd>
+    fn list(&mut self, alloc: Global) -> Result<Vec<String>, TreeFailure>
         ensures listing { IfOk result (λ names. IfSome (files self.old) (λ held. IsListing held (map string_bytes names.items))) }
-        ensures failed { IsErrOf result TreeEnd.Failed → Rose (faults self.old) (faults self.new) }
-        ensures not_missing { result ≢ Err TreeEnd.Missing }
+        ensures failed { IsErrOf result (Cause TreeFault.Failed) → Rose (faults self.old) (faults self.new) }
+        ensures not_missing { result ≢ Err (Cause TreeFault.Missing) }
         ensures same_files { files self.new ≡ files self.old }
         ensures never_falls { faults self.old ≤ faults self.new };
 
     /// The first `limit` bytes of the file of this name, or all of them if it is shorter.
-    fn read(&mut self, alloc: Global, name: &str, limit: u32) -> Result<Vec<u8>, TreeEnd>
+    fn read(&mut self, alloc: Global, name: &str, limit: u32) -> Result<Vec<u8>, TreeFailure>
         ensures bytes { IfOk result (λ read. IfSome (files self.old) (λ held.
             option_map (take limit) (file_at held name.now) ≡ Some read.items)) }
-        ensures missing { IsErrOf result TreeEnd.Missing → IfSome (files self.old) (λ held. file_at held name.now ≡ None) }
-        ensures failed { IsErrOf result TreeEnd.Failed → Rose (faults self.old) (faults self.new) }
+        ensures missing { IsErrOf result (Cause TreeFault.Missing) → IfSome (files self.old) (λ held. file_at held name.now ≡ None) }
+        ensures failed { IsErrOf result (Cause TreeFault.Failed) → Rose (faults self.old) (faults self.new) }
         ensures same_files { files self.new ≡ files self.old }
         ensures never_falls { faults self.old ≤ faults self.new };
 }

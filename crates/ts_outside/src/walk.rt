@@ -1,11 +1,13 @@
 //! A walk through a real folder and the folders in it, for the names of the class files.
 ghost use Rattle.std.specs.Prelude.{◌≡◌, ◌≢◌, map, string_bytes, IfOk, IsTrue};
+ghost use Rattle.failure.specs.declared.Failure.TheVariants.{Cause};
 ghost use Rattle.std.specs.List.{list_all};
 ghost use Rattle.ts_outside.specs.Files as files;
 ghost use Rattle.ts_outside.specs.Names.{IsClassList};
 
-use crate::TreeEnd;
 use crate::held::is_class_name;
+use crate::{TreeFailure, TreeFault};
+use failure::Failure;
 use std::alloc::{AllocError, Global};
 use std::fs::Metadata;
 use std::rt::Files;
@@ -38,14 +40,14 @@ struct Walk {
     ghost named: { IsTrue (list_all files.is_class_name (map string_bytes names.items)) },
 }
 
-/// The end of a call that an error ended: want of memory, or a failure.
-pub(crate) fn end_of(error: io::Error) -> TreeEnd
-    ensures { result ≢ TreeEnd.Missing }
+/// Why a call gives nothing that an error ended: out of memory, or a fault.
+pub(crate) fn end_of(error: io::Error) -> TreeFailure
+    ensures { result ≢ Cause TreeFault.Missing }
 {
     if error.kind() == io::ErrorKind::OutOfMemory {
-        TreeEnd::Memory
+        Failure::OutOfMemory
     } else {
-        TreeEnd::Failed
+        Failure::Cause(TreeFault::Failed)
     }
 }
 
@@ -61,8 +63,8 @@ pub(crate) fn class_names<R: Files>(
     rt: &R,
     alloc: Global,
     path: &str,
-) -> Result<Vec<String>, TreeEnd>
-    ensures not_missing { result ≢ Err TreeEnd.Missing }
+) -> Result<Vec<String>, TreeFailure>
+    ensures not_missing { result ≢ Err (Cause TreeFault.Missing) }
     ensures class_names { IfOk result (λ names. IsClassList (map string_bytes names.items)) }
 {
     let mut walk = Walk::new(alloc)?;
@@ -72,7 +74,7 @@ pub(crate) fn class_names<R: Files>(
         };
         walk.take_folder(rt, alloc, path, &folder)?;
     }
-    Err(TreeEnd::Failed)
+    Err(Failure::Cause(TreeFault::Failed))
 }
 
 impl Walk {
@@ -91,8 +93,8 @@ impl Walk {
     }
 
     /// The names that were found, in byte order.
-    fn sorted_names(self) -> Result<Vec<String>, TreeEnd>
-        ensures not_missing { result ≢ Err TreeEnd.Missing }
+    fn sorted_names(self) -> Result<Vec<String>, TreeFailure>
+        ensures not_missing { result ≢ Err (Cause TreeFault.Missing) }
         ensures class_names { IfOk result (λ names. IsClassList (map string_bytes names.items)) }
     {
         let Walk {
@@ -111,8 +113,8 @@ impl Walk {
         alloc: Global,
         path: &str,
         folder: &Folder,
-    ) -> Result<(), TreeEnd>
-        ensures { result ≢ Err TreeEnd.Missing }
+    ) -> Result<(), TreeFailure>
+        ensures { result ≢ Err (Cause TreeFault.Missing) }
     {
         let path = joined(alloc, path, folder.name.as_str())?;
         for entry in fs::read_dir(&(rt, alloc), path.as_str()).map_err(end_of)? {
@@ -131,17 +133,17 @@ impl Walk {
         folder: &Folder,
         file_name: &str,
         metadata: &Metadata,
-    ) -> Result<(), TreeEnd>
-        ensures { result ≢ Err TreeEnd.Missing }
+    ) -> Result<(), TreeFailure>
+        ensures { result ≢ Err (Cause TreeFault.Missing) }
     {
         if self.entries >= MOST_ENTRIES {
-            return Err(TreeEnd::Failed);
+            return Err(Failure::Cause(TreeFault::Failed));
         }
         self.entries += 1;
         let mut name = joined(alloc, folder.name.as_str(), file_name)?;
         if metadata.is_dir() {
             if folder.level >= MOST_LEVELS {
-                return Err(TreeEnd::Failed);
+                return Err(Failure::Cause(TreeFault::Failed));
             }
             name.push('/')?;
             self.pending.push(Folder {

@@ -1,7 +1,8 @@
 //! Classes and fields that break a rule, each by one edit of the library.
 
 use super::{LIBRARY, refusal_after};
-use crate::StubRefusal;
+use crate::StubFault;
+use failure::Failure;
 use std::test::Fail;
 
 /// What is at fault, the text that is replaced, what stands in its place, and the class that is named.
@@ -176,7 +177,11 @@ fn refuses_faults_of_classes(rt: HostRuntime) -> Result<(), Fail> {
     for (fault, old, new, class) in HEADS {
         assert!(rt; LIBRARY.contains(old), "{fault}");
         let refusal = refusal_after(rt.alloc(), old, new)?;
-        assert_eq!(rt; refusal, Some(StubRefusal::BadStub(Some(class))), "{fault}");
+        assert_eq!(rt;
+            refusal,
+            Some(Failure::Cause(StubFault::BadStub(Some(class)))),
+            "{fault}"
+        );
     }
     Ok(())
 }
@@ -186,7 +191,11 @@ fn refuses_faults_of_lists(rt: HostRuntime) -> Result<(), Fail> {
     for (fault, old, new, class) in LISTS {
         assert!(rt; LIBRARY.contains(old), "{fault}");
         let refusal = refusal_after(rt.alloc(), old, new)?;
-        assert_eq!(rt; refusal, Some(StubRefusal::BadStub(Some(class))), "{fault}");
+        assert_eq!(rt;
+            refusal,
+            Some(Failure::Cause(StubFault::BadStub(Some(class)))),
+            "{fault}"
+        );
     }
     Ok(())
 }
@@ -196,7 +205,11 @@ fn refuses_faults_of_fields(rt: HostRuntime) -> Result<(), Fail> {
     for (fault, old, new, class) in FIELDS {
         assert!(rt; LIBRARY.contains(old), "{fault}");
         let refusal = refusal_after(rt.alloc(), old, new)?;
-        assert_eq!(rt; refusal, Some(StubRefusal::BadStub(Some(class))), "{fault}");
+        assert_eq!(rt;
+            refusal,
+            Some(Failure::Cause(StubFault::BadStub(Some(class)))),
+            "{fault}"
+        );
     }
     Ok(())
 }

@@ -1,7 +1,8 @@
 //! Methods that break a rule, each by one edit of the library.
 
 use super::{LIBRARY, refusal_after};
-use crate::StubRefusal;
+use crate::StubFault;
+use failure::Failure;
 use std::test::Fail;
 
 /// What is at fault, the text that is replaced, what stands in its place, and the class that is named.
@@ -284,7 +285,11 @@ fn refuses_results(rt: HostRuntime) -> Result<(), Fail> {
     for (fault, old, new, class) in RESULTS {
         assert!(rt; LIBRARY.contains(old), "{fault}");
         let refusal = refusal_after(rt.alloc(), old, new)?;
-        assert_eq!(rt; refusal, Some(StubRefusal::BadStub(Some(class))), "{fault}");
+        assert_eq!(rt;
+            refusal,
+            Some(Failure::Cause(StubFault::BadStub(Some(class)))),
+            "{fault}"
+        );
     }
     Ok(())
 }
@@ -294,7 +299,11 @@ fn refuses_words(rt: HostRuntime) -> Result<(), Fail> {
     for (fault, old, new, class) in WORDS {
         assert!(rt; LIBRARY.contains(old), "{fault}");
         let refusal = refusal_after(rt.alloc(), old, new)?;
-        assert_eq!(rt; refusal, Some(StubRefusal::BadStub(Some(class))), "{fault}");
+        assert_eq!(rt;
+            refusal,
+            Some(Failure::Cause(StubFault::BadStub(Some(class)))),
+            "{fault}"
+        );
     }
     Ok(())
 }
@@ -304,7 +313,11 @@ fn refuses_kinds(rt: HostRuntime) -> Result<(), Fail> {
     for (fault, old, new, class) in KINDS {
         assert!(rt; LIBRARY.contains(old), "{fault}");
         let refusal = refusal_after(rt.alloc(), old, new)?;
-        assert_eq!(rt; refusal, Some(StubRefusal::BadStub(Some(class))), "{fault}");
+        assert_eq!(rt;
+            refusal,
+            Some(Failure::Cause(StubFault::BadStub(Some(class)))),
+            "{fault}"
+        );
     }
     Ok(())
 }
@@ -314,7 +327,11 @@ fn refuses_faults_of_methods(rt: HostRuntime) -> Result<(), Fail> {
     for (fault, old, new, class) in METHODS {
         assert!(rt; LIBRARY.contains(old), "{fault}");
         let refusal = refusal_after(rt.alloc(), old, new)?;
-        assert_eq!(rt; refusal, Some(StubRefusal::BadStub(Some(class))), "{fault}");
+        assert_eq!(rt;
+            refusal,
+            Some(Failure::Cause(StubFault::BadStub(Some(class)))),
+            "{fault}"
+        );
     }
     Ok(())
 }
@@ -324,7 +341,11 @@ fn refuses_faults_of_abstract_methods(rt: HostRuntime) -> Result<(), Fail> {
     for (fault, old, new, class) in ABSTRACT_METHODS {
         assert!(rt; LIBRARY.contains(old), "{fault}");
         let refusal = refusal_after(rt.alloc(), old, new)?;
-        assert_eq!(rt; refusal, Some(StubRefusal::BadStub(Some(class))), "{fault}");
+        assert_eq!(rt;
+            refusal,
+            Some(Failure::Cause(StubFault::BadStub(Some(class)))),
+            "{fault}"
+        );
     }
     Ok(())
 }

@@ -1,7 +1,8 @@
 //! Files that break a rule outside the classes, files that are no TOML or too large, and the words of refusals.
 
 use super::{LIBRARY, refusal_after};
-use crate::{StubRefusal, read_stubs};
+use crate::{StubFailure, StubFault, read_stubs};
+use failure::Failure;
 use std::test::Fail;
 
 /// What is at fault outside the classes, the text that is replaced, and what stands in its place.
@@ -43,20 +44,20 @@ const WHOLE: [(&str, &str); 4] = [
 ];
 
 /// The refusals, and their words.
-const WORDS: [(StubRefusal, &str); 4] = [
+const WORDS: [(StubFailure, &str); 4] = [
     (
-        StubRefusal::BadToml,
+        Failure::Cause(StubFault::BadToml),
         "the stub file is no TOML document of at most 1048576 bytes",
     ),
     (
-        StubRefusal::BadStub(None),
+        Failure::Cause(StubFault::BadStub(None)),
         "a key outside the classes breaks a rule of stub files",
     ),
     (
-        StubRefusal::BadStub(Some(1)),
+        Failure::Cause(StubFault::BadStub(Some(1))),
         "class 1, counted from 0, breaks a rule of stub files",
     ),
-    (StubRefusal::Memory, "out of memory"),
+    (Failure::OutOfMemory, "out of memory"),
 ];
 
 #[test]
@@ -64,7 +65,11 @@ fn refuses_faults_outside_the_classes(rt: HostRuntime) -> Result<(), Fail> {
     for (fault, old, new) in OUTER {
         assert!(rt; LIBRARY.contains(old), "{fault}");
         let refusal = refusal_after(rt.alloc(), old, new)?;
-        assert_eq!(rt; refusal, Some(StubRefusal::BadStub(None)), "{fault}");
+        assert_eq!(rt;
+            refusal,
+            Some(Failure::Cause(StubFault::BadStub(None))),
+            "{fault}"
+        );
     }
     Ok(())
 }
@@ -74,7 +79,11 @@ fn refuses_what_is_no_document(rt: HostRuntime) -> Result<(), Fail> {
     for (fault, old, new) in NO_TOML {
         assert!(rt; LIBRARY.contains(old), "{fault}");
         let refusal = refusal_after(rt.alloc(), old, new)?;
-        assert_eq!(rt; refusal, Some(StubRefusal::BadToml), "{fault}");
+        assert_eq!(rt;
+            refusal,
+            Some(Failure::Cause(StubFault::BadToml)),
+            "{fault}"
+        );
     }
     Ok(())
 }
@@ -83,7 +92,11 @@ fn refuses_what_is_no_document(rt: HostRuntime) -> Result<(), Fail> {
 fn refuses_whole_files(rt: HostRuntime) -> Result<(), Fail> {
     for (fault, text) in WHOLE {
         let refusal = read_stubs(rt.alloc(), "s.toml", text.as_bytes()).err();
-        assert_eq!(rt; refusal, Some(StubRefusal::BadStub(None)), "{fault}");
+        assert_eq!(rt;
+            refusal,
+            Some(Failure::Cause(StubFault::BadStub(None))),
+            "{fault}"
+        );
     }
     Ok(())
 }
@@ -91,7 +104,7 @@ fn refuses_whole_files(rt: HostRuntime) -> Result<(), Fail> {
 #[test]
 fn refuses_other_bytes(rt: HostRuntime) -> Result<(), Fail> {
     let refusal = read_stubs(rt.alloc(), "s.toml", b"version = 1 # \xff\n").err();
-    assert_eq!(rt; refusal, Some(StubRefusal::BadToml));
+    assert_eq!(rt; refusal, Some(Failure::Cause(StubFault::BadToml)));
     Ok(())
 }
 
@@ -103,7 +116,7 @@ fn holds_to_the_limit(rt: HostRuntime) -> Result<(), Fail> {
     assert!(rt; read_stubs(rt.alloc(), "s.toml", text.as_bytes()).is_ok());
     let longer = format!(in rt.alloc(); "{text} ")?;
     let refusal = read_stubs(rt.alloc(), "s.toml", longer.as_bytes()).err();
-    assert_eq!(rt; refusal, Some(StubRefusal::BadToml));
+    assert_eq!(rt; refusal, Some(Failure::Cause(StubFault::BadToml)));
     Ok(())
 }
 

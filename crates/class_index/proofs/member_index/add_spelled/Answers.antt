@@ -1,9 +1,9 @@
 use Rattle.std.proofs.Common.{List, ℕ, [], ◌∷◌, Err, inl, inr, ap, subst}
 use Rattle.std.proofs.lemmas.Result.{err_from_is_err_and, on_ok_weaker}
 use Rattle.std.proofs.lemmas.Option.{slice_get_within, get_or_from_slice_get}
-use Rattle.class_index.specs.declared.index_error.IndexError.TheVariants.{TooMany}
+use Rattle.failure.specs.declared.Failure.TheVariants.{Cause}
 use Rattle.class_index.specs.declared.numbered_key.NumberedKey.{NumberedKey}
-use Rattle.class_index.specs.Limits.{AreTooMany}
+use Rattle.class_index.specs.Limits.{AreTooMany, too_many}
 use Rattle.class_index.specs.TextNumbers.{with_text, with_texts}
 use Rattle.class_index.proofs.SpelledKeys.{kept_error}
 use Rattle.class_index.proofs.TextPlaces.{stands_longer, too_many_longer, with_texts_extends}
@@ -14,7 +14,7 @@ returns-in_err-name-clause-too_many c = λ told.
     let texts = c.args.texts.now in
     let s = c.args.key.signature in
     let p = err_from_is_err_and c.from_residual.result c.from_residual.ensures.1 in
-    let same = kept_error c.from_residual.result p.0 c.in_err-name.field-0.0 TooMany p.1 p.2 told in
+    let same = kept_error c.from_residual.result p.0 c.in_err-name.field-0.0 (Cause too_many) p.1 p.2 told in
     inr (too_many_longer texts (with_texts texts (s.name.now ∷ s.descriptor.now ∷ [])) (with_texts_extends texts (s.name.now ∷ s.descriptor.now ∷ [])) (c.in_err-name.ensures.too_many.0 (ap Err same)).1)
 
 pub returns-in_err-descriptor-clause-too_many : goal.returns-in_err-descriptor-clause-too_many
@@ -22,7 +22,7 @@ returns-in_err-descriptor-clause-too_many c = λ told.
     let texts = c.args.texts.now in
     let s = c.args.key.signature in
     let p = err_from_is_err_and c.from_residual-in_err-descriptor.result c.from_residual-in_err-descriptor.ensures.1 in
-    let same = kept_error c.from_residual-in_err-descriptor.result p.0 c.in_err-descriptor.field-0.0 TooMany p.1 p.2 told in
+    let same = kept_error c.from_residual-in_err-descriptor.result p.0 c.in_err-descriptor.field-0.0 (Cause too_many) p.1 p.2 told in
     let middle = subst (λ (ts : List (List ℕ)). AreTooMany ts) c.in_ok-name.ensures.ok (c.in_err-descriptor.ensures.too_many.0 (ap Err same)).1 in
     inr (too_many_longer (with_text texts s.name.now) (with_texts texts (s.name.now ∷ s.descriptor.now ∷ [])) (with_texts_extends (with_text texts s.name.now) (s.descriptor.now ∷ [])) middle)
 

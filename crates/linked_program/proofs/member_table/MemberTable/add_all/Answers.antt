@@ -1,6 +1,7 @@
 use Rattle.std.proofs.Common.{◌<◌, ◌+◌, [], ◌∷◌, ◌++◌, length, Err, inl, inr, refl, ap, arith}
 use Rattle.std.proofs.lemmas.Result.{err_from_is_err_and}
-use Rattle.class_index.specs.declared.index_error.IndexError.TheVariants.{TooMany}
+use Rattle.failure.specs.declared.Failure.TheVariants.{Cause}
+use Rattle.class_index.specs.Limits.{too_many}
 use Rattle.class_index.proofs.OrderPlaces.{stands_below}
 use Rattle.class_index.proofs.SpelledKeys.{kept_error}
 use Rattle.linked_program.proofs.MembersTold.{key_shown, keys_added, places_added, many_added, many_places}
@@ -15,7 +16,7 @@ returns-in_err-add-clause-too_many g c = λ told.
     let within : place < length ds = omega (arith, c.count-place-end.ensures) in
     let d = stands_below ds place within in
     let p = err_from_is_err_and c.from_residual.result c.from_residual.ensures.1 in
-    let same = kept_error c.from_residual.result p.0 c.in_err-add.field-0.0 TooMany p.1 p.2 told in
+    let same = kept_error c.from_residual.result p.0 c.in_err-add.field-0.0 (Cause too_many) p.1 p.2 told in
     let longer = c.loop-place.self.index ++ key_shown c.view.result ∷ [] in
     elim (c.in_err-add.ensures.too_many (ap Err same)) [
       | inl far ↦ many_places class ds place start within far

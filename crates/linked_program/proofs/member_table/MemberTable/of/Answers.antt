@@ -2,7 +2,8 @@ use Rattle.std.proofs.Common.{◌<◌, ◌+◌, ◌++◌, List, length, map, tak
 use Rattle.std.specs.List.{flat_map}
 use Rattle.std.proofs.lemmas.Option.{slice_get_read}
 use Rattle.std.proofs.lemmas.Result.{err_from_is_err_and}
-use Rattle.class_index.specs.declared.index_error.IndexError.TheVariants.{TooMany}
+use Rattle.failure.specs.declared.Failure.TheVariants.{Cause}
+use Rattle.class_index.specs.Limits.{too_many}
 use Rattle.class_index.specs.MemberKeys.{Key}
 use Rattle.class_index.proofs.SpelledKeys.{kept_error}
 use Rattle.linked_program.specs.declared.member_table.MemberPlace.{MemberPlace}
@@ -19,7 +20,7 @@ returns-in_err-add_all-clause-too_many g c = λ told.
     let within : class < length order = omega arith in
     let there = slice_get_read order (length order) class origin refl within c.index-order-class.is in
     let p = err_from_is_err_and c.from_residual.result c.from_residual.ensures.1 in
-    let same = kept_error c.from_residual.result p.0 c.in_err-add_all.field-0.0 TooMany p.1 p.2 told in
+    let same = kept_error c.from_residual.result p.0 c.in_err-add_all.field-0.0 (Cause too_many) p.1 p.2 told in
     let longer = keys_more members order class origin there c.loop-class.table.index c.loop-class.invariant.told_by_keys in
     many_members members order (class + 1) (c.loop-class.table.index ++ map (key_in class) (members origin)) longer (c.in_err-add_all.ensures.too_many (ap Err same))
 

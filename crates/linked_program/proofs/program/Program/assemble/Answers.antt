@@ -3,6 +3,7 @@ use Rattle.std.specs.List.{AllZip}
 use Rattle.std.specs.declared.alloc.Global.{Global}
 use Rattle.std.proofs.lemmas.List.{length-map}
 use Rattle.std.proofs.lemmas.Option.{slice_get_read}
+use Rattle.failure.proofs.HandedOn.{handed_ok}
 use Rattle.jvm_model.specs.declared.program.Origin.{Origin}
 use Rattle.jvm_model.specs.Linking.{class_from, names}
 use Rattle.class_index.specs.declared.parents.Parents.{Parents}
@@ -106,8 +107,10 @@ invariant_of-result c =
       ordered = (c.in-Ok.upward.items, upward);
       lists_are = lists;
       sorted_are = sorted_above parents c.in_ok-above.above.items c.in_ok-sorted.sorted.items lists copies;
-      methods_are = subst (λ (os : List Origin). IsTable method_declarations os c.in_ok-methods.methods) c.deref-8.ensures.value c.in_ok-methods.ensures.table;
-      fields_are = subst (λ (os : List Origin). IsTable field_declarations os c.in_ok-fields.fields) c.deref-9.ensures.value c.in_ok-fields.ensures.table;
+      methods_are = subst (λ (os : List Origin). IsTable method_declarations os c.in_ok-methods.methods) c.deref-8.ensures.value
+          (handed_ok _ c.of.result c.in_ok-methods.methods (IsTable method_declarations c.deref-8.result.now) c.in_ok-methods.ensures.cases c.of.ensures.table);
+      fields_are = subst (λ (os : List Origin). IsTable field_declarations os c.in_ok-fields.fields) c.deref-9.ensures.value
+          (handed_ok _ c.of-2.result c.in_ok-fields.fields (IsTable field_declarations c.deref-9.result.now) c.in_ok-fields.ensures.cases c.of-2.ensures.table);
     }
 
 pub returns : goal.returns

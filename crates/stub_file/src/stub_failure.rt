@@ -1,26 +1,25 @@
 //! Why a stub file is refused.
 
 ghost use Rattle.std.specs.Prelude.{◌≡◌};
-ghost use Rattle.stub_file.specs.declared.refusal.StubRefusal.TheVariants.{Memory};
 
-use std::alloc::{AllocError, AllocFailed};
+use failure::Failure;
 use std::fmt;
 use thiserror::Error;
 use toml_tables::DOCUMENT_LIMIT;
 
-/// Why a stub file is not read.
+/// What is wrong with a stub file.
 #[derive(Debug, Drop, PartialEq, Eq, Error)]
-pub enum StubRefusal {
+pub enum StubFault {
     /// The file has more bytes than `DOCUMENT_LIMIT`, is not UTF-8, or is no TOML document.
     #[error("the stub file is no TOML document of at most {DOCUMENT_LIMIT} bytes")]
     BadToml,
     /// A rule is broken: by a key outside the classes (`None`), or first by the class with this number, from 0.
     #[error(fmt = write_breach)]
     BadStub(Option<u32>),
-    /// Memory ran out.
-    #[error("out of memory")]
-    Memory,
 }
+
+/// Why a stub file is not read.
+pub type StubFailure = Failure<StubFault>;
 
 /// Writes where a rule is broken: outside the classes, or by the class with this number.
 fn write_breach<W: fmt::Write>(class: &Option<u32>, f: &mut fmt::Formatter<W>) -> fmt::Result {
@@ -30,21 +29,5 @@ fn write_breach<W: fmt::Write>(class: &Option<u32>, f: &mut fmt::Formatter<W>) -
             "class {number}, counted from 0, breaks a rule of stub files"
         ),
         None => write!(f, "a key outside the classes breaks a rule of stub files"),
-    }
-}
-
-impl From<AllocError> for StubRefusal {
-    ghost from_gives = { λ _ e. e ≡ Memory };
-
-    fn from(_error: AllocError) -> StubRefusal {
-        StubRefusal::Memory
-    }
-}
-
-impl<T: Drop> From<AllocFailed<T>> for StubRefusal {
-    ghost from_gives = { λ _ e. e ≡ Memory };
-
-    fn from(_error: AllocFailed<T>) -> StubRefusal {
-        StubRefusal::Memory
     }
 }

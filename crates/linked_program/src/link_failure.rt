@@ -1,0 +1,71 @@
+//! Why linking gives no program.
+
+ghost use Rattle.std.specs.Prelude.{◌≡◌};
+ghost use Rattle.linked_program.specs.LinkFailures.{IsLinkRefusal};
+ghost use Rattle.linked_program.specs.declared.link_failure.LinkFault.TheVariants as faults;
+
+use class_index::index_failure::TooMany;
+use failure::Failure;
+use jvm_model::{Name, Reason, Refusal};
+use std::alloc::Global;
+use thiserror::Error;
+
+/// What bars a program from being linked.
+#[derive(Debug, Drop, Error)]
+pub enum LinkFault {
+    /// A demand of linking is not met (JVMS 5.3).
+    #[error("{} is refused at byte {}: {}", .0.file.as_str(), .0.offset, .0.reason)]
+    Refused(Refusal),
+    /// There are 2^32 - 1 classes, methods, fields or texts, or more.
+    #[error("there are too many classes, methods, fields or texts to number")]
+    TooMany,
+}
+
+/// Why a program is not linked.
+pub type LinkFailure = Failure<LinkFault>;
+
+impl From<TooMany> for LinkFault {
+    ghost from_gives = { λ _ fault. fault ≡ faults.TooMany };
+
+    fn from(_cause: TooMany) -> LinkFault {
+        LinkFault::TooMany
+    }
+}
+
+/// The refusal of a file at an offset. The file's name is copied, for which memory may run out.
+pub fn refused(alloc: Global, file: &Name, offset: u32, reason: Reason) -> LinkFailure
+    ensures { IsLinkRefusal file.now offset reason result }
+{
+    match String::from_str(alloc, file.as_str()) {
+        Ok(copy) => Failure::Cause(LinkFault::Refused(Refusal {
+            file: Name::from_string(copy),
+            offset,
+            reason,
+        })),
+        Err(_) => Failure::OutOfMemory,
+    }
+}
+
+#[cfg(test)]
+mod tests {
+    use super::*;
+    use std::test::Fail;
+
+    #[test]
+    fn failures_have_messages(rt: HostRuntime) -> Result<(), Fail> {
+        let alloc = rt.alloc();
+        let file = Name::from_string(String::from_str(alloc, "p/A.class")?);
+        let failure = refused(alloc, &file, 42, Reason::Cycle);
+        let text = format!(in alloc; "{failure}")?;
+        assert_eq!(rt; text.as_str(), "p/A.class is refused at byte 42: Cycle");
+        let many: LinkFailure = Failure::Cause(TooMany).widen();
+        let text = format!(in alloc; "{many}")?;
+        assert_eq!(rt;
+            text.as_str(),
+            "there are too many classes, methods, fields or texts to number"
+        );
+        let text = format!(in alloc; "{}", LinkFailure::OutOfMemory)?;
+        assert_eq!(rt; text.as_str(), "out of memory");
+        Ok(())
+    }
+}
