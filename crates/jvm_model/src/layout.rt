@@ -205,7 +205,11 @@ pub fn code_place(class: &ClassFile, method: usize) -> u32
     let attributes = methods[method].attributes.as_slice();
     let earlier_methods = members_length(&methods[..method]);
     let earlier_attributes = length_before_code(class.pool.as_slice(), attributes);
-    methods_offset(class) + earlier_methods + MEMBER_ATTRIBUTES + earlier_attributes + ATTRIBUTE_BODY
+    methods_offset(class)
+        + earlier_methods
+        + MEMBER_ATTRIBUTES
+        + earlier_attributes
+        + ATTRIBUTE_BODY
 }
 
 #[cfg(test)]

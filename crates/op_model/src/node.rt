@@ -34,9 +34,14 @@ pub struct NodeRef {
 #[derive(Clone, Copy, Debug, PartialEq, Eq)]
 pub enum Way {
     /// At a successor.
-    Next { successor: u32 },
+    Next {
+        successor: u32,
+    },
     /// By a new object of a class that the node throws.
-    Raise { class: ClassNo, to: Option<u32> },
+    Raise {
+        class: ClassNo,
+        to: Option<u32>,
+    },
     /// With a result of a described method, by its place in the list.
     Answer {
         target: MethodNo,

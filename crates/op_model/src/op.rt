@@ -62,20 +62,50 @@ pub enum Op {
         value: u32,
     },
     /// Reads some element of an array of references.
-    LoadElement { array: u32, target: u32 },
-    StoreElement { array: u32, value: u32 },
-    LoadStatic { field: FieldNo, target: u32 },
-    StoreStatic { field: FieldNo, value: u32 },
-    New { site: Site, target: u32 },
+    LoadElement {
+        array: u32,
+        target: u32,
+    },
+    StoreElement {
+        array: u32,
+        value: u32,
+    },
+    LoadStatic {
+        field: FieldNo,
+        target: u32,
+    },
+    StoreStatic {
+        field: FieldNo,
+        value: u32,
+    },
+    New {
+        site: Site,
+        target: u32,
+    },
     /// Makes arrays, each of which holds those of the next site.
-    NewArray { sites: Sequence<Site>, target: u32 },
+    NewArray {
+        sites: Sequence<Site>,
+        target: u32,
+    },
     /// Reads the object that stands for the string constants, or for the class constants.
-    Constant { site: Site, target: u32 },
+    Constant {
+        site: Site,
+        target: u32,
+    },
     Call(Call),
-    Return { value: Option<u32> },
-    Throw { value: u32 },
+    Return {
+        value: Option<u32>,
+    },
+    Throw {
+        value: u32,
+    },
     /// Goes on with null, and with an object that fits the class.
-    Cast { class: Bytes, slot: u32 },
+    Cast {
+        class: Bytes,
+        slot: u32,
+    },
     /// Looks at an object that must be there.
-    Probe { slot: u32 },
+    Probe {
+        slot: u32,
+    },
 }
