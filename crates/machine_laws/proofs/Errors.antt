@@ -1,11 +1,9 @@
 -- The error state is not left.
-use Rattle.std.proofs.Common.{◌≡◌, ◌⊎◌, inl, inr, ℕ, zero, suc, Bool, true, false, List, [], ◌∷◌, Some, refl, sym, ap, ◌∙◌, subst, arith}
+use Rattle.std.proofs.Common.{◌≡◌, ◌⊎◌, inl, inr, ℕ, suc, Bool, true, false, List, [], ◌∷◌, Some, ap, ◌∙◌, arith}
 use Rattle.std.specs.List.{slice_get, Contains, find}
-use Rattle.std.specs.Prelude.{slice_index, cond, ◌&&◌}
-use Rattle.std.specs.Str.{bytes_eq}
+use Rattle.std.specs.Prelude.{slice_index, cond}
 use Rattle.std.proofs.lemmas.List.Elements.{All-contains}
 use Rattle.std.proofs.lemmas.Option.{get_or_from_slice_get, same_Some, none-some}
-use Rattle.jvm_model.specs.declared.automaton.Event.{Event}
 use Rattle.jvm_model.specs.Automata.{IsAutomaton, IsEvent as IsEventOf}
 use Rattle.bytecode_machine.specs.Machine.{Step}
 use Rattle.bytecode_machine.specs.Objects.{Subject}

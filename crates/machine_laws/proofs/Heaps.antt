@@ -1,11 +1,9 @@
 -- What stays of each object where the world changes.
 use Rattle.std.proofs.Common.{◌≡◌, ◌⊎◌, inl, inr, ℕ, zero, suc, ◌<◌, List, [], ◌∷◌, ◌++◌, length, set, Some, refl, sym, ap, ◌∙◌, subst, arith}
 use Rattle.std.specs.List.{slice_get}
-use Rattle.std.specs.Prelude.{slice_set, map, nat_eq, Bool, true, false}
 use Rattle.std.proofs.lemmas.Option.{slice_get_within, same_Some, none-some}
-use Rattle.bytecode_machine.specs.Described.{Gives, GivesResult, ThrowsListed, kept_by, DescribedMethod}
 use Rattle.bytecode_machine.specs.Objects.{Subject, MakesObject, MakesArrays, WritesField, WritesElement}
-use Rattle.bytecode_machine.specs.States.{Value, Object, World, with_heap, with_object, with_contents, with_kept, with_static, with_started, arrays_from}
+use Rattle.bytecode_machine.specs.States.{Value, Object, World, with_heap, with_kept, with_static, with_started}
 
 -- the object is at its place still, as it was but for what it holds
 pub record Stays (w : World) (place : ℕ) (o : Object) : Type 0 where
@@ -26,10 +24,12 @@ pub keeps_same : (before after : World) → after ≡ before → Keeps before af
 keeps_same before after e = subst (λ (w : World). Keeps before w) (sym e) (keeps_all before)
 
 pub keeps_on : (a b c : World) → Keeps a b → Keeps b c → Keeps a c
-keeps_on a b c first second = record { each = λ place o held.
-    let s = first.each place o held in
-    let t = second.each place s.later s.held in
-    record { later = t.later; held = t.held; site = t.site ∙ s.site; class = t.class ∙ s.class; automaton = t.automaton ∙ s.automaton } }
+keeps_on a b c first second = record {
+  each = λ place o held.
+      let s = first.each place o held in
+      let t = second.each place s.later s.held in
+      record { later = t.later; held = t.held; site = t.site ∙ s.site; class = t.class ∙ s.class; automaton = t.automaton ∙ s.automaton };
+}
 
 pub front_of : {X : Type 0} (xs ys : List X) (k : ℕ) (v : X) → slice_get xs k ≡ Some v → slice_get (xs ++ ys) k ≡ Some v
 front_of [] ys k v e = absurd (none-some v e)

@@ -1,3 +1,11 @@
 mod Heaps
 mod Steps
 mod Errors
+mod ProgressRows
+mod ProgressSteps
+mod ProgressDecided
+mod ProgressCalls
+mod ProgressRunning
+mod ProgressThrown
+mod ProgressStarts
+mod ProgressArrays

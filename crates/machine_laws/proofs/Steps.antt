@@ -10,10 +10,10 @@ use Rattle.jvm_model.specs.Instructions.{DecodedInstruction}
 use Rattle.jvm_model.specs.Programs.{Field}
 use Rattle.jvm_model.specs.Table.{Action, plain, load_constant, load_element, store_element, probe_element, probe_array, probe_object, get_static, put_static, get_field, put_field, invoke_virtual, invoke_special, invoke_static, invoke_interface, make_object, make_array, throw_object, cast, leave_method, refused, is_selecting}
 use Rattle.bytecode_machine.specs.Described.{DescribedMethod, Gives, GivesResult, ThrowsListed, kept_by}
-use Rattle.bytecode_machine.specs.Events.{IsEvent, HasEvents, moved, unmoved}
-use Rattle.bytecode_machine.specs.Machine.{At, Makes, Calls, ReadsFieldOf, WritesFieldOf, WritesStatic, ThrowsNew, Advances, Step, advances, enters, gets_result, gets_exception, enters_entry, returns, resumes, ends, raises, throws, catches, unwinds, starts, denies, wraps, unwound}
+use Rattle.bytecode_machine.specs.Events.{HasEvents, moved, unmoved}
+use Rattle.bytecode_machine.specs.Machine.{At, Makes, Calls, ReadsFieldOf, WritesFieldOf, WritesStatic, ThrowsNew, Step, advances, enters, gets_result, gets_exception, enters_entry, returns, resumes, ends, raises, throws, catches, unwinds, starts, denies, wraps, unwound}
 use Rattle.bytecode_machine.specs.Objects.{Subject, Refers, WritesField}
-use Rattle.bytecode_machine.specs.States.{Value, Object, Frame, World, State, is_reference_type, with_automaton, with_static, with_kept, with_started}
+use Rattle.bytecode_machine.specs.States.{Value, Object, Frame, World, State, is_reference_type, with_automaton, with_static, with_started}
 use Rattle.machine_laws.specs.Survival.{IsMovedBy, Survives}
 use Rattle.machine_laws.proofs.Heaps.{Stays, Keeps, keeps_all, keeps_same, keeps_on, keeps_made, keeps_arrays, keeps_field, keeps_element, keeps_static, keeps_kept, keeps_started, same_or_not, written_there, not_written}
 
@@ -100,8 +100,10 @@ moves_by x s at call w (moved e is) place o held = subst (λ (v : World). Moves 
   where
     next : ℕ
     next = slice_index e.event.next e.receiver.object.automaton
+
     object : Object
     object = record { site = e.receiver.object.site; class = e.receiver.object.class; contents = e.receiver.object.contents; automaton = next }
+
     by : (place ≡ e.receiver.place) ⊎ (place ≡ e.receiver.place → ⊥) → Moves x s (with_automaton s.world e.receiver.place e.receiver.object next) place o
     by (inl same) =
         let is_o : e.receiver.object ≡ o = same_Some _ _ (sym e.receiver.held ∙ subst (λ (i : ℕ). slice_get s.world.heap i ≡ Some o) same held) in

@@ -1,9 +1,10 @@
 -- Public contracts rest on this module.
 -- When the machine goes on: what has to hold where a frame stands so that some step is there. It is the guard against behaviour
 -- that the machine lacks.
-use Rattle.std.specs.Prelude.{codes, ◌≡◌, ◌⊎◌, ℕ, ◌+◌, Bool, true, false, List, [], ◌∷◌, ◌++◌, length, Option, Some, None, slice_get, Contains, MatchBool, IsTrue}
+use Rattle.std.specs.Prelude.{codes, ◌≡◌, ◌⊎◌, ℕ, ◌+◌, true, false, List, [], ◌∷◌, ◌++◌, length, Option, Some, None, slice_get, MatchBool}
 use Rattle.jvm_model.specs.declared.pool.PoolEntry.{PoolEntry}
 use Rattle.jvm_model.specs.declared.pool.PoolEntry.TheVariants.{Class, Str}
+use Rattle.jvm_model.specs.declared.site.SiteKind.TheVariants.{New as NewAt}
 use Rattle.jvm_model.specs.declared.stub.StubResult.{StubResult}
 use Rattle.jvm_model.specs.declared.stub.StubResult.TheVariants.{Primitive, Void, Null, Given, New, Kept}
 use Rattle.jvm_model.specs.Instructions.{HasDescriptorUnits}
@@ -11,9 +12,9 @@ use Rattle.jvm_model.specs.Lookups.{entry_at}
 use Rattle.jvm_model.specs.Programs.{Field}
 use Rattle.jvm_model.specs.Table.{UnitKind, Flow, onward, jump, branch, branch_if_null, branch_if_object, branch_if_same, branch_if_other, leave, subroutine, Action, plain, load_constant, load_element, store_element, probe_element, probe_array, probe_object, get_static, put_static, get_field, put_field, invoke_virtual, invoke_special, invoke_static, invoke_interface, make_object, make_array, throw_object, cast, leave_method, refused}
 use Rattle.bytecode_machine.specs.Described.{DescribedMethod, IsKept, kept_by}
-use Rattle.bytecode_machine.specs.Machine.{MethodCode, InCode, AtInstruction, At, AtStart, NamesField, NamesMethod, NamesClass, NamesArrays, IsTarget, Throwing, Step}
+use Rattle.bytecode_machine.specs.Machine.{Advances, MethodCode, InCode, AtInstruction, At, NamesField, NamesMethod, NamesClass, NamesArrays, IsTarget, Throwing, Step}
 use Rattle.bytecode_machine.specs.Objects.{Subject, Refers, IsOf, IsArray, IsArrayOf}
-use Rattle.bytecode_machine.specs.States.{Value, primitive_value, null_value, fields, Frame, World, State, is_reference_type, slot_at}
+use Rattle.bytecode_machine.specs.States.{Dimension, arrays_from, site_at, with_heap, Value, primitive_value, null_value, fields, Object, Frame, throwing, World, State, is_reference_type, slot_at}
 
 -- Some step leaves the state.
 pub record GoesOn (x : Subject) (s : State) : Type 0 where
@@ -134,3 +135,34 @@ pub record HasLocals (x : Subject) (f : Frame) : Type 0 where
 
 abbrev pub CanCatch : Subject → Frame → Type 0
 CanCatch x f = (f.method ≡ None) ⊎ HasLocals x f
+
+-- A step makes an ExceptionInInitializerError of what is thrown, in the frame below: the new object is thrown, and the old one is kept.
+pub record WrapsThrown (x : Subject) (s : State) (at : Throwing s) (caller : Frame) (rest : List Frame) : Type 0 where
+  pub next : State
+  pub step : Step x s next
+  pub object : Object
+  pub heap : next.world.heap ≡ s.world.heap ++ object ∷ []
+  pub class : object.class ≡ codes "java/lang/ExceptionInInitializerError"
+  pub throws : next.mode ≡ throwing (length s.world.heap)
+  pub frames : next.frames ≡ caller ∷ rest
+  pub kept : next.world.kept ≡ s.world.kept ++ at.place ∷ []
+
+-- ---- what instructions on arrays may do
+
+-- The instruction goes on to the next one, with what it made and the world after it.
+pub record GoesOnward (x : Subject) (s : State) (at : At x.program s) (made : Value) (after : World) : Type 0 where
+  pub next : State
+  pub step : Advances x s next at
+  pub made_is : step.made ≡ made
+  pub world_is : step.world ≡ after
+  pub next_is : step.next ≡ at.frame.offset + at.now.instruction.size
+
+-- Arrays of some names that a frame makes, and a length for each.
+abbrev pub dimensions_of : Frame → List (List ℕ) → List ℕ → List Dimension
+dimensions_of f [] lengths = []
+dimensions_of f (array ∷ arrays) [] = []
+dimensions_of f (array ∷ arrays) (long ∷ lengths) = record { site = site_at NewAt f array; long = long } ∷ dimensions_of f arrays lengths
+
+-- The world with new arrays of these dimensions.
+abbrev pub with_arrays : Subject → World → List Dimension → World
+with_arrays x w dimensions = with_heap w (w.heap ++ arrays_from x.property.initial (length w.heap) 1 dimensions)

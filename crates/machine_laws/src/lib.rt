@@ -2,4 +2,5 @@
 //! nothing, and hold of each program. No layer needs them to prove its own: they show that the definitions say what they should.
 #![tactic(auto)]
 
+pub mod progress;
 pub mod survival;

@@ -4,13 +4,12 @@ use Rattle.std.specs.Bool.{IsTrue}
 use Rattle.jvm_model.specs.Programs.{Class, Program, object_name}
 use Rattle.jvm_model.specs.Soundness.{is_array}
 use Rattle.jvm_model.specs.Subtypes.{class_named, IsSubtype, array_of, IsArraySuper, Fits, by_class, by_array, by_itself, by_elements}
-use Rattle.jvm_model.specs.LinkedPrograms.{IsProgram}
 use Rattle.program_laws.proofs.ArrayNames.{element_of, element_is, array_is, element_shorter}
 use Rattle.program_laws.proofs.Choices.{OrNot, carried_over, either_or_not, both_or_not, same_or_not, true_or_not, held_or_not}
 use Rattle.program_laws.proofs.Paths.{below_or_not}
 
-pub subtype_or_not : (p : Program) → IsProgram p → (above name : List ℕ) → IsSubtype p above name ⊎ (IsSubtype p above name → ⊥)
-subtype_or_not p program above name = below_or_not p above name
+pub subtype_or_not : (p : Program) (above name : List ℕ) → IsSubtype p above name ⊎ (IsSubtype p above name → ⊥)
+subtype_or_not p above name = below_or_not p above name
 
 -- ---- how an object fits: the elements of arrays are what their names tell
 
@@ -72,5 +71,5 @@ fits_within p (suc limit) upper lower short =
     (λ array. both_or_not (same_or_not upper (array_of (element_of upper)))
     (λ other. let shorter = element_shorter lower array in fits_within p limit (element_of upper) (element_of lower) (omega arith))))))
 
-pub fits_or_not : (p : Program) → IsProgram p → (upper lower : List ℕ) → Fits p upper lower ⊎ (Fits p upper lower → ⊥)
-fits_or_not p program upper lower = fits_within p (suc (length lower)) upper lower (omega arith)
+pub fits_or_not : (p : Program) (upper lower : List ℕ) → Fits p upper lower ⊎ (Fits p upper lower → ⊥)
+fits_or_not p upper lower = fits_within p (suc (length lower)) upper lower (omega arith)

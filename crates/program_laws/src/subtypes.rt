@@ -19,10 +19,10 @@ pub fn subtypes_are_ordered()
 
 /// Whether a class is a subtype of another one is decided: it is, or it is not.
 pub fn subtypes_are_decided()
-    ensures { (p : Program) → IsProgram p → (above name : List ℕ) → IsSubtype p above name ⊎ (IsSubtype p above name → ⊥) }
+    ensures { (p : Program) (above name : List ℕ) → IsSubtype p above name ⊎ (IsSubtype p above name → ⊥) }
 {}
 
 /// Whether an object of a class or an array fits a type is decided: it does, or it does not.
 pub fn fits_is_decided()
-    ensures { (p : Program) → IsProgram p → (upper lower : List ℕ) → Fits p upper lower ⊎ (Fits p upper lower → ⊥) }
+    ensures { (p : Program) (upper lower : List ℕ) → Fits p upper lower ⊎ (Fits p upper lower → ⊥) }
 {}
