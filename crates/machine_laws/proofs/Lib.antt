@@ -1,3 +1,4 @@
+mod FirstStates
 mod Heaps
 mod Steps
 mod Errors

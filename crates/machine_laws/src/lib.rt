@@ -3,4 +3,5 @@
 #![tactic(auto)]
 
 pub mod progress;
+pub mod start;
 pub mod survival;
