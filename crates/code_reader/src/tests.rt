@@ -12,7 +12,8 @@ mod switches;
 mod targets;
 
 use crate::body::read_body;
-use jvm_model::{Code, PoolEntry, ReadRefusal, Reason, Sequence};
+use failure::Failure;
+use jvm_model::{Code, Fault, PoolEntry, ReadFailure, Reason, Sequence};
 use std::alloc::{AllocError, Global};
 use std::process::Abort;
 use std::test::*;
@@ -87,9 +88,9 @@ fn body_of(
 }
 
 /// What a body tells, in a method whose parameters take so many local variables.
-fn read(alloc: Global, parameters: u16, body: &[u8]) -> Result<Code, ReadRefusal> {
+fn read(alloc: Global, parameters: u16, body: &[u8]) -> Result<Code, ReadFailure> {
     if 1_000_000 < body.len() {
-        return Err(ReadRefusal::Memory);
+        return Err(Failure::OutOfMemory);
     }
     let pool = pool(alloc)?;
     read_body(alloc, &pool, parameters, PLACE, body)
@@ -101,7 +102,7 @@ fn fault_in(alloc: Global, body: &[u8]) -> Option<(u32, Reason)> {
 }
 
 /// What a code array tells where each local variable is there.
-fn read_code_array(alloc: Global, code: &[u8]) -> Result<Code, ReadRefusal> {
+fn read_code_array(alloc: Global, code: &[u8]) -> Result<Code, ReadFailure> {
     let body = body_of(alloc, 65_535, code, NOTHING_AFTER)?;
     read(alloc, 0, &body)
 }
@@ -119,9 +120,9 @@ fn check_refused(rt: &impl Abort, alloc: Global, rows: &[Refused]) -> Result<(),
 }
 
 /// The first fault that was found.
-fn fault_of(read: &Result<Code, ReadRefusal>) -> Option<(u32, Reason)> {
+fn fault_of(read: &Result<Code, ReadFailure>) -> Option<(u32, Reason)> {
     match read {
-        Err(ReadRefusal::Refused { offset, reason }) => Some((*offset, *reason)),
+        Err(Failure::Cause(Fault { offset, reason })) => Some((*offset, *reason)),
         _ => None,
     }
 }
