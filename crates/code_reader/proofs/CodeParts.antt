@@ -7,7 +7,8 @@ use Rattle.jvm_model.specs.declared.code.PlacedInstruction.{PlacedInstruction}
 use Rattle.jvm_model.specs.declared.pool.PoolEntry.{PoolEntry}
 use Rattle.jvm_model.specs.declared.reason.Reason.{Reason}
 use Rattle.jvm_model.specs.Instructions.{DecodedInstruction, instruction_at}
-use Rattle.byte_reader.specs.Reading.{Place, Fault}
+use Rattle.jvm_model.specs.declared.reason.Fault.{Fault}
+use Rattle.byte_reader.specs.Reading.{Place}
 use Rattle.byte_reader.proofs.Fields.{one_ok}
 use Rattle.code_reader.specs.CodeReading.{Head, head_at, tail_at, given, placed, ReadsBody, cut_before, wrong_code, wrong_after, reads}
 use Rattle.code_reader.specs.Division.{Spot, Divides, at_end, stops, goes_on, first_or, first_fault}

@@ -15,7 +15,8 @@ use Rattle.jvm_model.specs.Soundness.{is_code, methods_offset, IsSoundClass}
 use Rattle.jvm_model.specs.Spelling.{attribute, member}
 use Rattle.jvm_model.proofs.CodePlaces.{place_is}
 use Rattle.jvm_model.proofs.SoundUses.{member_leads}
-use Rattle.byte_reader.specs.Reading.{Place, Fault}
+use Rattle.jvm_model.specs.declared.reason.Fault.{Fault}
+use Rattle.byte_reader.specs.Reading.{Place}
 use Rattle.code_reader.specs.CodeReading.{Head, head_at, tail_at, code_fault, receiver_units, by_kinds, TakesLocals, BeginsWith, ReadsBody, cut_before, wrong_code, wrong_after, reads, ReadsCode}
 use Rattle.jvm_model.specs.DescriptorValues.{kind_units}
 use Rattle.code_reader.specs.Division.{Spot, instruction_in, Divides, at_end, stops, goes_on}

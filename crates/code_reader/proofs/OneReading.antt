@@ -17,7 +17,8 @@ use Rattle.jvm_model.specs.Layout.{IsCodePlace, HasFirstCode}
 use Rattle.jvm_model.specs.Soundness.{is_code}
 use Rattle.jvm_model.specs.Spelling.{attribute}
 use Rattle.jvm_model.proofs.MethodKinds.{one_value}
-use Rattle.byte_reader.specs.Reading.{Place, Fault}
+use Rattle.jvm_model.specs.declared.reason.Fault.{Fault}
+use Rattle.byte_reader.specs.Reading.{Place}
 use Rattle.byte_reader.proofs.Fields.{one_ok, one_err, not_both}
 use Rattle.code_reader.specs.CodeReading.{in_code, placed, TakesUnits, by_kinds, no_method, receiver_units, TakesLocals, Head, head_at, tail_at, code_fault, ReadsBody, cut_before, wrong_code, wrong_after, reads, ReadsCode}
 use Rattle.jvm_model.specs.DescriptorValues.{kind_units}

@@ -10,7 +10,8 @@ use Rattle.jvm_model.specs.declared.pool.PoolEntry.{PoolEntry}
 use Rattle.jvm_model.specs.declared.reason.Reason.TheVariants.{CodeCut}
 use Rattle.jvm_model.specs.Code.{CodeBody as Body, handler, HandlerFits, IsCode}
 use Rattle.jvm_model.specs.Spelling.{u2, u4, table, attribute, AttributeFits}
-use Rattle.byte_reader.specs.Reading.{Place, Fault, ◌>>=◌, fault_at, number_at, bytes_at, table_at}
+use Rattle.jvm_model.specs.declared.reason.Fault.{Fault}
+use Rattle.byte_reader.specs.Reading.{Place, ◌>>=◌, fault_at, number_at, bytes_at, table_at}
 use Rattle.byte_reader.specs.Structures.{attribute_at}
 use Rattle.byte_reader.proofs.Fields.{IsBytes, bind_ok, ok_is, one_ok, if_ok, unless_ok, goes_on_with, Takes, Takes-then, IsSpelledBy, IsReadBack, ListFits, wide16, wide32, number_takes, number_again, number_moves, bytes_take, bytes_again, table_takes, table_again}
 use Rattle.byte_reader.proofs.Members.{attribute_takes, attribute_again}

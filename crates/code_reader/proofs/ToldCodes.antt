@@ -7,8 +7,9 @@ use Rattle.jvm_model.specs.declared.class_file.ClassFile.{ClassFile}
 use Rattle.jvm_model.specs.declared.class_file.Member.{Member}
 use Rattle.jvm_model.specs.declared.code.Code.{Code}
 use Rattle.jvm_model.specs.declared.pool.PoolEntry.{PoolEntry}
-use Rattle.jvm_model.specs.declared.reason.ReadRefusal.{ReadRefusal}
-use Rattle.jvm_model.specs.declared.reason.ReadRefusal.TheVariants as refusals
+use Rattle.failure.specs.declared.Failure.{Failure}
+use Rattle.jvm_model.specs.declared.reason.Fault.{Fault}
+use Rattle.failure.specs.declared.Failure.TheVariants.{Cause, OutOfMemory}
 use Rattle.jvm_model.specs.Layout.{HasFirstCode, IsCodePlace}
 use Rattle.jvm_model.specs.Soundness.{is_code}
 use Rattle.jvm_model.specs.Spelling.{spell}
@@ -68,13 +69,13 @@ body_fits c method place owner code there first is =
     subst (λ (a : Attribute). place + length a.body ≤ length (spell c)) same
     (StandsAt-fits (spell c) is.code.body place (record { front = is.front; rest = is.rest; spelled = is.spelled; front_length = is.front_length }))
 
-pub tells : (c : ClassFile) (method place parameters : ℕ) (owner : Member) (code : Attribute) (answer : Result Code ReadRefusal) → slice_get c.methods method ≡ Some owner
+pub tells : (c : ClassFile) (method place parameters : ℕ) (owner : Member) (code : Attribute) (answer : Result Code (Failure Fault)) → slice_get c.methods method ≡ Some owner
     → HasFirstCode c.pool owner.attributes code → IsCodePlace c method place → TakesLocals c.pool owner parameters
     → TellsBody c.pool parameters (record { offset = place; rest = code.body }) answer → TellsCode c method answer
 tells c method place parameters owner code (Ok read) there first is taken body =
     record { owner = owner; there = there; code = code; first = first; place = place; is_place = is; parameters = parameters; taken = taken; body = body }
-tells c method place parameters owner code (Err refusals.Memory) there first is taken body = tt
-tells c method place parameters owner code (Err (refusals.Refused offset reason)) there first is taken body =
+tells c method place parameters owner code (Err OutOfMemory) there first is taken body = tt
+tells c method place parameters owner code (Err (Cause fault)) there first is taken body =
     record { owner = owner; there = there; code = code; first = first; place = place; is_place = is; parameters = parameters; taken = taken; body = body }
 
 -- ---- the code, found by where the method stands

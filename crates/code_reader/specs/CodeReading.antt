@@ -12,8 +12,9 @@ use Rattle.jvm_model.specs.declared.code.Instruction.{Instruction as Given}
 use Rattle.jvm_model.specs.declared.code.PlacedInstruction.{PlacedInstruction}
 use Rattle.jvm_model.specs.declared.descriptor.Kind.{Kind}
 use Rattle.jvm_model.specs.declared.pool.PoolEntry.{PoolEntry}
-use Rattle.jvm_model.specs.declared.reason.ReadRefusal.{ReadRefusal}
-use Rattle.jvm_model.specs.declared.reason.ReadRefusal.TheVariants as refusals
+use Rattle.failure.specs.declared.Failure.{Failure}
+use Rattle.jvm_model.specs.declared.reason.Fault.{Fault}
+use Rattle.failure.specs.declared.Failure.TheVariants.{Cause, OutOfMemory}
 use Rattle.jvm_model.specs.declared.reason.Reason.{Reason}
 use Rattle.jvm_model.specs.declared.reason.Reason.TheVariants.{Truncated, CodeCut, BadHandler}
 use Rattle.jvm_model.specs.Access.{has_flag}
@@ -22,7 +23,7 @@ use Rattle.jvm_model.specs.Instructions.{DecodedInstruction}
 use Rattle.jvm_model.specs.Layout.{HasFirstCode, IsCodePlace}
 use Rattle.jvm_model.specs.Lookups.{Signature, text_at}
 use Rattle.jvm_model.specs.Programs.{is_class_initialiser}
-use Rattle.byte_reader.specs.Reading.{Place, Fault, ◌>>=◌, fault_at, number_at, bytes_at, table_at}
+use Rattle.byte_reader.specs.Reading.{Place, ◌>>=◌, fault_at, number_at, bytes_at, table_at}
 use Rattle.byte_reader.specs.Structures.{attribute_at}
 use Rattle.code_reader.specs.Division.{Spot, Divides, fault_of, first_fault, is_handler}
 
@@ -90,7 +91,7 @@ tail_at pool long spots place = do
   attributes ← table_at attribute_at handlers.1
   if length attributes.1.rest == 0 then Ok handlers.0 else fault_at attributes.1 CodeCut
 
--- A field that is cut off by the end of the body is told as a cut of the code.
+-- A field that is cut off by the end of the body is reported as a cut of the code.
 abbrev pub cut_of_code : Reason → Reason
 cut_of_code Truncated = CodeCut
 cut_of_code reason = reason
@@ -150,8 +151,8 @@ pub record ReadsCode (c : ClassFile) (method : ℕ) (outcome : Result Code Fault
   pub taken : TakesLocals c.pool owner parameters
   pub body : ReadsBody c.pool parameters (record { offset = place; rest = code.body }) outcome
 
--- An answer is what the code gives, or memory ran out.
-abbrev pub TellsCode : ClassFile → ℕ → Result Code ReadRefusal → Type 0
+-- An answer is what the code gives, or out of memory.
+abbrev pub TellsCode : ClassFile → ℕ → Result Code (Failure Fault) → Type 0
 TellsCode c method (Ok code) = ReadsCode c method (Ok code)
-TellsCode c method (Err refusals.Memory) = Unit {0}
-TellsCode c method (Err (refusals.Refused offset reason)) = ReadsCode c method (Err (record { offset = offset; reason = reason }))
+TellsCode c method (Err OutOfMemory) = Unit {0}
+TellsCode c method (Err (Cause fault)) = ReadsCode c method (Err fault)

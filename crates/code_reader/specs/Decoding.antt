@@ -3,11 +3,11 @@
 use Rattle.std.specs.Prelude.{◌≡◌, Result, Ok, Err}
 use Rattle.jvm_model.specs.declared.reason.Reason.{Reason}
 use Rattle.jvm_model.specs.Instructions.{DecodedInstruction}
-use Rattle.code_reader.specs.declared.decode.Undecoded.{Undecoded}
-use Rattle.code_reader.specs.declared.decode.Undecoded.TheVariants as undecoded
+use Rattle.failure.specs.declared.Failure.{Failure}
+use Rattle.failure.specs.declared.Failure.TheVariants.{Cause, OutOfMemory}
 
--- The answer is what the standard says, unless memory ran out.
-abbrev pub GivesInstruction : Result DecodedInstruction Undecoded → Result DecodedInstruction Reason → Type 0
+-- The answer is what the standard says, or out of memory.
+abbrev pub GivesInstruction : Result DecodedInstruction (Failure Reason) → Result DecodedInstruction Reason → Type 0
 GivesInstruction (Ok i) read = read ≡ Ok i
-GivesInstruction (Err undecoded.Memory) read = Unit {0}
-GivesInstruction (Err (undecoded.Refused reason)) read = read ≡ Err reason
+GivesInstruction (Err OutOfMemory) read = Unit {0}
+GivesInstruction (Err (Cause reason)) read = read ≡ Err reason

@@ -1,7 +1,8 @@
 //! The body of a Code attribute (JVMS 4.7.3): two limits, the code, its handlers, and attributes.
 
 ghost use Rattle.std.specs.Prelude.{◌≡◌, ◌<◌, ◌≤◌, ◌+◌, ◌^◌, ◌++◌, ◌∷◌, [], length, map, IfOk};
-ghost use Rattle.byte_reader.specs.Reading.{Place, Fault, Gives, Tells, Reads};
+ghost use Rattle.jvm_model.specs.declared.reason.Fault.{Fault};
+ghost use Rattle.byte_reader.specs.Reading.{Place, Gives, Tells, Reads};
 ghost use Rattle.code_reader.specs.Bodies.{head_view, IsInCode, TellsBody};
 ghost use Rattle.code_reader.specs.CodeReading.{Head as CodeHead, code_length_at, head_at, tail_at, cut_of_code, known_targets, placed};
 ghost use Rattle.code_reader.specs.Divided.{KnowsStarts};
@@ -11,9 +12,10 @@ use crate::fault::{Locals, first_fault};
 use crate::handler::handlers;
 use crate::spot::Spot;
 use byte_reader::{Input, table};
+use failure::Failure;
 use jvm_model::{
-    Attribute, Code, Handler, Instruction, PlacedInstruction, PoolEntry, ReadRefusal, Reason,
-    Sequence,
+    Attribute, Code, Fault, Handler, Instruction, PlacedInstruction, PoolEntry, ReadFailure,
+    Reason, Sequence,
 };
 use std::alloc::{AllocError, Global};
 
@@ -28,24 +30,24 @@ struct Head<'a> {
 
 /// The length of the code: 1 to 65,535.
 #[tactic(auto, unfolding(crate::specs::CodeReading::code_length_at))]
-fn code_length(input: &mut Input) -> Result<u32, ReadRefusal>
+fn code_length(input: &mut Input) -> Result<u32, ReadFailure>
     ensures exact { Reads result input.new (code_length_at input.old) }
     ensures limit { IfOk result (λ long. long ≤ 65535) }
 {
     let offset = input.offset();
     let long = input.u4()?;
     if long == 0 || 65_535 < long {
-        return Err(ReadRefusal::Refused {
+        return Err(Failure::Cause(Fault {
             offset,
             reason: Reason::CodeCut,
-        });
+        }));
     }
     Ok(long)
 }
 
 /// What stands before the handlers.
 #[tactic(auto, unfolding(crate::specs::CodeReading::head_at))]
-fn read_head<'a>(input: &mut Input<'a>) -> Result<Head<'a>, ReadRefusal>
+fn read_head<'a>(input: &mut Input<'a>) -> Result<Head<'a>, ReadFailure>
     ensures exact { Gives head_view result input.new (head_at input.old) }
     ensures limit { IfOk result (λ head. length head.bytes.now ≤ 65535) }
     ensures inside { IfOk result (λ head. head.at + length head.bytes.now < 2 ^ 32) }
@@ -72,34 +74,36 @@ fn tail(
     pool: &[PoolEntry],
     long: u32,
     division: &Division,
-) -> Result<Sequence<Handler>, ReadRefusal>
+) -> Result<Sequence<Handler>, ReadFailure>
     requires { KnowsStarts division.now }
     ensures { Tells result (tail_at pool.now long division.now.spots.items input.old) }
 {
     let handlers = handlers(input, alloc, pool, long, division)?;
     let _attributes: Sequence<Attribute> = table(input, alloc)?;
     if !input.is_empty() {
-        return Err(ReadRefusal::Refused {
+        return Err(Failure::Cause(Fault {
             offset: input.offset(),
             reason: Reason::CodeCut,
-        });
+        }));
     }
     Ok(handlers)
 }
 
 /// A refusal in the body: a field that is cut off is a cut of the code.
-fn in_code(refusal: ReadRefusal) -> ReadRefusal
+fn in_code(refusal: ReadFailure) -> ReadFailure
     ensures { IsInCode refusal result }
 {
     match refusal {
-        ReadRefusal::Refused {
-            offset,
-            reason: Reason::Truncated,
-        } => {
-            ReadRefusal::Refused {
+        Failure::Cause(
+            Fault {
+                offset,
+                reason: Reason::Truncated,
+            },
+        ) => {
+            Failure::Cause(Fault {
                 offset,
                 reason: Reason::CodeCut,
-            }
+            })
         }
         other => other,
     }
@@ -162,7 +166,7 @@ pub(crate) fn read_body(
     parameters: u16,
     place: u32,
     body: &[u8],
-) -> Result<Code, ReadRefusal>
+) -> Result<Code, ReadFailure>
     requires { place + length body.now < 2 ^ 32 }
     ensures { TellsBody pool.now parameters (record { offset = place; rest = body.now }) result }
 {
@@ -177,10 +181,10 @@ pub(crate) fn read_body(
         parameters,
     };
     match first_fault(pool, locals, &division) {
-        Some((offset, reason)) => return Err(ReadRefusal::Refused {
+        Some((offset, reason)) => return Err(Failure::Cause(Fault {
             offset: head.at + offset,
             reason,
-        }),
+        })),
         None => {}
     }
     let handlers = match tail(&mut input, alloc, pool, head.bytes.len() as u32, &division) {

@@ -1,44 +1,23 @@
 //! One instruction of a code array: its opcode, and what its operands say (JVMS 6.5).
 
 ghost use Rattle.std.specs.Prelude.{◌≡◌, ◌≤◌, ◌<◌, ◌^◌, [], ◌∷◌, length, Some, None, Ok, IfOk, IfErr};
+ghost use Rattle.failure.specs.declared.Failure.TheVariants.{Cause};
 ghost use Rattle.jvm_model.specs.Instructions.{DecodedInstruction, instruction, byte, short, needs, with_operands, widened_by, widened_first, first_instruction};
 ghost use Rattle.jvm_model.specs.RowViews.{row_view, operands_view};
 ghost use Rattle.jvm_model.specs.declared.reason.Reason.TheVariants.{BadOpcode};
 ghost use Rattle.jvm_model.specs.Table.{row_of, type_code, offset_2, offset_4, pool_2_and_dimensions};
 ghost use Rattle.code_reader.specs.Decoding.{GivesInstruction};
-ghost use Rattle.code_reader.specs.declared.decode.Undecoded.TheVariants.{Memory};
 
 use crate::number::{after, far_target, near_target, padding, short, word};
 use crate::switch::{pairs_switch, table_switch};
+use failure::Failure;
 use jvm_model::Reason;
 use jvm_model::opcode::{Operands, Row, row_of_opcode};
-use std::alloc::{AllocError, AllocFailed, Global};
+use std::alloc::Global;
 use std::marker::Model;
 
-/// Why no instruction is read.
-#[derive(Clone, Copy, Debug, PartialEq, Eq)]
-pub(crate) enum Undecoded {
-    /// None stands there.
-    Refused(Reason),
-    /// Memory ran out.
-    Memory,
-}
-
-impl From<AllocError> for Undecoded {
-    ghost from_gives = { λ _ e. e ≡ Memory };
-
-    fn from(_error: AllocError) -> Undecoded {
-        Undecoded::Memory
-    }
-}
-
-impl<T: Drop> From<AllocFailed<T>> for Undecoded {
-    ghost from_gives = { λ _ e. e ≡ Memory };
-
-    fn from(_error: AllocFailed<T>) -> Undecoded {
-        Undecoded::Memory
-    }
-}
+/// Why no instruction is read: for a reason, or out of memory.
+pub(crate) type DecodeFailure = Failure<Reason>;
 
 /// An instruction, with its row of the table, and how many bytes it takes. A target is `None` before the code.
 #[derive(Drop)]
@@ -80,7 +59,7 @@ impl Operation {
     }
 
     /// Its instruction with a target.
-    fn branch(self, alloc: Global, target: Option<u32>, size: u32) -> Result<Decoded, Undecoded>
+    fn branch(self, alloc: Global, target: Option<u32>, size: u32) -> Result<Decoded, DecodeFailure>
         ensures { GivesInstruction result (Ok (instruction self.opcode (row_view self.row.now) 0 0 (target ∷ []) size)) }
     {
         let mut targets = Vec::new(alloc);
@@ -102,7 +81,7 @@ impl Operation {
         bytes: &[u8],
         count: usize,
         size: u32,
-    ) -> Result<Decoded, Undecoded>
+    ) -> Result<Decoded, DecodeFailure>
         ensures { GivesInstruction result (needs count bytes.now (instruction self.opcode (row_view self.row.now) 0 0 [] size)) }
     {
         if bytes.len() < count {
@@ -118,7 +97,7 @@ impl Operation {
         bytes: &[u8],
         count: usize,
         size: u32,
-    ) -> Result<Decoded, Undecoded>
+    ) -> Result<Decoded, DecodeFailure>
         requires { 1 ≤ count }
         ensures { GivesInstruction result (needs count bytes.now (instruction self.opcode (row_view self.row.now) (byte bytes.now) 0 [] size)) }
     {
@@ -135,7 +114,7 @@ impl Operation {
         bytes: &[u8],
         count: usize,
         size: u32,
-    ) -> Result<Decoded, Undecoded>
+    ) -> Result<Decoded, DecodeFailure>
         requires { 2 ≤ count }
         ensures { GivesInstruction result (needs count bytes.now (instruction self.opcode (row_view self.row.now) (short bytes.now) 0 [] size)) }
     {
@@ -146,7 +125,7 @@ impl Operation {
     }
 
     /// `newarray`, with the code of a primitive type, 4 to 11.
-    fn with_type_code(self, alloc: Global, bytes: &[u8]) -> Result<Decoded, Undecoded>
+    fn with_type_code(self, alloc: Global, bytes: &[u8]) -> Result<Decoded, DecodeFailure>
         ensures { GivesInstruction result (with_operands self.opcode (row_view self.row.now) 0 type_code bytes.now) }
     {
         if bytes.is_empty() {
@@ -160,7 +139,7 @@ impl Operation {
     }
 
     /// `multianewarray`, with at least one dimension.
-    fn with_dimensions(self, alloc: Global, bytes: &[u8]) -> Result<Decoded, Undecoded>
+    fn with_dimensions(self, alloc: Global, bytes: &[u8]) -> Result<Decoded, DecodeFailure>
         ensures { GivesInstruction result (with_operands self.opcode (row_view self.row.now) 0 pool_2_and_dimensions bytes.now) }
     {
         if bytes.len() < 3 {
@@ -174,7 +153,7 @@ impl Operation {
     }
 
     /// A branch of two bytes from an offset.
-    fn near_branch(self, alloc: Global, bytes: &[u8], offset: u32) -> Result<Decoded, Undecoded>
+    fn near_branch(self, alloc: Global, bytes: &[u8], offset: u32) -> Result<Decoded, DecodeFailure>
         requires { offset < 2 ^ 16 }
         ensures { GivesInstruction result (with_operands self.opcode (row_view self.row.now) offset offset_2 bytes.now) }
     {
@@ -185,7 +164,7 @@ impl Operation {
     }
 
     /// A branch of four bytes from an offset.
-    fn far_branch(self, alloc: Global, bytes: &[u8], offset: u32) -> Result<Decoded, Undecoded>
+    fn far_branch(self, alloc: Global, bytes: &[u8], offset: u32) -> Result<Decoded, DecodeFailure>
         requires { offset < 2 ^ 16 }
         ensures { GivesInstruction result (with_operands self.opcode (row_view self.row.now) offset offset_4 bytes.now) }
     {
@@ -196,7 +175,7 @@ impl Operation {
     }
 
     /// What the prefix `wide` stands before.
-    fn widened(self, alloc: Global, bytes: &[u8]) -> Result<Decoded, Undecoded>
+    fn widened(self, alloc: Global, bytes: &[u8]) -> Result<Decoded, DecodeFailure>
         ensures { GivesInstruction result (widened_by self.opcode (row_view self.row.now) (operands_view self.row.now.operands) bytes.now) }
     {
         match self.row.operands {
@@ -207,7 +186,12 @@ impl Operation {
     }
 
     /// Its instruction at an offset of the code, from the bytes after the opcode.
-    fn with_operands(self, alloc: Global, offset: u32, bytes: &[u8]) -> Result<Decoded, Undecoded>
+    fn with_operands(
+        self,
+        alloc: Global,
+        offset: u32,
+        bytes: &[u8],
+    ) -> Result<Decoded, DecodeFailure>
         requires offset { offset < 2 ^ 16 }
         requires bytes { length bytes.now < 2 ^ 16 }
         ensures { GivesInstruction result (with_operands self.opcode (row_view self.row.now) offset (operands_view self.row.now.operands) bytes.now) }
@@ -245,15 +229,15 @@ impl Operation {
 }
 
 /// The refusal of an instruction that the code cuts off.
-const CUT: Undecoded = Undecoded::Refused(Reason::CodeCut);
+const CUT: DecodeFailure = Failure::Cause(Reason::CodeCut);
 
 /// The refusal of an instruction that is none of JVMS 6.5.
-const WRONG: Undecoded = Undecoded::Refused(Reason::BadOpcode);
+const WRONG: DecodeFailure = Failure::Cause(Reason::BadOpcode);
 
 /// The operation of an opcode; the table has none past 201.
-fn operation_of(opcode: u8) -> Result<Operation, Undecoded>
+fn operation_of(opcode: u8) -> Result<Operation, DecodeFailure>
     ensures found { IfOk result (λ o. (o.opcode ≡ opcode) × (row_of opcode ≡ Some (row_view o.row.now))) }
-    ensures wrong { IfErr result (λ e. (e ≡ Undecoded.Refused BadOpcode) × (row_of opcode ≡ None)) }
+    ensures wrong { IfErr result (λ e. (e ≡ Cause BadOpcode) × (row_of opcode ≡ None)) }
 {
     match row_of_opcode(opcode) {
         Some(row) => Ok(Operation { opcode, row }),
@@ -262,7 +246,7 @@ fn operation_of(opcode: u8) -> Result<Operation, Undecoded>
 }
 
 /// The instruction that the bytes after the prefix `wide` begin with (JVMS 6.5.wide).
-fn widened_first(alloc: Global, bytes: &[u8]) -> Result<Decoded, Undecoded>
+fn widened_first(alloc: Global, bytes: &[u8]) -> Result<Decoded, DecodeFailure>
     ensures { GivesInstruction result (widened_first bytes.now) }
 {
     match bytes {
@@ -276,7 +260,7 @@ pub(crate) fn first_instruction(
     alloc: Global,
     offset: u32,
     bytes: &[u8],
-) -> Result<Decoded, Undecoded>
+) -> Result<Decoded, DecodeFailure>
     requires offset { offset < 2 ^ 16 }
     requires bytes { length bytes.now < 2 ^ 16 }
     ensures { GivesInstruction result (first_instruction offset bytes.now) }

@@ -1,13 +1,15 @@
 //! The division of a code array into instructions (JVMS 4.7.3, 4.9.1), and where they start.
 
 ghost use Rattle.std.specs.Prelude.{◌≡◌, ◌<◌, ◌≤◌, ◌^◌, length, IfOk};
+ghost use Rattle.failure.specs.declared.Failure.TheVariants.{Cause};
 ghost use Rattle.jvm_model.specs.InstructionUses.{brackets, within_dimensions};
 ghost use Rattle.code_reader.specs.Decoding.{GivesInstruction};
 ghost use Rattle.code_reader.specs.Division.{instruction_in, starts, is_behind, is_target};
 ghost use Rattle.code_reader.specs.Divided.{IsDivision, KnowsStarts};
 
-use crate::decode::{Decoded, Undecoded, first_instruction};
+use crate::decode::{DecodeFailure, Decoded, first_instruction};
 use crate::spot::Spot;
+use failure::Failure;
 use jvm_model::grammar::{dimensions_of, is_array};
 use jvm_model::lookup::class_name_at;
 use jvm_model::{PoolEntry, Reason};
@@ -75,8 +77,8 @@ pub(crate) fn divide(alloc: Global, pool: &[PoolEntry], code: &[u8]) -> Result<D
                 })?;
                 offset += size;
             }
-            Err(undecoded) => {
-                let reason = reason_of(undecoded)?;
+            Err(failure) => {
+                let reason = reason_of(failure)?;
                 return Ok(Division {
                     spots,
                     starts,
@@ -92,13 +94,13 @@ pub(crate) fn divide(alloc: Global, pool: &[PoolEntry], code: &[u8]) -> Result<D
     })
 }
 
-/// Why no instruction stands there, unless memory ran out.
-fn reason_of(undecoded: Undecoded) -> Result<Reason, AllocError>
-    ensures { IfOk result (λ reason. undecoded ≡ Undecoded.Refused reason) }
+/// The reason why no instruction stands there; or out of memory.
+fn reason_of(failure: DecodeFailure) -> Result<Reason, AllocError>
+    ensures { IfOk result (λ reason. failure ≡ Cause reason) }
 {
-    match undecoded {
-        Undecoded::Refused(reason) => Ok(reason),
-        Undecoded::Memory => Err(AllocError),
+    match failure {
+        Failure::Cause(reason) => Ok(reason),
+        Failure::OutOfMemory => Err(AllocError),
     }
 }
 
@@ -108,14 +110,14 @@ fn instruction_in(
     pool: &[PoolEntry],
     code: &[u8],
     offset: usize,
-) -> Result<Decoded, Undecoded>
+) -> Result<Decoded, DecodeFailure>
     requires offset { offset ≤ length code.now }
     requires code { length code.now < 2 ^ 16 }
     ensures { GivesInstruction result (instruction_in pool.now code.now offset) }
 {
     let decoded = first_instruction(alloc, offset as u32, &code[offset..])?;
     if !within_dimensions(pool, &decoded) {
-        return Err(Undecoded::Refused(Reason::BadOpcode));
+        return Err(Failure::Cause(Reason::BadOpcode));
     }
     Ok(decoded)
 }

@@ -8,8 +8,9 @@ ghost use Rattle.code_reader.specs.Division.{is_handler};
 
 use crate::division::Division;
 use byte_reader::Input;
+use failure::Failure;
 use jvm_model::lookup::leads_to;
-use jvm_model::{EntryKind, Handler, PoolEntry, ReadRefusal, Reason, Sequence};
+use jvm_model::{EntryKind, Fault, Handler, PoolEntry, ReadFailure, Reason, Sequence};
 use std::alloc::Global;
 
 /// Whether a handler is one of code that has so many bytes and is divided so.
@@ -31,7 +32,7 @@ fn next_handler(
     pool: &[PoolEntry],
     long: u32,
     division: &Division,
-) -> Result<Handler, ReadRefusal>
+) -> Result<Handler, ReadFailure>
     requires { KnowsStarts division.now }
     ensures { Reads result input.new (handler_at pool.now long division.now.spots.items input.old) }
 {
@@ -47,10 +48,10 @@ fn next_handler(
         catch_type,
     };
     if !is_handler(pool, long, division, handler) {
-        return Err(ReadRefusal::Refused {
+        return Err(Failure::Cause(Fault {
             offset,
             reason: Reason::BadHandler,
-        });
+        }));
     }
     Ok(handler)
 }
@@ -63,7 +64,7 @@ fn listed(
     long: u32,
     division: &Division,
     count: u16,
-) -> Result<Sequence<Handler>, ReadRefusal>
+) -> Result<Sequence<Handler>, ReadFailure>
     requires { KnowsStarts division.now }
     ensures { Reads result input.new (items_at (handler_at pool.now long division.now.spots.items) count input.old) }
 {
@@ -83,7 +84,7 @@ pub(crate) fn handlers(
     pool: &[PoolEntry],
     long: u32,
     division: &Division,
-) -> Result<Sequence<Handler>, ReadRefusal>
+) -> Result<Sequence<Handler>, ReadFailure>
     requires { KnowsStarts division.now }
     ensures { Reads result input.new (table_at (handler_at pool.now long division.now.spots.items) input.old) }
 {

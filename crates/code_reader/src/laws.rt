@@ -8,7 +8,7 @@ ghost use Rattle.jvm_model.specs.Code.{CodeBody as Body, HasCode};
 ghost use Rattle.jvm_model.specs.Layout.{HasCodeAttribute, IsCodePlace};
 ghost use Rattle.jvm_model.specs.Soundness.{IsSoundClass};
 ghost use Rattle.jvm_model.specs.Spelling.{ClassFits};
-ghost use Rattle.byte_reader.specs.Reading.{Fault};
+ghost use Rattle.jvm_model.specs.declared.reason.Fault.{Fault};
 ghost use Rattle.code_reader.specs.CodeReading.{ReadsCode};
 ghost use Rattle.code_reader.specs.MachineCode.{IsCodeOf};
 
@@ -17,7 +17,7 @@ pub fn one_code_reading()
     ensures { (c : ClassFile) (method : ℕ) (a b : Result Code Fault) → ReadsCode c method a → ReadsCode c method b → a ≡ b }
 {}
 
-/// Each code of a sound class file is told: it reads as a value, or has a first fault.
+/// Each code of a sound class file has an answer: it reads as a value, or has a first fault.
 pub fn each_code_is_told()
     ensures { (c : ClassFile) (method : ℕ) → IsSoundClass c → HasCodeAttribute c method → (outcome : Result Code Fault) × ReadsCode c method outcome }
 {}

@@ -15,7 +15,7 @@ use jvm_model::descriptor::units_of;
 use jvm_model::layout::{ATTRIBUTE_BODY, MEMBER_ATTRIBUTES};
 use jvm_model::sound::member_signature;
 use jvm_model::{
-    AccessFlag, ClassFile, Code, Descriptor, Member, ReadRefusal, Signature, descriptor_of,
+    AccessFlag, ClassFile, Code, Descriptor, Member, ReadFailure, Signature, descriptor_of,
 };
 use std::alloc::{AllocError, Global};
 
@@ -40,11 +40,11 @@ use std::alloc::{AllocError, Global};
 ///   instruction (the end may be that of the code), or whose type is neither 0 nor a Class entry.
 ///
 /// The first instruction with `BadOpcode` or `CodeCut` ends the division; what its operands say, and whether branches
-/// to bytes behind its first one are right, is not judged. Of several faults the one with the least offset is told, and
+/// to bytes behind its first one are right, is not judged. Of several faults the one with the least offset is reported, and
 /// at one offset the one that stands first in `Reason`, `BadIndex` after all others. The time taken is linear in the
 /// size of the body, but for the class file's methods before this one, which are passed over once: `read_code_at` spares
 /// that.
-pub fn read_code(alloc: Global, class: &ClassFile, method: usize) -> Result<Code, ReadRefusal>
+pub fn read_code(alloc: Global, class: &ClassFile, method: usize) -> Result<Code, ReadFailure>
     requires sound { IsSoundClass class.now }
     requires size { length (spell class.now) < 2 ^ 32 }
     requires code { HasCodeAttribute class.now method }
@@ -59,7 +59,7 @@ pub fn read_code_at(
     class: &ClassFile,
     method: usize,
     offset: u32,
-) -> Result<Code, ReadRefusal>
+) -> Result<Code, ReadFailure>
     requires sound { IsSoundClass class.now }
     requires size { length (spell class.now) < 2 ^ 32 }
     requires code { HasCodeAttribute class.now method }

@@ -5,8 +5,9 @@ ghost use Rattle.jvm_model.specs.Instructions.{switch, table_switch, pairs_switc
 ghost use Rattle.jvm_model.specs.RowViews.{row_view};
 ghost use Rattle.code_reader.specs.Decoding.{GivesInstruction};
 
-use crate::decode::{Decoded, Operation, Undecoded};
+use crate::decode::{DecodeFailure, Decoded, Operation};
 use crate::number::{above_least, after, far_target, padding, word};
+use failure::Failure;
 use jvm_model::Reason;
 use std::alloc::{AllocError, Global};
 
@@ -16,18 +17,18 @@ pub(crate) fn table_switch(
     operation: Operation,
     offset: u32,
     bytes: &[u8],
-) -> Result<Decoded, Undecoded>
+) -> Result<Decoded, DecodeFailure>
     requires offset { offset < 2 ^ 16 }
     requires bytes { length bytes.now < 2 ^ 16 }
     ensures { GivesInstruction result (table_switch operation.opcode (row_view operation.row.now) offset bytes.now) }
 {
     if bytes.len() < 12 {
-        return Err(Undecoded::Refused(Reason::CodeCut));
+        return Err(Failure::Cause(Reason::CodeCut));
     }
     let low = above_least(word(after(bytes, 4)));
     let high = above_least(word(after(bytes, 8)));
     if high < low {
-        return Err(Undecoded::Refused(Reason::BadOpcode));
+        return Err(Failure::Cause(Reason::BadOpcode));
     }
     let count = (high - low) as usize + 1;
     switch(
@@ -49,13 +50,13 @@ pub(crate) fn pairs_switch(
     operation: Operation,
     offset: u32,
     bytes: &[u8],
-) -> Result<Decoded, Undecoded>
+) -> Result<Decoded, DecodeFailure>
     requires offset { offset < 2 ^ 16 }
     requires bytes { length bytes.now < 2 ^ 16 }
     ensures { GivesInstruction result (pairs_switch operation.opcode (row_view operation.row.now) offset bytes.now) }
 {
     if bytes.len() < 8 {
-        return Err(Undecoded::Refused(Reason::CodeCut));
+        return Err(Failure::Cause(Reason::CodeCut));
     }
     let count = word(after(bytes, 4));
     if count < 0x8000_0000 {
@@ -72,7 +73,7 @@ pub(crate) fn pairs_switch(
             bytes,
         );
     }
-    Err(Undecoded::Refused(Reason::BadOpcode))
+    Err(Failure::Cause(Reason::BadOpcode))
 }
 
 /// The table of a switch: how many bytes there are from its default to its end, how many an entry has, and how many
@@ -91,7 +92,7 @@ fn switch(
     offset: u32,
     table: Table,
     bytes: &[u8],
-) -> Result<Decoded, Undecoded>
+) -> Result<Decoded, DecodeFailure>
     requires offset { offset < 2 ^ 16 }
     requires bytes { length bytes.now < 2 ^ 16 }
     requires least { 8 ≤ table.long }
@@ -100,7 +101,7 @@ fn switch(
     ensures { GivesInstruction result (switch operation.opcode (row_view operation.row.now) offset table.long table.entry table.count bytes.now) }
 {
     if bytes.len() < table.long {
-        return Err(Undecoded::Refused(Reason::CodeCut));
+        return Err(Failure::Cause(Reason::CodeCut));
     }
     let default = far_target(offset, word(bytes));
     let entries = after(bytes, 12);

@@ -8,11 +8,13 @@ use Rattle.jvm_model.specs.declared.stub.StubClass.{StubClass}
 use Rattle.jvm_model.specs.declared.pool.PoolEntry.{PoolEntry}
 use Rattle.jvm_model.specs.Linking.{Claim, interface_places, reason_of, AreMet, IsFirstUnmet, Meets, own_classes}
 use Rattle.jvm_model.specs.Programs.{Program, class_or_none}
-use Rattle.linked_program.specs.declared.link_end.LinkEnd.{LinkEnd}
-use Rattle.linked_program.specs.declared.link_end.LinkEnd.TheVariants.{Refused, TooMany, Memory}
+use Rattle.failure.specs.declared.Failure.{Failure}
+use Rattle.linked_program.specs.declared.link_failure.LinkFault.{LinkFault}
+use Rattle.failure.specs.declared.Failure.TheVariants.{Cause, OutOfMemory}
+use Rattle.linked_program.specs.declared.link_failure.LinkFault.TheVariants.{Refused, TooMany}
 use Rattle.linking.specs.declared.supers.SuperRule.{SuperRule}
 use Rattle.linking.specs.Claims.{TellsEnd, TellsEndOrLarge, TellsClaims, TellsClaimsOrLarge, of_own, super_claim}
-use Rattle.linked_program.specs.LinkEnds.{IsLinkRefusal}
+use Rattle.linked_program.specs.LinkFailures.{IsLinkRefusal}
 
 -- ---- claims before others
 
@@ -28,34 +30,34 @@ pub unmet_back : (p : Program) (r : Refusal) (xs ys : List Claim) → AreMet p x
 unmet_back p r [] ys met h = h
 unmet_back p r (c ∷ xs) ys met h = inr (All-head (IsMet p) c xs met, unmet_back p r xs ys (All-tail (IsMet p) c xs met) h)
 
-pub end_front : (Large : Type 0) (p : Program) (xs ys : List Claim) (e : LinkEnd) → TellsEndOrLarge Large p xs e → TellsEndOrLarge Large p (xs ++ ys) e
-end_front Large p xs ys (Refused r) h = unmet_front p r xs ys h
+pub end_front : (Large : Type 0) (p : Program) (xs ys : List Claim) (e : Failure LinkFault) → TellsEndOrLarge Large p xs e → TellsEndOrLarge Large p (xs ++ ys) e
+end_front Large p xs ys (Cause (Refused r)) h = unmet_front p r xs ys h
 end_front Large p xs ys _ h = h
 
-pub end_back : (Large : Type 0) (p : Program) (xs ys : List Claim) (e : LinkEnd) → AreMet p xs → TellsEndOrLarge Large p ys e → TellsEndOrLarge Large p (xs ++ ys) e
-end_back Large p xs ys (Refused r) met h = unmet_back p r xs ys met h
+pub end_back : (Large : Type 0) (p : Program) (xs ys : List Claim) (e : Failure LinkFault) → AreMet p xs → TellsEndOrLarge Large p ys e → TellsEndOrLarge Large p (xs ++ ys) e
+end_back Large p xs ys (Cause (Refused r)) met h = unmet_back p r xs ys met h
 end_back Large p xs ys _ met h = h
 
-pub tells_back : {X : Type 0} (Large : Type 0) (p : Program) (xs ys : List Claim) (r : Result X LinkEnd) → AreMet p xs → TellsClaimsOrLarge Large p ys r → TellsClaimsOrLarge Large p (xs ++ ys) r
+pub tells_back : {X : Type 0} (Large : Type 0) (p : Program) (xs ys : List Claim) (r : Result X (Failure LinkFault)) → AreMet p xs → TellsClaimsOrLarge Large p ys r → TellsClaimsOrLarge Large p (xs ++ ys) r
 tells_back Large p xs ys (Ok x) met h = All-append (IsMet p) xs ys met h
 tells_back Large p xs ys (Err e) met h = end_back Large p xs ys e met h
 
 -- ---- what is large is so in another way
 
-pub end_more : (Large More : Type 0) (p : Program) (claims : List Claim) (e : LinkEnd) → (Large → More) → TellsEndOrLarge Large p claims e → TellsEndOrLarge More p claims e
-end_more Large More p claims (Refused r) more h = h
-end_more Large More p claims TooMany more h = more h
-end_more Large More p claims Memory more h = tt
+pub end_more : (Large More : Type 0) (p : Program) (claims : List Claim) (e : Failure LinkFault) → (Large → More) → TellsEndOrLarge Large p claims e → TellsEndOrLarge More p claims e
+end_more Large More p claims (Cause (Refused r)) more h = h
+end_more Large More p claims (Cause TooMany) more h = more h
+end_more Large More p claims OutOfMemory more h = tt
 
-pub tells_more : {X : Type 0} (Large More : Type 0) (p : Program) (claims : List Claim) (r : Result X LinkEnd) → (Large → More) → TellsClaimsOrLarge Large p claims r → TellsClaimsOrLarge More p claims r
+pub tells_more : {X : Type 0} (Large More : Type 0) (p : Program) (claims : List Claim) (r : Result X (Failure LinkFault)) → (Large → More) → TellsClaimsOrLarge Large p claims r → TellsClaimsOrLarge More p claims r
 tells_more Large More p claims (Ok x) more h = h
 tells_more Large More p claims (Err e) more h = end_more Large More p claims e more h
 
 -- where nothing was numbered, nothing is too large
-pub end_unnumbered : (Large : Type 0) (p : Program) (claims : List Claim) (e : LinkEnd) → TellsEnd p claims e → TellsEndOrLarge Large p claims e
+pub end_unnumbered : (Large : Type 0) (p : Program) (claims : List Claim) (e : Failure LinkFault) → TellsEnd p claims e → TellsEndOrLarge Large p claims e
 end_unnumbered Large p claims e h = end_more ⊥ Large p claims e (λ never. absurd never) h
 
-pub tells_unnumbered : {X : Type 0} (Large : Type 0) (p : Program) (claims : List Claim) (r : Result X LinkEnd) → TellsClaims p claims r → TellsClaimsOrLarge Large p claims r
+pub tells_unnumbered : {X : Type 0} (Large : Type 0) (p : Program) (claims : List Claim) (r : Result X (Failure LinkFault)) → TellsClaims p claims r → TellsClaimsOrLarge Large p claims r
 tells_unnumbered Large p claims r h = tells_more ⊥ Large p claims r (λ never. absurd never) h
 
 -- ---- claims that are met
@@ -82,10 +84,10 @@ met_back p (c ∷ xs) ys met = met_back p xs ys (met_rest p c (xs ++ ys) met)
 pub one_met : (p : Program) (c : Claim) → Meets p c.demand → AreMet p (c ∷ [])
 one_met p c h = All-cons (IsMet p) c [] h (All-nil (IsMet p))
 
-pub one_unmet : (Large : Type 0) (p : Program) (c : Claim) (e : LinkEnd) → (Meets p c.demand → ⊥) → IsLinkRefusal c.file c.offset (reason_of c.demand) e → TellsEndOrLarge Large p (c ∷ []) e
-one_unmet Large p c (Refused r) h is = inl (h, is)
-one_unmet Large p c TooMany h is = absurd is
-one_unmet Large p c Memory h is = tt
+pub one_unmet : (Large : Type 0) (p : Program) (c : Claim) (e : Failure LinkFault) → (Meets p c.demand → ⊥) → IsLinkRefusal c.file c.offset (reason_of c.demand) e → TellsEndOrLarge Large p (c ∷ []) e
+one_unmet Large p c (Cause (Refused r)) h is = inl (h, is)
+one_unmet Large p c (Cause TooMany) h is = absurd is
+one_unmet Large p c OutOfMemory h is = tt
 
 -- ---- a walk: what is left of the claims, where all before are met
 
@@ -110,7 +112,7 @@ left_step p whole xs ys left met = record {
 pub left_end : (p : Program) (whole : List Claim) → Left p whole [] → AreMet p whole
 left_end p whole left = subst (AreMet p) (sym (left.is ∙ append-nil left.front)) left.met
 
-pub left_stop : (Large : Type 0) (p : Program) (whole xs ys : List Claim) (e : LinkEnd) → Left p whole (xs ++ ys) → TellsEndOrLarge Large p xs e → TellsEndOrLarge Large p whole e
+pub left_stop : (Large : Type 0) (p : Program) (whole xs ys : List Claim) (e : Failure LinkFault) → Left p whole (xs ++ ys) → TellsEndOrLarge Large p xs e → TellsEndOrLarge Large p whole e
 left_stop Large p whole xs ys e left h =
     subst (λ (cs : List Claim). TellsEndOrLarge Large p cs e) (sym left.is) (end_back Large p left.front (xs ++ ys) e left.met (end_front Large p xs ys e h))
 
@@ -128,10 +130,10 @@ module _ {X : Type 0} (p : Program) (claims : List X → List Claim) (one : X �
   pub next_item : AreMet p (one x) → Left p (claims xs) (claims (drop (i + 1) xs))
   next_item met = left_step p (claims xs) (one x) _ at_item met
 
-  pub stop_item_or : (Large : Type 0) (e : LinkEnd) → TellsEndOrLarge Large p (one x) e → TellsEndOrLarge Large p (claims xs) e
+  pub stop_item_or : (Large : Type 0) (e : Failure LinkFault) → TellsEndOrLarge Large p (one x) e → TellsEndOrLarge Large p (claims xs) e
   stop_item_or Large e h = left_stop Large p (claims xs) (one x) _ e at_item h
 
-  pub stop_item : (e : LinkEnd) → TellsEnd p (one x) e → TellsEnd p (claims xs) e
+  pub stop_item : (e : Failure LinkFault) → TellsEnd p (one x) e → TellsEnd p (claims xs) e
   stop_item e h = stop_item_or ⊥ e h
 
 pub last_item : {X : Type 0} (p : Program) (claims : List X → List Claim) → claims [] ≡ [] → (xs : List X) (i : ℕ) → length xs ≤ i

@@ -13,8 +13,10 @@ use Rattle.jvm_model.specs.Soundness.{this_class_offset}
 use Rattle.class_index.specs.TextNumbers.{with_text}
 use Rattle.class_index.proofs.ListPlaces.{pushed_at}
 use Rattle.class_index.proofs.OrderPlaces.{contains_at, contains_cases, contains_none, place_of}
-use Rattle.linked_program.specs.declared.link_end.LinkEnd.{LinkEnd}
-use Rattle.linked_program.specs.declared.link_end.LinkEnd.TheVariants.{Refused}
+use Rattle.failure.specs.declared.Failure.{Failure}
+use Rattle.linked_program.specs.declared.link_failure.LinkFault.{LinkFault}
+use Rattle.failure.specs.declared.Failure.TheVariants.{Cause}
+use Rattle.linked_program.specs.declared.link_failure.LinkFault.TheVariants.{Refused}
 use Rattle.linking.specs.declared.class_names.StubSource.{StubSource}
 use Rattle.linking.specs.declared.class_names.StubSource.TheVariants.{Base, User}
 use Rattle.linking.specs.Claims.{TellsEndOrLarge, TellsClaimsOrLarge, HasTextsOf, with_own_names, file_name, stub_name}
@@ -24,10 +26,10 @@ use Rattle.linking.proofs.NewNames.{own_names_split}
 
 -- ---- one name
 
-pub name_taken : (Large : Type 0) (p : Program) (file : List ℕ) (offset : ℕ) (earlier names : List (List ℕ)) (name : List ℕ) (e : LinkEnd)
+pub name_taken : (Large : Type 0) (p : Program) (file : List ℕ) (offset : ℕ) (earlier names : List (List ℕ)) (name : List ℕ) (e : Failure LinkFault)
     → TellsEndOrLarge Large p (claim file offset (differs earlier name) ∷ []) e → TellsEndOrLarge Large p (claim file offset (differs (earlier ++ names) name) ∷ []) e
-name_taken Large p file offset earlier names name (Refused r) (inl h) = inl ((λ meets. h.0 (λ has. meets (Contains-append_left earlier names name has))), h.1)
-name_taken Large p file offset earlier names name (Refused r) (inr h) = absurd h.1
+name_taken Large p file offset earlier names name (Cause (Refused r)) (inl h) = inl ((λ meets. h.0 (λ has. meets (Contains-append_left earlier names name has))), h.1)
+name_taken Large p file offset earlier names name (Cause (Refused r)) (inr h) = absurd h.1
 name_taken Large p file offset earlier names name _ h = h
 
 pub name_new : (p : Program) (file : List ℕ) (offset : ℕ) (earlier names : List (List ℕ)) (name : List ℕ) → (Contains names name → ⊥)
@@ -38,7 +40,7 @@ name_new p file offset earlier names name none met =
       | inr h ↦ none h
     ])
 
-pub names_told : {X : Type 0} (Large : Type 0) (p : Program) (file : List ℕ) (offset : ℕ) (earlier names : List (List ℕ)) (name : List ℕ) (r : Result X LinkEnd) → (Contains names name → ⊥)
+pub names_told : {X : Type 0} (Large : Type 0) (p : Program) (file : List ℕ) (offset : ℕ) (earlier names : List (List ℕ)) (name : List ℕ) (r : Result X (Failure LinkFault)) → (Contains names name → ⊥)
     → TellsClaimsOrLarge Large p (claim file offset (differs earlier name) ∷ []) r → TellsClaimsOrLarge Large p (claim file offset (differs (earlier ++ names) name) ∷ []) r
 names_told Large p file offset earlier names name (Ok x) none told = name_new p file offset earlier names name none told
 names_told Large p file offset earlier names name (Err e) none told = name_taken Large p file offset earlier names name e told
@@ -131,7 +133,7 @@ module _ (p : Program) (names earlier new : List (List ℕ)) (files : List Named
   next_file more met =
       left_as p _ _ _ (ap (λ (ns : List (List ℕ)). file_claims names ns (drop (i + 1) files)) (sym more)) (left_step p _ (claim f.file (this_class_offset f.class) (differs (earlier ++ names) (file_name f)) ∷ []) _ at_file met)
 
-  pub stop_file : (Large : Type 0) (e : LinkEnd) → TellsEndOrLarge Large p (claim f.file (this_class_offset f.class) (differs (earlier ++ names) (file_name f)) ∷ []) e → TellsEndOrLarge Large p (file_claims names [] files) e
+  pub stop_file : (Large : Type 0) (e : Failure LinkFault) → TellsEndOrLarge Large p (claim f.file (this_class_offset f.class) (differs (earlier ++ names) (file_name f)) ∷ []) e → TellsEndOrLarge Large p (file_claims names [] files) e
   stop_file Large e h = left_stop Large p _ (claim f.file (this_class_offset f.class) (differs (earlier ++ names) (file_name f)) ∷ []) _ e at_file h
 
 -- ---- the claims on names of stubs, one after the other
@@ -172,7 +174,7 @@ module _ (p : Program) (source : StubSource) (first earlier new : List (List ℕ
   pub next_stub : new ≡ earlier ++ map stub_name (one_from source c) → AreMet p (stub_claims earlier (one_from source c)) → Left p (stub_claims first (own_from source stubs)) (stub_claims new rest)
   next_stub more met = left_as p _ _ _ (ap (λ (ns : List (List ℕ)). stub_claims ns rest) (sym more)) (left_step p _ (stub_claims earlier (one_from source c)) _ at_stub met)
 
-  pub stop_stub : (Large : Type 0) (e : LinkEnd) → TellsEndOrLarge Large p (stub_claims earlier (one_from source c)) e → TellsEndOrLarge Large p (stub_claims first (own_from source stubs)) e
+  pub stop_stub : (Large : Type 0) (e : Failure LinkFault) → TellsEndOrLarge Large p (stub_claims earlier (one_from source c)) e → TellsEndOrLarge Large p (stub_claims first (own_from source stubs)) e
   stop_stub Large e h = left_stop Large p _ (stub_claims earlier (one_from source c)) _ e at_stub h
 
 -- ---- first those that are there from the start, and then those of the user's files
@@ -187,10 +189,10 @@ module _ (p : Program) (stubs : List StubClass) (none : List (List ℕ)) (empty 
   both : stub_claims none base ++ stub_claims (none ++ map stub_name base) user ≡ stub_claims [] (base_first (own_classes stubs))
   both = ap (λ (ns : List (List ℕ)). stub_claims ns base ++ stub_claims (ns ++ map stub_name base) user) empty ∙ sym (stub_claims-append [] base user)
 
-  pub base_stop : (Large : Type 0) (e : LinkEnd) → TellsEndOrLarge Large p (stub_claims none base) e → TellsEndOrLarge Large p (stub_claims [] (base_first (own_classes stubs))) e
+  pub base_stop : (Large : Type 0) (e : Failure LinkFault) → TellsEndOrLarge Large p (stub_claims none base) e → TellsEndOrLarge Large p (stub_claims [] (base_first (own_classes stubs))) e
   base_stop Large e h = subst (λ (cs : List Claim). TellsEndOrLarge Large p cs e) both (end_front Large p (stub_claims none base) (stub_claims (none ++ map stub_name base) user) e h)
 
-  pub user_told : {X : Type 0} (Large : Type 0) (earlier : List (List ℕ)) (r : Result X LinkEnd) → earlier ≡ none ++ map stub_name base → AreMet p (stub_claims none base) → TellsClaimsOrLarge Large p (stub_claims earlier user) r
+  pub user_told : {X : Type 0} (Large : Type 0) (earlier : List (List ℕ)) (r : Result X (Failure LinkFault)) → earlier ≡ none ++ map stub_name base → AreMet p (stub_claims none base) → TellsClaimsOrLarge Large p (stub_claims earlier user) r
       → TellsClaimsOrLarge Large p (stub_claims [] (base_first (own_classes stubs))) r
   user_told Large earlier r is met h =
       subst (λ (cs : List Claim). TellsClaimsOrLarge Large p cs r) both

@@ -7,8 +7,10 @@ use Rattle.std.proofs.lemmas.Option.{same_Some, none-some}
 use Rattle.jvm_model.specs.declared.reason.Refusal.{Refusal}
 use Rattle.jvm_model.specs.Linking.{Claim, Demand, differs, is_there, of_kind, no_cycle, AreMet, IsFirstUnmet, Meets}
 use Rattle.jvm_model.specs.Programs.{Class, Program}
-use Rattle.linked_program.specs.declared.link_end.LinkEnd.{LinkEnd}
-use Rattle.linked_program.specs.declared.link_end.LinkEnd.TheVariants.{Refused}
+use Rattle.failure.specs.declared.Failure.{Failure}
+use Rattle.linked_program.specs.declared.link_failure.LinkFault.{LinkFault}
+use Rattle.failure.specs.declared.Failure.TheVariants.{Cause}
+use Rattle.linked_program.specs.declared.link_failure.LinkFault.TheVariants.{Refused}
 use Rattle.linking.specs.Claims.{TellsEndOrLarge, TellsClaimsOrLarge, known_class, known_classes, known_program, known_part, Knows, IsKnownAs, IsFlat}
 use Rattle.class_index.specs.FirstPlaces.{StandsNowhere}
 use Rattle.class_index.proofs.OrderPlaces.{contains_at, place_of}
@@ -78,11 +80,11 @@ unmet_same p q r (c ∷ claims) same flat (inl h) = inl ((λ meets. h.0 (same.fr
 unmet_same p q r (c ∷ claims) same flat (inr h) =
     inr (same.to c.demand (All-head IsFlatClaim c claims flat) h.0, unmet_same p q r claims same (All-tail IsFlatClaim c claims flat) h.1)
 
-pub end_same : (Large : Type 0) (p q : Program) (claims : List Claim) (e : LinkEnd) → SameDemands p q → All IsFlatClaim claims → TellsEndOrLarge Large p claims e → TellsEndOrLarge Large q claims e
-end_same Large p q claims (Refused r) same flat h = unmet_same p q r claims same flat h
+pub end_same : (Large : Type 0) (p q : Program) (claims : List Claim) (e : Failure LinkFault) → SameDemands p q → All IsFlatClaim claims → TellsEndOrLarge Large p claims e → TellsEndOrLarge Large q claims e
+end_same Large p q claims (Cause (Refused r)) same flat h = unmet_same p q r claims same flat h
 end_same Large p q claims _ same flat h = h
 
-pub tells_same : {X : Type 0} (Large : Type 0) (p q : Program) (claims : List Claim) (r : Result X LinkEnd) → SameDemands p q → All IsFlatClaim claims → TellsClaimsOrLarge Large p claims r → TellsClaimsOrLarge Large q claims r
+pub tells_same : {X : Type 0} (Large : Type 0) (p q : Program) (claims : List Claim) (r : Result X (Failure LinkFault)) → SameDemands p q → All IsFlatClaim claims → TellsClaimsOrLarge Large p claims r → TellsClaimsOrLarge Large q claims r
 tells_same Large p q claims (Ok x) same flat h = all_met_same p q claims same flat h
 tells_same Large p q claims (Err e) same flat h = end_same Large p q claims e same flat h
 

@@ -1,5 +1,5 @@
 -- More than 32 bits can number: of what an index tells, and of what linking is given.
-use Rattle.std.proofs.Common.{◌≡◌, ℕ, ◌+◌, ◌*◌, ◌<◌, ◌≤◌, Bool, true, false, cond, not, List, [], ◌∷◌, ◌++◌, length, map, filter, drop, get_or, All, Contains, Result, Err, refl, sym, ◌∙◌, ap, subst, inl, inr, arith, length-append}
+use Rattle.std.proofs.Common.{◌≡◌, ℕ, ◌+◌, ◌*◌, ◌<◌, ◌≤◌, Bool, true, false, cond, not, List, [], ◌∷◌, ◌++◌, length, map, filter, drop, get_or, All, Contains, Result, Ok, Err, IfErr, MatchResult, refl, sym, ◌∙◌, ap, subst, inl, inr, arith, length-append}
 use Rattle.std.specs.List.{list_any}
 use Rattle.std.specs.Str.{bytes_eq}
 use Rattle.std.proofs.lemmas.List.{append-nil, length-map, map-append}
@@ -13,13 +13,16 @@ use Rattle.jvm_model.specs.Access.{has_flag}
 use Rattle.jvm_model.specs.Linking.{Claim, Description, is_base_stub, own_classes, stub_descriptions, with_description, with_descriptions}
 use Rattle.jvm_model.specs.Programs.{Program}
 use Rattle.jvm_model.specs.Stubs.{is_same_method}
-use Rattle.class_index.specs.declared.index_error.IndexError.{IndexError}
-use Rattle.class_index.specs.declared.index_error.IndexError.TheVariants.{TooMany, Memory}
-use Rattle.class_index.specs.Limits.{AreTooMany}
+use Rattle.failure.specs.declared.Failure.{Failure}
+use Rattle.failure.specs.declared.Failure.TheVariants.{Cause, OutOfMemory}
+use Rattle.failure.specs.Widening.{IsWidened}
+use Rattle.class_index.specs.declared.index_failure.TooMany.{TooMany}
+use Rattle.class_index.specs.Limits.{AreTooMany, too_many}
 use Rattle.class_index.specs.MemberKeys.{Key, key_texts}
 use Rattle.class_index.specs.TextNumbers.{Extends, with_text, with_texts}
 use Rattle.class_index.proofs.OrderPlaces.{contains_cases, contains_first, contains_later, contains_none}
-use Rattle.linked_program.specs.LinkEnds.{end_of}
+use Rattle.linked_program.specs.declared.link_failure.LinkFault.{LinkFault}
+use Rattle.linked_program.specs.declared.link_failure.LinkFault.TheVariants as faults
 use Rattle.linked_program.specs.MemberLists.{AreTooManyKeys}
 use Rattle.linked_program.proofs.MembersTold.{many_keys_more}
 use Rattle.linking.specs.declared.class_names.StubSource.TheVariants.{Base, User}
@@ -32,18 +35,31 @@ use Rattle.linking.proofs.Building.{same_key, with_step}
 
 -- ---- what an index tells
 
-pub error_told : {X : Type 0} (Large : Type 0) (e : IndexError) → (◌≡◌ {A = Result X IndexError} (Err e) (Err TooMany) → Large) → TellsTooMany Large e
-error_told Large TooMany large = large refl
-error_told Large Memory large = tt
+pub error_told : {X : Type 0} (Large : Type 0) (e : Failure TooMany) → (◌≡◌ {A = Result X (Failure TooMany)} (Err e) (Err (Cause too_many)) → Large) → TellsTooMany Large e
+error_told Large (Cause _) large = large refl
+error_told Large OutOfMemory large = tt
 
-pub error_more : (Large More : Type 0) (e : IndexError) → (Large → More) → TellsTooMany Large e → TellsTooMany More e
-error_more Large More TooMany more told = more told
-error_more Large More Memory more told = tt
+pub error_more : (Large More : Type 0) (e : Failure TooMany) → (Large → More) → TellsTooMany Large e → TellsTooMany More e
+error_more Large More (Cause _) more told = more told
+error_more Large More OutOfMemory more told = tt
 
--- as an end of linking
-pub error_end : (Large : Type 0) (p : Program) (claims : List Claim) (e : IndexError) → TellsTooMany Large e → TellsEndOrLarge Large p claims (end_of e)
-error_end Large p claims TooMany told = told
-error_end Large p claims Memory told = tt
+-- as a failure of linking
+pub error_end : (Large : Type 0) (p : Program) (claims : List Claim) (e : Failure TooMany) (end : Failure LinkFault) → IsWidened (λ _ fault. fault ≡ faults.TooMany) e end → TellsTooMany Large e → TellsEndOrLarge Large p claims end
+error_end Large p claims (Cause _) (Cause fault) is told = subst (λ (f : LinkFault). TellsEndOrLarge Large p claims (Cause f)) (sym is) told
+error_end Large p claims (Cause _) OutOfMemory is told = absurd is
+error_end Large p claims OutOfMemory (Cause _) is told = absurd is
+error_end Large p claims OutOfMemory OutOfMemory is told = tt
+
+-- the same of an answer whose failure is handed on
+pub errors_more : {X : Type 0} (Large More : Type 0) (r : Result X (Failure TooMany)) → (Large → More) → IfErr r (TellsTooMany Large) → IfErr r (TellsTooMany More)
+errors_more Large More (Ok x) more told = tt
+errors_more Large More (Err e) more told = error_more Large More e more told
+
+pub handed_end : {X : Type 0} (Large : Type 0) (p : Program) (claims : List Claim) (r : Result X (Failure TooMany)) (end : Failure LinkFault)
+    → MatchResult r (λ x. ◌≡◌ {A = Result X (Failure LinkFault)} (Err end) (Ok x)) (λ e. IsWidened (λ _ fault. fault ≡ faults.TooMany) e end) → IfErr r (TellsTooMany Large)
+    → TellsEndOrLarge Large p claims end
+handed_end Large p claims (Ok x) end cases told = absurd (cc cases)
+handed_end Large p claims (Err e) end cases told = error_end Large p claims e end cases told
 
 -- ---- lists of which a front is too long
 

@@ -1,5 +1,5 @@
 -- From the checks and the program that is put together to what linking gives.
-use Rattle.std.proofs.Common.{◌+◌, ◌<◌, List, [], ◌∷◌, ◌++◌, length, map, All, Contains, IfOk, Ok, Err, Result, refl, sym, ap, subst, arith}
+use Rattle.std.proofs.Common.{◌≡◌, ◌+◌, ◌<◌, List, [], ◌∷◌, ◌++◌, length, map, All, Contains, IfOk, IfErr, MatchResult, Ok, Err, Result, refl, sym, ap, subst, arith}
 use Rattle.std.specs.List.Sorted.{IsSorted}
 use Rattle.std.specs.declared.cmp.Ordering.{Ordering}
 use Rattle.std.proofs.lemmas.List.{get_or-map, length-map}
@@ -12,12 +12,13 @@ use Rattle.jvm_model.specs.LinkedPrograms.{HasStubClasses}
 use Rattle.jvm_model.specs.Linking.{AreMet, barred, Claim, class_from, cycle_claim, folder_origin, IsFileOrder, IsOrder, kind_claims, linked, name_claims, origins, own_classes, program_from, stub_origin, there_claims}
 use Rattle.jvm_model.specs.Programs.{Program}
 use Rattle.jvm_model.specs.Stubs.{class_of_stub}
-use Rattle.class_index.specs.declared.index_error.IndexError.{IndexError}
-use Rattle.class_index.specs.declared.index_error.IndexError.TheVariants as index
-use Rattle.linked_program.specs.declared.link_end.LinkEnd.{LinkEnd}
-use Rattle.linked_program.specs.declared.link_end.LinkEnd.TheVariants.{Refused, TooMany, Memory}
+use Rattle.failure.specs.Widening.{IsWidened}
+use Rattle.class_index.specs.declared.index_failure.TooMany.{TooMany as TooManyItems}
+use Rattle.failure.specs.declared.Failure.{Failure}
+use Rattle.linked_program.specs.declared.link_failure.LinkFault.{LinkFault}
+use Rattle.failure.specs.declared.Failure.TheVariants.{Cause, OutOfMemory}
+use Rattle.linked_program.specs.declared.link_failure.LinkFault.TheVariants.{Refused, TooMany}
 use Rattle.linked_program.specs.Assembling.{Assembles}
-use Rattle.linked_program.specs.LinkEnds.{end_of}
 use Rattle.linked_program.specs.Whole.{IsLinkable}
 use Rattle.linked_program.proofs.Assembled.{all_from}
 use Rattle.linked_program.proofs.Bridges.{map_to}
@@ -53,11 +54,11 @@ large_in_order files ordered stubs is (in_program order in_order' large) =
     in_program order (record { same = IsPermutation-trans (origins files stubs) (origins ordered stubs) order moved in_order'.same; sorted = in_order'.sorted }) large
 
 -- What is told of class files in the order of their files is told of them in each order.
-pub told_in_order : (files ordered : List NamedClass) (stubs : List StubClass) → IsFileOrder files ordered → (r : Result Program LinkEnd) → TellsLinkInOrder ordered stubs r → TellsLink files stubs r
+pub told_in_order : (files ordered : List NamedClass) (stubs : List StubClass) → IsFileOrder files ordered → (r : Result Program (Failure LinkFault)) → TellsLinkInOrder ordered stubs r → TellsLink files stubs r
 told_in_order files ordered stubs is (Ok p) told = record { ordered = ordered; by_file = is; links = told }
-told_in_order files ordered stubs is (Err (Refused refusal)) told = record { ordered = ordered; by_file = is; links = told }
-told_in_order files ordered stubs is (Err TooMany) told = large_in_order files ordered stubs is told
-told_in_order files ordered stubs is (Err Memory) told = tt
+told_in_order files ordered stubs is (Err (Cause (Refused refusal))) told = record { ordered = ordered; by_file = is; links = told }
+told_in_order files ordered stubs is (Err (Cause TooMany)) told = large_in_order files ordered stubs is told
+told_in_order files ordered stubs is (Err OutOfMemory) told = tt
 
 -- ---- the program, or the first demand that is not met
 
@@ -75,19 +76,27 @@ module _ (files : List NamedClass) (stubs : List StubClass) where
   all_flat = All-append IsFlatClaim (ns ++ ts) ks (All-append IsFlatClaim ns ts (names_flat files (own_classes stubs)) (there_flat files stubs)) (kind_flat files (own_classes stubs))
 
   -- a check that fails bars the program in each order
-  pub link_barred : (end : LinkEnd) → TellsEndOrLarge (IsTooLargeInput files stubs) (unsorted files stubs) (flat_claims files stubs) end → TellsLinkInOrder files stubs (Err end)
-  link_barred (Refused refusal) told =
+  pub link_barred : (end : Failure LinkFault) → TellsEndOrLarge (IsTooLargeInput files stubs) (unsorted files stubs) (flat_claims files stubs) end → TellsLinkInOrder files stubs (Err end)
+  link_barred (Cause (Refused refusal)) told =
       let order = exists_order (origins files stubs) in
       let p = program_from order.0 in
-      let here = end_same (IsTooLargeInput files stubs) (unsorted files stubs) p (flat_claims files stubs) (Refused refusal) (ordered_same (origins files stubs) order.0 order.1) all_flat told in
+      let here = end_same (IsTooLargeInput files stubs) (unsorted files stubs) p (flat_claims files stubs) (Cause (Refused refusal)) (ordered_same (origins files stubs) order.0 order.1) all_flat told in
       barred order.0 refusal order.1 (unmet_front p refusal (flat_claims files stubs) (map cycle_claim order.0) here) refl
-  link_barred TooMany told = told
-  link_barred Memory told = tt
+  link_barred (Cause TooMany) told = told
+  link_barred OutOfMemory told = tt
 
   -- and so does an index that is full
-  pub index_barred : (e : IndexError) → TellsTooMany (IsTooLargeInput files stubs) e → TellsLinkInOrder files stubs (Err (end_of e))
-  index_barred index.TooMany told = told
-  index_barred index.Memory told = tt
+  pub index_barred : (e : Failure TooManyItems) (end : Failure LinkFault) → IsWidened (λ _ fault. fault ≡ TooMany) e end → TellsTooMany (IsTooLargeInput files stubs) e → TellsLinkInOrder files stubs (Err end)
+  index_barred (Cause _) (Cause fault) is told = subst (λ (f : LinkFault). TellsLinkInOrder files stubs (Err (Cause f))) (sym is) told
+  index_barred (Cause _) OutOfMemory is told = absurd is
+  index_barred OutOfMemory (Cause _) is told = absurd is
+  index_barred OutOfMemory OutOfMemory is told = tt
+
+  pub handed_barred : {X : Type 0} (r : Result X (Failure TooManyItems)) (end : Failure LinkFault)
+      → MatchResult r (λ x. ◌≡◌ {A = Result X (Failure LinkFault)} (Err end) (Ok x)) (λ e. IsWidened (λ _ fault. fault ≡ TooMany) e end) → IfErr r (TellsTooMany (IsTooLargeInput files stubs))
+      → TellsLinkInOrder files stubs (Err end)
+  handed_barred (Ok x) end cases told = absurd (cc cases)
+  handed_barred (Err e) end cases told = index_barred e end cases told
 
   module _ (order : List Origin) (is : IsOrder (origins files stubs) order) (met : AreMet (unsorted files stubs) (flat_claims files stubs)) where
     abbrev p : Program
@@ -100,11 +109,11 @@ module _ (files : List NamedClass) (stubs : List StubClass) where
     is_linkable = linkable files stubs order is (met_back p ns ts (met_front p (ns ++ ts) ks flat_met)) (met_back p (ns ++ ts) ks flat_met) (met_front p ns ts (met_front p (ns ++ ts) ks flat_met))
 
     -- what putting the program together tells is what linking gives
-    pub link_told : (r : Result Program LinkEnd) → Assembles order r → TellsLinkInOrder files stubs r
+    pub link_told : (r : Result Program (Failure LinkFault)) → Assembles order r → TellsLinkInOrder files stubs r
     link_told (Ok q) a = linked order is (met_append p (flat_claims files stubs) (map cycle_claim order) flat_met a.1) (ap Ok a.0)
-    link_told (Err (Refused refusal)) a = barred order refusal is (unmet_back p refusal (flat_claims files stubs) (map cycle_claim order) flat_met a) refl
-    link_told (Err TooMany) a = in_program order is a
-    link_told (Err Memory) a = tt
+    link_told (Err (Cause (Refused refusal))) a = barred order refusal is (unmet_back p refusal (flat_claims files stubs) (map cycle_claim order) flat_met a) refl
+    link_told (Err (Cause TooMany)) a = in_program order is a
+    link_told (Err OutOfMemory) a = tt
 
     -- each stub that is a class of its own is a class of the program
     has_stubs : HasStubClasses p stubs
@@ -113,6 +122,6 @@ module _ (files : List NamedClass) (stubs : List StubClass) where
         map_to class_from order (stub_origin stubs c)
         (in_order (origins files stubs) order is (stub_origin stubs c) (Contains-append_right (map (folder_origin stubs) files) (map (stub_origin stubs) (own_classes stubs)) (stub_origin stubs c) own)))
 
-    pub stubs_told : (r : Result Program LinkEnd) → Assembles order r → IfOk r (λ (q : Program). HasStubClasses q stubs)
+    pub stubs_told : (r : Result Program (Failure LinkFault)) → Assembles order r → IfOk r (λ (q : Program). HasStubClasses q stubs)
     stubs_told (Ok q) a = subst (λ (q : Program). HasStubClasses q stubs) (sym a.0) has_stubs
     stubs_told (Err end) a = tt

@@ -1,5 +1,5 @@
 -- Public contracts rest on this module.
--- What is told of claims: that all are met, or the first that is not. And what of a program the claims on names and kinds need.
+-- What is reported of claims: that all are met, or the first that is not. And what of a program the claims on names and kinds need.
 use Rattle.std.specs.Prelude.{ℕ, Bool, false, List, [], ◌∷◌, ◌++◌, map, None, Result, Ok, Err, Contains, ◌≡◌, if◌then◌else◌}
 use Rattle.jvm_model.specs.declared.access.AccessFlag.TheVariants.{Interface}
 use Rattle.jvm_model.specs.Access.{has_flag}
@@ -9,30 +9,32 @@ use Rattle.jvm_model.specs.Linking.{Claim, Demand, is_there, of_kind, no_cycle, 
 use Rattle.jvm_model.specs.Programs.{Class, Program, name_of}
 use Rattle.class_index.specs.FirstPlaces.{StandsNowhere}
 use Rattle.class_index.specs.TextNumbers.{with_text}
-use Rattle.linked_program.specs.declared.link_end.LinkEnd.{LinkEnd}
-use Rattle.linked_program.specs.declared.link_end.LinkEnd.TheVariants.{Refused, TooMany, Memory}
+use Rattle.failure.specs.declared.Failure.{Failure}
+use Rattle.linked_program.specs.declared.link_failure.LinkFault.{LinkFault}
+use Rattle.failure.specs.declared.Failure.TheVariants.{Cause, OutOfMemory}
+use Rattle.linked_program.specs.declared.link_failure.LinkFault.TheVariants.{Refused, TooMany}
 use Rattle.linking.specs.declared.supers.SuperRule.{SuperRule}
 use Rattle.linking.specs.declared.supers.SuperRule.TheVariants.{There, Kind}
 
--- ---- what is told
+-- ---- what is reported
 
--- The end tells the first demand that is not met; or that there is too much to number, and this is so. Where memory ran out,
--- nothing is told.
-abbrev pub TellsEndOrLarge : Type 0 → Program → List Claim → LinkEnd → Type 0
-TellsEndOrLarge Large p claims (Refused refusal) = IsFirstUnmet p refusal claims
-TellsEndOrLarge Large p claims TooMany = Large
-TellsEndOrLarge Large p claims Memory = Unit {0}
+-- The failure names the first demand that is not met; or it says that there is too much to number, and this is so. Out of
+-- memory says nothing.
+abbrev pub TellsEndOrLarge : Type 0 → Program → List Claim → Failure LinkFault → Type 0
+TellsEndOrLarge Large p claims (Cause (Refused refusal)) = IsFirstUnmet p refusal claims
+TellsEndOrLarge Large p claims (Cause TooMany) = Large
+TellsEndOrLarge Large p claims OutOfMemory = Unit {0}
 
--- All demands are met, or the end tells why not.
-abbrev pub TellsClaimsOrLarge : {X : Type 0} → Type 0 → Program → List Claim → Result X LinkEnd → Type 0
+-- All demands are met, or the failure says why not.
+abbrev pub TellsClaimsOrLarge : {X : Type 0} → Type 0 → Program → List Claim → Result X (Failure LinkFault) → Type 0
 TellsClaimsOrLarge Large p claims (Ok x) = AreMet p claims
 TellsClaimsOrLarge Large p claims (Err end) = TellsEndOrLarge Large p claims end
 
 -- The same where nothing is numbered.
-abbrev pub TellsEnd : Program → List Claim → LinkEnd → Type 0
+abbrev pub TellsEnd : Program → List Claim → Failure LinkFault → Type 0
 TellsEnd p claims end = TellsEndOrLarge ⊥ p claims end
 
-abbrev pub TellsClaims : {X : Type 0} → Program → List Claim → Result X LinkEnd → Type 0
+abbrev pub TellsClaims : {X : Type 0} → Program → List Claim → Result X (Failure LinkFault) → Type 0
 TellsClaims p claims r = TellsClaimsOrLarge ⊥ p claims r
 
 -- ---- the program, and what is known of it

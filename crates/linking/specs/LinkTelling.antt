@@ -1,5 +1,5 @@
 -- Public contracts rest on this module.
--- What the call that links tells.
+-- What the call that links answers.
 use Rattle.std.specs.Prelude.{List, ◌++◌, Result, Ok, Err}
 use Rattle.jvm_model.specs.declared.program.NamedClass.{NamedClass}
 use Rattle.jvm_model.specs.declared.reason.Refusal.{Refusal}
@@ -7,23 +7,25 @@ use Rattle.jvm_model.specs.declared.stub.StubClass.{StubClass}
 use Rattle.jvm_model.specs.Linking.{Claim, Links, LinksInOrder, kind_claims, name_claims, own_classes, there_claims}
 use Rattle.jvm_model.specs.Programs.{Program}
 use Rattle.jvm_model.specs.Soundness.{IsChecked}
-use Rattle.linked_program.specs.declared.link_end.LinkEnd.{LinkEnd}
-use Rattle.linked_program.specs.declared.link_end.LinkEnd.TheVariants.{Refused, TooMany, Memory}
+use Rattle.failure.specs.declared.Failure.{Failure}
+use Rattle.linked_program.specs.declared.link_failure.LinkFault.{LinkFault}
+use Rattle.failure.specs.declared.Failure.TheVariants.{Cause, OutOfMemory}
+use Rattle.linked_program.specs.declared.link_failure.LinkFault.TheVariants.{Refused, TooMany}
 use Rattle.linking.specs.TooLarge.{IsTooLargeInput}
 
--- The call tells the outcome, which is a program or the first demand that is not met; or that there is too much to number, and
--- this is so; or memory ran out.
-abbrev pub TellsOutcome : (Result Program Refusal → Type 0) → Type 0 → Result Program LinkEnd → Type 0
+-- The call gives the outcome, which is a program or the first demand that is not met; or it says that there is too much to
+-- number, and this is so; or out of memory.
+abbrev pub TellsOutcome : (Result Program Refusal → Type 0) → Type 0 → Result Program (Failure LinkFault) → Type 0
 TellsOutcome IsOutcome Large (Ok p) = IsOutcome (Ok p)
-TellsOutcome IsOutcome Large (Err (Refused refusal)) = IsOutcome (Err refusal)
-TellsOutcome IsOutcome Large (Err TooMany) = Large
-TellsOutcome IsOutcome Large (Err Memory) = Unit {0}
+TellsOutcome IsOutcome Large (Err (Cause (Refused refusal))) = IsOutcome (Err refusal)
+TellsOutcome IsOutcome Large (Err (Cause TooMany)) = Large
+TellsOutcome IsOutcome Large (Err OutOfMemory) = Unit {0}
 
 -- What linking class files and stubs gives; and what it gives of class files that are in the order of their files.
-abbrev pub TellsLink : List NamedClass → List StubClass → Result Program LinkEnd → Type 0
+abbrev pub TellsLink : List NamedClass → List StubClass → Result Program (Failure LinkFault) → Type 0
 TellsLink files stubs told = TellsOutcome (Links files stubs) (IsTooLargeInput files stubs) told
 
-abbrev pub TellsLinkInOrder : List NamedClass → List StubClass → Result Program LinkEnd → Type 0
+abbrev pub TellsLinkInOrder : List NamedClass → List StubClass → Result Program (Failure LinkFault) → Type 0
 TellsLinkInOrder files stubs told = TellsOutcome (LinksInOrder files stubs) (IsTooLargeInput files stubs) told
 
 -- The class file was checked (JVMS 4.8).

@@ -6,18 +6,19 @@ use Rattle.jvm_model.specs.declared.program.NamedClass.{NamedClass}
 use Rattle.jvm_model.specs.declared.program.Origin.{Origin}
 use Rattle.jvm_model.specs.declared.stub.StubClass.{StubClass}
 use Rattle.jvm_model.specs.Linking.{Description, IsOrder, native_descriptions, origins, own_classes, stub_descriptions}
-use Rattle.class_index.specs.declared.index_error.IndexError.{IndexError}
-use Rattle.class_index.specs.declared.index_error.IndexError.TheVariants.{TooMany, Memory}
+use Rattle.failure.specs.declared.Failure.{Failure}
+use Rattle.failure.specs.declared.Failure.TheVariants.{Cause, OutOfMemory}
+use Rattle.class_index.specs.declared.index_failure.TooMany.{TooMany}
 use Rattle.class_index.specs.Limits.{AreTooMany}
 use Rattle.linked_program.specs.Assembling.{IsTooLarge}
 use Rattle.linked_program.specs.MemberLists.{AreTooManyKeys}
 use Rattle.linking.specs.Claims.{all_names}
 use Rattle.linking.specs.Patching.{is_patch_stub, method_key, native_keys}
 
--- The error says that there is too much to number, and this is so; or that memory ran out.
-abbrev pub TellsTooMany : Type 0 → IndexError → Type 0
-TellsTooMany Large TooMany = Large
-TellsTooMany Large Memory = Unit {0}
+-- The failure says that there is too much to number, and this is so; or out of memory.
+abbrev pub TellsTooMany : Type 0 → Failure TooMany → Type 0
+TellsTooMany Large (Cause _) = Large
+TellsTooMany Large OutOfMemory = Unit {0}
 
 -- ---- what is known of the methods of one class
 

@@ -1,5 +1,5 @@
 //! What linking demands before the classes are put in order: that their names differ, that what they name is there, and that
-//! it is of the right kind (JVMS 5.3, 5.3.5). Each check tells the first demand that is not met.
+//! it is of the right kind (JVMS 5.3, 5.3.5). Each check reports the first demand that is not met.
 
 ghost use Rattle.std.specs.Prelude.{◌≡◌, All};
 ghost use Rattle.linking.specs.Claims.{TellsClaims, TellsClaimsOrLarge, Knows, unsorted};
@@ -12,17 +12,22 @@ use crate::known::Known;
 use crate::mentions::{check_natives, check_stubs};
 use crate::patch_index::Patches;
 use crate::supers::{SuperRule, check_supers_of_files, check_supers_of_stubs};
+use failure::Failure;
 use jvm_model::{NamedClass, StubClass};
-use linked_program::link_end::LinkEnd;
+use linked_program::link_failure::LinkFailure;
 use std::alloc::Global;
 
 /// The names of all classes differ: of class files among each other and from all stubs; and then of stubs among each other, those
 /// that are there from the start first.
-pub fn check_names(alloc: Global, files: &[NamedClass], stubs: &[StubClass]) -> Result<(), LinkEnd>
+pub fn check_names(
+    alloc: Global,
+    files: &[NamedClass],
+    stubs: &[StubClass],
+) -> Result<(), LinkFailure>
     requires { All IsSoundFile files.now }
     ensures { TellsClaimsOrLarge (IsTooLargeInput files.now stubs.now) (unsorted files.now stubs.now) (name_claims files.now (own_classes stubs.now)) result }
 {
-    let others = stub_names(alloc, stubs)?;
+    let others = stub_names(alloc, stubs).map_err(Failure::widen)?;
     check_file_names(alloc, &others, files)?;
     check_stub_names(alloc, stubs)
 }
@@ -35,7 +40,7 @@ pub fn check_presence(
     patches: &Patches<'_>,
     files: &[NamedClass],
     stubs: &[StubClass],
-) -> Result<(), LinkEnd>
+) -> Result<(), LinkFailure>
     requires known { Knows known.now (unsorted files.now stubs.now) }
     requires patches { patches.now ≡ stubs.now }
     requires files { All IsSoundFile files.now }
@@ -52,7 +57,7 @@ pub fn check_kinds(
     known: &Known,
     files: &[NamedClass],
     stubs: &[StubClass],
-) -> Result<(), LinkEnd>
+) -> Result<(), LinkFailure>
     requires known { Knows known.now (unsorted files.now stubs.now) }
     requires files { All IsSoundFile files.now }
     ensures { TellsClaims (unsorted files.now stubs.now) (kind_claims files.now (own_classes stubs.now)) result }
@@ -65,6 +70,7 @@ pub fn check_kinds(
 mod tests {
     use super::*;
     use jvm_model::{Bytes, Name, Reason, Sequence};
+    use linked_program::link_failure::LinkFault;
     use std::alloc::AllocError;
     use std::test::Fail;
 
@@ -85,12 +91,12 @@ mod tests {
         })
     }
 
-    fn reason_of(outcome: Result<(), LinkEnd>) -> Option<Reason> {
+    fn reason_of(outcome: Result<(), LinkFailure>) -> Option<Reason> {
         match outcome {
             Ok(()) => None,
-            Err(LinkEnd::Refused(refusal)) => Some(refusal.reason),
-            Err(LinkEnd::TooMany) => None,
-            Err(LinkEnd::Memory) => None,
+            Err(Failure::Cause(LinkFault::Refused(refusal))) => Some(refusal.reason),
+            Err(Failure::Cause(LinkFault::TooMany)) => None,
+            Err(Failure::OutOfMemory) => None,
         }
     }
 

@@ -11,12 +11,13 @@ ghost use Rattle.jvm_model.specs.Linking.{base_first, claim, differs, file_claim
 ghost use Rattle.jvm_model.specs.Programs.{Program};
 ghost use Rattle.jvm_model.specs.Soundness.{this_class_offset};
 
-use class_index::index_error::IndexError;
+use class_index::index_failure::IndexFailure;
 use class_index::text_index::TextIndex;
 use class_index::texts::class_text;
+use failure::Failure;
 use jvm_model::layout::this_class_offset;
 use jvm_model::{Name, NamedClass, Reason, StubClass};
-use linked_program::link_end::{LinkEnd, refused};
+use linked_program::link_failure::{LinkFailure, refused};
 use std::alloc::Global;
 
 /// Where stubs come from.
@@ -54,8 +55,8 @@ fn is_base_stub(c: &StubClass) -> bool
     c.file.as_str() == "-"
 }
 
-/// The names of the stubs that are classes of their own. The error is `TooMany` only where there are 2^32 - 1 of these or more.
-pub(crate) fn stub_names(alloc: Global, stubs: &[StubClass]) -> Result<TextIndex, IndexError>
+/// The names of the stubs that are classes of their own. The failure is `TooMany` only where there are 2^32 - 1 of these or more.
+pub(crate) fn stub_names(alloc: Global, stubs: &[StubClass]) -> Result<TextIndex, IndexFailure>
     ensures names { IfOk result (λ names. names ≡ with_own_names [] stubs.now) }
     ensures too_many { IfErr result (TellsTooMany (AreTooMany (own_classes stubs.now))) }
 {
@@ -67,7 +68,7 @@ pub(crate) fn stub_names(alloc: Global, stubs: &[StubClass]) -> Result<TextIndex
 }
 
 /// Adds the name of a stub that is a class of its own.
-fn add_own(names: &mut TextIndex, c: &StubClass) -> Result<(), IndexError>
+fn add_own(names: &mut TextIndex, c: &StubClass) -> Result<(), IndexFailure>
     ensures added { OnOk result (names.new ≡ with_own_names names.old (c.now ∷ [])) }
     ensures too_many { IfErr result (TellsTooMany (AreTooMany names.old)) }
 {
@@ -83,7 +84,7 @@ pub(crate) fn check_file_names(
     alloc: Global,
     others: &TextIndex,
     files: &[NamedClass],
-) -> Result<(), LinkEnd>
+) -> Result<(), LinkFailure>
     requires { All IsSoundFile files.now }
     ensures { (p : Program) (names : List (List ℕ)) → HasTextsOf others.now names → TellsClaimsOrLarge (AreTooMany files.now) p (file_claims names [] files.now) result }
 {
@@ -100,7 +101,7 @@ fn check_file_name(
     others: &TextIndex,
     earlier: &mut TextIndex,
     f: &NamedClass,
-) -> Result<(), LinkEnd>
+) -> Result<(), LinkFailure>
     requires { IsSoundFile f.now }
     ensures added { OnOk result (earlier.new ≡ earlier.old ++ file_name f.now ∷ []) }
     ensures told { (p : Program) (names : List (List ℕ)) → HasTextsOf others.now names
@@ -116,7 +117,7 @@ fn check_file_name(
 
 /// The names of stubs that are classes of their own differ from those of earlier ones, where those that are there from the start
 /// come first.
-pub(crate) fn check_stub_names(alloc: Global, stubs: &[StubClass]) -> Result<(), LinkEnd>
+pub(crate) fn check_stub_names(alloc: Global, stubs: &[StubClass]) -> Result<(), LinkFailure>
     ensures { (p : Program) → TellsClaimsOrLarge (AreTooMany (own_classes stubs.now)) p (stub_claims [] (base_first (own_classes stubs.now))) result }
 {
     let mut earlier = TextIndex::new(alloc);
@@ -130,7 +131,7 @@ fn check_names_from(
     source: StubSource,
     earlier: &mut TextIndex,
     stubs: &[StubClass],
-) -> Result<(), LinkEnd>
+) -> Result<(), LinkFailure>
     ensures added { OnOk result (earlier.new ≡ earlier.old ++ map stub_name (own_from source stubs.now)) }
     ensures told { (p : Program) → TellsClaimsOrLarge (AreTooMany (earlier.old ++ map stub_name (own_from source stubs.now))) p
         (stub_claims earlier.old (own_from source stubs.now)) result }
@@ -147,7 +148,7 @@ fn check_stub_name(
     source: StubSource,
     earlier: &mut TextIndex,
     c: &StubClass,
-) -> Result<(), LinkEnd>
+) -> Result<(), LinkFailure>
     ensures added { OnOk result (earlier.new ≡ earlier.old ++ map stub_name (one_from source c.now)) }
     ensures told { (p : Program) → TellsClaimsOrLarge (AreTooMany earlier.old) p (stub_claims earlier.old (one_from source c.now)) result }
 {
@@ -165,18 +166,18 @@ fn add_name(
     name: &[u8],
     file: &Name,
     offset: u32,
-) -> Result<(), LinkEnd>
+) -> Result<(), LinkFailure>
     ensures added { OnOk result (earlier.new ≡ earlier.old ++ name.now ∷ []) }
     ensures told { (p : Program) → TellsClaimsOrLarge (AreTooMany earlier.old) p (claim file.now offset (differs earlier.old name.now) ∷ []) result }
 {
     match earlier.find(name) {
         Some(_) => Err(refused(alloc, file, offset, Reason::DuplicateClass)),
-        None => Ok(add_new_name(earlier, name)?),
+        None => add_new_name(earlier, name).map_err(Failure::widen),
     }
 }
 
 /// Adds a name that is not there.
-fn add_new_name(earlier: &mut TextIndex, name: &[u8]) -> Result<(), IndexError>
+fn add_new_name(earlier: &mut TextIndex, name: &[u8]) -> Result<(), IndexFailure>
     requires { StandsNowhere earlier.old name.now }
     ensures added { OnOk result (earlier.new ≡ earlier.old ++ name.now ∷ []) }
     ensures too_many { IfErr result (TellsTooMany (AreTooMany earlier.old)) }

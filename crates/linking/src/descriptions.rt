@@ -8,7 +8,7 @@ ghost use Rattle.jvm_model.specs.Linking.{with_description, with_descriptions, d
 ghost use Rattle.jvm_model.specs.Stubs.{stub_signature};
 
 use crate::keys::{signature_key, stub_signature};
-use class_index::index_error::IndexError;
+use class_index::index_failure::IndexFailure;
 use class_index::member_index::MemberIndex;
 use class_index::member_key::MemberKey;
 use jvm_model::{Name, StubClass, StubMethod};
@@ -67,7 +67,7 @@ impl<'a> Descriptions<'a> {
     }
 
     /// Adds a description last.
-    fn push(&mut self, described: Described<'a>) -> Result<(), IndexError>
+    fn push(&mut self, described: Described<'a>) -> Result<(), IndexFailure>
         ensures pushed { OnOk result (self.new ≡ self.old ++ description_of described.entry ∷ []) }
         ensures too_many { IfErr result (TellsTooMany (AreTooManyDescriptions (self.old ++ description_of described.entry ∷ []))) }
     {
@@ -80,8 +80,8 @@ impl<'a> Descriptions<'a> {
     }
 
     /// Adds a description. It takes the place of an earlier one of its name and descriptor, and else comes last. The time is
-    /// linear in these texts. The error is `TooMany` where the descriptions, or the texts in them, have no more numbers.
-    pub fn add(&mut self, described: Described<'a>) -> Result<(), IndexError>
+    /// linear in these texts. The failure is `TooMany` where the descriptions, or the texts in them, have no more numbers.
+    pub fn add(&mut self, described: Described<'a>) -> Result<(), IndexFailure>
         ensures added { OnOk result (self.new ≡ with_description self.old (description_of described.entry)) }
         ensures too_many { IfErr result (TellsTooMany (AreTooManyDescriptions (with_description self.old (description_of described.entry)))) }
     {
@@ -95,7 +95,7 @@ impl<'a> Descriptions<'a> {
     }
 
     /// Adds all that a stub says, in its order. The errors are those of `add`.
-    pub fn add_all(&mut self, stub: &'a StubClass) -> Result<(), IndexError>
+    pub fn add_all(&mut self, stub: &'a StubClass) -> Result<(), IndexFailure>
         ensures added { OnOk result (self.new ≡ with_descriptions self.old (descriptions stub.entry.now)) }
         ensures too_many { IfErr result (TellsTooMany (AreTooManyDescriptions (with_descriptions self.old (descriptions stub.entry.now)))) }
     {
@@ -109,7 +109,7 @@ impl<'a> Descriptions<'a> {
     }
 
     /// What a stub says, in its order, also where it says it twice. The errors are those of `add`.
-    pub fn of(alloc: Global, stub: &'a StubClass) -> Result<Self, IndexError>
+    pub fn of(alloc: Global, stub: &'a StubClass) -> Result<Self, IndexFailure>
         ensures all { IfOk result (λ all. all ≡ descriptions stub.entry.now) }
         ensures too_many { IfErr result (TellsTooMany (AreTooManyDescriptions (descriptions stub.entry.now))) }
     {

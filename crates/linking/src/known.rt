@@ -7,7 +7,7 @@ ghost use Rattle.class_index.specs.FirstPlaces.{StandsNowhere};
 ghost use Rattle.class_index.specs.Limits.{AreTooMany};
 ghost use Rattle.jvm_model.specs.Linking.{Meets, is_there, own_classes};
 
-use class_index::index_error::IndexError;
+use class_index::index_failure::IndexFailure;
 use class_index::text_index::TextIndex;
 use class_index::texts::class_text;
 use jvm_model::{AccessFlag, NamedClass, StubClass};
@@ -44,13 +44,13 @@ impl Known {
     }
 }
 
-/// The classes of class files, and of stubs that are classes of their own. The error is `TooMany` only where there are 2^32 - 1
+/// The classes of class files, and of stubs that are classes of their own. The failure is `TooMany` only where there are 2^32 - 1
 /// classes or more.
 pub fn known_classes(
     alloc: Global,
     files: &[NamedClass],
     stubs: &[StubClass],
-) -> Result<Known, IndexError>
+) -> Result<Known, IndexFailure>
     requires { AreNewNames [] (all_names files.now stubs.now) }
     ensures known { IfOk result (λ known. Knows known (unsorted files.now stubs.now)) }
     ensures too_many { IfErr result (TellsTooMany (AreTooMany (all_names files.now stubs.now))) }
@@ -67,7 +67,7 @@ fn add_files(
     names: &mut TextIndex,
     interfaces: &mut Vec<bool>,
     files: &[NamedClass],
-) -> Result<(), IndexError>
+) -> Result<(), IndexFailure>
     requires { AreNewNames names.old (map file_name files.now) }
     ensures names { OnOk result (names.new ≡ names.old ++ map file_name files.now) }
     ensures kinds { OnOk result (interfaces.new.items ≡ interfaces.old.items ++ map file_kind files.now) }
@@ -84,7 +84,7 @@ fn add_file(
     names: &mut TextIndex,
     interfaces: &mut Vec<bool>,
     f: &NamedClass,
-) -> Result<(), IndexError>
+) -> Result<(), IndexFailure>
     requires { AreNewNames names.old (file_name f.now ∷ []) }
     ensures names { OnOk result (names.new ≡ names.old ++ file_name f.now ∷ []) }
     ensures kinds { OnOk result (interfaces.new.items ≡ interfaces.old.items ++ file_kind f.now ∷ []) }
@@ -100,7 +100,7 @@ fn add_stubs(
     names: &mut TextIndex,
     interfaces: &mut Vec<bool>,
     stubs: &[StubClass],
-) -> Result<(), IndexError>
+) -> Result<(), IndexFailure>
     requires { AreNewNames names.old (map stub_name (own_classes stubs.now)) }
     ensures names { OnOk result (names.new ≡ names.old ++ map stub_name (own_classes stubs.now)) }
     ensures kinds { OnOk result (interfaces.new.items ≡ interfaces.old.items ++ map stub_kind (own_classes stubs.now)) }
@@ -117,7 +117,7 @@ fn add_stub(
     names: &mut TextIndex,
     interfaces: &mut Vec<bool>,
     c: &StubClass,
-) -> Result<(), IndexError>
+) -> Result<(), IndexFailure>
     requires { AreNewNames names.old (own_name c.now) }
     ensures names { OnOk result (names.new ≡ names.old ++ own_name c.now) }
     ensures kinds { OnOk result (interfaces.new.items ≡ interfaces.old.items ++ own_kind c.now) }
@@ -135,7 +135,7 @@ fn add_class(
     interfaces: &mut Vec<bool>,
     name: &[u8],
     is_interface: bool,
-) -> Result<(), IndexError>
+) -> Result<(), IndexFailure>
     requires { StandsNowhere names.old name.now }
     ensures names { OnOk result (names.new ≡ names.old ++ name.now ∷ []) }
     ensures kinds { OnOk result (interfaces.new.items ≡ interfaces.old.items ++ is_interface ∷ []) }

@@ -14,8 +14,9 @@ use crate::claims::{check_kinds, check_names, check_presence};
 use crate::known::known_classes;
 use crate::origins::origins;
 use crate::patch_index::Patches;
+use failure::Failure;
 use jvm_model::{NamedClass, Origin, StubClass};
-use linked_program::link_end::LinkEnd;
+use linked_program::link_failure::LinkFailure;
 use linked_program::origin::name;
 use linked_program::program::Program;
 use std::alloc::Global;
@@ -34,7 +35,7 @@ use std::cmp::Ordering;
 /// - `Cycle` at the index of the class itself, or at a stub's file, for the class of the least name that is above itself
 ///   (5.3.5).
 ///
-/// What is told at a stub's file has the offset 0. `Memory` is reported out of memory.
+/// What is reported at a stub's file has the offset 0. `OutOfMemory` is reported where an allocation fails.
 ///
 /// `TooMany` is reported only where linking has 2^32 - 1 or more items of a kind to number: the classes; the patches; the methods or
 /// the fields of the program; what stubs say of the methods of one class; or the different names and descriptors in these.
@@ -44,7 +45,7 @@ pub fn link(
     alloc: Global,
     mut classes: Vec<NamedClass>,
     stubs: Vec<StubClass>,
-) -> Result<Program, LinkEnd>
+) -> Result<Program, LinkFailure>
     requires files { All IsSoundFile classes.items }
     requires stubs { All IsSoundStub stubs.items }
     ensures tells { TellsLink classes.items stubs.items result }
@@ -59,26 +60,26 @@ fn link_in_order(
     alloc: Global,
     files: Vec<NamedClass>,
     stubs: Vec<StubClass>,
-) -> Result<Program, LinkEnd>
+) -> Result<Program, LinkFailure>
     requires files { All IsSoundFile files.items }
     requires stubs { All IsSoundStub stubs.items }
     ensures tells { TellsLinkInOrder files.items stubs.items result }
     ensures base { IfOk result (λ p. HasStubClasses p stubs.items) }
 {
     check(alloc, &files, &stubs)?;
-    let mut order = origins(alloc, files, stubs)?;
+    let mut order = origins(alloc, files, stubs).map_err(Failure::widen)?;
     put_in_order(&mut order);
     Program::assemble(alloc, order)
 }
 
 /// What is demanded before the classes are put in order.
-fn check(alloc: Global, files: &[NamedClass], stubs: &[StubClass]) -> Result<(), LinkEnd>
+fn check(alloc: Global, files: &[NamedClass], stubs: &[StubClass]) -> Result<(), LinkFailure>
     requires { All IsSoundFile files.now }
     ensures { TellsClaimsOrLarge (IsTooLargeInput files.now stubs.now) (unsorted files.now stubs.now) (flat_claims files.now stubs.now) result }
 {
     check_names(alloc, files, stubs)?;
-    let known = known_classes(alloc, files, stubs)?;
-    let patches = Patches::new(alloc, stubs)?;
+    let known = known_classes(alloc, files, stubs).map_err(Failure::widen)?;
+    let patches = Patches::new(alloc, stubs).map_err(Failure::widen)?;
     check_presence(alloc, &known, &patches, files, stubs)?;
     check_kinds(alloc, &known, files, stubs)
 }

@@ -12,8 +12,9 @@ use crate::known::Known;
 use crate::patch_index::Patches;
 use crate::patches::{native_descriptions, stub_descriptions};
 use crate::supers::{SuperRule, check_stub_supers, check_there};
+use failure::Failure;
 use jvm_model::{Name, NamedClass, StubClass, StubField, StubMethod, StubResult};
-use linked_program::link_end::LinkEnd;
+use linked_program::link_failure::LinkFailure;
 use std::alloc::Global;
 
 /// The class of the result of a method descriptor, if it is a class (JVMS 4.3.3).
@@ -64,7 +65,7 @@ fn class_in(descriptor: &[u8]) -> Option<&[u8]>
 }
 
 /// A class that a file mentions.
-fn check_mention(alloc: Global, known: &Known, file: &Name, name: &[u8]) -> Result<(), LinkEnd>
+fn check_mention(alloc: Global, known: &Known, file: &Name, name: &[u8]) -> Result<(), LinkFailure>
     ensures { TellsClaims known.now (mention_claim file.now name.now ∷ []) result }
 {
     check_there(alloc, known, name, file, 0)
@@ -77,7 +78,7 @@ fn check_result(
     file: &Name,
     descriptor: &[u8],
     returned: &StubResult,
-) -> Result<(), LinkEnd>
+) -> Result<(), LinkFailure>
     ensures { TellsClaims known.now (map (mention_claim file.now) (result_names descriptor.now returned.now)) result }
 {
     match returned {
@@ -99,7 +100,7 @@ fn check_results(
     known: &Known,
     file: &Name,
     method: &StubMethod,
-) -> Result<(), LinkEnd>
+) -> Result<(), LinkFailure>
     ensures { TellsClaims known.now (map (mention_claim file.now) (flat_map (result_names method.now.descriptor) method.now.returns)) result }
 {
     for returned in method.returns.as_slice() {
@@ -114,7 +115,7 @@ fn check_throws(
     known: &Known,
     file: &Name,
     method: &StubMethod,
-) -> Result<(), LinkEnd>
+) -> Result<(), LinkFailure>
     ensures { TellsClaims known.now (map (mention_claim file.now) method.now.throws) result }
 {
     for name in method.throws.as_slice() {
@@ -129,7 +130,7 @@ fn check_method(
     known: &Known,
     file: &Name,
     method: &StubMethod,
-) -> Result<(), LinkEnd>
+) -> Result<(), LinkFailure>
     ensures { TellsClaims known.now (map (mention_claim file.now) (method_names method.now)) result }
 {
     check_results(alloc, known, file, method)?;
@@ -137,7 +138,11 @@ fn check_method(
 }
 
 /// The classes that descriptions mention.
-fn check_descriptions(alloc: Global, known: &Known, all: &[Described<'_>]) -> Result<(), LinkEnd>
+fn check_descriptions(
+    alloc: Global,
+    known: &Known,
+    all: &[Described<'_>],
+) -> Result<(), LinkFailure>
     ensures { TellsClaims known.now (description_claims (map description_of all.now)) result }
 {
     for described in all {
@@ -147,7 +152,12 @@ fn check_descriptions(alloc: Global, known: &Known, all: &[Described<'_>]) -> Re
 }
 
 /// The class of the object that a field holds.
-fn check_field(alloc: Global, known: &Known, file: &Name, field: &StubField) -> Result<(), LinkEnd>
+fn check_field(
+    alloc: Global,
+    known: &Known,
+    file: &Name,
+    field: &StubField,
+) -> Result<(), LinkFailure>
     ensures { TellsClaims known.now (map (mention_claim file.now) (field_names field.now)) result }
 {
     match &field.holds {
@@ -157,7 +167,7 @@ fn check_field(alloc: Global, known: &Known, file: &Name, field: &StubField) -> 
 }
 
 /// The classes that the fields of a stub mention.
-fn check_fields(alloc: Global, known: &Known, c: &StubClass) -> Result<(), LinkEnd>
+fn check_fields(alloc: Global, known: &Known, c: &StubClass) -> Result<(), LinkFailure>
     ensures { TellsClaims known.now (map (mention_claim c.now.file) (flat_map field_names c.now.fields)) result }
 {
     for field in c.fields.as_slice() {
@@ -172,7 +182,7 @@ fn check_stub(
     known: &Known,
     patches: &Patches<'_>,
     c: &StubClass,
-) -> Result<(), LinkEnd>
+) -> Result<(), LinkFailure>
     ensures { TellsClaimsOrLarge (AreTooManyDescriptions (stub_descriptions patches.now c.now)) known.now (stub_there_claims patches.now c.now) result }
 {
     check_stub_supers(alloc, known, SuperRule::There, c)?;
@@ -186,11 +196,11 @@ fn check_stub_methods(
     known: &Known,
     patches: &Patches<'_>,
     c: &StubClass,
-) -> Result<(), LinkEnd>
+) -> Result<(), LinkFailure>
     ensures { TellsClaimsOrLarge (AreTooManyDescriptions (stub_descriptions patches.now c.now)) known.now
         (description_claims (stub_descriptions patches.now c.now)) result }
 {
-    let all = stub_descriptions(alloc, patches, c)?;
+    let all = stub_descriptions(alloc, patches, c).map_err(Failure::widen)?;
     check_descriptions(alloc, known, all.as_slice())
 }
 
@@ -200,7 +210,7 @@ fn check_own_stub(
     known: &Known,
     patches: &Patches<'_>,
     c: &StubClass,
-) -> Result<(), LinkEnd>
+) -> Result<(), LinkFailure>
     ensures { TellsClaimsOrLarge (HasLargeStub patches.now (own_one c.now)) known.now (of_own (stub_there_claims patches.now) c.now) result }
 {
     if c.is_patch {
@@ -215,7 +225,7 @@ pub(crate) fn check_stubs(
     known: &Known,
     patches: &Patches<'_>,
     stubs: &[StubClass],
-) -> Result<(), LinkEnd>
+) -> Result<(), LinkFailure>
     ensures { TellsClaimsOrLarge (HasLargeStub patches.now (own_classes stubs.now)) known.now
         (flat_map (stub_there_claims patches.now) (own_classes stubs.now)) result }
 {
@@ -231,10 +241,10 @@ fn check_file_natives(
     known: &Known,
     patches: &Patches<'_>,
     f: &NamedClass,
-) -> Result<(), LinkEnd>
+) -> Result<(), LinkFailure>
     ensures { TellsClaimsOrLarge (AreTooManyNatives patches.now f.now.class) known.now (native_claims patches.now f.now) result }
 {
-    let all = native_descriptions(alloc, patches, &f.class)?;
+    let all = native_descriptions(alloc, patches, &f.class).map_err(Failure::widen)?;
     check_descriptions(alloc, known, all.as_slice())
 }
 
@@ -244,7 +254,7 @@ pub(crate) fn check_natives(
     known: &Known,
     patches: &Patches<'_>,
     files: &[NamedClass],
-) -> Result<(), LinkEnd>
+) -> Result<(), LinkFailure>
     ensures { TellsClaimsOrLarge (HasLargeFile patches.now files.now) known.now (flat_map (native_claims patches.now) files.now) result }
 {
     for f in files {

@@ -11,7 +11,7 @@ ghost use Rattle.jvm_model.specs.Programs.{signature_of};
 ghost use Rattle.linked_program.specs.MemberLists.{AreTooManyKeys};
 
 use crate::keys::{signature_key, stub_signature};
-use class_index::index_error::IndexError;
+use class_index::index_failure::IndexFailure;
 use class_index::member_index::MemberIndex;
 use class_index::member_key::MemberKey;
 use class_index::texts::plain_text;
@@ -76,7 +76,7 @@ fn native_index(
     alloc: Global,
     pool: &[PoolEntry],
     methods: &[Member],
-) -> Result<MemberIndex, IndexError>
+) -> Result<MemberIndex, IndexFailure>
     ensures index { IfOk result (λ index. index ≡ native_keys pool.now methods.now) }
     ensures too_many { IfErr result (TellsTooMany (AreTooManyKeys (native_keys pool.now methods.now))) }
 {
@@ -92,7 +92,7 @@ fn add_native(
     index: &mut MemberIndex,
     pool: &[PoolEntry],
     method: &Member,
-) -> Result<(), IndexError>
+) -> Result<(), IndexFailure>
     ensures added { OnOk result (index.new ≡ index.old ++ native_key pool.now method.now) }
     ensures too_many { IfErr result (TellsTooMany (AreTooManyKeys (index.old ++ native_key pool.now method.now))) }
 {
@@ -104,8 +104,8 @@ fn add_native(
 }
 
 impl<'a> Natives<'a> {
-    /// The native methods of a class file (JVMS 4.6). The error is `TooMany` where they, or the texts in them, have no more numbers.
-    pub(crate) fn of(alloc: Global, class: &'a ClassFile) -> Result<Self, IndexError>
+    /// The native methods of a class file (JVMS 4.6). The failure is `TooMany` where they, or the texts in them, have no more numbers.
+    pub(crate) fn of(alloc: Global, class: &'a ClassFile) -> Result<Self, IndexFailure>
         ensures natives { IfOk result (λ natives. natives ≡ class.entry.now) }
         ensures too_many { IfErr result (TellsTooMany (AreTooManyKeys (native_keys class.entry.now.pool class.entry.now.methods))) }
     {

@@ -9,7 +9,7 @@ ghost use Rattle.jvm_model.specs.Linking.{told, origins, folder_origin, stub_ori
 use crate::copies::copied_methods;
 use crate::patch_index::Patches;
 use crate::patches::{native_descriptions, stub_descriptions};
-use class_index::index_error::IndexError;
+use class_index::index_failure::IndexFailure;
 use jvm_model::{NamedClass, Origin, Sequence, StubClass, StubMethod};
 use std::alloc::{AllocError, Global};
 
@@ -21,12 +21,12 @@ struct Parted {
 }
 
 /// Where the classes come from, in the order given: class files, and then stubs that are classes of their own. Class files are
-/// moved; what stubs say of methods is copied. The error is `TooMany` only where there is too much to number.
+/// moved; what stubs say of methods is copied. The failure is `TooMany` only where there is too much to number.
 pub fn origins(
     alloc: Global,
     files: Vec<NamedClass>,
     stubs: Vec<StubClass>,
-) -> Result<Vec<Origin>, IndexError>
+) -> Result<Vec<Origin>, IndexFailure>
     requires { All IsSoundFile files.items }
     ensures all { IfOk result (λ all. all.items ≡ origins files.items stubs.items) }
     ensures too_many { IfErr result (TellsTooMany (IsTooLargeInput files.items stubs.items)) }
@@ -71,7 +71,11 @@ fn put(
 }
 
 /// The origin of a class file.
-fn origin_of_file(alloc: Global, patches: &Patches<'_>, f: NamedClass) -> Result<Origin, IndexError>
+fn origin_of_file(
+    alloc: Global,
+    patches: &Patches<'_>,
+    f: NamedClass,
+) -> Result<Origin, IndexFailure>
     ensures origin { IfOk result (λ o. o ≡ folder_origin patches.now f) }
     ensures too_many { IfErr result (TellsTooMany (AreTooManyNatives patches.now f.class)) }
 {
@@ -84,7 +88,7 @@ fn told_of_file(
     alloc: Global,
     patches: &Patches<'_>,
     f: &NamedClass,
-) -> Result<Sequence<StubMethod>, IndexError>
+) -> Result<Sequence<StubMethod>, IndexFailure>
     ensures all { IfOk result (λ all. all ≡ told (native_descriptions patches.now f.now.class)) }
     ensures too_many { IfErr result (TellsTooMany (AreTooManyNatives patches.now f.now.class)) }
 {
@@ -97,7 +101,7 @@ fn origin_of_stub(
     alloc: Global,
     patches: &Patches<'_>,
     mut c: StubClass,
-) -> Result<Origin, IndexError>
+) -> Result<Origin, IndexFailure>
     ensures origin { IfOk result (λ o. o ≡ stub_origin patches.now c) }
     ensures too_many { IfErr result (TellsTooMany (AreTooManyDescriptions (stub_descriptions patches.now c))) }
 {
@@ -110,7 +114,7 @@ fn told_of_stub(
     alloc: Global,
     patches: &Patches<'_>,
     c: &StubClass,
-) -> Result<Sequence<StubMethod>, IndexError>
+) -> Result<Sequence<StubMethod>, IndexFailure>
     ensures all { IfOk result (λ all. all ≡ told (stub_descriptions patches.now c.now)) }
     ensures too_many { IfErr result (TellsTooMany (AreTooManyDescriptions (stub_descriptions patches.now c.now))) }
 {
@@ -124,7 +128,7 @@ fn add_files(
     all: &mut Vec<Origin>,
     patches: &Patches<'_>,
     files: Vec<NamedClass>,
-) -> Result<(), IndexError>
+) -> Result<(), IndexFailure>
     ensures added { OnOk result (all.new.items ≡ all.old.items ++ map (folder_origin patches.now) files.items) }
     ensures too_many { IfErr result (TellsTooMany (HasLargeFile patches.now files.items)) }
 {
@@ -141,7 +145,7 @@ fn add_stubs(
     all: &mut Vec<Origin>,
     patches: &Patches<'_>,
     stubs: Vec<StubClass>,
-) -> Result<(), IndexError>
+) -> Result<(), IndexFailure>
     ensures added { OnOk result (all.new.items ≡ all.old.items ++ map (stub_origin patches.now) stubs.items) }
     ensures too_many { IfErr result (TellsTooMany (HasLargeStub patches.now stubs.items)) }
 {

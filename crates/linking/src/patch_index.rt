@@ -6,7 +6,7 @@ ghost use Rattle.linking.specs.Patching.{is_patch_stub, patch_one, patches_for};
 ghost use Rattle.linking.specs.PatchLists.{lent_lists, PatchGoes, PlaceGoes};
 ghost use Rattle.linking.specs.TooLarge.{TellsTooMany};
 
-use class_index::index_error::IndexError;
+use class_index::index_failure::IndexFailure;
 use class_index::text_index::TextIndex;
 use jvm_model::StubClass;
 use std::alloc::Global;
@@ -33,9 +33,9 @@ impl<'a> Model for Patches<'a> {
 }
 
 impl<'a> Patches<'a> {
-    /// The patches among stubs. The time is linear in the texts of their names. The error is `TooMany` only where there are 2^32 - 1
+    /// The patches among stubs. The time is linear in the texts of their names. The failure is `TooMany` only where there are 2^32 - 1
     /// patches or more.
-    pub fn new(alloc: Global, stubs: &'a [StubClass]) -> Result<Self, IndexError>
+    pub fn new(alloc: Global, stubs: &'a [StubClass]) -> Result<Self, IndexFailure>
         ensures patches { IfOk result (λ patches. patches ≡ stubs.entry.now) }
         ensures too_many { IfErr result (TellsTooMany (AreTooMany (filter is_patch_stub stubs.entry.now))) }
     {
@@ -68,7 +68,7 @@ fn add_patch<'a>(
     names: &mut TextIndex,
     lists: &mut Vec<Vec<&'a StubClass>>,
     stub: &'a StubClass,
-) -> Result<(), IndexError>
+) -> Result<(), IndexFailure>
     requires { length lists.old.items ≡ length names.old }
     ensures goes { OnOk result (PatchGoes stub.entry.now names.old (lent_lists lists.old.items) names.new (lent_lists lists.new.items)) }
     ensures count { OnOk result (length names.new ≤ length names.old + length (patch_one stub.entry.now)) }
@@ -88,7 +88,7 @@ fn list_of<'a>(
     names: &mut TextIndex,
     lists: &mut Vec<Vec<&'a StubClass>>,
     name: &[u8],
-) -> Result<usize, IndexError>
+) -> Result<usize, IndexFailure>
     requires { length lists.old.items ≡ length names.old }
     ensures stands { IfOk result (λ place. slice_get names.new place ≡ Some name.now) }
     ensures within { IfOk result (λ place. place < length lists.new.items) }

@@ -8,7 +8,7 @@ ghost use Rattle.jvm_model.specs.Linking.{descriptions, with_descriptions, stub_
 use crate::descriptions::{Described, Descriptions};
 use crate::natives::Natives;
 use crate::patch_index::Patches;
-use class_index::index_error::IndexError;
+use class_index::index_failure::IndexFailure;
 use class_index::texts::class_text;
 use jvm_model::{ClassFile, StubClass};
 use std::alloc::Global;
@@ -19,7 +19,7 @@ pub fn stub_descriptions<'a>(
     alloc: Global,
     patches: &Patches<'a>,
     class: &'a StubClass,
-) -> Result<Descriptions<'a>, IndexError>
+) -> Result<Descriptions<'a>, IndexFailure>
     ensures all { IfOk result (λ all. all ≡ stub_descriptions patches.now class.entry.now) }
     ensures too_many { IfErr result (TellsTooMany (AreTooManyDescriptions (stub_descriptions patches.now class.entry.now))) }
 {
@@ -36,7 +36,7 @@ fn add_natives<'a>(
     all: &mut Descriptions<'a>,
     natives: &Natives<'_>,
     patch: &'a StubClass,
-) -> Result<(), IndexError>
+) -> Result<(), IndexFailure>
     ensures added { OnOk result (all.new ≡ with_descriptions all.old (filter (is_native_in natives.now) (descriptions patch.entry.now))) }
     ensures too_many { IfErr result (TellsTooMany (AreTooManyDescriptions
         (with_descriptions all.old (filter (is_native_in natives.now) (descriptions patch.entry.now))))) }
@@ -56,7 +56,7 @@ fn add_patches<'a>(
     all: &mut Descriptions<'a>,
     natives: &Natives<'_>,
     found: &[&'a StubClass],
-) -> Result<(), IndexError>
+) -> Result<(), IndexFailure>
     ensures added { OnOk result (all.new ≡ with_descriptions all.old (filter (is_native_in natives.now) (flat_map descriptions (map (λ s. s.now) found.now)))) }
     ensures too_many { IfErr result (TellsTooMany (AreTooManyDescriptions
         (with_descriptions all.old (filter (is_native_in natives.now) (flat_map descriptions (map (λ s. s.now) found.now)))))) }
@@ -72,7 +72,7 @@ fn add_native<'a>(
     all: &mut Descriptions<'a>,
     natives: &Natives<'_>,
     described: Described<'a>,
-) -> Result<(), IndexError>
+) -> Result<(), IndexFailure>
     ensures added { OnOk result (all.new ≡ with_native natives.now all.old (description_of described.entry)) }
     ensures too_many { IfErr result (TellsTooMany (AreTooManyDescriptions (with_native natives.now all.old (description_of described.entry)))) }
 {
@@ -88,7 +88,7 @@ pub fn native_descriptions<'a>(
     alloc: Global,
     patches: &Patches<'a>,
     class: &ClassFile,
-) -> Result<Descriptions<'a>, IndexError>
+) -> Result<Descriptions<'a>, IndexFailure>
     ensures all { IfOk result (λ all. all ≡ native_descriptions patches.now class.now) }
     ensures too_many { IfErr result (TellsTooMany (AreTooManyNatives patches.now class.now)) }
 {

@@ -1,4 +1,4 @@
-//! What linking demands of supertypes: that they are there, and of the right kind (JVMS 5.3.5). Each check tells the first demand
+//! What linking demands of supertypes: that they are there, and of the right kind (JVMS 5.3.5). Each check reports the first demand
 //! that is not met.
 
 ghost use Rattle.std.specs.Prelude.{[], ◌∷◌, map, flat_map, All};
@@ -15,7 +15,7 @@ use class_index::texts::class_text;
 use jvm_model::layout::{interfaces_offset, super_class_offset};
 use jvm_model::lookup::class_name_at;
 use jvm_model::{Name, NamedClass, Reason, StubClass};
-use linked_program::link_end::{LinkEnd, refused};
+use linked_program::link_failure::{LinkFailure, refused};
 use std::alloc::Global;
 
 /// What is demanded of a supertype.
@@ -43,7 +43,7 @@ pub(crate) fn check_there(
     name: &[u8],
     file: &Name,
     offset: u32,
-) -> Result<(), LinkEnd>
+) -> Result<(), LinkFailure>
     ensures { TellsClaims known.now (claim file.now offset (is_there name.now) ∷ []) result }
 {
     match known.kind_of(name) {
@@ -60,7 +60,7 @@ fn check_kind(
     name: &[u8],
     file: &Name,
     offset: u32,
-) -> Result<(), LinkEnd>
+) -> Result<(), LinkFailure>
     ensures { TellsClaims known.now (claim file.now offset (of_kind as_interface name.now) ∷ []) result }
 {
     match known.kind_of(name) {
@@ -76,7 +76,12 @@ fn check_kind(
 }
 
 /// What is demanded of a supertype.
-fn check_super(alloc: Global, known: &Known, rule: SuperRule, s: Super<'_>) -> Result<(), LinkEnd>
+fn check_super(
+    alloc: Global,
+    known: &Known,
+    rule: SuperRule,
+    s: Super<'_>,
+) -> Result<(), LinkFailure>
     ensures { TellsClaims known.now (super_claim rule (named_super s.entry) ∷ []) result }
 {
     match rule {
@@ -91,7 +96,7 @@ fn check_superclass(
     known: &Known,
     rule: SuperRule,
     f: &NamedClass,
-) -> Result<(), LinkEnd>
+) -> Result<(), LinkFailure>
     requires { IsSoundFile f.now }
     ensures { TellsClaims known.now (map (super_claim rule) (map (superclass_place f.now) (option_to_list (class_name_at f.now.class.pool f.now.class.super_class)))) result }
 {
@@ -116,7 +121,7 @@ fn check_interfaces(
     known: &Known,
     rule: SuperRule,
     f: &NamedClass,
-) -> Result<(), LinkEnd>
+) -> Result<(), LinkFailure>
     requires { IsSoundFile f.now }
     ensures { TellsClaims known.now (map (super_claim rule) (interface_places f.now.file f.now.class.pool (interfaces_offset f.now.class) f.now.class.interfaces)) result }
 {
@@ -141,7 +146,7 @@ fn check_file_supers(
     known: &Known,
     rule: SuperRule,
     f: &NamedClass,
-) -> Result<(), LinkEnd>
+) -> Result<(), LinkFailure>
     requires { IsSoundFile f.now }
     ensures { TellsClaims known.now (map (super_claim rule) (supers_of_file f.now)) result }
 {
@@ -155,7 +160,7 @@ pub(crate) fn check_supers_of_files(
     known: &Known,
     rule: SuperRule,
     files: &[NamedClass],
-) -> Result<(), LinkEnd>
+) -> Result<(), LinkFailure>
     requires { All IsSoundFile files.now }
     ensures { TellsClaims known.now (map (super_claim rule) (flat_map supers_of_file files.now)) result }
 {
@@ -171,7 +176,7 @@ fn check_stub_superclass(
     known: &Known,
     rule: SuperRule,
     c: &StubClass,
-) -> Result<(), LinkEnd>
+) -> Result<(), LinkFailure>
     ensures { TellsClaims known.now (map (super_claim rule) (stub_superclass c.now)) result }
 {
     if c.super_class.is_empty() {
@@ -192,7 +197,7 @@ fn check_stub_interfaces(
     known: &Known,
     rule: SuperRule,
     c: &StubClass,
-) -> Result<(), LinkEnd>
+) -> Result<(), LinkFailure>
     ensures { TellsClaims known.now (map (super_claim rule) (stub_interfaces c.now.file c.now.interfaces)) result }
 {
     for name in c.interfaces.as_slice() {
@@ -213,7 +218,7 @@ pub(crate) fn check_stub_supers(
     known: &Known,
     rule: SuperRule,
     c: &StubClass,
-) -> Result<(), LinkEnd>
+) -> Result<(), LinkFailure>
     ensures { TellsClaims known.now (map (super_claim rule) (supers_of_stub c.now)) result }
 {
     check_stub_superclass(alloc, known, rule, c)?;
@@ -226,7 +231,7 @@ fn check_own_supers(
     known: &Known,
     rule: SuperRule,
     c: &StubClass,
-) -> Result<(), LinkEnd>
+) -> Result<(), LinkFailure>
     ensures { TellsClaims known.now (of_own (λ s. map (super_claim rule) (supers_of_stub s)) c.now) result }
 {
     if c.is_patch {
@@ -241,7 +246,7 @@ pub(crate) fn check_supers_of_stubs(
     known: &Known,
     rule: SuperRule,
     stubs: &[StubClass],
-) -> Result<(), LinkEnd>
+) -> Result<(), LinkFailure>
     ensures { TellsClaims known.now (map (super_claim rule) (flat_map supers_of_stub (own_classes stubs.now))) result }
 {
     for c in stubs {

@@ -1,7 +1,8 @@
 use Rattle.std.proofs.Common.{◌≡◌, sym, ◌∙◌, ap, subst, List, Result, Ok, refl, arith}
 use Rattle.jvm_model.specs.declared.code.Code.{Code}
 use Rattle.jvm_model.specs.declared.code.PlacedInstruction.{PlacedInstruction}
-use Rattle.byte_reader.specs.Reading.{Place, Fault, Fails}
+use Rattle.jvm_model.specs.declared.reason.Fault.{Fault}
+use Rattle.byte_reader.specs.Reading.{Place, Fails}
 use Rattle.code_reader.specs.Bodies.{head_view}
 use Rattle.code_reader.specs.CodeReading.{head_at, wrong_code, reads}
 use Rattle.code_reader.specs.Division.{fault_of}

@@ -1,7 +1,8 @@
 use Rattle.std.proofs.Common.{◌≡◌, ℕ, ◌+◌, ap, sym, ◌∙◌, subst, List, [], ◌∷◌, ◌++◌, set, get_or, true, false, Err, arith}
 use Rattle.std.proofs.lemmas.List.{length-set}
 use Rattle.jvm_model.specs.Instructions.{DecodedInstruction}
-use Rattle.code_reader.specs.declared.decode.Undecoded.{Undecoded}
+use Rattle.failure.specs.declared.Failure.{Failure}
+use Rattle.jvm_model.specs.declared.reason.Reason.{Reason}
 use Rattle.code_reader.specs.Decoding.{GivesInstruction}
 use Rattle.code_reader.specs.Division.{Spot, instruction_in, starts}
 use Rattle.code_reader.proofs.Sizes.{inside}
@@ -35,7 +36,7 @@ loop-offset-preserved c =
 pub returns-in-Err : goal.returns-in-Err
 returns-in-Err c =
     let h = c.loop-offset.invariant in
-    let refused = subst (λ (e : Undecoded). GivesInstruction (Err e) (instruction_in c.args.pool.now c.args.code.now c.loop-offset.offset)) c.in_ok-reason-in-Err.ensures c.in-Err.ensures in
+    let refused = subst (λ (e : Failure Reason). GivesInstruction (Err e) (instruction_in c.args.pool.now c.args.code.now c.loop-offset.offset)) c.in_ok-reason-in-Err.ensures c.in-Err.ensures in
     record {
       divided = stopped c.args.pool.now c.args.code.now c.loop-offset.offset c.loop-offset.spots.items c.in_ok-reason-in-Err.reason c.loop-offset-test.true refused h.2;
       starts_known = record { there = h.3 };

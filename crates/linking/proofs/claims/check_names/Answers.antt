@@ -1,12 +1,13 @@
 use Rattle.std.proofs.Common.{[], map}
 use Rattle.std.proofs.lemmas.Result.{err_from_is_err_and}
+use Rattle.failure.proofs.HandedOn.{handed_ok}
 use Rattle.jvm_model.specs.Linking.{base_first, file_claims, name_claims, stub_claims, own_classes}
 use Rattle.class_index.specs.Limits.{AreTooMany}
 use Rattle.linking.specs.Claims.{unsorted, stub_name}
 use Rattle.linking.specs.TooLarge.{IsTooLargeInput}
 use Rattle.linking.proofs.ClaimSteps.{end_front, end_more, tells_back, tells_more}
 use Rattle.linking.proofs.ClassNames.{texts_of_stubs}
-use Rattle.linking.proofs.LargeInputs.{error_end, error_more, many_files, many_stubs}
+use Rattle.linking.proofs.LargeInputs.{errors_more, handed_end, many_files, many_stubs}
 use Rattle.linking.proofs.claims.check_names.Goals as goal
 
 pub returns-in_err-others : goal.returns-in_err-others
@@ -16,7 +17,7 @@ returns-in_err-others c =
     let stubs = c.args.stubs.now in
     let large = IsTooLargeInput files stubs in
     let e = c.in_err-others.field-0.0 in
-    rw (q.1, q.2) (error_end large (unsorted files stubs) (name_claims files (own_classes stubs)) e (error_more (AreTooMany (own_classes stubs)) large e (many_stubs files stubs) c.in_err-others.ensures.too_many))
+    rw (q.1, q.2) (handed_end large (unsorted files stubs) (name_claims files (own_classes stubs)) c.stub_names.result e c.in_err-others.ensures.cases (errors_more (AreTooMany (own_classes stubs)) large c.stub_names.result (many_stubs files stubs) c.stub_names.ensures.too_many))
 
 pub returns-in_err-check_file_names : goal.returns-in_err-check_file_names
 returns-in_err-check_file_names c =
@@ -25,7 +26,7 @@ returns-in_err-check_file_names c =
     let files = c.args.files.now in
     let p = unsorted files stubs in
     let names = map stub_name (own_classes stubs) in
-    let has = texts_of_stubs c.in_ok-others.others stubs c.in_ok-others.ensures.names in
+    let has = texts_of_stubs c.in_ok-others.others stubs (handed_ok _ c.stub_names.result c.in_ok-others.others _ c.in_ok-others.ensures.cases c.stub_names.ensures.names) in
     let large = IsTooLargeInput files stubs in
     let end = c.in_err-check_file_names.field-0.0 in
     let told = end_more (AreTooMany files) large p (file_claims names [] files) end (many_files files stubs) (c.in_err-check_file_names.ensures p names has) in
@@ -37,7 +38,7 @@ returns c =
     let files = c.args.files.now in
     let p = unsorted files stubs in
     let names = map stub_name (own_classes stubs) in
-    let has = texts_of_stubs c.in_ok-others.others stubs c.in_ok-others.ensures.names in
+    let has = texts_of_stubs c.in_ok-others.others stubs (handed_ok _ c.stub_names.result c.in_ok-others.others _ c.in_ok-others.ensures.cases c.stub_names.ensures.names) in
     let large = IsTooLargeInput files stubs in
     let claims = stub_claims [] (base_first (own_classes stubs)) in
     let r = c.check_stub_names.result in

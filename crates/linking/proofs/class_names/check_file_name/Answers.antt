@@ -8,7 +8,7 @@ use Rattle.jvm_model.specs.Programs.{class_or_none}
 use Rattle.jvm_model.specs.Soundness.{this_class_offset}
 use Rattle.class_index.specs.Limits.{AreTooMany}
 use Rattle.linking.specs.Claims.{TellsClaimsOrLarge, file_name}
-use Rattle.linked_program.specs.LinkEnds.{IsLinkRefusal}
+use Rattle.linked_program.specs.LinkFailures.{IsLinkRefusal}
 use Rattle.linking.proofs.ClaimSteps.{one_unmet}
 use Rattle.linking.proofs.ClassNames.{names_told}
 use Rattle.linking.proofs.KnownClasses.{nowhere_not}

@@ -8,7 +8,7 @@ use Rattle.linking.specs.Patching.{is_patch_stub}
 use Rattle.linking.specs.TooLarge.{IsTooLargeInput, in_classes, in_patches}
 use Rattle.linking.proofs.ClaimSteps.{end_back, end_front, met_append, tells_back, tells_unnumbered}
 use Rattle.linking.proofs.DistinctNames.{names_new}
-use Rattle.linking.proofs.LargeInputs.{error_end, error_more}
+use Rattle.linking.proofs.LargeInputs.{errors_more, handed_end}
 use Rattle.linking.proofs.link.check.Goals as goal
 
 pub returns-in_err-check_names : goal.returns-in_err-check_names
@@ -57,7 +57,7 @@ returns-in_err-known c =
     let stubs = c.args.stubs.now in
     let large = IsTooLargeInput files stubs in
     let e = c.in_err-known.field-0.0 in
-    rw (q.1, q.2) (error_end large (unsorted files stubs) (flat_claims files stubs) e (error_more (AreTooMany (all_names files stubs)) large e (λ many. in_classes many) c.in_err-known.ensures.too_many))
+    rw (q.1, q.2) (handed_end large (unsorted files stubs) (flat_claims files stubs) c.known_classes.result e c.in_err-known.ensures.cases (errors_more (AreTooMany (all_names files stubs)) large c.known_classes.result (λ many. in_classes many) c.known_classes.ensures.too_many))
 
 pub returns-in_err-patches : goal.returns-in_err-patches
 returns-in_err-patches c =
@@ -66,4 +66,4 @@ returns-in_err-patches c =
     let stubs = c.args.stubs.now in
     let large = IsTooLargeInput files stubs in
     let e = c.in_err-patches.field-0.0 in
-    rw (q.1, q.2) (error_end large (unsorted files stubs) (flat_claims files stubs) e (error_more (AreTooMany (filter is_patch_stub stubs)) large e (λ many. in_patches many) c.in_err-patches.ensures.too_many))
+    rw (q.1, q.2) (handed_end large (unsorted files stubs) (flat_claims files stubs) c.new.result e c.in_err-patches.ensures.cases (errors_more (AreTooMany (filter is_patch_stub stubs)) large c.new.result (λ many. in_patches many) c.new.ensures.too_many))
