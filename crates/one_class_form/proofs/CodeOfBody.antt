@@ -18,7 +18,8 @@ use Rattle.jvm_model.specs.Layout.{HasFirstCode}
 use Rattle.jvm_model.specs.Soundness.{is_code}
 use Rattle.jvm_model.specs.Spelling.{u2, u4, table, attribute}
 use Rattle.byte_reader.specs.Structures.{attribute_at}
-use Rattle.byte_reader.specs.Reading.{Place, Fault, ◌>>=◌, fault_at, number_at, bytes_at, items_at, table_at}
+use Rattle.jvm_model.specs.declared.reason.Fault.{Fault}
+use Rattle.byte_reader.specs.Reading.{Place, ◌>>=◌, fault_at, number_at, bytes_at, items_at, table_at}
 use Rattle.byte_reader.proofs.Fields.{bind_ok, unless_ok, ok_is, IsWide, wide16, wide32, number_again, bytes_again}
 use Rattle.code_reader.specs.CodeReading.{Head, code_length_at, head_at, tail_at, in_code, placed, BeginsWith, ReadsBody, cut_before, wrong_code, wrong_after, reads}
 use Rattle.code_reader.specs.Division.{Spot, first_or, first_fault}

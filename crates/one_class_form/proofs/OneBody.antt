@@ -8,7 +8,7 @@ use Rattle.jvm_model.specs.declared.class_file.ClassFile.{ClassFile}
 use Rattle.jvm_model.specs.declared.class_file.Member.{Member}
 use Rattle.jvm_model.specs.declared.code.Code.{Code}
 use Rattle.jvm_model.specs.declared.code.PlacedInstruction.{PlacedInstruction}
-use Rattle.byte_reader.specs.Reading.{Fault}
+use Rattle.jvm_model.specs.declared.reason.Fault.{Fault}
 use Rattle.code_reader.specs.CodeReading.{ReadsCode}
 use Rattle.code_reader.proofs.OneReading.{one_reading}
 use Rattle.one_class_form.specs.declared.simple.Simple.{Simple}

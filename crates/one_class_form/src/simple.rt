@@ -11,9 +11,10 @@ ghost use Rattle.one_class_form.specs.SimpleCode.{instruction};
 ghost use Rattle.one_class_form.specs.SimpleParts.{IsPlaced, IsSimple, short_of, simple_of};
 
 use code_reader::{method_offset, read_code_at};
+use failure::Failure;
 use jvm_model::opcode::{ALOAD_0, ASTORE_0, DUP, INVOKE_SPECIAL, INVOKE_VIRTUAL, NEW, RETURN};
 use jvm_model::sound::first_code;
-use jvm_model::{ClassFile, Member, PlacedInstruction, ReadRefusal};
+use jvm_model::{ClassFile, Member, PlacedInstruction};
 use std::alloc::{AllocError, Global};
 
 /// An instruction of the form, with its operand: an index of the pool, or a local slot.
@@ -92,8 +93,8 @@ pub(crate) fn body_at(
     }
     let code = match read_code_at(alloc, class, method.place, offset) {
         Ok(code) => code,
-        Err(ReadRefusal::Refused { .. }) => return Ok(None),
-        Err(ReadRefusal::Memory) => return Err(AllocError),
+        Err(Failure::Cause(_)) => return Ok(None),
+        Err(Failure::OutOfMemory) => return Err(AllocError),
     };
     if !code.handlers.is_empty() {
         return Ok(None);

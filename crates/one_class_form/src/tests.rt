@@ -6,7 +6,8 @@ mod code_copies;
 
 use crate::occurring_events;
 use classfile_reader::read_class;
-use jvm_model::{Automaton, Bytes, Event, ReadRefusal, Reason, Sequence};
+use failure::Failure;
+use jvm_model::{Automaton, Bytes, Event, Fault, Reason, Sequence};
 use std::alloc::{AllocError, Global};
 use std::process::Abort;
 
@@ -106,8 +107,8 @@ fn automaton(alloc: Global) -> Result<Automaton, AllocError> {
 fn find(alloc: Global, bytes: &[u8]) -> Result<Found, AllocError> {
     let class = match read_class(alloc, bytes) {
         Ok(class) => class,
-        Err(ReadRefusal::Refused { offset, reason }) => return Ok(Found::Refused(offset, reason)),
-        Err(ReadRefusal::Memory) => return Err(AllocError),
+        Err(Failure::Cause(Fault { offset, reason })) => return Ok(Found::Refused(offset, reason)),
+        Err(Failure::OutOfMemory) => return Err(AllocError),
     };
     let automaton = automaton(alloc)?;
     let Some(occurs) = occurring_events(alloc, &class, &automaton, b"F", b"main")? else {

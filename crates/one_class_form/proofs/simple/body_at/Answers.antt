@@ -1,6 +1,7 @@
 use Rattle.std.proofs.Common.{◌∙◌, List, Err, sym, subst}
 use Rattle.std.proofs.lemmas.Bool.{false≢true}
-use Rattle.jvm_model.specs.declared.reason.ReadRefusal.{ReadRefusal}
+use Rattle.failure.specs.declared.Failure.{Failure}
+use Rattle.jvm_model.specs.declared.reason.Fault.{Fault}
 use Rattle.code_reader.specs.CodeReading.{TellsCode}
 use Rattle.one_class_form.specs.declared.simple.Simple.{Simple}
 use Rattle.one_class_form.specs.SimpleParts.{IsSimple}
@@ -8,13 +9,13 @@ use Rattle.one_class_form.proofs.Options.{at_none}
 use Rattle.one_class_form.proofs.OneBody.{no_refused, no_handled, no_other}
 use Rattle.one_class_form.proofs.simple.body_at.Goals as goal
 
-pub returns-in-Err-Refused-clause-none : goal.returns-in-Err-Refused-clause-none
-returns-in-Err-Refused-clause-none c =
+pub returns-in-Err-Cause-clause-none : goal.returns-in-Err-Cause-clause-none
+returns-in-Err-Cause-clause-none c =
     let class = c.args.class.now in
     let place = c.args.method.now.place in
-    let r = c.in-Err-Refused in
-    no_refused class c.args.method.now.member.now place c.requires.distinct c.requires.there (record { offset = r.field-0-0; reason = r.field-0-1 })
-    (subst (λ (e : ReadRefusal). TellsCode class place (Err e)) r.field-0-is r.ensures)
+    let r = c.in-Err-Cause in
+    no_refused class c.args.method.now.member.now place c.requires.distinct c.requires.there r.field-0-0
+    (subst (λ (e : Failure Fault). TellsCode class place (Err e)) r.field-0-is r.ensures)
 
 pub returns-then-not-is_empty-clause-none : goal.returns-then-not-is_empty-clause-none
 returns-then-not-is_empty-clause-none c =
