@@ -1,7 +1,8 @@
 -- Executions with one more step.
 use Rattle.std.proofs.Common.{◌≡◌, List, [], ◌∷◌, ◌++◌, ap, subst}
-use Rattle.bytecode_machine.specs.Executions.{AreSteps, IsExecution, start}
-use Rattle.bytecode_machine.specs.Machine.{Step, Subject}
+use Rattle.bytecode_machine.specs.Executions.{AreSteps, IsExecution}
+use Rattle.bytecode_machine.specs.Machine.{Step}
+use Rattle.bytecode_machine.specs.Objects.{Subject}
 use Rattle.bytecode_machine.specs.States.{State}
 
 -- steps from a state that reach another one, and one step more
@@ -11,15 +12,17 @@ steps_more x first (o ∷ others) s t h more = (h.0, steps_more x o others s t h
 
 pub goes_on : (x : Subject) (states : List State) (s t : State) → IsExecution x (states ++ s ∷ []) → Step x s t → IsExecution x (states ++ s ∷ t ∷ [])
 goes_on x [] s t run more =
-    let same : s ∷ [] ≡ start x ∷ run.others = run.begins in
-    let is : s ≡ start x = cc in
-    record { others = t ∷ []; begins = ap (λ (f : State). f ∷ t ∷ []) is; steps = (subst (λ (f : State). Step x f t) is more, tt) }
+    let same : s ∷ [] ≡ run.first ∷ run.others = run.begins in
+    let is : s ≡ run.first = cc in
+    record { first = run.first; others = t ∷ []; begins = ap (λ (f : State). f ∷ t ∷ []) is; is_first = run.is_first; steps = (subst (λ (f : State). Step x f t) is more, tt) }
 goes_on x (first ∷ others) s t run more =
-    let same : first ∷ (others ++ s ∷ []) ≡ start x ∷ run.others = run.begins in
-    let is : first ≡ start x = cc in
+    let same : first ∷ (others ++ s ∷ []) ≡ run.first ∷ run.others = run.begins in
+    let is : first ≡ run.first = cc in
     let rest : run.others ≡ others ++ s ∷ [] = cc in
     record {
+      first = run.first;
       others = others ++ s ∷ t ∷ [];
       begins = ap (λ (f : State). f ∷ (others ++ s ∷ t ∷ [])) is;
-      steps = steps_more x (start x) others s t (subst (λ (ss : List State). AreSteps x (start x) ss) rest run.steps) more;
+      is_first = run.is_first;
+      steps = steps_more x run.first others s t (subst (λ (ss : List State). AreSteps x run.first ss) rest run.steps) more;
     }

@@ -1,13 +1,15 @@
 //! Laws of executions: they call nothing, and hold of each program.
 
 ghost use Rattle.std.specs.Prelude.{[], ◌∷◌, ◌++◌, List};
-ghost use Rattle.bytecode_machine.specs.Executions.{IsExecution, start};
-ghost use Rattle.bytecode_machine.specs.Machine.{Step, Subject};
+ghost use Rattle.bytecode_machine.specs.Executions.{IsExecution};
+ghost use Rattle.bytecode_machine.specs.Machine.{Step};
+ghost use Rattle.bytecode_machine.specs.Objects.{Subject};
+ghost use Rattle.bytecode_machine.specs.Start.{IsFirst};
 ghost use Rattle.bytecode_machine.specs.States.{State};
 
-/// The first state alone is an execution.
-pub fn start_is_an_execution()
-    ensures { (x : Subject) → IsExecution x (start x ∷ []) }
+/// A first state alone is an execution.
+pub fn first_states_are_executions()
+    ensures { (x : Subject) (s : State) → IsFirst x s → IsExecution x (s ∷ []) }
 {}
 
 /// An execution goes on by each step from its last state.

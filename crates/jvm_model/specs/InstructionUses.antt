@@ -8,7 +8,7 @@ use Rattle.jvm_model.specs.declared.pool.PoolEntry.{PoolEntry}
 use Rattle.jvm_model.specs.Instructions.{DecodedInstruction}
 use Rattle.jvm_model.specs.Lookups.{class_name_at}
 use Rattle.jvm_model.specs.Soundness.{is_array, leads_to}
-use Rattle.jvm_model.specs.Table.{Row, Operands, implied, local_1, local_and_value, pool_1, pool_2, pool_2_and_count, pool_2_and_zeros, pool_2_and_dimensions, PoolTarget, loadable, wide_number, a_field, class_method, any_method, interface_method, call_site, any_class, no_array, an_array, Flow, subroutine}
+use Rattle.jvm_model.specs.Table.{Row, Operands, implied, local_1, local_and_value, pool_1, pool_2, pool_2_and_count, pool_2_and_zeros, pool_2_and_dimensions, PoolTarget, loadable, wide_number, a_field, class_method, any_method, interface_method, call_site, any_class, no_array, an_array, Flow, onward, jump, branch, branch_if_null, branch_if_object, branch_if_same, branch_if_other, leave, subroutine}
 
 -- ---- local variables
 
@@ -30,8 +30,15 @@ locals_fit limit i = not (names_local i.row.operands) || nat_le (i.operand + loc
 
 -- jsr, jsr_w and ret.
 abbrev pub is_subroutine : Flow → Bool
+is_subroutine onward = false
+is_subroutine jump = false
+is_subroutine branch = false
+is_subroutine branch_if_null = false
+is_subroutine branch_if_object = false
+is_subroutine branch_if_same = false
+is_subroutine branch_if_other = false
+is_subroutine leave = false
 is_subroutine subroutine = true
-is_subroutine _ = false
 
 -- ---- the constant pool
 

@@ -4,12 +4,12 @@
 use Rattle.std.specs.Prelude.{◌≡◌, ℕ, zero, suc, ◌+◌, ◌-◌, ◌*◌, ◌%◌, Bool, ◌||◌, ◌==◌, nat_eq, nat_lt, List, [], ◌∷◌, ◌++◌, length, map, replicate, drop, slice_index, option_map, option_and_then, Option, Some, None, Result, Ok, Err, if◌then◌else◌}
 use Rattle.std.specs.List.{flat_map}
 use Rattle.jvm_model.specs.declared.pool.PoolEntry.{PoolEntry}
-use Rattle.jvm_model.specs.declared.pool.PoolEntry.TheVariants.{Integer, Float, Str, Class, MethodHandle, MethodType, Fieldref, Methodref, InterfaceMethodref}
+use Rattle.jvm_model.specs.declared.pool.PoolEntry.TheVariants.{Utf8, Integer, Float, Long, Double, Class, Str, Fieldref, Methodref, InterfaceMethodref, NameAndType, MethodHandle, MethodType, InvokeDynamic, Taken}
 use Rattle.jvm_model.specs.declared.reason.Reason.{Reason}
 use Rattle.jvm_model.specs.declared.reason.Reason.TheVariants.{BadOpcode, CodeCut}
 use Rattle.jvm_model.specs.Descriptors.{IsMethodDescriptor, IsFieldDescriptor}
 use Rattle.jvm_model.specs.Lookups.{MemberReference, Signature, entry_at, class_name_at, signature_at}
-use Rattle.jvm_model.specs.Table.{Row, row, row_of, Operands, nothing, implied, value_1, value_2, type_code, local_1, pool_1, pool_2, offset_2, offset_4, local_and_value, pool_2_and_count, pool_2_and_zeros, pool_2_and_dimensions, table_of_offsets, pairs_with_offsets, widened, UnitKind, primitive, reference, UnitSource, a_primitive, the_made, Action, plain, load_constant, get_static, put_static, get_field, put_field, invoke_virtual, invoke_special, invoke_static, invoke_interface, make_array}
+use Rattle.jvm_model.specs.Table.{Row, row, row_of, Operands, nothing, implied, value_1, value_2, type_code, local_1, pool_1, pool_2, offset_2, offset_4, local_and_value, pool_2_and_count, pool_2_and_zeros, pool_2_and_dimensions, table_of_offsets, pairs_with_offsets, widened, UnitKind, any_kind, primitive, reference, UnitSource, a_primitive, the_made, Action, plain, load_constant, load_element, store_element, probe_element, probe_array, probe_object, get_static, put_static, get_field, put_field, invoke_virtual, invoke_special, invoke_static, invoke_interface, make_object, make_array, throw_object, cast, leave_method, refused}
 
 -- An instruction: its opcode and the row of it; its operand, which is an index of the constant pool, a local variable
 -- or the code of a type, and else 0; for multianewarray its dimensions; the offsets to which it may branch, in the
@@ -202,7 +202,8 @@ pub record HasDescriptorUnits (descriptor : List ℕ) (parameters results : List
 -- What is pushed for a unit of a kind.
 abbrev pub made_for : UnitKind → UnitSource
 made_for primitive = a_primitive
-made_for _ = the_made
+made_for any_kind = the_made
+made_for reference = the_made
 
 -- The row with these units popped and pushed.
 abbrev pub with_units : Row → List UnitKind → List UnitSource → Row
@@ -232,7 +233,15 @@ constant_row r (Str text) = Some (with_units r [] (the_made ∷ []))
 constant_row r (Class name) = Some (with_units r [] (the_made ∷ []))
 constant_row r (MethodHandle kind member) = Some (with_units r [] (the_made ∷ []))
 constant_row r (MethodType descriptor) = Some (with_units r [] (the_made ∷ []))
-constant_row r _ = None
+constant_row r (Utf8 bytes) = None
+constant_row r (Long bits) = None
+constant_row r (Double bits) = None
+constant_row r (Fieldref class member) = None
+constant_row r (Methodref class member) = None
+constant_row r (InterfaceMethodref class member) = None
+constant_row r (NameAndType name descriptor) = None
+constant_row r (InvokeDynamic bootstrap member) = None
+constant_row r Taken = None
 
 -- multianewarray pops a size for each of its dimensions.
 abbrev pub array_row : Operands → DecodedInstruction → Row
@@ -241,7 +250,13 @@ array_row _ i = i.row
 
 -- The row of an instruction, by its action, with what the constant pool says of its units.
 abbrev pub RowBy : Action → List PoolEntry → DecodedInstruction → Row → Type 0
+RowBy plain pool i r = r ≡ i.row
 RowBy load_constant pool i r = option_and_then (constant_row i.row) (entry_at pool i.operand) ≡ Some r
+RowBy load_element pool i r = r ≡ i.row
+RowBy store_element pool i r = r ≡ i.row
+RowBy probe_element pool i r = r ≡ i.row
+RowBy probe_array pool i r = r ≡ i.row
+RowBy probe_object pool i r = r ≡ i.row
 RowBy get_static pool i r = IsFieldRow pool i (λ value. []) (map made_for) r
 RowBy put_static pool i r = IsFieldRow pool i (λ value. value) (λ value. []) r
 RowBy get_field pool i r = IsFieldRow pool i (λ value. reference ∷ []) (map made_for) r
@@ -250,8 +265,12 @@ RowBy invoke_virtual pool i r = IsCallRow pool i (reference ∷ []) r
 RowBy invoke_special pool i r = IsCallRow pool i (reference ∷ []) r
 RowBy invoke_static pool i r = IsCallRow pool i [] r
 RowBy invoke_interface pool i r = IsCallRow pool i (reference ∷ []) r
+RowBy make_object pool i r = r ≡ i.row
 RowBy make_array pool i r = r ≡ array_row i.row.operands i
-RowBy _ pool i r = r ≡ i.row
+RowBy throw_object pool i r = r ≡ i.row
+RowBy cast pool i r = r ≡ i.row
+RowBy leave_method pool i r = r ≡ i.row
+RowBy refused pool i r = r ≡ i.row
 
 abbrev pub IsRowAt : List PoolEntry → DecodedInstruction → Row → Type 0
 IsRowAt pool i r = RowBy i.row.action pool i r

@@ -13,7 +13,7 @@ use Rattle.jvm_model.specs.Access.{has_flag}
 use Rattle.jvm_model.specs.DescriptorValues.{IsKind}
 use Rattle.jvm_model.specs.Linking.{own_classes}
 use Rattle.jvm_model.specs.Names.{is_unqualified_name, IsClassName}
-use Rattle.jvm_model.specs.Programs.{Class, Method, Field, Body, in_file, described, returns_at_once, Program, name_of, signature_of}
+use Rattle.jvm_model.specs.Programs.{Class, Method, Field, Body, in_file, described, Program, name_of, signature_of}
 use Rattle.jvm_model.specs.Soundness.{IsChecked}
 use Rattle.jvm_model.specs.StubRules.{IsSoundMethod, MayHold}
 use Rattle.jvm_model.specs.Stubs.{class_of_stub, method_names, stub_signature}
@@ -62,7 +62,6 @@ pub record IsDescribedBy (m : Method) (d : StubMethod) : Type 0 where
 abbrev pub IsBodyOf : Method → Body → Type 0
 IsBodyOf m (in_file file number member) = IsMemberOf m file number member
 IsBodyOf m (described d) = IsDescribedBy m d
-IsBodyOf m returns_at_once = ⊥
 
 -- The classes that a description mentions are there.
 abbrev pub HasMentioned : Program → Method → Type 0

@@ -138,7 +138,7 @@ reason_of (is_there name) = MissingClass
 reason_of (of_kind is_interface name) = KindMismatch
 reason_of (no_cycle name) = Cycle
 
--- A demand, and the file and the offset where it is told if it is not met. What a stub demands is told at the offset 0.
+-- A demand, and the file and the offset where it is reported if it is not met. What a stub demands is reported at the offset 0.
 pub record Claim : Type 0 where
   pub file : List ℕ
   pub offset : ℕ

@@ -23,12 +23,10 @@ pub record Class : Type 0 where
   pub file : List ℕ
 
 -- What stands for a method when it is called: the member of a class file, with its number among the methods of the file;
--- the description of a stub; or a method of the library of which all that is known is that it returns nothing and changes
--- nothing.
+-- or the description of a stub.
 pub data Body : Type 0 where
   in_file : (file : ClassFile) → (number : ℕ) → (member : Member) → Body
   described : StubMethod → Body
-  returns_at_once : Body
 
 pub record Method : Type 0 where
   pub class : List ℕ

@@ -16,7 +16,7 @@ use Rattle.jvm_model.specs.declared.opcode.Action.TheVariants as actions
 use Rattle.jvm_model.specs.declared.opcode.Raise.{Raise as CodeRaise}
 use Rattle.jvm_model.specs.declared.opcode.Raise.TheVariants as raises
 use Rattle.jvm_model.specs.declared.opcode.Row.{Row as CodeRow}
-use Rattle.jvm_model.specs.Table.{PoolTarget, loadable, wide_number, a_field, class_method, any_method, interface_method, call_site, any_class, no_array, an_array, Operands, nothing, implied, value_1, value_2, type_code, local_1, pool_1, pool_2, offset_2, offset_4, local_and_value, pool_2_and_count, pool_2_and_zeros, pool_2_and_dimensions, table_of_offsets, pairs_with_offsets, widened, UnitKind, any_kind, primitive, reference, UnitSource, popped, the_local, a_null, a_primitive, the_made, Flow, onward, jump, branch, branch_if_null, branch_if_object, branch_if_same, branch_if_other, leave, subroutine, Action, plain, load_constant, load_element, store_element, probe, get_static, put_static, get_field, put_field, invoke_virtual, invoke_special, invoke_static, invoke_interface, make_object, make_array, throw_object, cast, leave_method, refused, Raise, null_pointer, array_index, array_store, arithmetic, class_cast, negative_size, Row, row}
+use Rattle.jvm_model.specs.Table.{PoolTarget, loadable, wide_number, a_field, class_method, any_method, interface_method, call_site, any_class, no_array, an_array, Operands, nothing, implied, value_1, value_2, type_code, local_1, pool_1, pool_2, offset_2, offset_4, local_and_value, pool_2_and_count, pool_2_and_zeros, pool_2_and_dimensions, table_of_offsets, pairs_with_offsets, widened, UnitKind, any_kind, primitive, reference, UnitSource, popped, the_local, a_null, a_primitive, the_made, Flow, onward, jump, branch, branch_if_null, branch_if_object, branch_if_same, branch_if_other, leave, subroutine, Action, plain, load_constant, load_element, store_element, probe_element, probe_array, probe_object, get_static, put_static, get_field, put_field, invoke_virtual, invoke_special, invoke_static, invoke_interface, make_object, make_array, throw_object, cast, leave_method, refused, Raise, null_pointer, array_index, array_store, arithmetic, class_cast, negative_size, Row, row}
 
 abbrev pub target_view : CodePoolTarget → PoolTarget
 target_view targets.Loadable = loadable
@@ -77,7 +77,9 @@ action_view actions.Plain = plain
 action_view actions.LoadConstant = load_constant
 action_view actions.LoadElement = load_element
 action_view actions.StoreElement = store_element
-action_view actions.Probe = probe
+action_view actions.ProbeElement = probe_element
+action_view actions.ProbeArray = probe_array
+action_view actions.ProbeObject = probe_object
 action_view actions.GetStatic = get_static
 action_view actions.PutStatic = put_static
 action_view actions.GetField = get_field

@@ -149,7 +149,7 @@ reason_of (code_allowed m earlier a) = CodeUnexpected
 
 -- ---- the places of a class file
 
--- A use, and the file offset where it would be told.
+-- A use, and the file offset where its breach is reported.
 pub record PlacedUse : Type 0 where
   pub offset : ℕ
   pub use_ : Use
@@ -170,7 +170,7 @@ class_uses index = leads (kinds.Class ∷ []) index ∷ no_array index ∷ []
 abbrev pub reference_uses : Grammar → Grammar → ℕ → ℕ → List Use
 reference_uses names descriptors class member = leads (kinds.Class ∷ []) class ∷ leads (kinds.NameAndType ∷ []) member ∷ signature names descriptors member ∷ []
 
--- The uses in an entry, which are told at its tag (JVMS 4.4).
+-- The uses in an entry: a breach of one is reported at its tag (JVMS 4.4).
 abbrev pub entry_uses : ℕ → PoolEntry → List Use
 entry_uses major (Utf8 bytes) = text_bytes bytes ∷ []
 entry_uses major (Integer bits) = []

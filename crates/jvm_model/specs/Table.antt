@@ -86,10 +86,13 @@ pub data Flow : Type 0 where
 pub data Action : Type 0 where
   plain : Action
   load_constant : Action
+  -- on an array of references
   load_element : Action
   store_element : Action
-  -- it looks at an object that must be there
-  probe : Action
+  -- it looks at an object that must be there: at an element of an array of primitives, at an array, or at any object
+  probe_element : Action
+  probe_array : Action
+  probe_object : Action
   get_static : Action
   put_static : Action
   get_field : Action
@@ -136,33 +139,99 @@ row mnemonic operands pops pushes stores flow action raises =
 -- The classes of actions.
 -- A call of a method of an object, chosen by the object's class (JVMS 6.5.invokevirtual, 6.5.invokeinterface).
 abbrev pub is_selecting : Action → Bool
+is_selecting plain = false
+is_selecting load_constant = false
+is_selecting load_element = false
+is_selecting store_element = false
+is_selecting probe_element = false
+is_selecting probe_array = false
+is_selecting probe_object = false
+is_selecting get_static = false
+is_selecting put_static = false
+is_selecting get_field = false
+is_selecting put_field = false
 is_selecting invoke_virtual = true
+is_selecting invoke_special = false
+is_selecting invoke_static = false
 is_selecting invoke_interface = true
-is_selecting _ = false
+is_selecting make_object = false
+is_selecting make_array = false
+is_selecting throw_object = false
+is_selecting cast = false
+is_selecting leave_method = false
+is_selecting refused = false
 
 -- A call.
 abbrev pub is_call : Action → Bool
+is_call plain = false
+is_call load_constant = false
+is_call load_element = false
+is_call store_element = false
+is_call probe_element = false
+is_call probe_array = false
+is_call probe_object = false
+is_call get_static = false
+is_call put_static = false
+is_call get_field = false
+is_call put_field = false
 is_call invoke_virtual = true
 is_call invoke_special = true
 is_call invoke_static = true
 is_call invoke_interface = true
-is_call _ = false
+is_call make_object = false
+is_call make_array = false
+is_call throw_object = false
+is_call cast = false
+is_call leave_method = false
+is_call refused = false
 
 -- An access to a field.
 abbrev pub is_field_access : Action → Bool
+is_field_access plain = false
+is_field_access load_constant = false
+is_field_access load_element = false
+is_field_access store_element = false
+is_field_access probe_element = false
+is_field_access probe_array = false
+is_field_access probe_object = false
 is_field_access get_static = true
 is_field_access put_static = true
 is_field_access get_field = true
 is_field_access put_field = true
-is_field_access _ = false
+is_field_access invoke_virtual = false
+is_field_access invoke_special = false
+is_field_access invoke_static = false
+is_field_access invoke_interface = false
+is_field_access make_object = false
+is_field_access make_array = false
+is_field_access throw_object = false
+is_field_access cast = false
+is_field_access leave_method = false
+is_field_access refused = false
 
 -- What may start the initialisation of a class (JVMS 5.5).
 abbrev pub is_trigger : Action → Bool
-is_trigger make_object = true
+is_trigger plain = false
+is_trigger load_constant = false
+is_trigger load_element = false
+is_trigger store_element = false
+is_trigger probe_element = false
+is_trigger probe_array = false
+is_trigger probe_object = false
 is_trigger get_static = true
 is_trigger put_static = true
+is_trigger get_field = false
+is_trigger put_field = false
+is_trigger invoke_virtual = false
+is_trigger invoke_special = false
 is_trigger invoke_static = true
-is_trigger _ = false
+is_trigger invoke_interface = false
+is_trigger make_object = true
+is_trigger make_array = false
+is_trigger throw_object = false
+is_trigger cast = false
+is_trigger leave_method = false
+is_trigger refused = false
 
 -- The rows of the opcodes 0 to 201; each shows its opcode at its end.
 abbrev pub rows : List Row
@@ -213,14 +282,14 @@ rows =
     ∷ row (codes "aload_1") (implied 1) [] (the_local ∷ []) [] onward plain []  -- 43
     ∷ row (codes "aload_2") (implied 2) [] (the_local ∷ []) [] onward plain []  -- 44
     ∷ row (codes "aload_3") (implied 3) [] (the_local ∷ []) [] onward plain []  -- 45
-    ∷ row (codes "iaload") nothing (reference ∷ primitive ∷ []) (a_primitive ∷ []) [] onward probe (null_pointer ∷ array_index ∷ [])  -- 46
-    ∷ row (codes "laload") nothing (reference ∷ primitive ∷ []) (a_primitive ∷ a_primitive ∷ []) [] onward probe (null_pointer ∷ array_index ∷ [])  -- 47
-    ∷ row (codes "faload") nothing (reference ∷ primitive ∷ []) (a_primitive ∷ []) [] onward probe (null_pointer ∷ array_index ∷ [])  -- 48
-    ∷ row (codes "daload") nothing (reference ∷ primitive ∷ []) (a_primitive ∷ a_primitive ∷ []) [] onward probe (null_pointer ∷ array_index ∷ [])  -- 49
+    ∷ row (codes "iaload") nothing (reference ∷ primitive ∷ []) (a_primitive ∷ []) [] onward probe_element (null_pointer ∷ array_index ∷ [])  -- 46
+    ∷ row (codes "laload") nothing (reference ∷ primitive ∷ []) (a_primitive ∷ a_primitive ∷ []) [] onward probe_element (null_pointer ∷ array_index ∷ [])  -- 47
+    ∷ row (codes "faload") nothing (reference ∷ primitive ∷ []) (a_primitive ∷ []) [] onward probe_element (null_pointer ∷ array_index ∷ [])  -- 48
+    ∷ row (codes "daload") nothing (reference ∷ primitive ∷ []) (a_primitive ∷ a_primitive ∷ []) [] onward probe_element (null_pointer ∷ array_index ∷ [])  -- 49
     ∷ row (codes "aaload") nothing (reference ∷ primitive ∷ []) (the_made ∷ []) [] onward load_element (null_pointer ∷ array_index ∷ [])  -- 50
-    ∷ row (codes "baload") nothing (reference ∷ primitive ∷ []) (a_primitive ∷ []) [] onward probe (null_pointer ∷ array_index ∷ [])  -- 51
-    ∷ row (codes "caload") nothing (reference ∷ primitive ∷ []) (a_primitive ∷ []) [] onward probe (null_pointer ∷ array_index ∷ [])  -- 52
-    ∷ row (codes "saload") nothing (reference ∷ primitive ∷ []) (a_primitive ∷ []) [] onward probe (null_pointer ∷ array_index ∷ [])  -- 53
+    ∷ row (codes "baload") nothing (reference ∷ primitive ∷ []) (a_primitive ∷ []) [] onward probe_element (null_pointer ∷ array_index ∷ [])  -- 51
+    ∷ row (codes "caload") nothing (reference ∷ primitive ∷ []) (a_primitive ∷ []) [] onward probe_element (null_pointer ∷ array_index ∷ [])  -- 52
+    ∷ row (codes "saload") nothing (reference ∷ primitive ∷ []) (a_primitive ∷ []) [] onward probe_element (null_pointer ∷ array_index ∷ [])  -- 53
     ∷ row (codes "istore") local_1 (primitive ∷ []) [] (a_primitive ∷ []) onward plain []  -- 54
     ∷ row (codes "lstore") local_1 (primitive ∷ primitive ∷ []) [] (a_primitive ∷ a_primitive ∷ []) onward plain []  -- 55
     ∷ row (codes "fstore") local_1 (primitive ∷ []) [] (a_primitive ∷ []) onward plain []  -- 56
@@ -246,14 +315,14 @@ rows =
     ∷ row (codes "astore_1") (implied 1) (any_kind ∷ []) [] (popped 0 ∷ []) onward plain []  -- 76
     ∷ row (codes "astore_2") (implied 2) (any_kind ∷ []) [] (popped 0 ∷ []) onward plain []  -- 77
     ∷ row (codes "astore_3") (implied 3) (any_kind ∷ []) [] (popped 0 ∷ []) onward plain []  -- 78
-    ∷ row (codes "iastore") nothing (reference ∷ primitive ∷ primitive ∷ []) [] [] onward probe (null_pointer ∷ array_index ∷ [])  -- 79
-    ∷ row (codes "lastore") nothing (reference ∷ primitive ∷ primitive ∷ primitive ∷ []) [] [] onward probe (null_pointer ∷ array_index ∷ [])  -- 80
-    ∷ row (codes "fastore") nothing (reference ∷ primitive ∷ primitive ∷ []) [] [] onward probe (null_pointer ∷ array_index ∷ [])  -- 81
-    ∷ row (codes "dastore") nothing (reference ∷ primitive ∷ primitive ∷ primitive ∷ []) [] [] onward probe (null_pointer ∷ array_index ∷ [])  -- 82
+    ∷ row (codes "iastore") nothing (reference ∷ primitive ∷ primitive ∷ []) [] [] onward probe_element (null_pointer ∷ array_index ∷ [])  -- 79
+    ∷ row (codes "lastore") nothing (reference ∷ primitive ∷ primitive ∷ primitive ∷ []) [] [] onward probe_element (null_pointer ∷ array_index ∷ [])  -- 80
+    ∷ row (codes "fastore") nothing (reference ∷ primitive ∷ primitive ∷ []) [] [] onward probe_element (null_pointer ∷ array_index ∷ [])  -- 81
+    ∷ row (codes "dastore") nothing (reference ∷ primitive ∷ primitive ∷ primitive ∷ []) [] [] onward probe_element (null_pointer ∷ array_index ∷ [])  -- 82
     ∷ row (codes "aastore") nothing (reference ∷ primitive ∷ reference ∷ []) [] [] onward store_element (null_pointer ∷ array_index ∷ array_store ∷ [])  -- 83
-    ∷ row (codes "bastore") nothing (reference ∷ primitive ∷ primitive ∷ []) [] [] onward probe (null_pointer ∷ array_index ∷ [])  -- 84
-    ∷ row (codes "castore") nothing (reference ∷ primitive ∷ primitive ∷ []) [] [] onward probe (null_pointer ∷ array_index ∷ [])  -- 85
-    ∷ row (codes "sastore") nothing (reference ∷ primitive ∷ primitive ∷ []) [] [] onward probe (null_pointer ∷ array_index ∷ [])  -- 86
+    ∷ row (codes "bastore") nothing (reference ∷ primitive ∷ primitive ∷ []) [] [] onward probe_element (null_pointer ∷ array_index ∷ [])  -- 84
+    ∷ row (codes "castore") nothing (reference ∷ primitive ∷ primitive ∷ []) [] [] onward probe_element (null_pointer ∷ array_index ∷ [])  -- 85
+    ∷ row (codes "sastore") nothing (reference ∷ primitive ∷ primitive ∷ []) [] [] onward probe_element (null_pointer ∷ array_index ∷ [])  -- 86
     ∷ row (codes "pop") nothing (any_kind ∷ []) [] [] onward plain []  -- 87
     ∷ row (codes "pop2") nothing (any_kind ∷ any_kind ∷ []) [] [] onward plain []  -- 88
     ∷ row (codes "dup") nothing (any_kind ∷ []) (popped 0 ∷ popped 0 ∷ []) [] onward plain []  -- 89
@@ -357,12 +426,12 @@ rows =
     ∷ row (codes "new") (pool_2 no_array) [] (the_made ∷ []) [] onward make_object []  -- 187
     ∷ row (codes "newarray") type_code (primitive ∷ []) (the_made ∷ []) [] onward make_array (negative_size ∷ [])  -- 188
     ∷ row (codes "anewarray") (pool_2 any_class) (primitive ∷ []) (the_made ∷ []) [] onward make_array (negative_size ∷ [])  -- 189
-    ∷ row (codes "arraylength") nothing (reference ∷ []) (a_primitive ∷ []) [] onward probe (null_pointer ∷ [])  -- 190
+    ∷ row (codes "arraylength") nothing (reference ∷ []) (a_primitive ∷ []) [] onward probe_array (null_pointer ∷ [])  -- 190
     ∷ row (codes "athrow") nothing (reference ∷ []) [] [] leave throw_object (null_pointer ∷ [])  -- 191
     ∷ row (codes "checkcast") (pool_2 any_class) (reference ∷ []) (popped 0 ∷ []) [] onward cast (class_cast ∷ [])  -- 192
     ∷ row (codes "instanceof") (pool_2 any_class) (reference ∷ []) (a_primitive ∷ []) [] onward plain []  -- 193
-    ∷ row (codes "monitorenter") nothing (reference ∷ []) [] [] onward probe (null_pointer ∷ [])  -- 194
-    ∷ row (codes "monitorexit") nothing (reference ∷ []) [] [] onward probe (null_pointer ∷ [])  -- 195
+    ∷ row (codes "monitorenter") nothing (reference ∷ []) [] [] onward probe_object (null_pointer ∷ [])  -- 194
+    ∷ row (codes "monitorexit") nothing (reference ∷ []) [] [] onward probe_object (null_pointer ∷ [])  -- 195
     ∷ row (codes "wide") widened [] [] [] onward refused []  -- 196
     ∷ row (codes "multianewarray") pool_2_and_dimensions [] (the_made ∷ []) [] onward make_array (negative_size ∷ [])  -- 197
     ∷ row (codes "ifnull") offset_2 (reference ∷ []) [] [] branch_if_null plain []  -- 198

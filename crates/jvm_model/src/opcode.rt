@@ -123,10 +123,15 @@ pub enum Flow {
 pub enum Action {
     Plain,
     LoadConstant,
+    /// On an array of references.
     LoadElement,
     StoreElement,
-    /// It looks at an object that must be there.
-    Probe,
+    /// It looks at an object that must be there: at an element of an array of primitives.
+    ProbeElement,
+    /// At an array.
+    ProbeArray,
+    /// At any object.
+    ProbeObject,
     GetStatic,
     PutStatic,
     GetField,
