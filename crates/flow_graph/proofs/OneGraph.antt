@@ -19,7 +19,7 @@ use Rattle.jvm_model.specs.Descriptors.{IsFieldType, IsFieldDescriptor}
 use Rattle.jvm_model.specs.DescriptorValues.{is_wide, IsKind, IsOutcome, IsMethodOf}
 use Rattle.jvm_model.specs.Instructions.{DecodedInstruction, HasDescriptorUnits, kinds_of, made_for, with_units, IsCallRow, IsFieldRow, RowBy}
 use Rattle.jvm_model.specs.Lookups.{MemberReference, Signature}
-use Rattle.jvm_model.specs.Table.{Row, UnitKind, UnitSource, Action, plain, load_constant, load_element, store_element, probe, get_static, put_static, get_field, put_field, invoke_virtual, invoke_special, invoke_static, invoke_interface, make_object, make_array, throw_object, cast, leave_method, refused}
+use Rattle.jvm_model.specs.Table.{Row, UnitKind, UnitSource, Action, plain, load_constant, load_element, store_element, probe_element, probe_array, probe_object, get_static, put_static, get_field, put_field, invoke_virtual, invoke_special, invoke_static, invoke_interface, make_object, make_array, throw_object, cast, leave_method, refused}
 use Rattle.jvm_model.proofs.Fields.{field-component}
 use Rattle.jvm_model.proofs.MethodKinds.{one_value}
 use Rattle.jvm_model.specs.DescriptorValues.{kind_units}
@@ -137,7 +137,9 @@ same_by invoke_interface pool i r s x y = same_call pool i _ r s x y
 same_by plain pool i r s x y = same_row r s (x ∙ sym y)
 same_by load_element pool i r s x y = same_row r s (x ∙ sym y)
 same_by store_element pool i r s x y = same_row r s (x ∙ sym y)
-same_by probe pool i r s x y = same_row r s (x ∙ sym y)
+same_by probe_element pool i r s x y = same_row r s (x ∙ sym y)
+same_by probe_array pool i r s x y = same_row r s (x ∙ sym y)
+same_by probe_object pool i r s x y = same_row r s (x ∙ sym y)
 same_by make_object pool i r s x y = same_row r s (x ∙ sym y)
 same_by make_array pool i r s x y = same_row r s (x ∙ sym y)
 same_by throw_object pool i r s x y = same_row r s (x ∙ sym y)
