@@ -1,14 +1,12 @@
 -- Steps of the machine, and paths of steps.
-use Rattle.std.proofs.Common.{codes, ◌≡◌, ℕ, suc, ◌+◌, Bool, true, false, List, [], ◌∷◌, ◌++◌, length, Contains, Some, slice_get, refl, arith, Ok}
+use Rattle.std.proofs.Common.{codes, ◌≡◌, ℕ, suc, ◌+◌, Bool, true, false, List, [], ◌∷◌, ◌++◌, length, Contains, Some, refl, arith, Ok}
 use Rattle.std.proofs.lemmas.Bool.{le-ltb}
-use Rattle.jvm_model.specs.declared.class_file.ClassFile.{ClassFile}
-use Rattle.jvm_model.specs.declared.class_file.Member.{Member}
-use Rattle.jvm_model.specs.Code.{CodeBody, HasCode}
 use Rattle.bytecode_machine.specs.Executions.{AreSteps}
 use Rattle.jvm_model.specs.Instructions.{DecodedInstruction, needs, instruction, instruction_at, IsRowAt, HasDescriptorUnits}
-use Rattle.bytecode_machine.specs.Machine.{Subject, AtInstruction, At, HasOperands, effect, Goes, Makes, entered, Invokes, enters, IsAfterCall, Step, advances, returns}
-use Rattle.jvm_model.specs.Programs.{Program, Method, in_file}
-use Rattle.bytecode_machine.specs.States.{Value, Frame, World, State, runs_on, moved_to, waiting}
+use Rattle.bytecode_machine.specs.Machine.{MethodCode, AtInstruction, At, HasOperands, effect, Goes, Makes, IsAfterCall, Step, advances, returns}
+use Rattle.bytecode_machine.specs.Objects.{Subject}
+use Rattle.jvm_model.specs.Programs.{Program}
+use Rattle.bytecode_machine.specs.States.{Value, Frame, World, State, runs_on, moved_to}
 use Rattle.jvm_model.specs.Table.{Row, row, nothing, implied, pool_2, any_method, class_method, no_array, the_local, the_made, onward, leave, plain, make_object, invoke_special, invoke_virtual, leave_method, null_pointer}
 
 -- ---- paths
@@ -31,26 +29,15 @@ steps_to x s t u step more = record {
 
 -- ---- where a frame stands
 
--- a method has code
-pub record CodeOf (p : Program) (number : ℕ) : Type 0 where
-  pub method : Method
-  pub stands : slice_get p.methods number ≡ Some method
-  pub file : ClassFile
-  pub member : Member
-  pub place : ℕ
-  pub of_file : method.body ≡ in_file file place member
-  pub code : CodeBody
-  pub has : HasCode file member code
-
 -- a frame of a method, at an offset
 abbrev pub frame_at : ℕ → ℕ → List Value → Bool → Frame
 frame_at number offset slots waits = record { method = Some number; offset = offset; slots = slots; waits = waits }
 
 -- it stands at an instruction, whose row is this one
-abbrev pub stands_at : (p : Program) (number : ℕ) (m : CodeOf p number) (offset : ℕ) (i : DecodedInstruction) → instruction_at m.code.bytes offset ≡ Ok i
+abbrev pub stands_at : (p : Program) (number : ℕ) (m : MethodCode p number) (offset : ℕ) (i : DecodedInstruction) → instruction_at m.body.bytes offset ≡ Ok i
     → (slots : List Value) (waits : Bool) (r : Row) → IsRowAt m.file.pool i r → AtInstruction p (frame_at number offset slots waits)
 stands_at p number m offset i is slots waits r of_row = record {
-  here = record { number = number; of_frame = refl; method = m.method; stands = m.stands; file = m.file; member = m.member; place = m.place; of_file = m.of_file; code = m.code; has = m.has };
+  here = record { number = number; of_frame = refl; code = m };
   instruction = i;
   is = is;
   row = r;
@@ -59,12 +46,6 @@ stands_at p number m offset i is slots waits r of_row = record {
 
 abbrev pub runs_at : (p : Program) (f : Frame) (below : List Frame) (w : World) → AtInstruction p f → At p (runs_on (f ∷ below) w)
 runs_at p f below w now = record { frame = f; below = below; runs = refl; frames = refl; now = now }
-
--- the method is called, and gets a frame
-pub enters_code : (p : Program) (number : ℕ) (m : CodeOf p number) (arguments kept : List Value) (caller : Frame) (size : ℕ) (below : List Frame) (w : World)
-    → Invokes p number arguments kept caller size below w (runs_on (entered number m.code arguments ∷ waiting caller kept ∷ below) w)
-enters_code p number m arguments kept caller size below w =
-    enters (record { method = m.method; stands = m.stands; file = m.file; member = m.member; place = m.place; of_file = m.of_file; code = m.code; has = m.has; after = refl })
 
 -- ---- steps in a method
 
@@ -88,11 +69,11 @@ virtual_call index = instruction 182 (row (codes "invokevirtual") (pool_2 class_
 abbrev pub the_return : DecodedInstruction
 the_return = instruction 177 (row (codes "return") nothing [] [] [] leave leave_method []) 0 0 [] 1
 
-module _ (x : Subject) (number : ℕ) (m : CodeOf x.program number) (offset : ℕ) (below : List Frame) where
+module _ (x : Subject) (number : ℕ) (m : MethodCode x.program number) (offset : ℕ) (below : List Frame) where
   -- the instruction pops the units, acts, and goes on at the next one
-  pub advance : (i : DecodedInstruction) → instruction_at m.code.bytes offset ≡ Ok i → IsRowAt m.file.pool i i.row → (kept units : List Value) (made : Value) (w after : World)
+  pub advance : (i : DecodedInstruction) → instruction_at m.body.bytes offset ≡ Ok i → IsRowAt m.file.pool i i.row → (kept units : List Value) (made : Value) (w after : World)
       → HasOperands i.row (kept ++ units) kept units
-      → Makes i.row.action x (frame_at number offset (kept ++ units) false) m.file.pool i.operand w made after
+      → Makes i.row.action x (frame_at number offset (kept ++ units) false) m.file.pool i units w made after
       → Goes i.row.flow (offset + i.size) i.targets units (offset + i.size)
       → Step x (runs_on (frame_at number offset (kept ++ units) false ∷ below) w)
       (runs_on (frame_at number (offset + i.size) (effect i.row i.operand made kept units) false ∷ below) after)
@@ -101,7 +82,7 @@ module _ (x : Subject) (number : ℕ) (m : CodeOf x.program number) (offset : �
       (record { kept = kept; units = units; made = made; world = after; next = offset + i.size; operands = operands; makes = makes; goes = goes; after = refl })
 
   -- the method returns nothing, and its caller goes on
-  pub return : instruction_at m.code.bytes offset ≡ Ok the_return → HasDescriptorUnits m.method.signature.descriptor [] []
+  pub return : instruction_at m.body.bytes offset ≡ Ok the_return → HasDescriptorUnits m.method.signature.descriptor [] []
       → (slots : List Value) (w : World) (caller : Frame) (rest : List Frame) (next : ℕ) → slots ≡ slots ++ [] → below ≡ caller ∷ rest → caller.waits ≡ true → IsAfterCall x.program caller next
       → Step x (runs_on (frame_at number offset slots false ∷ below) w) (runs_on (moved_to caller next (caller.slots ++ []) ∷ rest) w)
   return is units slots w caller rest next same under called goes =

@@ -1,10 +1,9 @@
 -- The program of a class of the form has its entry.
-use Rattle.std.proofs.Common.{◌≡◌, ℕ, zero, suc, ◌+◌, Bool, true, false, cond, List, [], ◌∷◌, ◌++◌, map, Contains, Option, Some, unwrap_or, ap, ◌∙◌, arith}
+use Rattle.std.proofs.Common.{◌≡◌, ℕ, ◌+◌, Bool, true, false, cond, List, [], ◌∷◌, ◌++◌, map, Contains, Option, Some, unwrap_or, ap}
 use Rattle.std.specs.List.{enumerate_from}
 use Rattle.std.specs.Ordering.{nat_cmp, is_lt}
 use Rattle.std.specs.Cmp.Lexicographic.{slice_cmp}
 use Rattle.std.proofs.lemmas.List.Elements.{All-contains, Contains-append_left, Contains-append_right}
-use Rattle.std.proofs.lemmas.List.FromFn.{length-enumerate_from, get_or-enumerate_from}
 use Rattle.jvm_model.specs.declared.class_file.ClassFile.{ClassFile}
 use Rattle.jvm_model.specs.declared.class_file.Member.{Member}
 use Rattle.jvm_model.specs.Lookups.{text_at}
@@ -14,18 +13,7 @@ use Rattle.prune_stage.proofs.Reach.{place_of}
 use Rattle.one_class_form.specs.Entries.{IsEntryOf}
 use Rattle.one_class_form.specs.OneClassPrograms.{program_of, object_constructor}
 use Rattle.one_class_form.specs.StraightLine.{IsStraightLine}
-
-map_contains : {X Y : Type 0} (f : X → Y) (xs : List X) (x : X) → Contains xs x → Contains (map f xs) (f x)
-map_contains f [] x (k, lt, e) = absurd (omega arith)
-map_contains f (y ∷ ys) x (zero, lt, e) = (0, omega arith, ap f e)
-map_contains f (y ∷ ys) x (suc k, lt, e) =
-    let rest = map_contains f ys x (k, omega arith, e) in
-    (suc rest.0, omega (arith, rest.1), rest.2)
-
--- an item is in the numbered list, with its place
-numbered : {X : Type 0} (xs : List X) (x : X) (h : Contains xs x) → Contains (enumerate_from 0 xs) (0 + h.0, x)
-numbered xs x (k, lt, e) =
-    (k, omega (arith, length-enumerate_from 0 xs), get_or-enumerate_from 0 xs k (0 + k, x) lt ∙ (λ i. (0 + k, e i)))
+use Rattle.one_class_form.proofs.ListMembers.{map_contains, numbered}
 
 -- what is in the one part is in the whole
 in_either : {X : Type 0} (first : Bool) (xs ys : List X) (x : X) → Contains xs x → Contains (cond first (xs ++ ys) (ys ++ xs)) x

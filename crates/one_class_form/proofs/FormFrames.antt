@@ -1,21 +1,17 @@
 -- The methods of the form's program, and where frames stand in it: at the start, or at an instruction of the
--- entry, of the constructor, or of a method that is called.
-use Rattle.std.proofs.Common.{codes, ◌≡◌, ◌⊎◌, inl, inr, ℕ, zero, suc, ◌<◌, Bool, true, false, cond, List, [], ◌∷◌, ◌++◌, length, map, All, Contains, Option, Some, slice_get, unwrap_or, refl, sym, ap, ◌∙◌, subst, arith}
-use Rattle.std.specs.List.{AllByRecursion, AllZip, enumerate_from, list_any}
-use Rattle.std.specs.Ordering.{nat_cmp, is_lt}
-use Rattle.std.specs.Cmp.Lexicographic.{slice_cmp}
+-- entry, of the constructor, or of a method that is called. All that is asked of the program is that its code is the class file's.
+use Rattle.std.proofs.Common.{codes, ◌≡◌, ℕ, suc, true, false, List, [], ◌∷◌, ◌++◌, All, Contains, length, Option, Some, slice_get, unwrap_or, refl, sym, ap, ◌∙◌, subst, arith}
+use Rattle.std.specs.List.{AllByRecursion, AllZip, list_any}
 use Rattle.std.specs.Str.{bytes_eq}
 use Rattle.std.proofs.lemmas.Bool.{false≢true}
-use Rattle.std.proofs.lemmas.List.FromFn.{length-enumerate_from, get_or-enumerate_from}
-use Rattle.std.proofs.lemmas.List.Elements.{All-contains, All-contains_itself, Contains-append_cases}
-use Rattle.std.proofs.lemmas.Option.{same_Some, slice_get_within, get_or_from_slice_get}
+use Rattle.std.proofs.lemmas.List.Elements.{All-contains, All-contains_itself}
+use Rattle.std.proofs.lemmas.Option.{same_Some}
 use Rattle.jvm_model.specs.declared.class_file.ClassFile.{ClassFile}
 use Rattle.jvm_model.specs.declared.class_file.Member.{Member}
 use Rattle.jvm_model.specs.Code.{CodeBody, HasCode}
 use Rattle.jvm_model.specs.Lookups.{text_at, method_at}
-use Rattle.bytecode_machine.specs.Machine.{InCode}
-use Rattle.jvm_model.specs.Programs.{Body as MethodBody, in_file, described, returns_at_once, Method, method_of, object_name, class_or_none}
-use Rattle.one_class_form.specs.OneClassPrograms.{program_of, object_constructor}
+use Rattle.bytecode_machine.specs.Machine.{MethodCode, InCode}
+use Rattle.jvm_model.specs.Programs.{Body as MethodBody, in_file, described, Method, Program, method_of}
 use Rattle.bytecode_machine.specs.States.{Frame}
 use Rattle.one_class_form.specs.Bodies.{Body, HasBody}
 use Rattle.one_class_form.specs.declared.simple.Simple.{Simple}
@@ -84,44 +80,14 @@ entry_form c class calls m is =
 
 -- ---- methods of the program
 
-pub got : {X : Type 0} (xs : List X) (k : ℕ) (x : X) → slice_get xs k ≡ Some x → Contains xs x
-got xs k x e = (k, slice_get_within xs k x e, get_or_from_slice_get xs k x x e)
+-- code of the program is that of a method of the class file
+pub record IsOwnCode (p : Program) (c : ClassFile) (number : ℕ) (code : MethodCode p number) : Type 0 where
+  pub among : Contains c.methods code.member
+  pub is : code.method ≡ method_of c (code.place, code.member)
 
-contains_map : {X Y : Type 0} (f : X → Y) (xs : List X) (y : Y) → Contains (map f xs) y → (x : X) × Contains xs x × (y ≡ f x)
-contains_map f [] y (k, lt, e) = absurd (omega arith)
-contains_map f (x ∷ xs) y (zero, lt, e) = (x, (0, omega arith, refl), sym e)
-contains_map f (x ∷ xs) y (suc k, lt, e) =
-    let rest = contains_map f xs y (k, omega arith, e) in
-    (rest.0, (suc rest.1.0, omega (arith, rest.1.1), rest.1.2), rest.2)
-
-either_part : {X : Type 0} (first : Bool) (xs ys : List X) (k : ℕ) (x : X) → slice_get (cond first (xs ++ ys) (ys ++ xs)) k ≡ Some x → Contains xs x ⊎ Contains ys x
-either_part true xs ys k x e = Contains-append_cases xs ys x (got _ k x e)
-either_part false xs ys k x e = swap (Contains-append_cases ys xs x (got _ k x e))
-  where
-    swap : {A B : Type 0} → A ⊎ B → B ⊎ A
-    swap (inl a) = inr a
-    swap (inr b) = inl b
-
--- a numbered item is an item
-unnumbered : {X : Type 0} (xs : List X) (p : ℕ × X) → Contains (enumerate_from 0 xs) p → Contains xs p.1
-unnumbered xs p (k, lt, e) =
-    let within : k < length xs = omega (arith, length-enumerate_from 0 xs) in
-    (k, within, ap (λ (q : ℕ × _). q.1) (sym (get_or-enumerate_from 0 xs k p within) ∙ e))
-
-only_one : {X : Type 0} (x y : X) → Contains (x ∷ []) y → y ≡ x
-only_one x y (zero, lt, e) = sym e
-only_one x y (suc k, lt, e) = absurd (omega arith)
-
--- it is a numbered method of the class, or the constructor of java/lang/Object
-pub method_parts : (c : ClassFile) (number : ℕ) (n : Method) → slice_get (program_of c).methods number ≡ Some n → ((p : ℕ × Member) × Contains c.methods p.1 × (n ≡ method_of c p)) ⊎ (n ≡ object_constructor)
-method_parts c number n e =
-    parts (either_part (is_lt (slice_cmp nat_cmp (class_or_none c.pool c.this_class) object_name)) (map (method_of c) (enumerate_from 0 c.methods)) (object_constructor ∷ []) number n e)
-  where
-    parts : Contains (map (method_of c) (enumerate_from 0 c.methods)) n ⊎ Contains (object_constructor ∷ []) n → ((p : ℕ × Member) × Contains c.methods p.1 × (n ≡ method_of c p)) ⊎ (n ≡ object_constructor)
-    parts (inl h) =
-        let own = contains_map (method_of c) (enumerate_from 0 c.methods) n h in
-        inl (own.0, unnumbered c.methods own.0 own.1, own.2)
-    parts (inr h) = inr (only_one object_constructor n h)
+-- so is all of its code
+pub record IsHome (p : Program) (c : ClassFile) : Type 0 where
+  pub each : (number : ℕ) (code : MethodCode p number) → IsOwnCode p c number code
 
 -- ---- code that can be entered
 
@@ -145,12 +111,12 @@ callee_callable c class method calls form name among =
     record { member = callee.method; is = record { stands = callee.stands; named = callee.named }; form = callee_form c calls callee.method callee.is }
 
 -- where a frame stands: in code of the form, between two instructions; `place` is the number of its method in the file
-pub record IsInside (c : ClassFile) (calls : List (List ℕ)) (method : Option ℕ) (offset : ℕ) : Type 0 where
+pub record IsInside (p : Program) (c : ClassFile) (calls : List (List ℕ)) (method : Option ℕ) (offset : ℕ) : Type 0 where
   pub number : ℕ
   pub of_frame : method ≡ Some number
   pub place : ℕ
   pub member : Member
-  pub stands : slice_get (program_of c).methods number ≡ Some (method_of c (place, member))
+  pub stands : slice_get p.methods number ≡ Some (method_of c (place, member))
   pub form : HasForm c calls member
   pub front : List Simple
   pub after : List Simple
@@ -160,75 +126,72 @@ pub record IsInside (c : ClassFile) (calls : List (List ℕ)) (method : Option �
 file_of : ClassFile → MethodBody → ClassFile
 file_of d (in_file c place m) = c
 file_of d (described stub) = d
-file_of d returns_at_once = d
 
 member_of : Member → MethodBody → Member
 member_of d (in_file c place m) = m
 member_of d (described stub) = d
-member_of d returns_at_once = d
+
+place_of : ℕ → MethodBody → ℕ
+place_of d (in_file c place m) = place
+place_of d (described stub) = d
 
 pub same_file : (c d : ClassFile) (j k : ℕ) (m n : Member) → in_file c j m ≡ in_file d k n → (c ≡ d) × (m ≡ n)
 unfolding file_of member_of
 same_file c d j k m n e = (ap (file_of c) e, ap (member_of m) e)
 
--- a method with code that has the name of a callable one is that one
-pub enters_callable : (c : ClassFile) (class method : List ℕ) (calls : List (List ℕ)) → IsStraightLine c class method calls → (name : List ℕ) → IsCallable c calls name
-    → (number : ℕ) (n : Method) → slice_get (program_of c).methods number ≡ Some n → n.signature.name ≡ name → (file : ClassFile) (place : ℕ) (member : Member) → n.body ≡ in_file file place member → IsInside c calls (Some number) 0
-enters_callable c class method calls form name callable number n stands named file place member of_file = by (method_parts c number n stands)
-  where
-    by : ((p : ℕ × Member) × Contains c.methods p.1 × (n ≡ method_of c p)) ⊎ (n ≡ object_constructor) → IsInside c calls (Some number) 0
-    by (inl (p, among, is)) =
-        let m = p.1 in
-        let there = name_there c form.names (names_of c class method calls form) among.0 m name among.1 (sym among.2) in
-        let its_name : text_at c.pool m.name ≡ Some name = there ∙ ap (λ (x : List ℕ). Some x) (sym (ap (λ (t : Option (List ℕ)). unwrap_or t []) there) ∙ sym (ap (λ (x : Method). x.signature.name) is) ∙ named) in
-        let same : m ≡ callable.member = one_method c form.names (names_of c class method calls form) name m callable.member (record { stands = among; named = its_name }) callable.is in
-        record {
-          number = number;
-          of_frame = refl;
-          place = p.0;
-          member = callable.member;
-          stands = stands ∙ ap (λ (x : Method). Some x) (is ∙ ap (λ (x : Member). method_of c (p.0, x)) same);
-          form = callable.form;
-          front = [];
-          after = callable.form.instructions;
-          parts = refl;
-          there = refl;
-        }
-    by (inr is) =
-        let e : returns_at_once ≡ in_file file place member = sym (ap (λ (x : Method). x.body) is) ∙ of_file in
-        absurd cc
+pub same_place : (c d : ClassFile) (j k : ℕ) (m n : Member) → in_file c j m ≡ in_file d k n → j ≡ k
+unfolding place_of
+same_place c d j k m n e = ap (place_of j) e
 
--- no method with code has a name that is barred
-pub no_barred_code : (c : ClassFile) (class method : List ℕ) (calls : List (List ℕ)) → IsStraightLine c class method calls → (name : List ℕ) → list_any (bytes_eq name) barred_names ≡ true
-    → (number : ℕ) (n : Method) → slice_get (program_of c).methods number ≡ Some n → n.signature.name ≡ name → (file : ClassFile) (place : ℕ) (member : Member) → n.body ≡ in_file file place member → ⊥
-no_barred_code c class method calls form name barred number n stands named file place member of_file = by (method_parts c number n stands)
-  where
-    by : ((p : ℕ × Member) × Contains c.methods p.1 × (n ≡ method_of c p)) ⊎ (n ≡ object_constructor) → ⊥
-    by (inl (p, among, is)) =
-        let m = p.1 in
-        let there = name_there c form.names (names_of c class method calls form) among.0 m name among.1 (sym among.2) in
-        let its_name : text_at c.pool m.name ≡ Some name = there ∙ ap (λ (x : List ℕ). Some x) (sym (ap (λ (t : Option (List ℕ)). unwrap_or t []) there) ∙ sym (ap (λ (x : Method). x.signature.name) is) ∙ named) in
-        let known : Contains form.names name = name_known c form.names (names_of c class method calls form) name m (record { stands = among; named = its_name }) in
-        let allowed : list_any (bytes_eq name) barred_names ≡ false = All-contains (λ n. list_any (bytes_eq n) barred_names ≡ false) form.names name form.names_allowed known in
-        false≢true (sym allowed ∙ barred)
-    by (inr is) =
-        let e : returns_at_once ≡ in_file file place member = sym (ap (λ (x : Method). x.body) is) ∙ of_file in
-        absurd cc
+module _ (p : Program) (c : ClassFile) (home : IsHome p c) (class method : List ℕ) (calls : List (List ℕ)) (form : IsStraightLine c class method calls) where
+  -- the name of a method with code
+  its_name : (name : List ℕ) (number : ℕ) (code : MethodCode p number) → code.method.signature.name ≡ name → text_at c.pool code.member.name ≡ Some name
+  its_name name number code named =
+      let own = home.each number code in
+      let there = name_there c form.names (names_of c class method calls form) own.among.0 code.member name own.among.1 (sym own.among.2) in
+      there ∙ ap (λ (x : List ℕ). Some x) (sym (ap (λ (t : Option (List ℕ)). unwrap_or t []) there) ∙ sym (ap (λ (x : Method). x.signature.name) own.is) ∙ named)
+
+  -- a method with code that has the name of a callable one is that one
+  pub enters_callable : (name : List ℕ) → IsCallable c calls name → (number : ℕ) (code : MethodCode p number) → code.method.signature.name ≡ name → IsInside p c calls (Some number) 0
+  enters_callable name callable number code named =
+      let own = home.each number code in
+      let same : code.member ≡ callable.member = one_method c form.names (names_of c class method calls form) name code.member callable.member (record { stands = own.among; named = its_name name number code named }) callable.is in
+      record {
+        number = number;
+        of_frame = refl;
+        place = code.place;
+        member = callable.member;
+        stands = code.stands ∙ ap (λ (x : Method). Some x) (own.is ∙ ap (λ (x : Member). method_of c (code.place, x)) same);
+        form = callable.form;
+        front = [];
+        after = callable.form.instructions;
+        parts = refl;
+        there = refl;
+      }
+
+  -- no method with code has a name that is barred
+  pub no_barred_code : (name : List ℕ) → list_any (bytes_eq name) barred_names ≡ true → (number : ℕ) (code : MethodCode p number) → code.method.signature.name ≡ name → ⊥
+  no_barred_code name barred number code named =
+      let own = home.each number code in
+      let known : Contains form.names name = name_known c form.names (names_of c class method calls form) name code.member (record { stands = own.among; named = its_name name number code named }) in
+      let allowed : list_any (bytes_eq name) barred_names ≡ false = All-contains (λ n. list_any (bytes_eq n) barred_names ≡ false) form.names name form.names_allowed known in
+      false≢true (sym allowed ∙ barred)
 
 -- what the machine finds in code of the form
-pub record IsSameCode (c : ClassFile) (calls : List (List ℕ)) (f : Frame) (inside : IsInside c calls f.method f.offset) (here : InCode (program_of c) f) : Type 0 where
-  pub file : here.file ≡ c
-  pub stands : Stands here.code.bytes f.offset inside.after
-  pub handlers : here.code.handlers ≡ []
+pub record IsSameCode (p : Program) (c : ClassFile) (calls : List (List ℕ)) (f : Frame) (inside : IsInside p c calls f.method f.offset) (here : InCode p f) : Type 0 where
+  pub file : here.code.file ≡ c
+  pub stands : Stands here.code.body.bytes f.offset inside.after
+  pub handlers : here.code.body.handlers ≡ []
 
-pub same_code_there : (c : ClassFile) (calls : List (List ℕ)) (f : Frame) (inside : IsInside c calls f.method f.offset) (here : InCode (program_of c) f) → IsSameCode c calls f inside here
-same_code_there c calls f inside here =
+pub same_code_there : (p : Program) (c : ClassFile) (calls : List (List ℕ)) (f : Frame) (inside : IsInside p c calls f.method f.offset) (here : InCode p f) → IsSameCode p c calls f inside here
+same_code_there p c calls f inside here =
+    let code = here.code in
     let number : inside.number ≡ here.number = same_Some _ _ (sym inside.of_frame ∙ here.of_frame) in
-    let method : method_of c (inside.place, inside.member) ≡ here.method =
-    same_Some _ _ (sym inside.stands ∙ ap (λ (n : ℕ). slice_get (program_of c).methods n) number ∙ here.stands) in
-    let both = same_file c here.file inside.place here.place inside.member here.member (ap (λ (n : Method). n.body) method ∙ here.of_file) in
-    let of_file = subst (λ (d : ClassFile). HasCode d here.member here.code) (sym both.0) here.has in
-    let of_member = subst (λ (m : Member). HasCode c m here.code) (sym both.1) of_file in
-    let code = inside.form.spelled here.code of_member in
-    let after = stands_after here.code.bytes 0 inside.front inside.after (subst (Stands here.code.bytes 0) inside.parts code.0) in
-    record { file = sym both.0; stands = subst (λ (n : ℕ). Stands here.code.bytes n inside.after) (omega (arith, inside.there)) after; handlers = code.1 }
+    let method : method_of c (inside.place, inside.member) ≡ code.method =
+    same_Some _ _ (sym inside.stands ∙ ap (λ (n : ℕ). slice_get p.methods n) number ∙ code.stands) in
+    let both = same_file c code.file inside.place code.place inside.member code.member (ap (λ (n : Method). n.body) method ∙ code.of_file) in
+    let of_file = subst (λ (d : ClassFile). HasCode d code.member code.body) (sym both.0) code.has in
+    let of_member = subst (λ (m : Member). HasCode c m code.body) (sym both.1) of_file in
+    let spelled = inside.form.spelled code.body of_member in
+    let after = stands_after code.body.bytes 0 inside.front inside.after (subst (Stands code.body.bytes 0) inside.parts spelled.0) in
+    record { file = sym both.0; stands = subst (λ (n : ℕ). Stands code.body.bytes n inside.after) (omega (arith, inside.there)) after; handlers = spelled.1 }

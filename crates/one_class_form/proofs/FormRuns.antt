@@ -11,7 +11,7 @@ use Rattle.jvm_model.specs.declared.class_file.ClassFile.{ClassFile}
 use Rattle.jvm_model.specs.declared.pool.PoolEntry.{PoolEntry}
 use Rattle.jvm_model.specs.Instructions.{DecodedInstruction as Decoded, IsRowAt, RowBy}
 use Rattle.bytecode_machine.specs.Machine.{AtInstruction}
-use Rattle.one_class_form.specs.OneClassPrograms.{program_of}
+use Rattle.jvm_model.specs.Programs.{Program}
 use Rattle.bytecode_machine.specs.States.{Object, Frame, State}
 use Rattle.jvm_model.specs.Table.{Row, Action, plain, invoke_virtual, invoke_special, make_object, leave_method, onward}
 use Rattle.prune_stage.specs.StageOne.{events_of, state_after}
@@ -23,12 +23,12 @@ use Rattle.one_class_form.proofs.FormFrames.{IsOfForm, IsInside, IsSameCode, sam
 -- ---- the invariant
 
 -- a frame stands at the start, or inside code of the form
-pub data StandsRight (c : ClassFile) (calls : List (List ℕ)) (method : Option ℕ) (offset : ℕ) : Type 0 where
-  at_start : method ≡ None → StandsRight c calls method offset
-  inside : IsInside c calls method offset → StandsRight c calls method offset
+pub data StandsRight (p : Program) (c : ClassFile) (calls : List (List ℕ)) (method : Option ℕ) (offset : ℕ) : Type 0 where
+  at_start : method ≡ None → StandsRight p c calls method offset
+  inside : IsInside p c calls method offset → StandsRight p c calls method offset
 
-abbrev pub StandRight : ClassFile → List (List ℕ) → List Frame → Type 0
-StandRight c calls frames = AllByRecursion (λ (f : Frame). StandsRight c calls f.method f.offset) frames
+abbrev pub StandRight : Program → ClassFile → List (List ℕ) → List Frame → Type 0
+StandRight p c calls frames = AllByRecursion (λ (f : Frame). StandsRight p c calls f.method f.offset) frames
 
 -- some word over the events leads to the state
 pub record IsLedTo (a : Automaton) (events : List Event) (state : ℕ) : Type 0 where
@@ -39,8 +39,8 @@ pub record IsLedTo (a : Automaton) (events : List Event) (state : ℕ) : Type 0 
 abbrev pub AreLedTo : Automaton → List Event → List Object → Type 0
 AreLedTo a events heap = AllByRecursion (λ (o : Object). IsLedTo a events o.automaton) heap
 
-pub record IsRight (c : ClassFile) (calls : List (List ℕ)) (a : Automaton) (s : State) : Type 0 where
-  pub frames : StandRight c calls s.frames
+pub record IsRight (p : Program) (c : ClassFile) (calls : List (List ℕ)) (a : Automaton) (s : State) : Type 0 where
+  pub frames : StandRight p c calls s.frames
   pub heap : AreLedTo a (events_of calls a) s.world.heap
 
 -- ---- the heap
@@ -58,6 +58,10 @@ led_further a events state e led occurs = record {
 pub each_push : {X : Type 0} (P : X → Type 0) (xs : List X) (x : X) → AllByRecursion P xs → P x → AllByRecursion P (xs ++ x ∷ [])
 each_push P [] x h at = (at, tt)
 each_push P (y ∷ xs) x h at = (h.0, each_push P xs x h.1 at)
+
+pub each_append : {X : Type 0} (P : X → Type 0) (xs ys : List X) → AllByRecursion P xs → AllByRecursion P ys → AllByRecursion P (xs ++ ys)
+each_append P [] ys h at = at
+each_append P (x ∷ xs) ys h at = (h.0, each_append P xs ys h.1 at)
 
 pub each_set : {X : Type 0} (P : X → Type 0) (xs : List X) (k : ℕ) (x : X) → AllByRecursion P xs → P x → AllByRecursion P (slice_set xs k x)
 each_set P [] k x h at = tt
@@ -135,35 +139,35 @@ has_action pool (InvokeVirtual index) d r as_it h = (row_virtual pool d r as_it.
 has_action pool Return d r as_it h = let e = row_leaves pool d r as_it.shape h in ap (λ (x : Row). x.action) e ∙ as_it.shape
 
 -- a frame of the form at an instruction: which one it is, and that it stands right after it too
-pub record IsAt (c : ClassFile) (calls : List (List ℕ)) (f : Frame) (now : AtInstruction (program_of c) f) : Type 0 where
-  pub file : now.here.file ≡ c
+pub record IsAt (p : Program) (c : ClassFile) (calls : List (List ℕ)) (f : Frame) (now : AtInstruction p f) : Type 0 where
+  pub file : now.here.code.file ≡ c
   pub it : Simple
   pub of_form : IsOfForm c calls it
   pub action : HasAction it now.instruction now.row
-  pub next : StandsRight c calls f.method (f.offset + now.instruction.size)
+  pub next : StandsRight p c calls f.method (f.offset + now.instruction.size)
 
 each_right : {X : Type 0} (P : X → Type 0) (xs ys : List X) → AllByRecursion P (xs ++ ys) → AllByRecursion P ys
 each_right P [] ys h = h
 each_right P (x ∷ xs) ys h = each_right P xs ys h.1
 
-pub is_at : (c : ClassFile) (calls : List (List ℕ)) (f : Frame) → StandsRight c calls f.method f.offset → (now : AtInstruction (program_of c) f) → IsAt c calls f now
-is_at c calls f (at_start none) now =
+pub is_at : (p : Program) (c : ClassFile) (calls : List (List ℕ)) (f : Frame) → StandsRight p c calls f.method f.offset → (now : AtInstruction p f) → IsAt p c calls f now
+is_at p c calls f (at_start none) now =
     let e : None ≡ Some now.here.number = sym none ∙ now.here.of_frame in
     absurd cc
-is_at c calls f (inside there) now = by there.after refl (same_code_there c calls f there now.here)
+is_at p c calls f (inside there) now = by there.after refl (same_code_there p c calls f there now.here)
   where
-    by : (after : List Simple) → there.after ≡ after → IsSameCode c calls f there now.here → IsAt c calls f now
-    by [] e code = absurd (none_at_end now.here.code.bytes f.offset now.instruction (subst (Stands now.here.code.bytes f.offset) e code.stands) now.is)
+    by : (after : List Simple) → there.after ≡ after → IsSameCode p c calls f there now.here → IsAt p c calls f now
+    by [] e code = absurd (none_at_end now.here.code.body.bytes f.offset now.instruction (subst (Stands now.here.code.body.bytes f.offset) e code.stands) now.is)
     by (i ∷ rest) e code =
         let parts : there.form.instructions ≡ there.front ++ i ∷ rest = there.parts ∙ ap (λ (t : List Simple). there.front ++ t) e in
         let among : AllByRecursion (IsOfForm c calls) (there.front ++ i ∷ rest) = subst (AllByRecursion (IsOfForm c calls)) parts there.form.each in
         let of_form : IsOfForm c calls i = (each_right (IsOfForm c calls) there.front (i ∷ rest) among).0 in
-        let as_it : IsReadAs i now.instruction = read_there now.here.code.bytes f.offset i rest now.instruction (subst (Stands now.here.code.bytes f.offset) e code.stands) now.is in
+        let as_it : IsReadAs i now.instruction = read_there now.here.code.body.bytes f.offset i rest now.instruction (subst (Stands now.here.code.body.bytes f.offset) e code.stands) now.is in
         record {
           file = code.file;
           it = i;
           of_form = of_form;
-          action = has_action now.here.file.pool i now.instruction now.row as_it now.of_row;
+          action = has_action now.here.code.file.pool i now.instruction now.row as_it now.of_row;
           next = inside (record {
             number = there.number;
             of_frame = there.of_frame;

@@ -8,11 +8,15 @@ pub mod CallMarks
 pub mod Forms
 pub mod OneForm
 pub mod FormEntry
+pub mod ListMembers
 pub mod FormFrames
 pub mod FormRuns
 pub mod FormSteps
+pub mod FormHome
 pub mod FormSound
+pub mod FirstStates
 pub mod ExampleSteps
 pub mod ExampleMethods
 pub mod ExampleRuns
 pub mod ExampleEnds
+pub mod ExamplePrograms

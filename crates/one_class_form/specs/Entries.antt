@@ -9,7 +9,7 @@ use Rattle.jvm_model.specs.declared.site.SiteKind.TheVariants.{New}
 use Rattle.jvm_model.specs.Access.{has_flag}
 use Rattle.jvm_model.specs.Programs.{Program, Method}
 use Rattle.jvm_model.specs.Soundness.{plain_descriptor}
-use Rattle.bytecode_machine.specs.Machine.{Subject}
+use Rattle.bytecode_machine.specs.Objects.{Subject}
 use Rattle.one_class_form.specs.OneClassPrograms.{program_of}
 
 -- The method of a number is the static one of the class and the name that has no parameters and no result.

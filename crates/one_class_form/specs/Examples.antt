@@ -10,7 +10,7 @@ use Rattle.jvm_model.specs.declared.pool.PoolEntry.TheVariants.{Utf8, Class, Met
 use Rattle.jvm_model.specs.declared.site.Site.{Site}
 use Rattle.jvm_model.specs.Code.{CodeBody, spell_code}
 use Rattle.bytecode_machine.specs.Executions.{IsExecution}
-use Rattle.bytecode_machine.specs.Machine.{Subject}
+use Rattle.bytecode_machine.specs.Objects.{Subject}
 use Rattle.jvm_model.specs.Soundness.{plain_descriptor}
 use Rattle.bytecode_machine.specs.States.{Object, State, ended}
 use Rattle.one_class_form.specs.declared.simple.Simple.{Simple}

@@ -3,8 +3,9 @@ use Rattle.std.proofs.Common.{◌≡◌, ℕ, List, Option, IfSome, subst}
 use Rattle.ts_outside.specs.Files.{File}
 use Rattle.jvm_model.specs.declared.automaton.Automaton.{Automaton}
 use Rattle.prune_stage.specs.StageOne.{events_of, IsSafe}
-use Rattle.one_class_form.specs.Entries.{made_at}
+use Rattle.one_class_form.specs.Entries.{made_at, subject_of}
 use Rattle.one_class_form.proofs.FormEntry.{has_entry}
+use Rattle.one_class_form.proofs.FormHome.{home_of}
 use Rattle.one_class_form.proofs.FormSound.{no_error}
 use Rattle.one_class_form.proofs.Options.{if_some, at_some}
 use Rattle.typestate_core.specs.declared.status.Status.{Status}
@@ -31,7 +32,7 @@ keeps words files text class method name bytes a calls asks one judged is_safe p
       entry = entry.0;
       is_entry = entry.1;
       printed = printed;
-      never = no_error judged.c class method calls a entry.0 judged.of_form.form entry.1 is_safe (made_at entry.0 0 class);
+      never = no_error (subject_of judged.c a entry.0) judged.c (home_of judged.c) class method calls judged.of_form.form entry.1 is_safe (made_at entry.0 0 class);
     }
 
 keeps_outcome : (words : List (List ℕ)) (files : List File) (text : List ℕ) → IsSafeOutcome words files text → KeepsProtocol words files text
