@@ -12,8 +12,9 @@ use Rattle.jvm_model.specs.declared.descriptor.Descriptor.TheVariants.{Method}
 use Rattle.jvm_model.specs.declared.descriptor.Kind.{Kind as TypeKind}
 use Rattle.jvm_model.specs.declared.descriptor.Kind.TheVariants.{Prim, Class, Array}
 use Rattle.jvm_model.specs.declared.pool.PoolEntry.{PoolEntry}
-use Rattle.jvm_model.specs.declared.reason.ReadRefusal.{ReadRefusal}
-use Rattle.jvm_model.specs.declared.reason.ReadRefusal.TheVariants as refusals
+use Rattle.failure.specs.declared.Failure.{Failure}
+use Rattle.jvm_model.specs.declared.reason.Fault.{Fault}
+use Rattle.failure.specs.declared.Failure.TheVariants.{Cause, OutOfMemory}
 use Rattle.jvm_model.specs.declared.reason.Reason.{Reason}
 use Rattle.jvm_model.specs.Descriptors.{IsFieldType, IsFieldDescriptor}
 use Rattle.jvm_model.specs.DescriptorValues.{is_wide, IsKind, IsOutcome, IsMethodOf}
@@ -219,26 +220,26 @@ one_walk c code a b x y =
 fault_here : (found other : Option (ℕ × Reason)) (f : ℕ × Reason) → found ≡ None → other ≡ Some f → found ≡ other → ⊥
 fault_here found other f none some same = absurd (cc (none, some, same))
 
-abbrev refused_at : ℕ → Reason → Result Graph ReadRefusal
-refused_at offset reason = Err (refusals.Refused offset reason)
+abbrev refused_at : ℕ → Reason → Result Graph (Failure Fault)
+refused_at offset reason = Err (Cause (record { offset = offset; reason = reason }))
 
-abbrev graph_of : List GraphStep → Result Graph ReadRefusal
+abbrev graph_of : List GraphStep → Result Graph (Failure Fault)
 graph_of steps = Ok (record { steps = steps })
 
-pub one_told : (c : ClassFile) (code : Code) (a b : Result Graph ReadRefusal) → TellsGraph c code a → TellsGraph c code b → IsTold a → IsTold b → a ≡ b
+pub one_told : (c : ClassFile) (code : Code) (a b : Result Graph (Failure Fault)) → TellsGraph c code a → TellsGraph c code b → IsTold a → IsTold b → a ≡ b
 one_told c code (Ok g) (Ok h) x y t u =
     let marks = one_walk c code x.marks y.marks x.is_walked y.is_walked in
     ap graph_of (x.steps_are ∙ ap (steps_of code) marks ∙ sym y.steps_are)
-one_told c code (Ok g) (Err refusals.Memory) x y t u = absurd u
-one_told c code (Ok g) (Err (refusals.Refused o r)) x y t u =
-    absurd (fault_here _ _ (y.within, r) x.faultless y.told (ap (first_fault code.instructions) (one_walk c code x.marks y.marks x.is_walked y.is_walked)))
-one_told c code (Err refusals.Memory) b x y t u = absurd t
-one_told c code (Err (refusals.Refused o r)) (Ok h) x y t u =
-    absurd (fault_here _ _ (x.within, r) y.faultless x.told (ap (first_fault code.instructions) (one_walk c code y.marks x.marks y.is_walked x.is_walked)))
-one_told c code (Err (refusals.Refused o r)) (Err refusals.Memory) x y t u = absurd u
-one_told c code (Err (refusals.Refused o r)) (Err (refusals.Refused p s)) x y t u =
+one_told c code (Ok g) (Err OutOfMemory) x y t u = absurd u
+one_told c code (Ok g) (Err (Cause f)) x y t u =
+    absurd (fault_here _ _ (y.within, f.reason) x.faultless y.told (ap (first_fault code.instructions) (one_walk c code x.marks y.marks x.is_walked y.is_walked)))
+one_told c code (Err OutOfMemory) b x y t u = absurd t
+one_told c code (Err (Cause f)) (Ok h) x y t u =
+    absurd (fault_here _ _ (x.within, f.reason) y.faultless x.told (ap (first_fault code.instructions) (one_walk c code y.marks x.marks y.is_walked x.is_walked)))
+one_told c code (Err (Cause f)) (Err OutOfMemory) x y t u = absurd u
+one_told c code (Err (Cause f)) (Err (Cause g)) x y t u =
     let marks = one_walk c code x.marks y.marks x.is_walked y.is_walked in
-    let same = same_Some (x.within, r) (y.within, s) (sym x.told ∙ ap (first_fault code.instructions) marks ∙ y.told) in
+    let same = same_Some (x.within, f.reason) (y.within, g.reason) (sym x.told ∙ ap (first_fault code.instructions) marks ∙ y.told) in
     let within : x.within ≡ y.within = ap (λ (f : ℕ × Reason). f.0) same in
-    let reason : r ≡ s = ap (λ (f : ℕ × Reason). f.1) same in
-    ap (λ (n : ℕ). refused_at n r) (x.offset_is ∙ ap (λ (n : ℕ). code.at + n) within ∙ sym y.offset_is) ∙ ap (λ (q : Reason). refused_at p q) reason
+    let reason : f.reason ≡ g.reason = ap (λ (f : ℕ × Reason). f.1) same in
+    ap (λ (n : ℕ). refused_at n f.reason) (x.offset_is ∙ ap (λ (n : ℕ). code.at + n) within ∙ sym y.offset_is) ∙ ap (λ (q : Reason). refused_at g.offset q) reason

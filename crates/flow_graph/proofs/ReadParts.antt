@@ -14,7 +14,8 @@ use Rattle.jvm_model.specs.declared.reason.Reason.TheVariants.{BadTarget, BadLoc
 use Rattle.jvm_model.specs.InstructionUses.{is_subroutine, leads_right}
 use Rattle.jvm_model.specs.Soundness.{IsSoundClass}
 use Rattle.jvm_model.specs.Spelling.{spell}
-use Rattle.byte_reader.specs.Reading.{Place, Fault, ◌>>=◌, number_at, bytes_at}
+use Rattle.jvm_model.specs.declared.reason.Fault.{Fault}
+use Rattle.byte_reader.specs.Reading.{Place, ◌>>=◌, number_at, bytes_at}
 use Rattle.code_reader.specs.CodeReading.{Head, code_length_at, head_at, tail_at, placed, code_fault, ReadsBody, cut_before, wrong_code, wrong_after, reads}
 use Rattle.code_reader.specs.Division.{Spot, instruction_in, Divides, at_end, stops, goes_on, Locals, is_target, has_locals, fault_of, first_or, first_fault}
 use Rattle.code_reader.proofs.ToldCodes.{body_fits}

@@ -13,7 +13,8 @@ use Rattle.jvm_model.specs.declared.code.PlacedInstruction.{PlacedInstruction}
 use Rattle.jvm_model.specs.declared.pool.PoolEntry.{PoolEntry}
 use Rattle.jvm_model.specs.declared.reason.Reason.{Reason}
 use Rattle.jvm_model.specs.declared.reason.Reason.TheVariants.{BadHandler, CodeCut, Truncated}
-use Rattle.byte_reader.specs.Reading.{Place, Fault, ◌>>=◌, number_at, bytes_at, items_at, table_at}
+use Rattle.jvm_model.specs.declared.reason.Fault.{Fault}
+use Rattle.byte_reader.specs.Reading.{Place, ◌>>=◌, number_at, bytes_at, items_at, table_at}
 use Rattle.byte_reader.specs.Structures.{attribute_at}
 use Rattle.code_reader.specs.CodeReading.{Head, code_length_at, head_at, tail_at, handler_at, judged, known_targets, placed}
 use Rattle.code_reader.specs.Division.{Spot, Divides, at_end, stops, goes_on, Locals, starts, is_target, is_handler, first_or, first_fault, fault_of}

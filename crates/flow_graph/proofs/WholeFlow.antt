@@ -7,7 +7,8 @@ use Rattle.std.proofs.lemmas.Option.{same_Some, slice_get-get_or}
 use Rattle.jvm_model.specs.declared.class_file.ClassFile.{ClassFile}
 use Rattle.jvm_model.specs.declared.code.Code.{Code}
 use Rattle.jvm_model.specs.declared.code.PlacedInstruction.{PlacedInstruction}
-use Rattle.jvm_model.specs.declared.reason.ReadRefusal.{ReadRefusal}
+use Rattle.failure.specs.declared.Failure.{Failure}
+use Rattle.jvm_model.specs.declared.reason.Fault.{Fault}
 use Rattle.flow_graph.specs.declared.effect.Effect.{Effect}
 use Rattle.flow_graph.specs.declared.mark.Mark.{Mark}
 use Rattle.flow_graph.specs.declared.steps.Graph.{Graph}
@@ -161,6 +162,6 @@ flow_of c code g is graph =
     subst (λ (steps : List GraphStep). IsFlow c code (record { steps = steps })) (sym graph.steps_are) flow
 
 -- what is told as a graph is one of the code
-pub flow_told : (c : ClassFile) (code : Code) (r : Result Graph ReadRefusal) → IsCodeOf c code → TellsGraph c code r → IfOk r (IsFlow c code)
+pub flow_told : (c : ClassFile) (code : Code) (r : Result Graph (Failure Fault)) → IsCodeOf c code → TellsGraph c code r → IfOk r (IsFlow c code)
 flow_told c code (Ok g) is told = flow_of c code g is told
 flow_told c code (Err e) is told = tt

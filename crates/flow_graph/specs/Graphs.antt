@@ -4,8 +4,9 @@ use Rattle.std.specs.Prelude.{◌≡◌, ℕ, ◌+◌, List, [], ◌∷◌, ◌+
 use Rattle.jvm_model.specs.declared.class_file.ClassFile.{ClassFile}
 use Rattle.jvm_model.specs.declared.code.Code.{Code}
 use Rattle.jvm_model.specs.declared.code.PlacedInstruction.{PlacedInstruction}
-use Rattle.jvm_model.specs.declared.reason.ReadRefusal.{ReadRefusal}
-use Rattle.jvm_model.specs.declared.reason.ReadRefusal.TheVariants as refusals
+use Rattle.failure.specs.declared.Failure.{Failure}
+use Rattle.jvm_model.specs.declared.reason.Fault.{Fault}
+use Rattle.failure.specs.declared.Failure.TheVariants.{Cause, OutOfMemory}
 use Rattle.jvm_model.specs.declared.reason.Reason.{Reason}
 use Rattle.jvm_model.specs.declared.reason.Reason.TheVariants.{StackUnder, StackOver, StackMerge, FallsOff}
 use Rattle.flow_graph.specs.declared.effect.Effect.{Effect}
@@ -69,14 +70,14 @@ pub record IsFault (c : ClassFile) (code : Code) (offset : ℕ) (reason : Reason
   pub told : first_fault code.instructions marks ≡ Some (within, reason)
   pub offset_is : offset ≡ code.at + within
 
--- The answer is the graph, or the first fault, or memory ran out.
-abbrev pub TellsGraph : ClassFile → Code → Result Graph ReadRefusal → Type 0
+-- The answer is the graph, or the first fault, or out of memory.
+abbrev pub TellsGraph : ClassFile → Code → Result Graph (Failure Fault) → Type 0
 TellsGraph c code (Ok g) = IsGraph c code g
-TellsGraph c code (Err refusals.Memory) = Unit {0}
-TellsGraph c code (Err (refusals.Refused offset reason)) = IsFault c code offset reason
+TellsGraph c code (Err OutOfMemory) = Unit {0}
+TellsGraph c code (Err (Cause fault)) = IsFault c code fault.offset fault.reason
 
--- Something is told, since memory did not run out.
-abbrev pub IsTold : Result Graph ReadRefusal → Type 0
+-- Something is reported: the answer is not out of memory.
+abbrev pub IsTold : Result Graph (Failure Fault) → Type 0
 IsTold (Ok g) = Unit {0}
-IsTold (Err refusals.Memory) = ⊥
-IsTold (Err (refusals.Refused offset reason)) = Unit {0}
+IsTold (Err OutOfMemory) = ⊥
+IsTold (Err (Cause _)) = Unit {0}

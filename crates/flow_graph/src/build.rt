@@ -12,7 +12,8 @@ use crate::handlers::HandlerIndex;
 use crate::mark::Mark;
 use crate::steps::{Graph, first_fault, steps_of};
 use crate::walk::walk_code;
-use jvm_model::{ClassFile, Code, ReadRefusal, Sequence};
+use failure::Failure;
+use jvm_model::{ClassFile, Code, Fault, ReadFailure, Sequence};
 use std::alloc::{AllocError, Global};
 
 /// The flow graph of a method of a class, from its code as `read_code` answers it; or the first fault, with its file
@@ -30,11 +31,11 @@ use std::alloc::{AllocError, Global};
 /// - `FallsOff` at one that goes on past the end of the code.
 ///
 /// After `StackUnder` or `StackOver` an instruction goes on nowhere, but the handlers that cover it are reached. Of
-/// several faults the one with the least offset is told, and at one offset the one that stands first in `Reason`.
+/// several faults the one with the least offset is reported, and at one offset the one that stands first in `Reason`.
 ///
 /// The time taken is about s log s, where s is the size of the code, of its table of handlers, of the descriptors that its
 /// calls name, each text counted once, and of the answer.
-pub fn graph(alloc: Global, class: &ClassFile, code: &Code) -> Result<Graph, ReadRefusal>
+pub fn graph(alloc: Global, class: &ClassFile, code: &Code) -> Result<Graph, ReadFailure>
     requires sound { IsSoundClass class.now }
     requires size { length (spell class.now) < 2 ^ 32 }
     requires code { IsCodeOf class.now code.now }
@@ -45,7 +46,7 @@ pub fn graph(alloc: Global, class: &ClassFile, code: &Code) -> Result<Graph, Rea
 }
 
 /// The flow graph of a method, or its first fault.
-fn graph_or_fault(alloc: Global, class: &ClassFile, code: &Code) -> Result<Graph, ReadRefusal>
+fn graph_or_fault(alloc: Global, class: &ClassFile, code: &Code) -> Result<Graph, ReadFailure>
     requires sound { IsSoundClass class.now }
     requires size { length (spell class.now) < 2 ^ 32 }
     requires code { IsCodeOf class.now code.now }
@@ -53,10 +54,10 @@ fn graph_or_fault(alloc: Global, class: &ClassFile, code: &Code) -> Result<Graph
 {
     let marks = marks_of(alloc, class, code)?;
     if let Some((offset, reason)) = first_fault(code.instructions.as_slice(), &marks) {
-        return Err(ReadRefusal::Refused {
+        return Err(Failure::Cause(Fault {
             offset: code.at + offset,
             reason,
-        });
+        }));
     }
     let index = HandlerIndex::new(alloc, code.handlers.as_slice())?;
     Ok(Graph {

@@ -43,7 +43,7 @@ impl<'a> Model for HandlerIndex<'a> {
 }
 
 impl<'a> HandlerIndex<'a> {
-    /// The index of a table of handlers. More handlers than 32 bits can number are want of memory.
+    /// The index of a table of handlers. More handlers than 32 bits can number are out of memory.
     pub(crate) fn new(
         alloc: Global,
         handlers: &'a [Handler],

@@ -11,8 +11,9 @@ use Rattle.prune_stage.proofs.Reach.{place_of, contains_at}
 use Rattle.ts_outside.specs.Files.{File, file_at, class_names, is_class_name, IsListing}
 use Rattle.jvm_model.specs.declared.automaton.Automaton.{Automaton}
 use Rattle.jvm_model.specs.declared.class_file.ClassFile.{ClassFile}
-use Rattle.jvm_model.specs.declared.reason.ReadRefusal.{ReadRefusal}
-use Rattle.jvm_model.specs.declared.reason.ReadRefusal.TheVariants as refusals
+use Rattle.failure.specs.declared.Failure.{Failure}
+use Rattle.jvm_model.specs.declared.reason.Fault.{Fault}
+use Rattle.failure.specs.declared.Failure.TheVariants.{Cause, OutOfMemory}
 use Rattle.jvm_model.specs.declared.reason.Reason.{Reason}
 use Rattle.jvm_model.specs.declared.reason.Reason.TheVariants.{BadToml, BadProperty, NotYet}
 use Rattle.classfile_reader.specs.ClassReading.{SpellsReadable}
@@ -26,8 +27,8 @@ use Rattle.typestate_core.specs.declared.status.Status.TheVariants as statuses
 use Rattle.typestate_core.specs.Lines.{no_file, refused_line, missing_line, safe_line, unproved_line, summary_line}
 use Rattle.typestate_core.specs.Outcomes.{Outcome, Asks, HasOneClass, IsOfForm, IsJudged, IsRefusedAs, by_fault, by_form, entry_site, safe, unproved, refused_class, other_count, no_property, no_document, broken_property}
 use Rattle.typestate_core.specs.Requests.{AreWords}
-use Rattle.property_file.specs.declared.refusal.PropertyRefusal.{PropertyRefusal}
-use Rattle.property_file.specs.declared.refusal.PropertyRefusal.TheVariants as properties
+use Rattle.property_file.specs.declared.property_failure.PropertyFault.{PropertyFault}
+use Rattle.property_file.specs.declared.property_failure.PropertyFault.TheVariants as properties
 use Rattle.property_file.specs.PropertyFile.{IsPropertyFile}
 use Rattle.property_file.specs.Refusals.{IsBrokenFile, IsPropertyRefusal}
 use Rattle.toml_tables.specs.Documents.{IsNoDocument, too_large}
@@ -79,7 +80,7 @@ refused_by_form bytes a class method c readable sound none =
     let same : j.c ≡ c = one_spelling bytes j.c c j.readable.spelling readable.spelling in
     none calls (subst (λ (x : ClassFile). IsOfForm x a class method calls) same j.of_form)) refl refl
 
-pub refused_by_fault : (bytes : List ℕ) (a : Automaton) (class method : List ℕ) (r : ReadRefusal) (offset : ℕ) (reason : Reason) → r ≡ refusals.Refused offset reason
+pub refused_by_fault : (bytes : List ℕ) (a : Automaton) (class method : List ℕ) (r : Failure Fault) (offset : ℕ) (reason : Reason) → r ≡ Cause (record { offset = offset; reason = reason })
     → IsClassFileRefusal bytes r → (o : ℕ) (s : Reason) → o ≡ offset → s ≡ reason → IsRefusedAs bytes a class method o s
 refused_by_fault bytes a class method r offset reason is h o s at of =
     let as_read : IsFaulty bytes offset reason = subst (IsClassFileRefusal bytes) is h in
@@ -246,25 +247,25 @@ no_property_told o words property class method text (Ok x) are missing text_is s
     (λ files e. no_property property class method are (at_some o (λ held. file_at held property ≡ None) files e missing) says.status_is
     (says.lines_are ∙ ap (λ (t : List ℕ). missing_line t ∷ []) text_is))
 
-pub refused_property_told : {E : Type 0} (o : Option (List File)) (words : List (List ℕ)) (property class method text bytes : List ℕ) (n : ℕ) (refusal : PropertyRefusal) (r : Result Answer E)
+pub refused_property_told : {E : Type 0} (o : Option (List File)) (words : List (List ℕ)) (property class method text bytes : List ℕ) (n : ℕ) (failure : Failure PropertyFault) (r : Result Answer E)
     → 1048576 < n → AreWords words property class method → IfSome o (λ held. option_map (take n) (file_at held property) ≡ Some bytes)
-    → IsPropertyRefusal bytes refusal → text ≡ property
-    → IfOk r (SaysRefusal text refusal)
+    → IsPropertyRefusal bytes failure → text ≡ property
+    → IfOk r (SaysRefusal text failure)
     → IfOk r (ToldOfWords o words)
-refused_property_told o words property class method text bytes n refusal (Err e) past are read refused text_is says = tt
-refused_property_told o words property class method text bytes n properties.BadToml (Ok x) past are read refused text_is says =
+refused_property_told o words property class method text bytes n failure (Err e) past are read refused text_is says = tt
+refused_property_told o words property class method text bytes n (Cause properties.BadToml) (Ok x) past are read refused text_is says =
     if_some o (λ files. Outcome words files x.status (lines_of x))
     (λ files e.
     let w = whole_of (file_at files property) n bytes (at_some o (λ held. option_map (take n) (file_at held property) ≡ Some bytes) files e read) in
     no_document property class method w.0 are w.1 (document_whole n w.0 bytes past w.2 refused) says.status_is
     (says.lines_are ∙ ap (λ (t : List ℕ). refused_line t 0 BadToml ∷ []) text_is))
-refused_property_told o words property class method text bytes n (properties.BadProperty key) (Ok x) past are read refused text_is says =
+refused_property_told o words property class method text bytes n (Cause (properties.BadProperty key)) (Ok x) past are read refused text_is says =
     if_some o (λ files. Outcome words files x.status (lines_of x))
     (λ files e.
     let w = whole_of (file_at files property) n bytes (at_some o (λ held. option_map (take n) (file_at held property) ≡ Some bytes) files e read) in
     broken_property property class method w.0 key are w.1 (broken_whole n w.0 bytes key past w.2 refused) says.status_is
     (says.lines_are ∙ ap (λ (t : List ℕ). refused_line t 0 BadProperty ∷ []) text_is))
-refused_property_told o words property class method text bytes n properties.Memory (Ok x) past are read refused text_is says = absurd says
+refused_property_told o words property class method text bytes n OutOfMemory (Ok x) past are read refused text_is says = absurd says
 
 pub asked_told : {E : Type 0} (o o1 : Option (List File)) (words : List (List ℕ)) (property class method bytes : List ℕ) (n : ℕ) (a : Automaton) (r : Result Answer E)
     → 1048576 < n → o1 ≡ o → AreWords words property class method → IfSome o (λ held. option_map (take n) (file_at held property) ≡ Some bytes)

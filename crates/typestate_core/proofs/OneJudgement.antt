@@ -3,7 +3,7 @@ use Rattle.std.proofs.Common.{◌≡◌, ◌∙◌, ℕ, List, Result, Ok, sym, 
 use Rattle.jvm_model.specs.declared.automaton.Automaton.{Automaton}
 use Rattle.jvm_model.specs.declared.class_file.ClassFile.{ClassFile}
 use Rattle.jvm_model.specs.declared.reason.Reason.{Reason}
-use Rattle.byte_reader.specs.Reading.{Fault}
+use Rattle.jvm_model.specs.declared.reason.Fault.{Fault}
 use Rattle.classfile_reader.specs.ClassReading.{class_of}
 use Rattle.classfile_reader.proofs.Classes.{class_of_again}
 use Rattle.classfile_reader.proofs.Refusals.{faulty_or_sound, one_fault}

@@ -6,11 +6,14 @@ use Rattle.ts_outside.specs.Handed.{Handed}
 use Rattle.jvm_model.specs.declared.automaton.Automaton.{Automaton}
 use Rattle.jvm_model.specs.declared.class_file.ClassFile.{ClassFile}
 use Rattle.jvm_model.specs.declared.reason.Reason.TheVariants.{BadToml, BadProperty}
-use Rattle.property_file.specs.declared.refusal.PropertyRefusal.{PropertyRefusal}
-use Rattle.property_file.specs.declared.refusal.PropertyRefusal.TheVariants as refusals
+use Rattle.failure.specs.declared.Failure.{Failure}
+use Rattle.failure.specs.declared.Failure.TheVariants.{Cause, OutOfMemory}
+use Rattle.property_file.specs.declared.property_failure.PropertyFault.{PropertyFault}
+use Rattle.property_file.specs.declared.property_failure.PropertyFault.TheVariants as faults
 use Rattle.typestate_core.specs.declared.status.Status.{Status}
 use Rattle.typestate_core.specs.declared.status.Status.TheVariants.{AllSafe, SomeUnproved, Refused, RejectedCertificate, ReadFault, WriteFault, Usage, Memory}
 use Rattle.typestate_core.specs.declared.verifier.Answer.{Answer}
+use Rattle.typestate_core.specs.declared.verifier.ReadFault.{ReadFault as Unread}
 use Rattle.typestate_core.specs.declared.verifier.Judgement.{Judgement}
 use Rattle.typestate_core.specs.declared.verifier.Judgement.TheVariants as judgements
 use Rattle.typestate_core.specs.Lines.{refused_line}
@@ -28,10 +31,14 @@ pub record Says (a : Answer) (status : Status) (lines : List (List ℕ)) : Type 
   pub lines_are : lines_of a ≡ lines
 
 -- The answer says that the property file is refused.
-abbrev pub SaysRefusal : List ℕ → PropertyRefusal → Answer → Type 0
-SaysRefusal file refusals.BadToml a = Says a Refused (refused_line file 0 BadToml ∷ [])
-SaysRefusal file (refusals.BadProperty key) a = Says a Refused (refused_line file 0 BadProperty ∷ [])
-SaysRefusal file refusals.Memory a = ⊥
+abbrev pub SaysRefusal : List ℕ → Failure PropertyFault → Answer → Type 0
+SaysRefusal file (Cause faults.BadToml) a = Says a Refused (refused_line file 0 BadToml ∷ [])
+SaysRefusal file (Cause (faults.BadProperty key)) a = Says a Refused (refused_line file 0 BadProperty ∷ [])
+SaysRefusal file OutOfMemory a = ⊥
+
+-- The cause of a run that has nothing to say.
+abbrev pub read_fault : Unread
+read_fault = record {}
 
 -- A status that comes with lines of its own.
 abbrev pub IsReported : Status → Type 0

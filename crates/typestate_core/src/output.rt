@@ -4,10 +4,10 @@ ghost use Rattle.std.specs.Prelude.{ℕ, ◌<◌, ◌≤◌, List, [], ◌∷◌
 ghost use Rattle.ts_outside.specs.Counts.{Rose};
 ghost use Rattle.typestate_core.specs.Output.{TakesAll, TakesFront, text_of, Hands};
 
-use ts_outside::{Sink, SinkFailed};
+use ts_outside::{Sink, SinkFailure};
 
 /// Writes a line: each call hands the sink all that is left of it.
-fn write_line<S: Sink>(out: &mut S, line: &[u8]) -> Result<(), SinkFailed>
+fn write_line<S: Sink>(out: &mut S, line: &[u8]) -> Result<(), SinkFailure>
     ensures all { OnOk result (TakesAll (S.taken out.old) (S.taken out.new) line.now) }
     ensures front { OnErr result (TakesFront (S.taken out.old) (S.taken out.new) line.now) }
     ensures pieces { OnOk result (0 < length line.now → Hands (S.handed out.old) (S.handed out.new) (line.now ∷ []) []) }
@@ -25,7 +25,7 @@ fn write_line<S: Sink>(out: &mut S, line: &[u8]) -> Result<(), SinkFailed>
 }
 
 /// Writes lines in order, and stops where a write fails.
-pub(crate) fn write_lines<S: Sink>(out: &mut S, lines: &[Vec<u8>]) -> Result<(), SinkFailed>
+pub(crate) fn write_lines<S: Sink>(out: &mut S, lines: &[Vec<u8>]) -> Result<(), SinkFailure>
     ensures all { OnOk result (TakesAll (S.taken out.old) (S.taken out.new) (text_of (map (λ line. line.items) lines.now))) }
     ensures front { OnErr result (TakesFront (S.taken out.old) (S.taken out.new) (text_of (map (λ line. line.items) lines.now))) }
     ensures pieces { OnOk result (All (λ line. 0 < length line) (map (λ line. line.items) lines.now)

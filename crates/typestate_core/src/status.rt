@@ -20,7 +20,7 @@ pub enum Status {
     WriteFault,
     /// The words ask for what cannot be done.
     Usage,
-    /// Memory ran out.
+    /// Out of memory.
     Memory,
 }
 

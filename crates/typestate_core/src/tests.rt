@@ -6,7 +6,7 @@ use super::*;
 use std::alloc::{AllocError, Global};
 use std::process::Abort;
 use std::test::Fail;
-use ts_outside::{MemorySink, MemoryTree, Sink, SinkFailed, SteadySink, SteadyTree, names_differ};
+use ts_outside::{MemorySink, MemoryTree, Sink, SinkFailure, SteadySink, SteadyTree, names_differ};
 
 /// A class F whose `main` makes an F, calls `read` and then `close`, and returns.
 const READ_THEN_CLOSE: [u8; 260] = [
@@ -190,7 +190,7 @@ impl Sink for OneByteSink {
 
     ghost faults = { λ s. s.sink.faults };
 
-    fn write(&mut self, piece: &[u8]) -> Result<usize, SinkFailed> {
+    fn write(&mut self, piece: &[u8]) -> Result<usize, SinkFailure> {
         let (first, _others) = piece.split_at(1);
         self.sink.write(first)
     }

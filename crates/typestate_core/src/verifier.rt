@@ -6,11 +6,11 @@ ghost use Rattle.ts_outside.specs.Counts.{Rose};
 ghost use Rattle.jvm_model.specs.Automata.{IsAutomaton};
 ghost use Rattle.jvm_model.specs.Soundness.{IsSoundClass};
 ghost use Rattle.jvm_model.specs.Spelling.{spell};
-ghost use Rattle.typestate_core.specs.declared.verifier.End.TheVariants.{Memory};
+ghost use Rattle.failure.specs.declared.Failure.TheVariants.{Cause, OutOfMemory};
 ghost use Rattle.typestate_core.specs.Lines.{no_file, refused_line, missing_line, site_text, safe_line, unproved_line, summary_line};
 ghost use Rattle.typestate_core.specs.Outcomes.{Outcome, Asks, IsOfForm, entry_site};
 ghost use Rattle.typestate_core.specs.Claims.{KeepsProtocol, WroteLine, safe_text};
-ghost use Rattle.typestate_core.specs.Answers.{Says, SaysRefusal, IsReported, IsSiteVerdict, IsJudgement, AnswersRun, HandsRun, lines_of};
+ghost use Rattle.typestate_core.specs.Answers.{read_fault, Says, SaysRefusal, IsReported, IsSiteVerdict, IsJudgement, AnswersRun, HandsRun, lines_of};
 
 use crate::lines::{
     Counts, PrintedSite, missing_line, refused_line, safe_line, summary_line, unproved_line,
@@ -19,12 +19,14 @@ use crate::output::write_lines;
 use crate::request::Request;
 use crate::status::Status;
 use classfile_reader::read_class;
-use jvm_model::{Automaton, ClassFile, ReadRefusal, Reason};
+use failure::Failure;
+use jvm_model::{Automaton, ClassFile, Fault, Reason};
 use one_class_form::occurring_events;
-use property_file::{PropertyRefusal, read_property};
+use property_file::{PropertyFailure, PropertyFault, read_property};
 use prune_stage::is_safe;
-use std::alloc::{AllocError, AllocFailed, Global};
-use ts_outside::{Sink, Tree, TreeEnd};
+use std::alloc::{AllocError, Global};
+use thiserror::Error;
+use ts_outside::{Sink, Tree, TreeFault};
 
 /// One more than the most bytes of a property file.
 const PROPERTY_BYTES: u32 = 1_048_577;
@@ -39,12 +41,13 @@ struct Answer {
     lines: Vec<Vec<u8>>,
 }
 
+/// A fault of reading, which the tree counted.
+#[derive(Clone, Copy, Debug, PartialEq, Eq, Error)]
+#[error("a file cannot be read")]
+struct ReadFault;
+
 /// Why a run has nothing to say.
-#[derive(Clone, Copy, Debug, PartialEq, Eq)]
-enum End {
-    ReadFault,
-    Memory,
-}
+type RunFailure = Failure<ReadFault>;
 
 /// What is found of a class file.
 #[derive(Clone, Copy, Debug, PartialEq, Eq)]
@@ -53,22 +56,6 @@ enum Judgement {
     Refused(u32, Reason),
     /// It has one site, that of the entry's first instruction.
     Site(bool),
-}
-
-impl From<AllocError> for End {
-    ghost from_gives = { λ _ e. e ≡ Memory };
-
-    fn from(_error: AllocError) -> End {
-        End::Memory
-    }
-}
-
-impl<T: Drop> From<AllocFailed<T>> for End {
-    ghost from_gives = { λ _ e. e ≡ Memory };
-
-    fn from(_error: AllocFailed<T>) -> End {
-        End::Memory
-    }
 }
 
 /// Runs the verifier on these words, over a tree of files, and writes what it says to the sink. All
@@ -111,29 +98,29 @@ fn judge_and_write<T: Tree, S: Sink>(
             Ok(()) => status,
             Err(_) => Status::WriteFault,
         },
-        Err(End::ReadFault) => Status::ReadFault,
-        Err(End::Memory) => Status::Memory,
+        Err(Failure::Cause(ReadFault)) => Status::ReadFault,
+        Err(Failure::OutOfMemory) => Status::Memory,
     }
 }
 
 /// The words and the property file.
-fn judge<T: Tree>(alloc: Global, words: &[String], tree: &mut T) -> Result<Answer, End>
+fn judge<T: Tree>(alloc: Global, words: &[String], tree: &mut T) -> Result<Answer, RunFailure>
     ensures told { IfOk result (λ a. IfSome (T.files tree.old) (λ files. Outcome (map string_bytes words.now) files a.status (lines_of a))) }
     ensures reported { IfOk result (λ a. IsReported a.status) }
-    ensures read_fault { IsErrOf result End.ReadFault → Rose (T.faults tree.old) (T.faults tree.new) }
+    ensures read_fault { IsErrOf result (Cause read_fault) → Rose (T.faults tree.old) (T.faults tree.new) }
 {
     let Some(request) = Request::from_words(words) else {
         return refuse(alloc, b"-", 0, Reason::NotYet);
     };
     let bytes = match tree.read(alloc, request.property, PROPERTY_BYTES) {
         Ok(bytes) => bytes,
-        Err(TreeEnd::Missing) => return miss(alloc, request.property.as_bytes()),
-        Err(TreeEnd::Failed) => return Err(End::ReadFault),
-        Err(TreeEnd::Memory) => return Err(End::Memory),
+        Err(Failure::Cause(TreeFault::Missing)) => return miss(alloc, request.property.as_bytes()),
+        Err(Failure::Cause(TreeFault::Failed)) => return Err(Failure::Cause(ReadFault)),
+        Err(Failure::OutOfMemory) => return Err(Failure::OutOfMemory),
     };
     let automaton = match read_property(alloc, &bytes) {
         Ok(automaton) => automaton,
-        Err(refusal) => return refuse_property(alloc, request.property.as_bytes(), &refusal),
+        Err(failure) => return refuse_property(alloc, request.property.as_bytes(), &failure),
     };
     judge_class(alloc, &request, &automaton, tree)
 }
@@ -144,18 +131,18 @@ fn judge_class<T: Tree>(
     request: &Request<'_>,
     automaton: &Automaton,
     tree: &mut T,
-) -> Result<Answer, End>
+) -> Result<Answer, RunFailure>
     requires { IsAutomaton automaton.now }
     ensures told { IfOk result (λ a. IfSome (T.files tree.old) (λ files. (words : List (List ℕ))
         → Asks words files request.now.class.now request.now.method.now automaton.now → Outcome words files a.status (lines_of a))) }
     ensures reported { IfOk result (λ a. IsReported a.status) }
-    ensures read_fault { IsErrOf result End.ReadFault → Rose (T.faults tree.old) (T.faults tree.new) }
+    ensures read_fault { IsErrOf result (Cause read_fault) → Rose (T.faults tree.old) (T.faults tree.new) }
     ensures never_falls { T.faults tree.old ≤ T.faults tree.new }
 {
     let names = match tree.list(alloc) {
         Ok(names) => names,
-        Err(TreeEnd::Failed) => return Err(End::ReadFault),
-        Err(_) => return Err(End::Memory),
+        Err(Failure::Cause(TreeFault::Failed)) => return Err(Failure::Cause(ReadFault)),
+        Err(_) => return Err(Failure::OutOfMemory),
     };
     if names.len() != 1 {
         return refuse(alloc, b"-", 0, Reason::NotYet);
@@ -163,9 +150,9 @@ fn judge_class<T: Tree>(
     let name = &names[0];
     let bytes = match tree.read(alloc, name.as_str(), CLASS_BYTES) {
         Ok(bytes) => bytes,
-        Err(TreeEnd::Missing) => return miss(alloc, name.as_bytes()),
-        Err(TreeEnd::Failed) => return Err(End::ReadFault),
-        Err(TreeEnd::Memory) => return Err(End::Memory),
+        Err(Failure::Cause(TreeFault::Missing)) => return miss(alloc, name.as_bytes()),
+        Err(Failure::Cause(TreeFault::Failed)) => return Err(Failure::Cause(ReadFault)),
+        Err(Failure::OutOfMemory) => return Err(Failure::OutOfMemory),
     };
     match verdict(alloc, request, automaton, &bytes)? {
         Judgement::Refused(offset, reason) => refuse(alloc, name.as_bytes(), offset, reason),
@@ -185,10 +172,10 @@ fn verdict(
 {
     let class = match read_class(alloc, bytes) {
         Ok(class) => class,
-        Err(ReadRefusal::Refused { offset, reason }) => {
+        Err(Failure::Cause(Fault { offset, reason })) => {
             return Ok(Judgement::Refused(offset, reason));
         }
-        Err(ReadRefusal::Memory) => return Err(AllocError),
+        Err(Failure::OutOfMemory) => return Err(AllocError),
     };
     match site_verdict(alloc, request, automaton, &class)? {
         Some(is_safe) => Ok(Judgement::Site(is_safe)),
@@ -220,9 +207,9 @@ fn site_verdict(
 }
 
 /// A file is refused at an offset, or with `-` no file in particular.
-fn refuse(alloc: Global, file: &[u8], offset: u32, reason: Reason) -> Result<Answer, End>
+fn refuse(alloc: Global, file: &[u8], offset: u32, reason: Reason) -> Result<Answer, RunFailure>
     ensures ok { IfOk result (λ a. Says a Status.Refused (refused_line file.now offset reason ∷ [])) }
-    ensures memory { IfErr result (λ e. e ≡ End.Memory) }
+    ensures memory { IfErr result (λ e. e ≡ OutOfMemory) }
 {
     let line = refused_line(alloc, file, offset, reason)?;
     let mut lines = Vec::new(alloc);
@@ -234,22 +221,31 @@ fn refuse(alloc: Global, file: &[u8], offset: u32, reason: Reason) -> Result<Ans
 }
 
 /// The property file is refused; the key of a broken rule is not printed.
-fn refuse_property(alloc: Global, file: &[u8], refusal: &PropertyRefusal) -> Result<Answer, End>
-    ensures ok { IfOk result (SaysRefusal file.now refusal.now) }
+fn refuse_property(
+    alloc: Global,
+    file: &[u8],
+    failure: &PropertyFailure,
+) -> Result<Answer, RunFailure>
+    ensures ok { IfOk result (SaysRefusal file.now failure.now) }
     ensures reported { IfOk result (λ a. IsReported a.status) }
-    ensures memory { IfErr result (λ e. e ≡ End.Memory) }
+    ensures memory { IfErr result (λ e. e ≡ OutOfMemory) }
 {
-    match refusal {
-        PropertyRefusal::BadToml => refuse(alloc, file, 0, Reason::BadToml),
-        PropertyRefusal::BadProperty(_) => refuse(alloc, file, 0, Reason::BadProperty),
-        PropertyRefusal::Memory => Err(End::Memory),
+    match failure {
+        Failure::Cause(PropertyFault::BadToml) => refuse(alloc, file, 0, Reason::BadToml),
+        Failure::Cause(PropertyFault::BadProperty(_)) => refuse(
+            alloc,
+            file,
+            0,
+            Reason::BadProperty,
+        ),
+        Failure::OutOfMemory => Err(Failure::OutOfMemory),
     }
 }
 
 /// A file of this name is not there.
-fn miss(alloc: Global, name: &[u8]) -> Result<Answer, End>
+fn miss(alloc: Global, name: &[u8]) -> Result<Answer, RunFailure>
     ensures ok { IfOk result (λ a. Says a Status.Usage (missing_line name.now ∷ [])) }
-    ensures memory { IfErr result (λ e. e ≡ End.Memory) }
+    ensures memory { IfErr result (λ e. e ≡ OutOfMemory) }
 {
     let line = missing_line(alloc, name)?;
     let mut lines = Vec::new(alloc);
@@ -261,12 +257,12 @@ fn miss(alloc: Global, name: &[u8]) -> Result<Answer, End>
 }
 
 /// The report on the only site, that of the entry's first instruction.
-fn report_site(alloc: Global, request: &Request<'_>, is_safe: bool) -> Result<Answer, End>
+fn report_site(alloc: Global, request: &Request<'_>, is_safe: bool) -> Result<Answer, RunFailure>
     ensures safe { IfOk result (λ a. OnTrue is_safe (Says a Status.AllSafe
         (safe_line 1 (entry_site request.now.class.now request.now.method.now) ∷ summary_line 1 1 0 0 ∷ []))) }
     ensures unproved { IfOk result (λ a. OnFalse is_safe (Says a Status.SomeUnproved
         (unproved_line (entry_site request.now.class.now request.now.method.now) ∷ summary_line 1 0 1 0 ∷ []))) }
-    ensures memory { IfErr result (λ e. e ≡ End.Memory) }
+    ensures memory { IfErr result (λ e. e ≡ OutOfMemory) }
 {
     let site = PrintedSite {
         class: request.class,
@@ -283,10 +279,10 @@ fn report_site(alloc: Global, request: &Request<'_>, is_safe: bool) -> Result<An
 }
 
 /// The report that the only site is safe.
-fn report_safe(alloc: Global, site: PrintedSite<'_>) -> Result<Answer, End>
+fn report_safe(alloc: Global, site: PrintedSite<'_>) -> Result<Answer, RunFailure>
     ensures ok { IfOk result (λ a. Says a Status.AllSafe
         (safe_line 1 (site_text site.entry.class.now site.entry.method.now site.entry.descriptor.now site.entry.offset site.entry.object.now) ∷ summary_line 1 1 0 0 ∷ [])) }
-    ensures memory { IfErr result (λ e. e ≡ End.Memory) }
+    ensures memory { IfErr result (λ e. e ≡ OutOfMemory) }
 {
     let counts = Counts {
         sites: 1,
@@ -302,10 +298,10 @@ fn report_safe(alloc: Global, site: PrintedSite<'_>) -> Result<Answer, End>
 }
 
 /// The report that the only site is not proved.
-fn report_unproved(alloc: Global, site: PrintedSite<'_>) -> Result<Answer, End>
+fn report_unproved(alloc: Global, site: PrintedSite<'_>) -> Result<Answer, RunFailure>
     ensures ok { IfOk result (λ a. Says a Status.SomeUnproved
         (unproved_line (site_text site.entry.class.now site.entry.method.now site.entry.descriptor.now site.entry.offset site.entry.object.now) ∷ summary_line 1 0 1 0 ∷ [])) }
-    ensures memory { IfErr result (λ e. e ≡ End.Memory) }
+    ensures memory { IfErr result (λ e. e ≡ OutOfMemory) }
 {
     let counts = Counts {
         sites: 1,

@@ -1,4 +1,5 @@
 use Rattle.std.proofs.Common.{◌≡◌, ◌<◌, ◌∙◌, ℕ, List, Err, Some, IfSome, option_map, take, ap, sym, arith, rules, subst}
+use Rattle.failure.specs.declared.Failure.TheVariants.{Cause}
 use Rattle.ts_outside.specs.Files.{file_at}
 use Rattle.typestate_core.specs.Answers.{IsVerdict, IsJudgement}
 use Rattle.typestate_core.specs.Outcomes.{IsRefusedAs}
@@ -10,11 +11,11 @@ returns-then-len-ne1-clause-told g c =
     count_told (g.T.Tree.files c.args.tree.now) c.in-Ok.names.items c.args.request.now.class.now c.args.request.now.method.now c.args.automaton.now c.refuse.result
     (search rules) c.in-Ok.ensures.listing c.refuse.ensures.ok
 
-pub returns-in-Err-Missing-clause-told : goal.returns-in-Err-Missing-clause-told
-returns-in-Err-Missing-clause-told g c =
+pub returns-in-Err-Cause-Missing-clause-told : goal.returns-in-Err-Cause-Missing-clause-told
+returns-in-Err-Cause-Missing-clause-told g c =
     missing_told (g.T.Tree.files c.args.tree.now) (g.T.Tree.files c.list.new.self) c.in-Ok.names.items c.index-name.result.now c.as_str.result.now c.args.request.now.class.now c.args.request.now.method.now c.args.automaton.now c.miss.result
     c.list.ensures.same_files (search rules) c.index-name.ensures c.as_str.ensures.value c.in-Ok.ensures.listing
-    (c.read.ensures.missing (c.in-Err-Missing.is ∙ ap Err c.in-Err-Missing.field-0-is))
+    (c.read.ensures.missing (c.in-Err-Cause-Missing.is ∙ ap Err (c.in-Err-Cause-Missing.field-0-is ∙ ap Cause c.in-Err-Cause-Missing.field-0-0-is)))
 
 pub returns-in-Refused-clause-told : goal.returns-in-Refused-clause-told
 returns-in-Refused-clause-told g c =

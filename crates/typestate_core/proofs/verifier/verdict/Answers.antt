@@ -1,4 +1,5 @@
-use Rattle.std.proofs.Common.{List, ℕ}
+use Rattle.std.proofs.Common.{List, ℕ, ap}
+use Rattle.jvm_model.specs.declared.reason.Fault.{Fault}
 use Rattle.typestate_core.specs.Outcomes.{IsOfForm}
 use Rattle.one_class_form.proofs.Options.{at_none}
 use Rattle.typestate_core.proofs.Judging.{refused_by_form, refused_by_fault}
@@ -12,7 +13,7 @@ returns c =
     refused_by_form c.args.bytes.now a class method c.in-Ok.class c.in-Ok.ensures.found c.in-Ok.ensures.sound
     (at_none c.in_ok-is_safe.field-0 ((calls : List (List ℕ)) → IsOfForm c.in-Ok.class a class method calls → ⊥) c.in-None.is c.in_ok-is_safe.ensures.none)
 
-pub returns-in-Err-Refused : goal.returns-in-Err-Refused
-returns-in-Err-Refused c =
-    let r = c.in-Err-Refused in
-    refused_by_fault c.args.bytes.now c.args.automaton.now c.args.request.now.class.now c.args.request.now.method.now r.field-0 r.offset r.reason r.field-0-is r.ensures.refused _ _ r.offset-is r.reason-is
+pub returns-in-Err-Cause : goal.returns-in-Err-Cause
+returns-in-Err-Cause c =
+    let r = c.in-Err-Cause in
+    refused_by_fault c.args.bytes.now c.args.automaton.now c.args.request.now.class.now c.args.request.now.method.now r.field-0 r.field-0-0.offset r.field-0-0.reason r.field-0-is r.ensures.refused _ _ (ap (λ (f : Fault). f.offset) r.field-0-0-is) (ap (λ (f : Fault). f.reason) r.field-0-0-is)
