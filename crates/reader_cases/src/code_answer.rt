@@ -8,11 +8,11 @@ ghost use Rattle.jvm_model.specs.Spelling.{spell};
 
 use code_reader::read_code;
 use jvm_model::layout::is_code;
-use jvm_model::{Attribute, ClassFile, Code, Handler, PlacedInstruction, PoolEntry, ReadRefusal};
+use jvm_model::{Attribute, ClassFile, Code, Handler, PlacedInstruction, PoolEntry, ReadFailure};
 use std::alloc::{AllocError, Global};
 
 /// What the code of the first method tells, if it has one.
-pub fn told_code(alloc: Global, class: &ClassFile) -> Result<String, ReadRefusal>
+pub fn told_code(alloc: Global, class: &ClassFile) -> Result<String, ReadFailure>
     requires sound { IsSoundClass class.now }
     requires size { length (spell class.now) < 2 ^ 32 }
 {

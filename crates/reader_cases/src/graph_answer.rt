@@ -7,11 +7,11 @@ ghost use Rattle.jvm_model.specs.Spelling.{spell};
 use crate::code_answer::has_code;
 use code_reader::read_code;
 use flow_graph::{Graph, GraphStep, graph};
-use jvm_model::{ClassFile, ReadRefusal};
+use jvm_model::{ClassFile, ReadFailure};
 use std::alloc::{AllocError, Global};
 
 /// What the flow graph of the first method tells, if it has code.
-pub fn told_graph(alloc: Global, class: &ClassFile) -> Result<String, ReadRefusal>
+pub fn told_graph(alloc: Global, class: &ClassFile) -> Result<String, ReadFailure>
     requires sound { IsSoundClass class.now }
     requires size { length (spell class.now) < 2 ^ 32 }
 {

@@ -4,7 +4,7 @@ use crate::class_answer::told_class;
 use crate::code_answer::told_code;
 use crate::graph_answer::told_graph;
 use classfile_reader::read_class;
-use jvm_model::{ReadRefusal, reason_word};
+use jvm_model::{Fault, ReadFailure, reason_word};
 use std::alloc::{AllocError, Global};
 
 /// What is asked of a class file.
@@ -32,16 +32,16 @@ pub fn question_of(word: &str) -> Option<Question> {
 pub fn answer(alloc: Global, question: Question, bytes: &[u8]) -> Result<String, AllocError> {
     match told(alloc, question, bytes) {
         Ok(text) => Ok(text),
-        Err(ReadRefusal::Refused { offset, reason }) => {
+        Err(ReadFailure::Cause(Fault { offset, reason })) => {
             let word = reason_word(reason);
             format!(in alloc; "refused {offset} {word}")
         }
-        Err(ReadRefusal::Memory) => Err(AllocError),
+        Err(ReadFailure::OutOfMemory) => Err(AllocError),
     }
 }
 
 /// What was read.
-fn told(alloc: Global, question: Question, bytes: &[u8]) -> Result<String, ReadRefusal> {
+fn told(alloc: Global, question: Question, bytes: &[u8]) -> Result<String, ReadFailure> {
     let class = read_class(alloc, bytes)?;
     match question {
         Question::Class => Ok(told_class(alloc, &class)?),
