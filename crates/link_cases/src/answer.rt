@@ -3,8 +3,11 @@
 ghost use Rattle.linked_program.specs.Numbers.{IsFieldNumber, IsMethodNumber};
 
 use crate::query::Search;
-use crate::searches::{SearchEnd, class_of, is_below, resolved, resolved_field, selected, special};
-use jvm_model::{FieldNo, MethodNo, reason_word};
+use crate::searches::{
+    SearchFailure, class_of, is_below, resolved, resolved_field, selected, special,
+};
+use failure::Failure;
+use jvm_model::{FieldNo, MethodNo};
 use linked_program::method_body::MethodBody;
 use linked_program::program::Program;
 use std::alloc::{AllocError, Global};
@@ -15,9 +18,8 @@ use std::str;
 pub fn answer(alloc: Global, program: &Program, search: &Search<'_>) -> Result<String, AllocError> {
     match found(alloc, program, search) {
         Ok(text) => Ok(text),
-        Err(SearchEnd::NoClass(name)) => format!(in alloc; "no class {name}"),
-        Err(SearchEnd::Reason(reason)) => String::from_str(alloc, reason_word(reason)),
-        Err(SearchEnd::Memory) => Err(AllocError),
+        Err(Failure::Cause(fault)) => format!(in alloc; "{fault}"),
+        Err(Failure::OutOfMemory) => Err(AllocError),
     }
 }
 
@@ -26,7 +28,7 @@ fn found<'a>(
     alloc: Global,
     program: &Program,
     search: &Search<'a>,
-) -> Result<String, SearchEnd<'a>> {
+) -> Result<String, SearchFailure<'a>> {
     match search {
         Search::Find(name) => yes_or_no(alloc, class_of(program, name).is_ok()),
         Search::Subtype(lower, upper) => yes_or_no(alloc, is_below(program, lower, upper)?),
@@ -53,7 +55,7 @@ fn found<'a>(
     }
 }
 
-fn yes_or_no<'a>(alloc: Global, is: bool) -> Result<String, SearchEnd<'a>> {
+fn yes_or_no<'a>(alloc: Global, is: bool) -> Result<String, SearchFailure<'a>> {
     let word = if is { "yes" } else { "no" };
     Ok(String::from_str(alloc, word)?)
 }
@@ -63,7 +65,7 @@ fn full_name<'a>(
     alloc: Global,
     program: &Program,
     method: MethodNo,
-) -> Result<String, SearchEnd<'a>>
+) -> Result<String, SearchFailure<'a>>
     requires { IsMethodNumber program.now method.0 }
 {
     let view = program.method(method);
@@ -78,7 +80,7 @@ fn owner_of_method<'a>(
     alloc: Global,
     program: &Program,
     method: MethodNo,
-) -> Result<String, SearchEnd<'a>>
+) -> Result<String, SearchFailure<'a>>
     requires { IsMethodNumber program.now method.0 }
 {
     let class = program.class_name(program.method(method).class);
@@ -90,7 +92,7 @@ fn owner_of_field<'a>(
     alloc: Global,
     program: &Program,
     field: FieldNo,
-) -> Result<String, SearchEnd<'a>>
+) -> Result<String, SearchFailure<'a>>
     requires { IsFieldNumber program.now field.0 }
 {
     let class = program.class_name(program.field(field).class);
@@ -102,7 +104,7 @@ fn source_of<'a>(
     alloc: Global,
     program: &Program,
     method: MethodNo,
-) -> Result<String, SearchEnd<'a>>
+) -> Result<String, SearchFailure<'a>>
     requires { IsMethodNumber program.now method.0 }
 {
     let file = program.file_name(program.method(method).class).as_str();

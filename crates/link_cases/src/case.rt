@@ -1,17 +1,18 @@
 //! A case: a folder of class files, with or without a stub file, and with queries.
 
 use crate::answer::answer;
-use crate::case_end::CaseEnd;
+use crate::case_failure::{CaseFailure, CaseFault};
 use crate::class_files::read_files;
 use crate::flow::tell_graph;
 use crate::query::{Query, query_of};
 use crate::stubs::read_all_stubs;
 use anyhow::Result;
-use linked_program::LinkEnd;
+use failure::Failure;
+use linked_program::LinkFault;
 use linked_program::program::Program;
 use linking::link::link;
 use std::alloc::Global;
-use ts_outside::{Tree, TreeEnd};
+use ts_outside::{Tree, TreeFault};
 
 /// The file of the queries of a case, one a line.
 const QUERIES: &str = "queries";
@@ -24,23 +25,30 @@ pub fn tell_case<R: Print, T: Tree>(rt: &R, alloc: Global, tree: &mut T) -> Resu
             println!(rt; "linked {count} classes")?;
             tell_answers(rt, alloc, tree, Some(&program))
         }
-        Err(end) if end.is_refusal() => {
-            println!(rt; "{end}")?;
+        Err(failure) if is_refusal(&failure) => {
+            println!(rt; "{failure}")?;
             tell_answers(rt, alloc, tree, None)
         }
-        Err(end) => Err(end.into()),
+        Err(failure) => Err(failure.into()),
     }
 }
 
+/// Whether a file is refused.
+fn is_refusal(failure: &CaseFailure) -> bool {
+    matches!(failure, Failure::Cause(CaseFault::Refused(_)))
+}
+
 /// The program of the files of a case.
-fn linked<T: Tree>(alloc: Global, tree: &mut T) -> Result<Program, CaseEnd> {
+fn linked<T: Tree>(alloc: Global, tree: &mut T) -> Result<Program, CaseFailure> {
     let files = read_files(alloc, tree)?;
     let stubs = read_all_stubs(alloc, tree)?;
     match link(alloc, files, stubs) {
         Ok(program) => Ok(program),
-        Err(LinkEnd::Refused(refusal)) => Err(CaseEnd::Refused(refusal)),
-        Err(LinkEnd::TooMany) => Err(CaseEnd::TooMany),
-        Err(LinkEnd::Memory) => Err(CaseEnd::Memory),
+        Err(Failure::Cause(LinkFault::Refused(refusal))) => Err(Failure::Cause(CaseFault::Refused(
+            refusal,
+        ))),
+        Err(Failure::Cause(LinkFault::TooMany)) => Err(Failure::Cause(CaseFault::TooMany)),
+        Err(Failure::OutOfMemory) => Err(Failure::OutOfMemory),
     }
 }
 
@@ -60,15 +68,15 @@ fn tell_answers<R: Print, T: Tree>(
 }
 
 /// The queries of a case; none if there is no such file.
-fn queries_of<T: Tree>(alloc: Global, tree: &mut T) -> Result<String, CaseEnd> {
+fn queries_of<T: Tree>(alloc: Global, tree: &mut T) -> Result<String, CaseFailure> {
     match tree.read(alloc, QUERIES, u32::MAX) {
         Ok(bytes) => match String::from_utf8(bytes) {
             Ok(text) => Ok(text),
-            Err(_) => Err(CaseEnd::Unread),
+            Err(_) => Err(Failure::Cause(CaseFault::Unread)),
         },
-        Err(TreeEnd::Missing) => Ok(String::new(alloc)),
-        Err(TreeEnd::Failed) => Err(CaseEnd::Unread),
-        Err(TreeEnd::Memory) => Err(CaseEnd::Memory),
+        Err(Failure::Cause(TreeFault::Missing)) => Ok(String::new(alloc)),
+        Err(Failure::Cause(TreeFault::Failed)) => Err(Failure::Cause(CaseFault::Unread)),
+        Err(Failure::OutOfMemory) => Err(Failure::OutOfMemory),
     }
 }
 
@@ -78,7 +86,7 @@ fn answer_to<T: Tree>(
     tree: &mut T,
     program: Option<&Program>,
     line: &str,
-) -> Result<String, CaseEnd> {
+) -> Result<String, CaseFailure> {
     match query_of(alloc, line)? {
         Some(Query::Graph(method)) => tell_graph(alloc, tree, &method),
         Some(Query::OfProgram(search)) => match program {

@@ -6,14 +6,15 @@ ghost use Rattle.jvm_model.specs.Layout.{HasCodeAttribute};
 ghost use Rattle.jvm_model.specs.Soundness.{is_code, IsSoundClass};
 ghost use Rattle.jvm_model.specs.Spelling.{spell};
 
-use crate::case_end::CaseEnd;
+use crate::case_failure::CaseFailure;
 use crate::class_files::read_file;
 use crate::query::FileMethod;
 use code_reader::read_code;
+use failure::Failure;
 use flow_graph::{Graph, graph};
 use jvm_model::layout::is_code;
 use jvm_model::lookup::text_at;
-use jvm_model::{Attribute, ClassFile, Member, PoolEntry, ReadRefusal, reason_word};
+use jvm_model::{Attribute, ClassFile, Fault, Member, PoolEntry, ReadFailure, reason_word};
 use std::alloc::{AllocError, Global};
 use ts_outside::Tree;
 
@@ -23,7 +24,7 @@ pub fn tell_graph<T: Tree>(
     alloc: Global,
     tree: &mut T,
     method: &FileMethod<'_>,
-) -> Result<String, CaseEnd> {
+) -> Result<String, CaseFailure> {
     let named = read_file(alloc, tree, String::from_str(alloc, method.file)?)?;
     match place_of(&named.class, method) {
         Some(place) => Ok(told(alloc, &named.class, method.file, place)?),
@@ -53,7 +54,7 @@ fn is_named(pool: &[PoolEntry], member: &Member, method: &FileMethod<'_>) -> boo
     name == method.name.as_bytes() && descriptor == method.descriptor.as_bytes()
 }
 
-/// What is told of the method at a place.
+/// What is printed of the method at a place.
 fn told(alloc: Global, class: &ClassFile, file: &str, place: usize) -> Result<String, AllocError>
     requires sound { IsSoundClass class.now }
     requires size { length (spell class.now) < 2 ^ 32 }
@@ -63,11 +64,11 @@ fn told(alloc: Global, class: &ClassFile, file: &str, place: usize) -> Result<St
     }
     match graph_of(alloc, class, place) {
         Ok(graph) => heights(alloc, &graph),
-        Err(ReadRefusal::Refused { offset, reason }) => {
+        Err(Failure::Cause(Fault { offset, reason })) => {
             let word = reason_word(reason);
             format!(in alloc; "refused {file} {offset} {word}")
         }
-        Err(ReadRefusal::Memory) => Err(AllocError),
+        Err(Failure::OutOfMemory) => Err(AllocError),
     }
 }
 
@@ -89,7 +90,7 @@ fn any_code(pool: &[PoolEntry], attributes: &[Attribute]) -> bool
 }
 
 /// The flow graph of the method at a place.
-fn graph_of(alloc: Global, class: &ClassFile, place: usize) -> Result<Graph, ReadRefusal>
+fn graph_of(alloc: Global, class: &ClassFile, place: usize) -> Result<Graph, ReadFailure>
     requires sound { IsSoundClass class.now }
     requires size { length (spell class.now) < 2 ^ 32 }
     requires code { HasCodeAttribute class.now place }

@@ -5,7 +5,7 @@
 
 mod answer;
 mod case;
-mod case_end;
+mod case_failure;
 mod class_files;
 mod flow;
 mod query;
