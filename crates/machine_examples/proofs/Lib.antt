@@ -1,0 +1,15 @@
+mod Runs
+mod Types
+mod Searches
+mod CallSteps
+mod Throws
+mod WithinStart
+mod WithinRuns
+mod WithinArrays
+mod CallStart
+mod CallRuns
+mod CallResults
+mod CallEnds
+mod ExceptionRuns
+mod Initialisers
+mod InitialiserRuns

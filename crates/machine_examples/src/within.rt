@@ -1,0 +1,144 @@
+//! Steps within a method.
+
+ghost use Rattle.std.specs.Prelude.{codes, ◌≡◌, [], ◌∷◌};
+ghost use Rattle.jvm_model.specs.declared.site.SiteKind.TheVariants.{Boot, New, Thrown};
+ghost use Rattle.bytecode_machine.specs.Objects.{ReadsField};
+ghost use Rattle.bytecode_machine.specs.States.{primitive_value, null_value, reference_to};
+ghost use Rattle.machine_examples.specs.Taking.{Takes, Shows, HasObject, HasArray, Advancing, Raising};
+ghost use Rattle.machine_examples.specs.Within.{runs, runs_with_arguments, branch, switch, wide_iinc, links, counts, statics, constant, makes, numbers, tables, boxes, misfit, division, null_cast, box_cast, string_cast, argument};
+
+/// A constant is pushed: a plain step.
+pub fn a_constant_is_pushed()
+    ensures { Takes (runs branch) (λ s t. Advancing (runs branch) (codes "iconst_0") s t × Shows 1 (primitive_value ∷ []) t) }
+{}
+
+/// A branch may go on at the next instruction, since the value of its number is left open.
+pub fn a_branch_goes_on()
+    ensures { Takes (runs branch) (λ s t. Advancing (runs branch) (codes "ifeq") s t × Shows 4 [] t) }
+{}
+
+/// It may go to its target.
+pub fn a_branch_jumps()
+    ensures { Takes (runs branch) (λ s t. Advancing (runs branch) (codes "ifeq") s t × Shows 5 [] t) }
+{}
+
+/// A switch may go to its default.
+pub fn a_switch_goes_to_its_default()
+    ensures { Takes (runs switch) (λ s t. Advancing (runs switch) (codes "tableswitch") s t × Shows 20 [] t) }
+{}
+
+/// It may go to another target.
+pub fn a_switch_goes_to_another_target()
+    ensures { Takes (runs switch) (λ s t. Advancing (runs switch) (codes "tableswitch") s t × Shows 21 [] t) }
+{}
+
+/// An increment that `wide` stands before has four bytes of operands, and leaves a primitive in its local variable.
+pub fn a_wide_increment_advances()
+    ensures { Takes (runs wide_iinc) (λ s t. Advancing (runs wide_iinc) (codes "iinc") s t × Shows 8 (primitive_value ∷ []) t) }
+{}
+
+/// A string is loaded: the object that stands for all strings.
+pub fn a_string_is_loaded()
+    ensures { Takes (runs constant) (λ s t. Advancing (runs constant) (codes "ldc") s t × Shows 2 (reference_to 0 ∷ []) t × HasObject 0 Boot (codes "java/lang/String") t) }
+{}
+
+/// `new` makes an object, after those that are there from the start.
+pub fn an_object_is_made()
+    ensures { Takes (runs makes) (λ s t. Advancing (runs makes) (codes "new") s t × Shows 3 (reference_to 3 ∷ []) t × HasObject 3 New (codes "lib/Box") t) }
+{}
+
+/// A static field of the library is read, which holds an object from the start.
+pub fn a_held_object_is_read()
+    ensures { Takes (runs links) (λ s t. Advancing (runs links) (codes "getstatic") s t × Shows 3 (reference_to 2 ∷ []) t × HasObject 2 Boot (codes "lib/Box") t) }
+{}
+
+/// A field of an object is written: it has the value afterwards. The fields of the program are `last`, `it`, `next` and `count`.
+pub fn a_field_is_written()
+    ensures { Takes (runs links) (λ s t. Advancing (runs links) (codes "putfield") s t × Shows 9 [] t × ReadsField t.world (reference_to 2) 2 (reference_to 2)) }
+{}
+
+/// It is read: the value that was written is pushed.
+pub fn a_field_is_read()
+    ensures { Takes (runs links) (λ s t. Advancing (runs links) (codes "getfield") s t × Shows 15 (reference_to 2 ∷ []) t) }
+{}
+
+/// A field of a primitive type is written: the value is popped, and the world stays as it is.
+pub fn a_primitive_field_is_written()
+    ensures { Takes (runs counts) (λ s t. Advancing (runs counts) (codes "putfield") s t × Shows 7 [] t × (t.world ≡ s.world)) }
+{}
+
+/// It is read: some primitive is pushed.
+pub fn a_primitive_field_is_read()
+    ensures { Takes (runs counts) (λ s t. Advancing (runs counts) (codes "getfield") s t × Shows 13 (primitive_value ∷ []) t) }
+{}
+
+/// A static field is written: it has the value afterwards.
+pub fn a_static_field_is_written()
+    ensures { Takes (runs statics) (λ s t. Advancing (runs statics) (codes "putstatic") s t × Shows 6 [] t × (t.world.statics 0 ≡ reference_to 2)) }
+{}
+
+/// It is read: the value that was written is pushed.
+pub fn a_static_field_is_read()
+    ensures { Takes (runs statics) (λ s t. Advancing (runs statics) (codes "getstatic") s t × Shows 9 (reference_to 2 ∷ []) t × (t.world ≡ s.world)) }
+{}
+
+/// `newarray` makes an array of primitives, here of two.
+pub fn an_array_of_numbers_is_made()
+    ensures { Takes (runs numbers) (λ s t. Advancing (runs numbers) (codes "newarray") s t × Shows 3 (reference_to 3 ∷ []) t × HasArray 3 (codes "[I") (primitive_value ∷ primitive_value ∷ []) t) }
+{}
+
+/// The length of an array is a primitive.
+pub fn the_length_of_an_array_is_read()
+    ensures { Takes (runs numbers) (λ s t. Advancing (runs numbers) (codes "arraylength") s t × Shows 4 (primitive_value ∷ []) t) }
+{}
+
+/// `multianewarray` makes arrays of two dimensions, here two arrays of one number each: they stand after the array that holds them.
+pub fn an_array_of_arrays_is_made()
+    ensures { Takes (runs tables) (λ s t. Advancing (runs tables) (codes "multianewarray") s t × Shows 6 (reference_to 3 ∷ []) t × HasArray 3 (codes "[[I") (reference_to 4 ∷ reference_to 5 ∷ []) t
+        × HasArray 4 (codes "[I") (primitive_value ∷ []) t × HasArray 5 (codes "[I") (primitive_value ∷ []) t) }
+{}
+
+/// `anewarray` makes an array of nulls.
+pub fn an_array_of_references_is_made()
+    ensures { Takes (runs boxes) (λ s t. Advancing (runs boxes) (codes "anewarray") s t × Shows 4 (primitive_value ∷ reference_to 3 ∷ []) t × HasArray 3 (codes "[Llib/Box;") (null_value ∷ []) t) }
+{}
+
+/// An element of an array of references is written.
+pub fn an_element_is_written()
+    ensures { Takes (runs boxes) (λ s t. Advancing (runs boxes) (codes "aastore") s t × Shows 11 (reference_to 3 ∷ []) t × HasArray 3 (codes "[Llib/Box;") (reference_to 2 ∷ []) t) }
+{}
+
+/// It is read.
+pub fn an_element_is_read()
+    ensures { Takes (runs boxes) (λ s t. Advancing (runs boxes) (codes "aaload") s t × Shows 14 (reference_to 3 ∷ reference_to 2 ∷ []) t) }
+{}
+
+/// An object that does not fit the type of the elements is stored: an exception is raised, and its object is made.
+pub fn a_misfit_is_not_stored()
+    ensures { Takes (runs misfit) (λ s t. Raising (runs misfit) (codes "aastore") (codes "java/lang/ArrayStoreException") s t × HasObject 4 Thrown (codes "java/lang/ArrayStoreException") t) }
+{}
+
+/// A division may raise an exception.
+pub fn a_division_raises()
+    ensures { Takes (runs division) (λ s t. Raising (runs division) (codes "idiv") (codes "java/lang/ArithmeticException") s t × HasObject 3 Thrown (codes "java/lang/ArithmeticException") t) }
+{}
+
+/// Null passes a cast.
+pub fn a_cast_passes_null()
+    ensures { Takes (runs null_cast) (λ s t. Advancing (runs null_cast) (codes "checkcast") s t × Shows 4 (null_value ∷ []) t) }
+{}
+
+/// So does an object of the class.
+pub fn a_cast_passes_an_object()
+    ensures { Takes (runs box_cast) (λ s t. Advancing (runs box_cast) (codes "checkcast") s t × Shows 6 (reference_to 2 ∷ []) t) }
+{}
+
+/// A cast of an object that does not fit raises an exception.
+pub fn a_cast_raises()
+    ensures { Takes (runs string_cast) (λ s t. Raising (runs string_cast) (codes "checkcast") (codes "java/lang/ClassCastException") s t × HasObject 3 Thrown (codes "java/lang/ClassCastException") t) }
+{}
+
+/// The entry gets an array of strings, and an element of it is read.
+pub fn an_argument_is_read()
+    ensures { Takes (runs_with_arguments argument) (λ s t. Advancing (runs_with_arguments argument) (codes "aaload") s t × Shows 3 (reference_to 3 ∷ reference_to 0 ∷ []) t) }
+{}
