@@ -39,14 +39,15 @@ are_arguments x entry values each false e = rw e (record { values = values; each
 
 pub some_first : (x : Subject) (entry : Method) → slice_get x.program.methods x.entry ≡ Some entry → (values : List Value) → All MayBeArgument values → (s : State) × IsFirst x s
 some_first x entry stands values each =
-    let takes = bytes_eq entry.signature.descriptor plain_descriptor in
-    (runs_on (start_frame ∷ []) (record { heap = map (boot_object x) (boot_classes x.program) ++ argument_objects x takes values; statics = first_statics x.program; kept = []; started = [] }),
-    record {
-      entry = entry;
-      stands = stands;
-      objects = argument_objects x takes values;
-      arguments = are_arguments x entry values each takes refl;
-      statics = first_statics x.program;
-      begins = λ number. begins_at x.program number (slice_get x.program.fields number) refl;
-      is = refl;
-    })
+    let takes = bytes_eq entry.signature.descriptor plain_descriptor in (
+      runs_on (start_frame ∷ []) (record { heap = map (boot_object x) (boot_classes x.program) ++ argument_objects x takes values; statics = first_statics x.program; kept = []; started = [] }),
+      record {
+        entry = entry;
+        stands = stands;
+        objects = argument_objects x takes values;
+        arguments = are_arguments x entry values each takes refl;
+        statics = first_statics x.program;
+        begins = λ number. begins_at x.program number (slice_get x.program.fields number) refl;
+        is = refl;
+      },
+    )
