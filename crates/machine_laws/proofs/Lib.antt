@@ -1,11 +1,13 @@
 mod FirstStates
-mod Heaps
+pub mod Heaps
+pub mod Moved
+pub mod Described
 mod Steps
-mod Errors
+pub mod Errors
 mod ProgressRows
-mod ProgressSteps
-mod ProgressDecided
-mod ProgressCalls
+pub mod ProgressSteps
+pub mod ProgressDecided
+pub mod ProgressCalls
 mod ProgressRunning
 mod ProgressThrown
 mod ProgressStarts

@@ -31,12 +31,12 @@ kept_after x descriptor places before after v alike k =
       kept = subst (λ (ks : List ℕ). Contains (ks ++ places) r.place) (sym alike.kept) k.kept;
     }
 
-record SomeGiven (x : Subject) (number : ℕ) (d : DescribedMethod x number) (caller : Frame) (units : List Value) (r : StubResult) (before : World) : Type 0 where
+pub record SomeGiven (x : Subject) (number : ℕ) (d : DescribedMethod x number) (caller : Frame) (units : List Value) (r : StubResult) (before : World) : Type 0 where
   pub made : Value
   pub world : World
   pub gives : Gives x number d caller units r before made world
 
-gives : (x : Subject) (number : ℕ) (d : DescribedMethod x number) (caller : Frame) (units : List Value) (r : StubResult) (before after : World)
+pub gives : (x : Subject) (number : ℕ) (d : DescribedMethod x number) (caller : Frame) (units : List Value) (r : StubResult) (before after : World)
     → IsAlike before after → CanGive x number d units before r → SomeGiven x number d caller units r (kept_by x number d units after)
 gives x number d caller units Primitive before after alike can = record { made = primitive_value; world = _; gives = (refl, refl) }
 gives x number d caller units Void before after alike can = record { made = primitive_value; world = _; gives = (refl, refl) }

@@ -1,21 +1,18 @@
 -- What becomes of an object in each step of the machine.
-use Rattle.std.proofs.Common.{◌≡◌, ◌⊎◌, inl, inr, ℕ, Bool, true, false, List, [], ◌∷◌, Some, refl, sym, ap, ◌∙◌, subst}
+use Rattle.std.proofs.Common.{◌≡◌, ◌⊎◌, inl, inr, ℕ, Bool, true, false, List, [], ◌∷◌, Some, sym, ◌∙◌, subst}
 use Rattle.std.specs.List.{slice_get}
-use Rattle.std.specs.Prelude.{slice_set, slice_index, MatchBool, if◌then◌else◌}
-use Rattle.std.proofs.lemmas.Option.{same_Some}
+use Rattle.std.specs.Prelude.{MatchBool, if◌then◌else◌}
 use Rattle.jvm_model.specs.declared.pool.PoolEntry.{PoolEntry}
-use Rattle.jvm_model.specs.declared.stub.StubResult.{StubResult}
-use Rattle.jvm_model.specs.declared.stub.StubResult.TheVariants.{Primitive, Void, Null, Given, New, Kept}
 use Rattle.jvm_model.specs.Instructions.{DecodedInstruction}
 use Rattle.jvm_model.specs.Programs.{Field}
 use Rattle.jvm_model.specs.Table.{Action, plain, load_constant, load_element, store_element, probe_element, probe_array, probe_object, get_static, put_static, get_field, put_field, invoke_virtual, invoke_special, invoke_static, invoke_interface, make_object, make_array, throw_object, cast, leave_method, refused, is_selecting}
-use Rattle.bytecode_machine.specs.Described.{DescribedMethod, Gives, GivesResult, ThrowsListed, kept_by}
-use Rattle.bytecode_machine.specs.Events.{HasEvents, moved, unmoved}
-use Rattle.bytecode_machine.specs.Machine.{At, Makes, Calls, ReadsFieldOf, WritesFieldOf, WritesStatic, ThrowsNew, Step, advances, enters, gets_result, gets_exception, enters_entry, returns, resumes, ends, raises, throws, catches, unwinds, starts, denies, wraps, unwound}
+use Rattle.bytecode_machine.specs.Machine.{At, Makes, Calls, ReadsFieldOf, WritesFieldOf, WritesStatic, ThrowsNew, Step, advances, enters, gets_result, gets_exception, enters_entry, returns, resumes, ends, raises, throws, catches, unwinds, starts, denies, wraps}
 use Rattle.bytecode_machine.specs.Objects.{Subject, Refers, WritesField}
-use Rattle.bytecode_machine.specs.States.{Value, Object, Frame, World, State, is_reference_type, with_automaton, with_static, with_started}
+use Rattle.bytecode_machine.specs.States.{Value, Object, Frame, World, State, is_reference_type, with_static, with_started}
 use Rattle.machine_laws.specs.Survival.{IsMovedBy, Survives}
-use Rattle.machine_laws.proofs.Heaps.{Stays, Keeps, keeps_all, keeps_same, keeps_on, keeps_made, keeps_arrays, keeps_field, keeps_element, keeps_static, keeps_kept, keeps_started, same_or_not, written_there, not_written}
+use Rattle.machine_laws.proofs.Described.{keeps_result, keeps_listed, unwound_world, world_of}
+use Rattle.machine_laws.proofs.Heaps.{Stays, Keeps, keeps_all, keeps_same, keeps_on, keeps_made, keeps_arrays, keeps_field, keeps_element, keeps_static, keeps_kept, keeps_started}
+use Rattle.machine_laws.proofs.Moved.{IsMovedOn, Moves, moves_by, moved_on}
 
 -- ---- what actions make
 
@@ -58,25 +55,6 @@ keeps_makes cast x f pool i units before made after m = keeps_same before after 
 keeps_makes leave_method x f pool i units before made after m = absurd m
 keeps_makes refused x f pool i units before made after m = absurd m
 
--- ---- what described methods give
-
-keeps_gives : (x : Subject) (number : ℕ) (d : DescribedMethod x number) (caller : Frame) (units : List Value) (r : StubResult) (before : World) (v : Value) (after : World)
-    → Gives x number d caller units r before v after → Keeps before after
-keeps_gives x number d caller units Primitive before v after g = keeps_same before after g.1
-keeps_gives x number d caller units Void before v after g = keeps_same before after g.1
-keeps_gives x number d caller units Null before v after g = keeps_same before after g.1
-keeps_gives x number d caller units (Given argument) before v after g = keeps_same before after g.1
-keeps_gives x number d caller units (New class) before v after g = keeps_made x _ before v after g
-keeps_gives x number d caller units Kept before v after g = keeps_same before after g.1
-
-keeps_result : (x : Subject) (number : ℕ) (caller : Frame) (units : List Value) (before : World) (v : Value) (after : World) → GivesResult x number caller units before v after → Keeps before after
-keeps_result x number caller units before v after g =
-    keeps_on before _ after (keeps_kept before _) (keeps_gives x number g.called caller units g.result (kept_by x number g.called units before) v after g.gives)
-
-keeps_listed : (x : Subject) (number : ℕ) (caller : Frame) (units : List Value) (before : World) (thrown : ℕ) (after : World) → ThrowsListed x number caller units before thrown after → Keeps before after
-keeps_listed x number caller units before thrown after h =
-    keeps_on before _ after (keeps_kept before _) (keeps_made x _ (kept_by x number h.called units before) _ after h.makes)
-
 -- ---- an object that stays, and one that an event moves
 
 stays_on : (x : Subject) (s t : State) (place : ℕ) (o : Object) → Stays t.world place o → Survives x s t place o
@@ -86,59 +64,21 @@ stays_on x s t place o h = record { later = h.later; held = h.held; site = h.sit
 survives : (x : Subject) (s t : State) (w : World) → t.world ≡ w → Keeps s.world w → (place : ℕ) (o : Object) → slice_get s.world.heap place ≡ Some o → Survives x s t place o
 survives x s t w e keeps place o held = stays_on x s t place o (subst (λ (v : World). Stays v place o) (sym e) (keeps.each place o held))
 
--- a place after the events of a call
-record Moves (x : Subject) (s : State) (w : World) (place : ℕ) (o : Object) : Type 0 where
-  pub later : Object
-  pub held : slice_get w.heap place ≡ Some later
-  pub site : later.site ≡ o.site
-  pub class : later.class ≡ o.class
-  pub automaton : (later.automaton ≡ o.automaton) ⊎ IsMovedBy x s place o later.automaton
-
-moves_by : (x : Subject) (s : State) (at : At x.program s) (call : Calls x s at) (w : World)
-    → HasEvents x (is_selecting at.now.row.action) call.names.called.signature call.units s.world w → (place : ℕ) (o : Object) → slice_get s.world.heap place ≡ Some o → Moves x s w place o
-moves_by x s at call w (moved e is) place o held = subst (λ (v : World). Moves x s v place o) (sym is) (by (same_or_not place e.receiver.place))
+-- an object that the events of a call moved, or did not
+survives_moved : (x : Subject) (s t : State) (at : At x.program s) (call : Calls x s at) (place : ℕ) (o : Object)
+    → Moves x (is_selecting at.now.row.action) call.names.called.signature call.units s.world t.world place o → Survives x s t place o
+survives_moved x s t at call place o m = record { later = m.later; held = m.held; site = m.site; class = m.class; automaton = by m.automaton }
   where
-    next : ℕ
-    next = slice_index e.event.next e.receiver.object.automaton
-
-    object : Object
-    object = record { site = e.receiver.object.site; class = e.receiver.object.class; contents = e.receiver.object.contents; automaton = next }
-
-    by : (place ≡ e.receiver.place) ⊎ (place ≡ e.receiver.place → ⊥) → Moves x s (with_automaton s.world e.receiver.place e.receiver.object next) place o
-    by (inl same) =
-        let is_o : e.receiver.object ≡ o = same_Some _ _ (sym e.receiver.held ∙ subst (λ (i : ℕ). slice_get s.world.heap i ≡ Some o) same held) in
-        record {
-          later = object;
-          held = ap (slice_get (slice_set s.world.heap e.receiver.place object)) same ∙ written_there s.world.heap e.receiver.place e.receiver.object object e.receiver.held;
-          site = ap (λ (q : Object). q.site) is_o;
-          class = ap (λ (q : Object). q.class) is_o;
-          automaton = inr (record { at = at; call = call; event = e; of_place = sym same; is = ap (λ (q : Object). slice_index e.event.next q.automaton) is_o });
-        }
-    by (inr ne) = record { later = o; held = not_written s.world.heap e.receiver.place place o object ne held; site = refl; class = refl; automaton = inl refl }
-moves_by x s at call w (unmoved none is) place o held =
-    subst (λ (v : World). Moves x s v place o) (sym is) (record { later = o; held = held; site = refl; class = refl; automaton = inl refl })
-
-moved_on : (x : Subject) (s t : State) (w : World) (place : ℕ) (o : Object) → Moves x s w place o → Keeps w t.world → Survives x s t place o
-moved_on x s t w place o m keeps =
-    let k = keeps.each place m.later m.held in
-    record { later = k.later; held = k.held; site = k.site ∙ m.site; class = k.class ∙ m.class; automaton = by m.automaton (k.automaton) }
-  where
-    by : (m.later.automaton ≡ o.automaton) ⊎ IsMovedBy x s place o m.later.automaton → (keeps.each place m.later m.held).later.automaton ≡ m.later.automaton
-        → ((keeps.each place m.later m.held).later.automaton ≡ o.automaton) ⊎ IsMovedBy x s place o (keeps.each place m.later m.held).later.automaton
-    by (inl e) k = inl (k ∙ e)
-    by (inr i) k = inr (subst (λ (q : ℕ). IsMovedBy x s place o q) (sym k) i)
+    by : (m.later.automaton ≡ o.automaton) ⊎ IsMovedOn x (is_selecting at.now.row.action) call.names.called.signature call.units s.world place o m.later.automaton
+        → (m.later.automaton ≡ o.automaton) ⊎ IsMovedBy x s place o m.later.automaton
+    by (inl e) = inl e
+    by (inr i) = inr (record { at = at; call = call; event = i.event; of_place = i.of_place; is = i.is })
 
 after_call : (x : Subject) (s t : State) (at : At x.program s) (call : Calls x s at) (w : World) → t.world ≡ w → Keeps call.world w
     → (place : ℕ) (o : Object) → slice_get s.world.heap place ≡ Some o → Survives x s t place o
 after_call x s t at call w e keeps place o held =
-    moved_on x s t call.world place o (moves_by x s at call call.world call.events place o held) (subst (λ (v : World). Keeps call.world v) (sym e) keeps)
-
-unwound_world : (below : List Frame) (w : World) (place : ℕ) → (unwound below w place).world ≡ w
-unwound_world [] w place = refl
-unwound_world (f ∷ below) w place = refl
-
-world_of : (s t : State) → s ≡ t → s.world ≡ t.world
-world_of s t e = ap (λ (u : State). u.world) e
+    let moves = moves_by x _ _ _ s.world call.world call.events place o held in
+    survives_moved x s t at call place o (moved_on x _ _ _ s.world call.world t.world place o moves (subst (λ (v : World). Keeps call.world v) (sym e) keeps))
 
 -- a new object is thrown
 thrown_new : (x : Subject) (s t : State) (w : World) (f : Frame) (below : List Frame) (class : List ℕ) → Keeps s.world w → ThrowsNew x w f below class t

@@ -1,0 +1,8 @@
+mod Steps
+mod Slots
+mod Operations
+mod Calls
+mod Thrown
+mod Starts
+mod Running
+mod StartNodes

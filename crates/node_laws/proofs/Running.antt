@@ -1,0 +1,68 @@
+-- The machine goes on at a node, operation by operation.
+use Rattle.std.proofs.Common.{◌≡◌, inl, inr, Option, ℕ, ◌∷◌, refl, sym, ap, ◌∙◌}
+use Rattle.op_model.specs.declared.op.Op.{Op}
+use Rattle.op_model.specs.declared.op.Op.TheVariants.{Assign, Load, Store, LoadElement, StoreElement, LoadStatic, StoreStatic, New, NewArray, Constant, Call, Return, Throw, Cast, Probe}
+use Rattle.op_model.specs.Supplies.{Given}
+use Rattle.jvm_model.specs.Table.{null_pointer}
+use Rattle.bytecode_machine.specs.Machine.{exception_class}
+use Rattle.bytecode_machine.specs.Objects.{Subject}
+use Rattle.bytecode_machine.specs.States.{State, runs_on, throws_on, ends_with, slot_at}
+use Rattle.node_machine.specs.NodeSteps.{AtNode, advances, returns, resumes, ends, throws}
+use Rattle.machine_laws.proofs.ProgressDecided.{DecidesSubtypes}
+use Rattle.node_laws.specs.Progress.{GoesOn, CanAdvance, CanReturn, after_call, after_initialiser, of_start, CanThrow, MayRaise, IsReadyOp}
+use Rattle.node_laws.proofs.Calls.{calls, returns_to}
+use Rattle.node_laws.proofs.Operations.{operations_go_on}
+use Rattle.node_laws.proofs.Thrown.{raises_listed}
+
+advances_it : (x : Subject) (given : Given) (s : State) (at : AtNode x given s) → CanAdvance x given s at → GoesOn x given s
+advances_it x given s at can =
+    let g = operations_go_on x given s at can.0 can.1.0 can.1.1 in
+    record { next = g.1.next; step = advances at g.1.step }
+
+leaves : (x : Subject) (given : Given) (s : State) (at : AtNode x given s) (value : Option ℕ) → at.now.node.op ≡ Return value → CanReturn x given at.frame at.below → GoesOn x given s
+leaves x given s at value is (after_call caller rest below waits now call is_call next) =
+    let r = returns_to x given s at value is caller rest below waits now call is_call next.0 next.1 in
+    record { next = r.next; step = returns at r.step }
+leaves x given s at value is (after_initialiser caller rest below resumed) = record {
+  next = runs_on (caller ∷ rest) s.world;
+  step = resumes at (record { value = value; is_return = is; caller = caller; rest = rest; below = below; triggered = resumed; after = refl });
+}
+leaves x given s at value is (of_start none) = record {
+  next = ends_with s.world;
+  step = ends at (record { value = value; is_return = is; no_method = none; after = refl });
+}
+
+throws_it : (x : Subject) (given : Given) (s : State) (at : AtNode x given s) (value : ℕ) → at.now.node.op ≡ Throw value → CanThrow x s.world at.now.node.throws (slot_at at.frame.slots value) → GoesOn x given s
+throws_it x given s at value is (inl thrown) = record {
+  next = throws_on (at.frame ∷ at.below) s.world thrown.to.place;
+  step = throws at (record { value = value; is_throw = is; thrown = thrown; after = refl });
+}
+throws_it x given s at value is (inr null) =
+    let r = raises_listed x given s at null.1.number (exception_class null_pointer) null.1.listed null.1.is_class may in
+    record { next = r.next; step = r.step }
+  where
+    may : MayRaise at.now.node.op at.frame.slots (exception_class null_pointer)
+    may other is_other of =
+        let same_throw : Throw value ≡ Throw other = sym is ∙ is_other in
+        let same : value ≡ other = cc in
+        ap (slot_at at.frame.slots) (sym same) ∙ null.0
+
+goes_by : (x : Subject) → DecidesSubtypes x.program → (given : Given) (s : State) (at : AtNode x given s) (op : Op) → at.now.node.op ≡ op → IsReadyOp op x given s at → GoesOn x given s
+goes_by x decides given s at (Assign moves) is ready = advances_it x given s at ready
+goes_by x decides given s at (Load object field target) is ready = advances_it x given s at ready
+goes_by x decides given s at (Store object field value) is ready = advances_it x given s at ready
+goes_by x decides given s at (LoadElement array target) is ready = advances_it x given s at ready
+goes_by x decides given s at (StoreElement array value) is ready = advances_it x given s at ready
+goes_by x decides given s at (LoadStatic field target) is ready = advances_it x given s at ready
+goes_by x decides given s at (StoreStatic field value) is ready = advances_it x given s at ready
+goes_by x decides given s at (New site target) is ready = advances_it x given s at ready
+goes_by x decides given s at (NewArray sites target) is ready = advances_it x given s at ready
+goes_by x decides given s at (Constant site target) is ready = advances_it x given s at ready
+goes_by x decides given s at (Call call) is ready = calls x decides given s at call is ready
+goes_by x decides given s at (Return value) is ready = leaves x given s at value is ready
+goes_by x decides given s at (Throw value) is ready = throws_it x given s at value is ready
+goes_by x decides given s at (Cast class slot) is ready = advances_it x given s at ready
+goes_by x decides given s at (Probe slot) is ready = advances_it x given s at ready
+
+pub running_goes_on : (x : Subject) → DecidesSubtypes x.program → (given : Given) (s : State) (at : AtNode x given s) → IsReadyOp at.now.node.op x given s at → GoesOn x given s
+running_goes_on x decides given s at ready = goes_by x decides given s at at.now.node.op refl ready

@@ -1,0 +1,2 @@
+pub mod Survival
+pub mod Progress
