@@ -9,7 +9,7 @@ use Rattle.jvm_model.specs.Instructions.{DecodedInstruction, HasDescriptorUnits,
 use Rattle.jvm_model.specs.Lookups.{MemberReference}
 use Rattle.jvm_model.specs.Programs.{Program, Method, class_of, name_of, object_name, method_of}
 use Rattle.bytecode_machine.specs.Machine.{MethodCode}
-use Rattle.one_class_form.specs.OneClassPrograms.{object_class, object_constructor}
+use Rattle.one_class_form.proofs.BaseTable.{object_class, object_constructor}
 use Rattle.jvm_model.specs.Resolution.{HasSignature, IsFound, Resolves, itself}
 use Rattle.jvm_model.specs.Subtypes.{class_named}
 use Rattle.jvm_model.specs.Soundness.{plain_descriptor}

@@ -11,7 +11,7 @@ use Rattle.bytecode_machine.specs.Machine.{MethodCode, AtInstruction, Step, ente
 use Rattle.bytecode_machine.specs.Objects.{Subject, Refers, IsOf}
 use Rattle.bytecode_machine.specs.Start.{start_frame}
 use Rattle.jvm_model.specs.Programs.{Program, class_of, object_name, is_static, method_of, text_or_none}
-use Rattle.one_class_form.specs.OneClassPrograms.{object_class, object_constructor, object_initialiser}
+use Rattle.one_class_form.proofs.BaseTable.{object_class, object_constructor, object_initialiser}
 use Rattle.jvm_model.specs.Selection.{at_named, upward}
 use Rattle.jvm_model.specs.Subtypes.{same, below, by_class}
 use Rattle.bytecode_machine.specs.States.{Value, primitive_value, reference_to, Frame, World, State, Object, runs_on, ends_with, waiting, with_object, new_object}

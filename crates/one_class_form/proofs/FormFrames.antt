@@ -143,6 +143,17 @@ pub same_place : (c d : ClassFile) (j k : ℕ) (m n : Member) → in_file c j m 
 unfolding place_of
 same_place c d j k m n e = ap (place_of j) e
 
+-- the code of a method that is a member of the class file
+pub own_code : (p : Program) (c : ClassFile) (number : ℕ) (code : MethodCode p number) (m : ℕ × Member) → Contains c.methods m.1 → code.method ≡ method_of c m → IsOwnCode p c number code
+own_code p c number code m among is =
+    let body : in_file c m.0 m.1 ≡ in_file code.file code.place code.member = sym (ap (λ (x : Method). x.body) is) ∙ code.of_file in
+    let member = (same_file c code.file m.0 code.place m.1 code.member body).1 in
+    let place = same_place c code.file m.0 code.place m.1 code.member body in
+    record {
+      among = subst (Contains c.methods) member among;
+      is = is ∙ ap (λ (n : Member). method_of c (m.0, n)) member ∙ ap (λ (n : ℕ). method_of c (n, code.member)) place;
+    }
+
 module _ (p : Program) (c : ClassFile) (home : IsHome p c) (class method : List ℕ) (calls : List (List ℕ)) (form : IsStraightLine c class method calls) where
   -- the name of a method with code
   its_name : (name : List ℕ) (number : ℕ) (code : MethodCode p number) → code.method.signature.name ≡ name → text_at c.pool code.member.name ≡ Some name

@@ -7,13 +7,15 @@ pub mod FormTests
 pub mod CallMarks
 pub mod Forms
 pub mod OneForm
-pub mod FormEntry
 pub mod ListMembers
 pub mod FormFrames
 pub mod FormRuns
 pub mod FormSteps
-pub mod FormHome
 pub mod FormSound
+pub mod BaseTable
+pub mod LinkedClasses
+pub mod FormLinks
+pub mod FormEntry
 pub mod FirstStates
 pub mod ExampleSteps
 pub mod ExampleMethods

@@ -10,7 +10,7 @@ use Rattle.jvm_model.specs.Access.{has_flag}
 use Rattle.jvm_model.specs.Programs.{Program, Method}
 use Rattle.jvm_model.specs.Soundness.{plain_descriptor}
 use Rattle.bytecode_machine.specs.Objects.{Subject}
-use Rattle.one_class_form.specs.OneClassPrograms.{program_of}
+use Rattle.one_class_form.specs.OneClassPrograms.{IsProgramOf}
 
 -- The method of a number is the static one of the class and the name that has no parameters and no result.
 pub record IsEntryOf (p : Program) (class method : List ℕ) (entry : ℕ) : Type 0 where
@@ -20,9 +20,16 @@ pub record IsEntryOf (p : Program) (class method : List ℕ) (entry : ℕ) : Typ
   pub named : found.signature ≡ record { name = method; descriptor = plain_descriptor }
   pub static : IsTrue (has_flag found.flags Static)
 
--- The program of a class file is run, from the entry, under a property.
-abbrev pub subject_of : ClassFile → Automaton → ℕ → Subject
-subject_of c a entry = record { program = program_of c; property = a; entry = entry }
+-- The class file, in a file of this name, has a program, and that has the entry.
+pub record HasProgram (file : List ℕ) (c : ClassFile) (class method : List ℕ) : Type 0 where
+  pub program : Program
+  pub of_file : IsProgramOf file c program
+  pub entry : ℕ
+  pub is_entry : IsEntryOf program class method entry
+
+-- A program is run, from the entry, under a property.
+abbrev pub subject_of : Program → Automaton → ℕ → Subject
+subject_of p a entry = record { program = p; property = a; entry = entry }
 
 -- The site of an instruction that makes an object of the class at an offset of a method.
 abbrev pub made_at : ℕ → ℕ → List ℕ → Site

@@ -9,8 +9,8 @@ mod simple;
 mod straight_line;
 
 pub use laws::{
-    read_after_close_errs, safe_is_sound, second_read_errs, two_reads_is_spelled,
-    two_reads_runs_to_its_end,
+    form_has_entry, form_has_program, read_after_close_errs, safe_is_sound, second_read_errs,
+    two_reads_is_spelled, two_reads_runs_to_its_end,
 };
 pub use straight_line::occurring_events;
 

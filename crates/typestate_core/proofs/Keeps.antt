@@ -4,8 +4,8 @@ use Rattle.ts_outside.specs.Files.{File}
 use Rattle.jvm_model.specs.declared.automaton.Automaton.{Automaton}
 use Rattle.prune_stage.specs.StageOne.{events_of, IsSafe}
 use Rattle.one_class_form.specs.Entries.{made_at, subject_of}
-use Rattle.one_class_form.proofs.FormEntry.{has_entry}
-use Rattle.one_class_form.proofs.FormHome.{home_of}
+use Rattle.one_class_form.proofs.FormEntry.{has_program}
+use Rattle.one_class_form.proofs.LinkedClasses.{home_of}
 use Rattle.one_class_form.proofs.FormSound.{no_error}
 use Rattle.one_class_form.proofs.Options.{if_some, at_some}
 use Rattle.typestate_core.specs.declared.status.Status.{Status}
@@ -17,23 +17,20 @@ use Rattle.typestate_core.proofs.SafeLines.{IsSafeOutcome, safe_line_tells, all_
 
 pub keeps : (words : List (List ℕ)) (files : List File) (text class method name bytes : List ℕ) (a : Automaton) (calls : List (List ℕ)) → Asks words files class method a → HasOneClass files name bytes → IsJudged bytes a class method calls
     → IsSafe a (events_of calls a) → text ≡ entry_site class method → KeepsProtocol words files text
-keeps words files text class method name bytes a calls asks one judged is_safe printed =
-    let entry = has_entry judged.c class method calls judged.of_form.form in
-    record {
-      class = class;
-      method = method;
-      property = a;
-      asks = asks;
-      name = name;
-      bytes = bytes;
-      one_class = one;
-      file = judged.c;
-      spelled = judged.readable.spelling;
-      entry = entry.0;
-      is_entry = entry.1;
-      printed = printed;
-      never = no_error (subject_of judged.c a entry.0) judged.c (home_of judged.c) class method calls judged.of_form.form entry.1 is_safe (made_at entry.0 0 class);
-    }
+keeps words files text class method name bytes a calls asks one judged is_safe printed = record {
+  class = class;
+  method = method;
+  property = a;
+  asks = asks;
+  name = name;
+  bytes = bytes;
+  one_class = one;
+  file = judged.c;
+  spelled = judged.readable.spelling;
+  has_program = has_program name judged.c class method calls judged.of_form.form;
+  printed = printed;
+  never = λ p entry of_file is_entry. no_error (subject_of p a entry) judged.c (home_of name judged.c p of_file) class method calls judged.of_form.form is_entry is_safe (made_at entry 0 class);
+}
 
 keeps_outcome : (words : List (List ℕ)) (files : List File) (text : List ℕ) → IsSafeOutcome words files text → KeepsProtocol words files text
 keeps_outcome words files text o = keeps words files text o.class o.method o.name o.bytes o.property o.calls o.asks o.one_class o.judged o.is_safe o.printed

@@ -1,21 +1,22 @@
 -- Public contracts rest on this module.
--- What a safe site means: no execution of the program that the class file spells, with the entry that the words
--- name, has a state in which an object of the site is in the error state.
+-- What a safe site means: no execution of the program that the class file and the base stubs link to, with the entry that
+-- the words name, has a state in which an object of the site is in the error state.
 use Rattle.std.specs.Prelude.{codes, ◌≡◌, ◌≢◌, ◌⊎◌, ℕ, List, [], ◌∷◌, ◌++◌, Option, Some, All}
 use Rattle.std.specs.Fmt.{decimal}
 use Rattle.ts_outside.specs.Files.{File}
 use Rattle.jvm_model.specs.declared.automaton.Automaton.{Automaton}
 use Rattle.jvm_model.specs.declared.class_file.ClassFile.{ClassFile}
 use Rattle.bytecode_machine.specs.Executions.{Errs}
-use Rattle.one_class_form.specs.Entries.{IsEntryOf, made_at, subject_of}
-use Rattle.one_class_form.specs.OneClassPrograms.{program_of}
+use Rattle.one_class_form.specs.Entries.{HasProgram, IsEntryOf, made_at, subject_of}
+use Rattle.one_class_form.specs.OneClassPrograms.{IsProgramOf}
+use Rattle.jvm_model.specs.Programs.{Program}
 use Rattle.jvm_model.specs.Soundness.{plain_descriptor}
 use Rattle.jvm_model.specs.Spelling.{IsSpelling}
 use Rattle.typestate_core.specs.Lines.{site_text}
 use Rattle.typestate_core.specs.Outcomes.{Asks, HasOneClass}
 
 -- The words and the files tell a property, a class file and an entry, of which the site is the one that is printed
--- as this text: its objects never are in the error state.
+-- as this text: its objects never are in the error state. The class file has a program, and what is said holds of each.
 pub record KeepsProtocol (words : List (List ℕ)) (files : List File) (text : List ℕ) : Type 0 where
   pub class : List ℕ
   pub method : List ℕ
@@ -26,10 +27,10 @@ pub record KeepsProtocol (words : List (List ℕ)) (files : List File) (text : L
   pub one_class : HasOneClass files name bytes
   pub file : ClassFile
   pub spelled : IsSpelling bytes file
-  pub entry : ℕ
-  pub is_entry : IsEntryOf (program_of file) class method entry
+  pub has_program : HasProgram name file class method
   pub printed : text ≡ site_text class method plain_descriptor 0 class
-  pub never : Errs (subject_of file property entry) (made_at entry 0 class) → ⊥
+  pub never : (program : Program) (entry : ℕ) → IsProgramOf name file program → IsEntryOf program class method entry
+      → Errs (subject_of program property entry) (made_at entry 0 class) → ⊥
 
 -- The words of a line for a site that the first stage proved safe.
 abbrev pub safe_text : List ℕ → List ℕ

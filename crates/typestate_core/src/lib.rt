@@ -12,8 +12,8 @@ mod verifier;
 
 pub use laws::one_outcome;
 pub use one_class_form::{
-    read_after_close_errs, safe_is_sound, second_read_errs, two_reads_is_spelled,
-    two_reads_runs_to_its_end,
+    form_has_entry, form_has_program, read_after_close_errs, safe_is_sound, second_read_errs,
+    two_reads_is_spelled, two_reads_runs_to_its_end,
 };
 pub use status::Status;
 pub use verifier::run;
