@@ -5,7 +5,8 @@ use Rattle.bytecode_machine.specs.Start.{start_frame}
 use Rattle.bytecode_machine.specs.States.{primitive_value, ended, runs_on, moved_to, waiting}
 use Rattle.machine_examples.specs.Calling.{runs, rings}
 use Rattle.machine_examples.specs.Taking.{Takes, Shows, EnteringEntry, Returning, Ending}
-use Rattle.machine_examples.proofs.Runs.{Arrives, goes, takes, shows, started_in, entered_in, starts_at}
+use Rattle.machine_examples.proofs.Facts.{call_row, described_at, shows}
+use Rattle.machine_examples.proofs.Runs.{Arrives, goes, takes, started_in, entered_in, starts_at}
 use Rattle.machine_examples.proofs.CallSteps.{get, give_to_start, not_selecting}
 use Rattle.machine_examples.proofs.CallStart.{outside, main_of, world, main_at, begun, plain_units, house_named}
 
@@ -21,9 +22,9 @@ the_entry_is_called =
 
 at_return : Arrives (runs rings) (main_at rings refl 3 [] (world rings refl))
 at_return =
-    let step = get (runs rings) 4 (main_of rings refl) outside 0 [] (world rings refl) _ refl _ (record { method = _; named = refl; parameters = _; results = _; units = plain_units; row_is = refl }) _
+    let step = get (runs rings) 4 (main_of rings refl) outside 0 [] (world rings refl) _ refl _ (call_row _ _ _ _ _ _ refl plain_units) _
     (record { is_there = refl; names = house_named rings 38 8 _ _ refl refl refl refl refl; target = 8; is_target = (refl, refl); events = not_selecting _ _ _ _ _ refl })
-    (record { method = _; stands = refl; stub = _; is_described = refl; concrete = refl; descriptor = plain_units.is }) 0 _ refl primitive_value _ (refl, refl) in
+    (described_at _ _ _ _ refl refl refl plain_units.is) 0 _ refl primitive_value _ (refl, refl) in
     goes _ _ _ (begun rings refl) (gets_result step.at step.step)
 
 leaves_main : Returning (runs rings) (codes "return") (main_at rings refl 3 [] (world rings refl)) (runs_on (moved_to (waiting start_frame []) 1 [] ∷ []) (world rings refl))

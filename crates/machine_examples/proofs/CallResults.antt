@@ -9,7 +9,8 @@ use Rattle.bytecode_machine.specs.States.{primitive_value, null_value, reference
 use Rattle.machine_examples.specs.Building.{handler}
 use Rattle.machine_examples.specs.Calling.{program_with, runs, hashes, counts, rings, gets_none, gets_same, gets_fresh, keeps, fails}
 use Rattle.machine_examples.specs.Taking.{Takes, Shows, HasObject, GettingResult, GettingException, Catching}
-use Rattle.machine_examples.proofs.Runs.{Arrives, goes, takes, shows, frame_at, advance, plainly}
+use Rattle.machine_examples.proofs.Facts.{call_row, described_at, field_row, has_object, makes_array, refers_to, shows}
+use Rattle.machine_examples.proofs.Runs.{Arrives, goes, takes, frame_at, advance, plainly}
 use Rattle.machine_examples.proofs.CallSteps.{get, get_thrown, not_selecting, not_named}
 use Rattle.machine_examples.proofs.Searches.{chain_up}
 use Rattle.machine_examples.proofs.Throws.{catch}
@@ -24,19 +25,19 @@ at_hash : Arrives (runs hashes) (main_at hashes refl 3 (reference_to 3 ∷ []) w
 at_hash =
     let pushed = plainly (runs hashes) 4 (main_of hashes refl) outside 1 0 [] _ _ refl (begun hashes refl) in
     let step = advance (runs hashes) 4 (main_of hashes refl) outside 1 (primitive_value ∷ []) (world hashes refl) _ refl _ refl refl (reference_to 3) with_array _
-    (codes "[I" ∷ [], of_primitives refl refl, record { dimensions = (record { site = site_at New (frame_at 4 1 (primitive_value ∷ [])) (codes "[I"); long = 1 }) ∷ []; of_sites = refl; some = omega arith; made_is = refl; after_is = refl }) refl in
+    (codes "[I" ∷ [], of_primitives refl refl, makes_array _ _ 1 _) refl in
     goes _ _ _ pushed (advances step.at step.step)
 
 pub an_array_is_called : Takes (runs hashes) (λ s t. GettingResult (runs hashes) (codes "invokevirtual") (codes "java/lang/Object") (codes "hashCode") s t × Shows 6 (primitive_value ∷ []) t)
 an_array_is_called =
-    let step = get (runs hashes) 4 (main_of hashes refl) outside 3 (reference_to 3 ∷ []) with_array _ refl _ (record { method = _; named = refl; parameters = _; results = _; units = int_units; row_is = refl }) _
+    let step = get (runs hashes) 4 (main_of hashes refl) outside 3 (reference_to 3 ∷ []) with_array _ refl _ (call_row _ _ _ _ _ _ refl int_units) _
     (record {
       is_there = refl;
       names = names_hash hashes;
       target = 6;
       is_target = record {
         instance = refl;
-        receiver = record { to = record { place = 3; is = refl; object = _; held = refl }; fits = by_array _ _ refl (inl refl) };
+        receiver = record { to = refers_to _ 3 _ refl; fits = by_array _ _ refl (inl refl) };
         selects = record {
           method = _;
           stands = refl;
@@ -45,45 +46,48 @@ an_array_is_called =
       };
       events = not_named _ _ _ _ _ refl;
     })
-    (record { method = _; stands = refl; stub = _; is_described = refl; concrete = refl; descriptor = (int_units).is }) 0 _ refl primitive_value _ (refl, refl) in
+    (described_at _ _ _ _ refl refl refl int_units.is) 0 _ refl primitive_value _ (refl, refl) in
     takes _ _ _ _ at_hash (gets_result step.at step.step) (step, shows _ _ _)
 
 -- ---- results
 
 pub a_primitive_is_given : Takes (runs counts) (λ s t. GettingResult (runs counts) (codes "invokestatic") (codes "lib/House") (codes "count") s t × Shows 3 (primitive_value ∷ []) t)
 a_primitive_is_given =
-    let step = get (runs counts) 4 (main_of counts refl) outside 0 ([]) (world counts refl) _ refl _ (record { method = _; named = refl; parameters = _; results = _; units = int_units; row_is = refl }) _
+    let step = get (runs counts) 4 (main_of counts refl) outside 0 [] (world counts refl) _ refl _ (call_row _ _ _ _ _ _ refl int_units) _
     (record { is_there = refl; names = house_named counts 35 7 _ _ refl refl refl refl refl; target = 7; is_target = (refl, refl); events = not_selecting _ _ _ _ _ refl })
-    (record { method = _; stands = refl; stub = _; is_described = refl; concrete = refl; descriptor = (int_units).is }) 0 _ refl (primitive_value) _ (refl, refl) in
+    (described_at _ _ _ _ refl refl refl int_units.is) 0 _ refl primitive_value _ (refl, refl) in
     takes _ _ _ _ (begun counts refl) (gets_result step.at step.step) (step, shows _ _ _)
 
 pub nothing_is_given : Takes (runs rings) (λ s t. GettingResult (runs rings) (codes "invokestatic") (codes "lib/House") (codes "ring") s t × Shows 3 [] t)
 nothing_is_given =
-    let step = get (runs rings) 4 (main_of rings refl) outside 0 ([]) (world rings refl) _ refl _ (record { method = _; named = refl; parameters = _; results = _; units = plain_units; row_is = refl }) _
+    let step = get (runs rings) 4 (main_of rings refl) outside 0 [] (world rings refl) _ refl _ (call_row _ _ _ _ _ _ refl plain_units) _
     (record { is_there = refl; names = house_named rings 38 8 _ _ refl refl refl refl refl; target = 8; is_target = (refl, refl); events = not_selecting _ _ _ _ _ refl })
-    (record { method = _; stands = refl; stub = _; is_described = refl; concrete = refl; descriptor = (plain_units).is }) 0 _ refl (primitive_value) _ (refl, refl) in
+    (described_at _ _ _ _ refl refl refl plain_units.is) 0 _ refl primitive_value _ (refl, refl) in
     takes _ _ _ _ (begun rings refl) (gets_result step.at step.step) (step, shows _ _ _)
 
 pub null_is_given : Takes (runs gets_none) (λ s t. GettingResult (runs gets_none) (codes "invokestatic") (codes "lib/House") (codes "none") s t × Shows 3 (null_value ∷ []) t)
 null_is_given =
-    let step = get (runs gets_none) 4 (main_of gets_none refl) outside 0 ([]) (world gets_none refl) _ refl _ (record { method = _; named = refl; parameters = _; results = _; units = door_units; row_is = refl }) _
+    let step = get (runs gets_none) 4 (main_of gets_none refl) outside 0 [] (world gets_none refl) _ refl _ (call_row _ _ _ _ _ _ refl door_units) _
     (record { is_there = refl; names = house_named gets_none 42 9 _ _ refl refl refl refl refl; target = 9; is_target = (refl, refl); events = not_selecting _ _ _ _ _ refl })
-    (record { method = _; stands = refl; stub = _; is_described = refl; concrete = refl; descriptor = (door_units).is }) 0 _ refl (null_value) _ (refl, refl) in
+    (described_at _ _ _ _ refl refl refl door_units.is) 0 _ refl null_value _ (refl, refl) in
     takes _ _ _ _ (begun gets_none refl) (gets_result step.at step.step) (step, shows _ _ _)
 
-pub a_new_object_is_given : Takes (runs gets_fresh) (λ s t. GettingResult (runs gets_fresh) (codes "invokestatic") (codes "lib/House") (codes "fresh") s t × Shows 3 (reference_to 3 ∷ []) t × HasObject 3 Result (codes "Gate") t)
+pub a_new_object_is_given : Takes (runs gets_fresh)
+    (λ s t. GettingResult (runs gets_fresh) (codes "invokestatic") (codes "lib/House") (codes "fresh") s t × Shows 3 (reference_to 3 ∷ []) t × HasObject 3 Result (codes "Gate") t)
 a_new_object_is_given =
-    let step = get (runs gets_fresh) 4 (main_of gets_fresh refl) outside 0 ([]) (world gets_fresh refl) _ refl _ (record { method = _; named = refl; parameters = _; results = _; units = door_units; row_is = refl }) _
+    let step = get (runs gets_fresh) 4 (main_of gets_fresh refl) outside 0 [] (world gets_fresh refl) _ refl _ (call_row _ _ _ _ _ _ refl door_units) _
     (record { is_there = refl; names = house_named gets_fresh 48 11 _ _ refl refl refl refl refl; target = 11; is_target = (refl, refl); events = not_selecting _ _ _ _ _ refl })
-    (record { method = _; stands = refl; stub = _; is_described = refl; concrete = refl; descriptor = (door_units).is }) 0 _ refl (reference_to 3) _ (record { made_is = refl; after_is = refl }) in
-    takes _ _ _ _ (begun gets_fresh refl) (gets_result step.at step.step) (step, shows _ _ _, record { object = _; held = refl; made = refl; of_class = refl })
+    (described_at _ _ _ _ refl refl refl door_units.is) 0 _ refl (reference_to 3) _ (record { made_is = refl; after_is = refl }) in
+    takes _ _ _ _ (begun gets_fresh refl) (gets_result step.at step.step) (step, shows _ _ _, has_object _ _ _ refl)
 
 pub an_argument_is_given_back : Takes (runs gets_same) (λ s t. GettingResult (runs gets_same) (codes "invokestatic") (codes "lib/House") (codes "same") s t × Shows 6 (reference_to 2 ∷ []) t)
 an_argument_is_given_back =
-    let first = advance (runs gets_same) 4 (main_of gets_same refl) outside 0 ([]) (world gets_same refl) _ refl _ (record { field = _; named = refl; is = door_type; row_is = refl }) refl (reference_to 2) _ _ (names_gate gets_same, (refl, refl)) refl in
-    let step = get (runs gets_same) 4 (main_of gets_same refl) outside 3 (reference_to 2 ∷ []) (world gets_same refl) _ refl _ (record { method = _; named = refl; parameters = _; results = _; units = door_to_door_units; row_is = refl }) _
+    let first = advance (runs gets_same) 4 (main_of gets_same refl) outside 0 [] (world gets_same refl) _ refl _
+    (field_row _ _ _ _ _ refl door_type) refl (reference_to 2) _ _ (names_gate gets_same, (refl, refl)) refl in
+    let step = get (runs gets_same) 4 (main_of gets_same refl) outside 3 (reference_to 2 ∷ []) (world gets_same refl) _ refl _
+    (call_row _ _ _ _ _ _ refl door_to_door_units) _
     (record { is_there = refl; names = house_named gets_same 45 10 _ _ refl refl refl refl refl; target = 10; is_target = (refl, refl); events = not_selecting _ _ _ _ _ refl })
-    (record { method = _; stands = refl; stub = _; is_described = refl; concrete = refl; descriptor = (door_to_door_units).is }) 0 _ refl (reference_to 2) _ (refl, refl) in
+    (described_at _ _ _ _ refl refl refl door_to_door_units.is) 0 _ refl (reference_to 2) _ (refl, refl) in
     takes _ _ _ _ (goes _ _ _ (begun gets_same refl) (advances first.at first.step)) (gets_result step.at step.step) (step, shows _ _ _)
 
 -- ---- what is kept
@@ -93,13 +97,14 @@ kept_world = with_kept (world keeps refl) (2 ∷ [])
 
 at_put : Arrives (runs keeps) (main_at keeps refl 3 (reference_to 2 ∷ []) (world keeps refl))
 at_put =
-    let step = advance (runs keeps) 4 (main_of keeps refl) outside 0 ([]) (world keeps refl) _ refl _ (record { field = _; named = refl; is = door_type; row_is = refl }) refl (reference_to 2) _ _ (names_gate keeps, (refl, refl)) refl in
+    let step = advance (runs keeps) 4 (main_of keeps refl) outside 0 [] (world keeps refl) _ refl _
+    (field_row _ _ _ _ _ refl door_type) refl (reference_to 2) _ _ (names_gate keeps, (refl, refl)) refl in
     goes _ _ _ (begun keeps refl) (advances step.at step.step)
 
 puts : GettingResult (runs keeps) (codes "invokestatic") (codes "lib/House") (codes "put") (main_at keeps refl 3 (reference_to 2 ∷ []) (world keeps refl)) (main_at keeps refl 6 [] kept_world)
-puts = get (runs keeps) 4 (main_of keeps refl) outside 3 (reference_to 2 ∷ []) (world keeps refl) _ refl _ (record { method = _; named = refl; parameters = _; results = _; units = from_door_units; row_is = refl }) _
+puts = get (runs keeps) 4 (main_of keeps refl) outside 3 (reference_to 2 ∷ []) (world keeps refl) _ refl _ (call_row _ _ _ _ _ _ refl from_door_units) _
     (record { is_there = refl; names = house_named keeps 52 12 _ _ refl refl refl refl refl; target = 12; is_target = (refl, refl); events = not_selecting _ _ _ _ _ refl })
-    (record { method = _; stands = refl; stub = _; is_described = refl; concrete = refl; descriptor = (from_door_units).is }) 0 _ refl (primitive_value) _ (refl, refl)
+    (described_at _ _ _ _ refl refl refl from_door_units.is) 0 _ refl primitive_value _ (refl, refl)
 
 pub an_argument_is_kept : Takes (runs keeps) (λ s t. GettingResult (runs keeps) (codes "invokestatic") (codes "lib/House") (codes "put") s t × Shows 6 [] t × (t.world.kept ≡ 2 ∷ []))
 an_argument_is_kept =
@@ -107,9 +112,9 @@ an_argument_is_kept =
 
 pub a_kept_object_is_given : Takes (runs keeps) (λ s t. GettingResult (runs keeps) (codes "invokestatic") (codes "lib/House") (codes "take") s t × Shows 9 (reference_to 2 ∷ []) t)
 a_kept_object_is_given =
-    let step = get (runs keeps) 4 (main_of keeps refl) outside 6 ([]) kept_world _ refl _ (record { method = _; named = refl; parameters = _; results = _; units = door_units; row_is = refl }) _
+    let step = get (runs keeps) 4 (main_of keeps refl) outside 6 [] kept_world _ refl _ (call_row _ _ _ _ _ _ refl door_units) _
     (record { is_there = refl; names = house_named keeps 55 13 _ _ refl refl refl refl refl; target = 13; is_target = (refl, refl); events = not_selecting _ _ _ _ _ refl })
-    (record { method = _; stands = refl; stub = _; is_described = refl; concrete = refl; descriptor = (door_units).is }) 0 _ refl (reference_to 2) _ (record { class = _; of_result = refl; object = is_door keeps kept_world 0 refl; kept = (0, omega arith, refl) }, refl) in
+    (described_at _ _ _ _ refl refl refl door_units.is) 0 _ refl (reference_to 2) _ (record { class = _; of_result = refl; object = is_door keeps kept_world 0 refl; kept = (0, omega arith, refl) }, refl) in
     takes _ _ _ _ (goes _ _ _ at_put (gets_result puts.at puts.step)) (gets_result step.at step.step) (step, shows _ _ _)
 
 -- ---- what is thrown
@@ -119,13 +124,14 @@ failed_world = with_object (world fails refl) (new_object (program_with fails) (
 
 throws_failure : GettingException (runs fails) (codes "invokestatic") (codes "lib/House") (codes "fail") (main_at fails refl 0 [] (world fails refl)) (throws_on (frame_at 4 0 [] ∷ outside) failed_world 3)
 throws_failure =
-    get_thrown (runs fails) 4 (main_of fails refl) outside 0 [] (world fails refl) _ refl _ (record { method = _; named = refl; parameters = _; results = _; units = plain_units; row_is = refl }) _
+    get_thrown (runs fails) 4 (main_of fails refl) outside 0 [] (world fails refl) _ refl _ (call_row _ _ _ _ _ _ refl plain_units) _
     (record { is_there = refl; names = house_named fails 58 14 _ _ refl refl refl refl refl; target = 14; is_target = (refl, refl); events = not_selecting _ _ _ _ _ refl })
-    (record { method = _; stands = refl; stub = _; is_described = refl; concrete = refl; descriptor = (plain_units).is }) 0 _ refl
+    (described_at _ _ _ _ refl refl refl plain_units.is) 0 _ refl
 
-pub a_described_method_throws : Takes (runs fails) (λ s t. GettingException (runs fails) (codes "invokestatic") (codes "lib/House") (codes "fail") s t × HasObject 3 Thrown (codes "java/lang/Exception") t)
+pub a_described_method_throws : Takes (runs fails)
+    (λ s t. GettingException (runs fails) (codes "invokestatic") (codes "lib/House") (codes "fail") s t × HasObject 3 Thrown (codes "java/lang/Exception") t)
 a_described_method_throws =
-    takes _ _ _ _ (begun fails refl) (gets_exception throws_failure.at throws_failure.step) (throws_failure, record { object = _; held = refl; made = refl; of_class = refl })
+    takes _ _ _ _ (begun fails refl) (gets_exception throws_failure.at throws_failure.step) (throws_failure, has_object _ _ _ refl)
 
 pub its_exception_is_caught : Takes (runs fails) (λ s t. Catching (runs fails) 3 (codes "java/lang/Exception") s t × Shows 4 (reference_to 3 ∷ []) t)
 its_exception_is_caught =

@@ -15,6 +15,7 @@ use Rattle.bytecode_machine.specs.Objects.{IsOf}
 use Rattle.bytecode_machine.specs.Start.{start_frame, boot_site}
 use Rattle.bytecode_machine.specs.States.{Value, reference_to, Object, Frame, World, State, waiting, new_object}
 use Rattle.machine_examples.specs.Calling.{door_class, gate_class, gate_close, gate_pool, main_class, main_pool, only_returns, same_number, closing_class, program_with, runs}
+use Rattle.machine_examples.proofs.Facts.{declared_field}
 use Rattle.machine_examples.proofs.Runs.{Arrives, built, body_fits, starts_at, enters_at, entered_in, first_world, on}
 use Rattle.machine_examples.proofs.Types.{no_types, one_type, base_type, class_type, units_by}
 use Rattle.machine_examples.proofs.Searches.{chain_up}
@@ -61,7 +62,7 @@ module _ (k : CodeBody) where
   same_of = built (program_with k) 5 _ (main_class k) 1 9 8 9 same_number refl refl refl refl
 
   abbrev pub names_gate : NamesField (program_with k) main_pool 32 true
-  names_gate = record { named = _; is_named = refl; number = 0; found = itself _ 0 (record { field = _; stands = refl; of_class = refl; is = refl }); field = _; stands = refl; kind = refl }
+  names_gate = declared_field _ _ _ _ 0 _ _ refl refl refl refl refl
 
   -- a static method of the house is named
   abbrev pub house_named : (operand number : ℕ) (called : MemberReference) (m : Method) → member_at main_pool operand ≡ Some called → called.class ≡ codes "lib/House"

@@ -20,7 +20,8 @@ use Rattle.bytecode_machine.specs.States.{Value, null_value, reference_to, Objec
 use Rattle.machine_examples.specs.Building.{handler}
 use Rattle.machine_examples.specs.Excepting.{main_pool, main_class, middle, inner, program_with, runs, catches_here, catches_above, catches_nothing, calls_null}
 use Rattle.machine_examples.specs.Taking.{Takes, Shows, RunsIn, HasObject, Raising, ThrowingObject, Catching, Unwinding}
-use Rattle.machine_examples.proofs.Runs.{Arrives, goes, takes, shows, built, body_fits, starts_at, enters_at, entered_in, first_world, frame_at, on, advance, raise, plainly}
+use Rattle.machine_examples.proofs.Facts.{call_row, declared_field, field_row, has_object, runs_in, shows}
+use Rattle.machine_examples.proofs.Runs.{Arrives, goes, takes, built, body_fits, starts_at, enters_at, entered_in, first_world, frame_at, on, advance, raise, plainly}
 use Rattle.machine_examples.proofs.Types.{class_type, no_fit}
 use Rattle.machine_examples.proofs.Searches.{chain_up}
 use Rattle.machine_examples.proofs.CallSteps.{enter, waiting_at, not_selecting}
@@ -42,7 +43,7 @@ module _ (k : CodeBody) where
   inner_of = built (program_with k) 2 _ (main_class k) 2 9 11 7 inner refl refl refl refl
 
   abbrev names_fire : NamesField (program_with k) main_pool 19 true
-  names_fire = record { named = _; is_named = refl; number = 0; found = itself _ 0 (record { field = _; stands = refl; of_class = refl; is = refl }); field = _; stands = refl; kind = refl }
+  names_fire = declared_field _ _ _ _ 0 _ _ refl refl refl refl refl
 
   -- the exception at the place 2
   abbrev fire : Object
@@ -77,15 +78,17 @@ main_throws k w offset slots = throws_on (frame_at 0 offset slots ∷ outside) w
 
 at_throw : Arrives (runs catches_here) (main_at catches_here refl 3 (reference_to 2 ∷ []) (world catches_here refl))
 at_throw =
-    let step = advance (runs catches_here) 0 (main_of catches_here refl) outside 0 ([]) (world catches_here refl) _ refl _ (record { field = _; named = refl; is = exception_type; row_is = refl }) refl (reference_to 2) _ _ (names_fire catches_here, (refl, refl)) refl in
+    let step = advance (runs catches_here) 0 (main_of catches_here refl) outside 0 [] (world catches_here refl) _ refl _
+    (field_row _ _ _ _ _ refl exception_type) refl (reference_to 2) _ _ (names_fire catches_here, (refl, refl)) refl in
     goes _ _ _ (begun catches_here refl) (advances step.at step.step)
 
 throws_here : ThrowingObject (runs catches_here) 2 (main_at catches_here refl 3 (reference_to 2 ∷ []) (world catches_here refl)) (main_throws catches_here (world catches_here refl) 3 (reference_to 2 ∷ []))
-throws_here = throw (runs catches_here) 0 (main_of catches_here refl) outside 3 (reference_to 2 ∷ []) (world catches_here refl) _ refl _ refl refl refl (is_throwable catches_here (world catches_here refl) refl)
+throws_here = throw (runs catches_here) 0 (main_of catches_here refl) outside 3 (reference_to 2 ∷ []) (world catches_here refl) _ refl _
+    refl refl refl (is_throwable catches_here (world catches_here refl) refl)
 
 pub an_exception_is_thrown : Takes (runs catches_here) (λ s t. ThrowingObject (runs catches_here) 2 s t × HasObject 2 Boot (codes "java/lang/Exception") t × (t.mode ≡ throwing 2))
 an_exception_is_thrown =
-    takes _ _ _ _ at_throw (throws throws_here.at throws_here.step) (throws_here, record { object = _; held = refl; made = refl; of_class = refl }, refl)
+    takes _ _ _ _ at_throw (throws throws_here.at throws_here.step) (throws_here, has_object _ _ _ refl, refl)
 
 -- the first handler does not take it, and the second one does
 second_handler : IsFirstHandler (program_with catches_here) main_pool 3 (codes "java/lang/Exception") catches_here.handlers (handler 0 4 4 21)
@@ -104,8 +107,10 @@ pub an_uncaught_exception_ends_the_program : Takes (runs catches_nothing) (λ s 
 an_uncaught_exception_ends_the_program =
     let x = runs catches_nothing in
     let w = world catches_nothing refl in
-    let first = advance (runs catches_nothing) 0 (main_of catches_nothing refl) outside 0 ([]) w _ refl _ (record { field = _; named = refl; is = exception_type; row_is = refl }) refl (reference_to 2) _ _ (names_fire catches_nothing, (refl, refl)) refl in
-    let second = throw (runs catches_nothing) 0 (main_of catches_nothing refl) outside 3 (reference_to 2 ∷ []) w _ refl _ refl refl refl (is_throwable catches_nothing w refl) in
+    let first = advance (runs catches_nothing) 0 (main_of catches_nothing refl) outside 0 [] w _ refl _
+    (field_row _ _ _ _ _ refl exception_type) refl (reference_to 2) _ _ (names_fire catches_nothing, (refl, refl)) refl in
+    let second = throw (runs catches_nothing) 0 (main_of catches_nothing refl) outside 3 (reference_to 2 ∷ []) w _ refl _
+    refl refl refl (is_throwable catches_nothing w refl) in
     let third = unwind x 0 (main_of catches_nothing refl) outside 3 (reference_to 2 ∷ []) w 2 (fire catches_nothing) refl (All-nil (λ (h : Handler). Handles (program_with catches_nothing) main_pool 3 (codes "java/lang/Exception") h → ⊥)) in
     let step : Unwinding x 2 (throws_on (waiting_no_more (waiting start_frame []) ∷ []) w 2) (ends_with w) =
     record { at = throwing_at _ _ w 2 (fire catches_nothing) refl; thrown = refl; step = record { uncaught = of_start refl; after = refl } } in
@@ -115,10 +120,12 @@ an_uncaught_exception_ends_the_program =
 
 -- ---- null
 
-pub a_call_on_null_raises : Takes (runs calls_null) (λ s t. Raising (runs calls_null) (codes "invokevirtual") (codes "java/lang/NullPointerException") s t × HasObject 3 Thrown (codes "java/lang/NullPointerException") t × (t.mode ≡ throwing 3))
+pub a_call_on_null_raises : Takes (runs calls_null)
+    (λ s t. Raising (runs calls_null) (codes "invokevirtual") (codes "java/lang/NullPointerException") s t × HasObject 3 Thrown (codes "java/lang/NullPointerException") t × (t.mode ≡ throwing 3))
 a_call_on_null_raises =
-    let step = raise (runs calls_null) 0 (main_of calls_null refl) outside 1 (null_value ∷ []) (world calls_null refl) _ refl _ (record { method = _; named = refl; parameters = _; results = _; units = int_units; row_is = refl }) refl null_pointer (0, omega arith, refl) refl in
-    takes _ _ _ _ (plainly (runs calls_null) 0 (main_of calls_null refl) outside 1 0 [] _ _ refl (begun calls_null refl)) (raises step.at step.step) (step, record { object = _; held = refl; made = refl; of_class = refl }, refl)
+    let step = raise (runs calls_null) 0 (main_of calls_null refl) outside 1 (null_value ∷ []) (world calls_null refl) _ refl _
+    (call_row _ _ _ _ _ _ refl int_units) refl null_pointer (0, omega arith, refl) refl in
+    takes _ _ _ _ (plainly (runs calls_null) 0 (main_of calls_null refl) outside 1 0 [] _ _ refl (begun calls_null refl)) (raises step.at step.step) (step, has_object _ _ _ refl, refl)
 
 -- ---- two frames above
 
@@ -155,12 +162,14 @@ above_world = world catches_above refl
 inner_throws : Arrives (runs catches_above) (throws_on (frame_at 2 3 (reference_to 2 ∷ []) ∷ middle_waits) above_world 2)
 inner_throws =
     let x = runs catches_above in
-    let first = enter x 0 (main_of catches_above refl) outside 0 [] above_world _ refl _ (record { method = _; named = refl; parameters = _; results = _; units = plain_units; row_is = refl }) _
+    let first = enter x 0 (main_of catches_above refl) outside 0 [] above_world _ refl _ (call_row _ _ _ _ _ _ refl plain_units) _
     (record { is_there = refl; names = main_named catches_above 10 1 _ _ refl refl refl refl refl; target = 1; is_target = (refl, refl); events = not_selecting _ _ _ _ _ refl }) (middle_of catches_above) in
-    let second = enter x 1 (middle_of catches_above) main_waits 0 [] above_world _ refl _ (record { method = _; named = refl; parameters = _; results = _; units = plain_units; row_is = refl }) _
+    let second = enter x 1 (middle_of catches_above) main_waits 0 [] above_world _ refl _ (call_row _ _ _ _ _ _ refl plain_units) _
     (record { is_there = refl; names = main_named catches_above 13 2 _ _ refl refl refl refl refl; target = 2; is_target = (refl, refl); events = not_selecting _ _ _ _ _ refl }) (inner_of catches_above) in
-    let third = advance (runs catches_above) 2 (inner_of catches_above) middle_waits 0 ([]) above_world _ refl _ (record { field = _; named = refl; is = exception_type; row_is = refl }) refl (reference_to 2) _ _ (names_fire catches_above, (refl, refl)) refl in
-    let fourth = throw (runs catches_above) 2 (inner_of catches_above) middle_waits 3 (reference_to 2 ∷ []) above_world _ refl _ refl refl refl (is_throwable catches_above above_world refl) in
+    let third = advance (runs catches_above) 2 (inner_of catches_above) middle_waits 0 [] above_world _ refl _
+    (field_row _ _ _ _ _ refl exception_type) refl (reference_to 2) _ _ (names_fire catches_above, (refl, refl)) refl in
+    let fourth = throw (runs catches_above) 2 (inner_of catches_above) middle_waits 3 (reference_to 2 ∷ []) above_world _ refl _
+    refl refl refl (is_throwable catches_above above_world refl) in
     goes _ _ _ (goes _ _ _ (goes _ _ _ (goes _ _ _ (begun catches_above refl) (enters first.at first.step)) (enters second.at second.step)) (advances third.at third.step)) (throws fourth.at fourth.step)
 
 middle_throws : Arrives (runs catches_above) (throws_on (frame_at 1 0 [] ∷ main_waits) above_world 2)
@@ -175,12 +184,14 @@ leaves_middle =
     unwind (runs catches_above) 1 (middle_of catches_above) main_waits 0 [] above_world 2 (fire catches_above) refl
     (All-cons Misses (handler 0 3 4 23) [] (not_taken (program_with catches_above) main_pool 0 (handler 0 3 4 23) (codes "java/lang/Error") (codes "java/lang/Exception") refl (fits_no_error catches_above)) (All-nil Misses))
 
-pub a_frame_is_left : Takes (runs catches_above) (λ s t. Unwinding (runs catches_above) 2 s t × RunsIn (runs catches_above) (codes "Main") (codes "middle") s × RunsIn (runs catches_above) (codes "Main") (codes "main") t × (t.mode ≡ throwing 2))
+pub a_frame_is_left : Takes (runs catches_above)
+    (λ s t. Unwinding (runs catches_above) 2 s t × RunsIn (runs catches_above) (codes "Main") (codes "middle") s × RunsIn (runs catches_above) (codes "Main") (codes "main") t × (t.mode ≡ throwing 2))
 a_frame_is_left =
-    takes _ _ _ _ middle_throws (unwinds leaves_middle.at leaves_middle.step) (leaves_middle, record { frame = _; below = _; frames = refl; number = _; of_frame = refl; method = _; stands = refl; of_class = refl; of_name = refl }, record { frame = _; below = _; frames = refl; number = _; of_frame = refl; method = _; stands = refl; of_class = refl; of_name = refl }, refl)
+    takes _ _ _ _ middle_throws (unwinds leaves_middle.at leaves_middle.step) (leaves_middle, runs_in _ _ _ _ _ _ refl refl refl, runs_in _ _ _ _ _ _ refl refl refl, refl)
 
-pub an_exception_is_caught_two_frames_above : Takes (runs catches_above) (λ s t. Catching (runs catches_above) 2 (codes "java/lang/Exception") s t × RunsIn (runs catches_above) (codes "Main") (codes "main") t × Shows 4 (reference_to 2 ∷ []) t)
+pub an_exception_is_caught_two_frames_above : Takes (runs catches_above)
+    (λ s t. Catching (runs catches_above) 2 (codes "java/lang/Exception") s t × RunsIn (runs catches_above) (codes "Main") (codes "main") t × Shows 4 (reference_to 2 ∷ []) t)
 an_exception_is_caught_two_frames_above =
     let step = catch (runs catches_above) 0 (main_of catches_above refl) outside 0 [] [] above_world 2 (fire catches_above) refl (handler 0 3 4 21)
     (inl (record { covers = refl; takes = inr (codes "java/lang/Exception", refl, fits_exception catches_above) }, refl)) refl in
-    takes _ _ _ _ (goes _ _ _ middle_throws (unwinds leaves_middle.at leaves_middle.step)) (catches step.at step.step) (step, record { frame = _; below = _; frames = refl; number = _; of_frame = refl; method = _; stands = refl; of_class = refl; of_name = refl }, shows _ _ _)
+    takes _ _ _ _ (goes _ _ _ middle_throws (unwinds leaves_middle.at leaves_middle.step)) (catches step.at step.step) (step, runs_in _ _ _ _ _ _ refl refl refl, shows _ _ _)

@@ -16,7 +16,8 @@ use Rattle.machine_examples.specs.Building.{handler}
 use Rattle.machine_examples.specs.Calling.{only_returns}
 use Rattle.machine_examples.specs.Initialising.{initialiser_name, broken_pool, broken_class, breaks, ready_class, main_class, program_with, runs, makes_ready, makes_late, calls_ready, reads_ready, makes_broken}
 use Rattle.machine_examples.specs.Taking.{Takes, Shows, RunsIn, HasObject, Advancing, Unwinding, Starting, Resuming, Wrapping, Denying}
-use Rattle.machine_examples.proofs.Runs.{Arrives, goes, takes, shows, built, body_fits, starts_at, started_in, enters_at, entered_in, first_world, frame_at, on, advance, plainly}
+use Rattle.machine_examples.proofs.Facts.{call_row, declared_field, field_row, has_object, runs_in, shows}
+use Rattle.machine_examples.proofs.Runs.{Arrives, goes, takes, built, body_fits, starts_at, started_in, enters_at, entered_in, first_world, frame_at, on, advance, plainly}
 use Rattle.machine_examples.proofs.Types.{base_type, class_type}
 use Rattle.machine_examples.proofs.Searches.{chain_up}
 use Rattle.machine_examples.proofs.CallStart.{plain_units}
@@ -80,21 +81,23 @@ starts_ready =
 resumes_new : Resuming (runs makes_ready) (codes "return") (on (runs makes_ready) 3 (ready_of makes_ready) main_below 0 (primitive_value ∷ []) ready_world) (main_at makes_ready refl 0 [] ready_world)
 resumes_new = resume (runs makes_ready) 3 (ready_of makes_ready) (frame_at 1 0 []) outside refl 0 (primitive_value ∷ []) ready_world _ refl _ refl refl refl _ plain_units
 
-pub an_initialiser_starts : Takes (runs makes_ready) (λ s t. Starting (runs makes_ready) (codes "Ready") s t × RunsIn (runs makes_ready) (codes "Ready") initialiser_name t × (t.world.started ≡ 3 ∷ []))
+pub an_initialiser_starts : Takes (runs makes_ready)
+    (λ s t. Starting (runs makes_ready) (codes "Ready") s t × RunsIn (runs makes_ready) (codes "Ready") initialiser_name t × (t.world.started ≡ 3 ∷ []))
 an_initialiser_starts =
-    takes _ _ _ _ (begun makes_ready refl) (starts starts_ready.step) (starts_ready, record { frame = _; below = _; frames = refl; number = _; of_frame = refl; method = _; stands = refl; of_class = refl; of_name = refl }, refl)
+    takes _ _ _ _ (begun makes_ready refl) (starts starts_ready.step) (starts_ready, runs_in _ _ _ _ _ _ refl refl refl, refl)
 
 at_resumed : Arrives (runs makes_ready) (on (runs makes_ready) 3 (ready_of makes_ready) main_below 0 (primitive_value ∷ []) ready_world)
 at_resumed = goes _ _ _ (begun makes_ready refl) (starts starts_ready.step)
 
 pub an_initialiser_returns : Takes (runs makes_ready) (λ s t. Resuming (runs makes_ready) (codes "return") s t × RunsIn (runs makes_ready) (codes "Main") (codes "main") t × Shows 0 [] t)
 an_initialiser_returns =
-    takes _ _ _ _ at_resumed (resumes resumes_new.at resumes_new.step) (resumes_new, record { frame = _; below = _; frames = refl; number = _; of_frame = refl; method = _; stands = refl; of_class = refl; of_name = refl }, shows _ _ _)
+    takes _ _ _ _ at_resumed (resumes resumes_new.at resumes_new.step) (resumes_new, runs_in _ _ _ _ _ _ refl refl refl, shows _ _ _)
 
 pub the_object_is_made_then : Takes (runs makes_ready) (λ s t. Advancing (runs makes_ready) (codes "new") s t × HasObject 3 New (codes "Ready") t × (t.world.started ≡ 3 ∷ []))
 the_object_is_made_then =
-    let step = advance (runs makes_ready) 1 (main_of makes_ready refl) outside 0 [] ready_world _ refl _ refl refl (reference_to 3) _ _ (record { class = _; named = refl }, record { made_is = refl; after_is = refl }) refl in
-    takes _ _ _ _ (goes _ _ _ at_resumed (resumes resumes_new.at resumes_new.step)) (advances step.at step.step) (step, record { object = _; held = refl; made = refl; of_class = refl }, refl)
+    let step = advance (runs makes_ready) 1 (main_of makes_ready refl) outside 0 [] ready_world _ refl _
+    refl refl (reference_to 3) _ _ (record { class = _; named = refl }, record { made_is = refl; after_is = refl }) refl in
+    takes _ _ _ _ (goes _ _ _ at_resumed (resumes resumes_new.at resumes_new.step)) (advances step.at step.step) (step, has_object _ _ _ refl, refl)
 
 -- ---- other triggers
 
@@ -102,11 +105,12 @@ pub an_initialiser_of_a_superclass_starts : Takes (runs makes_late) (λ s t. Sta
 an_initialiser_of_a_superclass_starts =
     let step = start (runs makes_late) 1 (main_of makes_late refl) outside 0 [] (world makes_late refl) _ refl _ refl refl (codes "Late")
     (of_class (record { class = _; named = refl }) refl) 3 (initialises_late makes_late) (nothing_there 3) in
-    takes _ _ _ _ (begun makes_late refl) (starts step.step) (step, record { frame = _; below = _; frames = refl; number = _; of_frame = refl; method = _; stands = refl; of_class = refl; of_name = refl })
+    takes _ _ _ _ (begun makes_late refl) (starts step.step) (step, runs_in _ _ _ _ _ _ refl refl refl)
 
 pub an_initialiser_starts_at_a_call : Takes (runs calls_ready) (λ s t. Starting (runs calls_ready) (codes "Ready") s t × RunsIn (runs calls_ready) (codes "Ready") initialiser_name t)
 an_initialiser_starts_at_a_call =
-    let step = start (runs calls_ready) 1 (main_of calls_ready refl) outside 0 [] (world calls_ready refl) _ refl _ (record { method = _; named = refl; parameters = _; results = _; units = plain_units; row_is = refl }) refl (codes "Ready")
+    let step = start (runs calls_ready) 1 (main_of calls_ready refl) outside 0 [] (world calls_ready refl) _ refl _
+    (call_row _ _ _ _ _ _ refl plain_units) refl (codes "Ready")
     (of_method (record {
       called = _;
       named = refl;
@@ -123,13 +127,14 @@ an_initialiser_starts_at_a_call =
       method = _;
       stands = refl;
     }) refl) 3 (initialises_ready calls_ready) (nothing_there 3) in
-    takes _ _ _ _ (begun calls_ready refl) (starts step.step) (step, record { frame = _; below = _; frames = refl; number = _; of_frame = refl; method = _; stands = refl; of_class = refl; of_name = refl })
+    takes _ _ _ _ (begun calls_ready refl) (starts step.step) (step, runs_in _ _ _ _ _ _ refl refl refl)
 
 pub an_initialiser_starts_at_a_field : Takes (runs reads_ready) (λ s t. Starting (runs reads_ready) (codes "Ready") s t × RunsIn (runs reads_ready) (codes "Ready") initialiser_name t)
 an_initialiser_starts_at_a_field =
-    let step = start (runs reads_ready) 1 (main_of reads_ready refl) outside 0 [] (world reads_ready refl) _ refl _ (record { field = _; named = refl; is = base_type 73 refl; row_is = refl }) refl (codes "Ready")
-    (of_field (record { named = _; is_named = refl; number = 0; found = itself _ 0 (record { field = _; stands = refl; of_class = refl; is = refl }); field = _; stands = refl; kind = refl }) refl) 3 (initialises_ready reads_ready) (nothing_there 3) in
-    takes _ _ _ _ (begun reads_ready refl) (starts step.step) (step, record { frame = _; below = _; frames = refl; number = _; of_frame = refl; method = _; stands = refl; of_class = refl; of_name = refl })
+    let step = start (runs reads_ready) 1 (main_of reads_ready refl) outside 0 [] (world reads_ready refl) _ refl _
+    (field_row _ _ _ _ _ refl (base_type 73 refl)) refl (codes "Ready")
+    (of_field (declared_field _ _ _ _ 0 _ _ refl refl refl refl refl) refl) 3 (initialises_ready reads_ready) (nothing_there 3) in
+    takes _ _ _ _ (begun reads_ready refl) (starts step.step) (step, runs_in _ _ _ _ _ _ refl refl refl)
 
 -- ---- at the entry
 
@@ -154,9 +159,10 @@ starts_main = record {
 at_start : Arrives (runs makes_ready) (started_in (world makes_ready refl))
 at_start = starts_at (runs makes_ready) (main_of makes_ready refl) [] refl
 
-pub an_initialiser_starts_at_the_entry : Takes (runs makes_ready) (λ s t. Starting (runs makes_ready) (codes "Main") s t × (s.frames ≡ start_frame ∷ []) × RunsIn (runs makes_ready) (codes "Main") initialiser_name t)
+pub an_initialiser_starts_at_the_entry : Takes (runs makes_ready)
+    (λ s t. Starting (runs makes_ready) (codes "Main") s t × (s.frames ≡ start_frame ∷ []) × RunsIn (runs makes_ready) (codes "Main") initialiser_name t)
 an_initialiser_starts_at_the_entry =
-    takes _ _ _ _ at_start (starts starts_main.step) (starts_main, refl, record { frame = _; below = _; frames = refl; number = _; of_frame = refl; method = _; stands = refl; of_class = refl; of_name = refl })
+    takes _ _ _ _ at_start (starts starts_main.step) (starts_main, refl, runs_in _ _ _ _ _ _ refl refl refl)
 
 pub an_initialiser_returns_to_the_start : Takes (runs makes_ready) (λ s t. Resuming (runs makes_ready) (codes "return") s t × (t.frames ≡ start_frame ∷ []) × (t.world.started ≡ 2 ∷ []))
 an_initialiser_returns_to_the_start =
@@ -177,9 +183,10 @@ is_throwable = record { to = record { place = 2; is = refl; object = fire; held 
 at_failure : Arrives (runs makes_broken) (throws_on (frame_at 0 3 (reference_to 2 ∷ []) ∷ main_below) broken_world 2)
 at_failure =
     let x = runs makes_broken in
-    let first = start x 1 (main_of makes_broken refl) outside 0 [] (world makes_broken refl) _ refl _ refl refl (codes "Broken") (of_class (record { class = _; named = refl }) refl) 0 (initialises_broken makes_broken) (nothing_there 0) in
-    let second = advance x 0 (broken_of makes_broken) main_below 0 [] broken_world _ refl _ (record { field = _; named = refl; is = exception_type; row_is = refl }) refl (reference_to 2) _ _
-    (record { named = _; is_named = refl; number = 1; found = itself _ 1 (record { field = _; stands = refl; of_class = refl; is = refl }); field = _; stands = refl; kind = refl }, (refl, refl)) refl in
+    let first = start x 1 (main_of makes_broken refl) outside 0 [] (world makes_broken refl) _ refl _
+    refl refl (codes "Broken") (of_class (record { class = _; named = refl }) refl) 0 (initialises_broken makes_broken) (nothing_there 0) in
+    let second = advance x 0 (broken_of makes_broken) main_below 0 [] broken_world _ refl _ (field_row _ _ _ _ _ refl exception_type) refl (reference_to 2) _ _
+    (declared_field _ _ _ _ 1 _ _ refl refl refl refl refl, (refl, refl)) refl in
     let third = throw x 0 (broken_of makes_broken) main_below 3 (reference_to 2 ∷ []) broken_world _ refl _ refl refl refl is_throwable in
     goes _ _ _ (goes _ _ _ (goes _ _ _ (begun makes_broken refl) (starts first.step)) (advances second.at second.step)) (throws third.at third.step)
 
@@ -193,20 +200,24 @@ wrapped_world = with_object (with_kept broken_world (2 ∷ [])) (new_object (pro
 wraps_failure : Wrapping (runs makes_broken) 2 (throws_on (frame_at 0 3 (reference_to 2 ∷ []) ∷ main_below) broken_world 2) (throws_on main_below wrapped_world 3)
 wraps_failure = wrap (runs makes_broken) 0 (broken_of makes_broken) (frame_at 1 0 []) outside refl 3 (reference_to 2 ∷ []) broken_world 2 fire refl none_takes
 
-pub an_exception_is_wrapped : Takes (runs makes_broken) (λ s t. Wrapping (runs makes_broken) 2 s t × RunsIn (runs makes_broken) (codes "Main") (codes "main") t × HasObject 3 Thrown (codes "java/lang/ExceptionInInitializerError") t × (t.world.kept ≡ 2 ∷ []) × (t.mode ≡ throwing 3))
+pub an_exception_is_wrapped : Takes (runs makes_broken)
+    (λ s t. Wrapping (runs makes_broken) 2 s t × RunsIn (runs makes_broken) (codes "Main") (codes "main") t × HasObject 3 Thrown (codes "java/lang/ExceptionInInitializerError") t × (t.world.kept ≡ 2 ∷ []) × (t.mode ≡ throwing 3))
 an_exception_is_wrapped =
-    takes _ _ _ _ at_failure (wraps wraps_failure.at wraps_failure.step) (wraps_failure, record { frame = _; below = _; frames = refl; number = _; of_frame = refl; method = _; stands = refl; of_class = refl; of_name = refl }, record { object = _; held = refl; made = refl; of_class = refl }, refl, refl)
+    takes _ _ _ _ at_failure (wraps wraps_failure.at wraps_failure.step) (wraps_failure, runs_in _ _ _ _ _ _ refl refl refl, has_object _ _ _ refl, refl, refl)
 
-pub an_exception_leaves_an_initialiser : Takes (runs makes_broken) (λ s t. Unwinding (runs makes_broken) 2 s t × RunsIn (runs makes_broken) (codes "Broken") initialiser_name s × RunsIn (runs makes_broken) (codes "Main") (codes "main") t × (t.mode ≡ throwing 2))
+pub an_exception_leaves_an_initialiser : Takes (runs makes_broken)
+    (λ s t. Unwinding (runs makes_broken) 2 s t × RunsIn (runs makes_broken) (codes "Broken") initialiser_name s × RunsIn (runs makes_broken) (codes "Main") (codes "main") t × (t.mode ≡ throwing 2))
 an_exception_leaves_an_initialiser =
     let step = unwind (runs makes_broken) 0 (broken_of makes_broken) main_below 3 (reference_to 2 ∷ []) broken_world 2 fire refl none_takes in
-    takes _ _ _ _ at_failure (unwinds step.at step.step) (step, record { frame = _; below = _; frames = refl; number = _; of_frame = refl; method = _; stands = refl; of_class = refl; of_name = refl }, record { frame = _; below = _; frames = refl; number = _; of_frame = refl; method = _; stands = refl; of_class = refl; of_name = refl }, refl)
+    takes _ _ _ _ at_failure (unwinds step.at step.step) (step, runs_in _ _ _ _ _ _ refl refl refl, runs_in _ _ _ _ _ _ refl refl refl, refl)
 
-pub a_failed_class_is_denied : Takes (runs makes_broken) (λ s t. Denying (runs makes_broken) (codes "Broken") s t × Shows 6 [] t × HasObject 4 Thrown (codes "java/lang/NoClassDefFoundError") t × (t.mode ≡ throwing 4))
+pub a_failed_class_is_denied : Takes (runs makes_broken)
+    (λ s t. Denying (runs makes_broken) (codes "Broken") s t × Shows 6 [] t × HasObject 4 Thrown (codes "java/lang/NoClassDefFoundError") t × (t.mode ≡ throwing 4))
 a_failed_class_is_denied =
     let x = runs makes_broken in
     let c = main_of makes_broken refl in
     let caught = catch x 1 c outside 0 [] [] wrapped_world 3 _ refl (handler 0 3 5 0) (inl (record { covers = refl; takes = inl refl }, refl)) refl in
     let popped = plainly x 1 c outside 1 5 (reference_to 3 ∷ []) wrapped_world _ refl (goes _ _ _ (goes _ _ _ at_failure (wraps wraps_failure.at wraps_failure.step)) (catches caught.at caught.step)) in
-    let step = deny x 1 c outside 6 [] wrapped_world _ refl _ refl refl (codes "Broken") (of_class (record { class = _; named = refl }) refl) 0 (initialises_broken makes_broken) (0, omega arith, refl) in
-    takes _ _ _ _ popped (denies step.step) (step, record { frame = _; below = _; frames = refl; there = refl; slots_are = refl }, record { object = _; held = refl; made = refl; of_class = refl }, refl)
+    let step = deny x 1 c outside 6 [] wrapped_world _ refl _
+    refl refl (codes "Broken") (of_class (record { class = _; named = refl }) refl) 0 (initialises_broken makes_broken) (0, omega arith, refl) in
+    takes _ _ _ _ popped (denies step.step) (step, record { frame = _; below = _; frames = refl; there = refl; slots_are = refl }, has_object _ _ _ refl, refl)

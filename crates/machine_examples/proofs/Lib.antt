@@ -1,4 +1,5 @@
 mod Runs
+mod Facts
 mod Types
 mod Searches
 mod CallSteps
@@ -6,6 +7,7 @@ mod Throws
 mod WithinStart
 mod WithinRuns
 mod WithinArrays
+mod WithinTests
 mod CallStart
 mod CallRuns
 mod CallResults

@@ -25,7 +25,7 @@ use Rattle.bytecode_machine.specs.States.{Value, primitive_value, null_value, re
 use Rattle.jvm_model.specs.declared.site.SiteKind.TheVariants.{Thrown}
 use Rattle.bytecode_machine.proofs.GoingOn.{goes_on}
 use Rattle.machine_examples.specs.Building.{method}
-use Rattle.machine_examples.specs.Taking.{Takes, Shows, Advancing, Raising}
+use Rattle.machine_examples.specs.Taking.{Takes, Advancing, Raising}
 
 -- ---- executions up to a state
 
@@ -41,10 +41,6 @@ goes x s t a step = record {
 
 pub takes : (x : Subject) (Kind : State → State → Type 0) (s t : State) → Arrives x s → Step x s t → Kind s t → Takes x Kind
 takes x Kind s t a step is = record { states = a.states; before = s; after = t; run = goes_on x a.states s t a.run step; is = is }
-
--- what a state shows of its newest frame
-pub shows : (f : Frame) (below : List Frame) (w : World) → Shows f.offset f.slots (runs_on (f ∷ below) w)
-shows f below w = record { frame = f; below = below; frames = refl; there = refl; slots_are = refl }
 
 -- ---- first states
 

@@ -4,12 +4,12 @@ use Rattle.std.proofs.lemmas.List.Elements.{All-nil, All-cons}
 use Rattle.jvm_model.specs.Subtypes.{array_of}
 use Rattle.jvm_model.specs.Code.{CodeBody}
 use Rattle.jvm_model.specs.Descriptors.{IsFieldDescriptor}
-use Rattle.jvm_model.specs.Resolution.{itself}
 use Rattle.bytecode_machine.specs.Machine.{MethodCode, NamesField}
 use Rattle.bytecode_machine.specs.Objects.{string_name}
 use Rattle.bytecode_machine.specs.States.{Value, reference_to, Object, Frame, World, State, waiting, new_array}
 use Rattle.bytecode_machine.specs.Start.{start_frame, boot_site, MayBeArgument}
 use Rattle.machine_examples.specs.Within.{main_class, main_pool, program_with, runs, runs_with_arguments, argument}
+use Rattle.machine_examples.proofs.Facts.{declared_field}
 use Rattle.machine_examples.proofs.Runs.{Arrives, built, body_fits, starts_at, enters_at, entered_in, first_world, on}
 use Rattle.machine_examples.proofs.Types.{base_type, class_type}
 
@@ -35,16 +35,16 @@ module _ (k : CodeBody) (fits : body_fits k ≡ true) where
 
 module _ (k : CodeBody) where
   abbrev pub names_it : NamesField (program_with 7 k) main_pool 14 true
-  names_it = record { named = _; is_named = refl; number = 1; found = itself _ 1 (record { field = _; stands = refl; of_class = refl; is = refl }); field = _; stands = refl; kind = refl }
+  names_it = declared_field _ _ _ _ 1 _ _ refl refl refl refl refl
 
   abbrev pub names_last : NamesField (program_with 7 k) main_pool 24 true
-  names_last = record { named = _; is_named = refl; number = 0; found = itself _ 0 (record { field = _; stands = refl; of_class = refl; is = refl }); field = _; stands = refl; kind = refl }
+  names_last = declared_field _ _ _ _ 0 _ _ refl refl refl refl refl
 
   abbrev pub names_next : NamesField (program_with 7 k) main_pool 17 false
-  names_next = record { named = _; is_named = refl; number = 2; found = itself _ 2 (record { field = _; stands = refl; of_class = refl; is = refl }); field = _; stands = refl; kind = refl }
+  names_next = declared_field _ _ _ _ 2 _ _ refl refl refl refl refl
 
   abbrev pub names_count : NamesField (program_with 7 k) main_pool 21 false
-  names_count = record { named = _; is_named = refl; number = 3; found = itself _ 3 (record { field = _; stands = refl; of_class = refl; is = refl }); field = _; stands = refl; kind = refl }
+  names_count = declared_field _ _ _ _ 3 _ _ refl refl refl refl refl
 
 pub box_type : IsFieldDescriptor (codes "Llib/Box;")
 box_type = class_type (codes "lib") (codes "Box" ∷ []) refl

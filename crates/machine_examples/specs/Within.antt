@@ -229,3 +229,90 @@ argument = code 2 1 (
     ∷ 87  -- 3: pop
     ∷ 177  -- 4: return
     ∷ []) []
+
+-- ---- tests of references, other constants, and what may raise
+
+abbrev pub null_branch : CodeBody
+null_branch = code 1 0 (
+    1  -- 0: aconst_null
+    ∷ 198 ∷ 0 ∷ 4  -- 1: ifnull 5
+    ∷ 177  -- 4: return
+    ∷ 177  -- 5: return
+    ∷ []) []
+
+abbrev pub box_branch : CodeBody
+box_branch = code 1 0 (
+    178 ∷ 0 ∷ 14  -- 0: getstatic Box.it
+    ∷ 198 ∷ 0 ∷ 4  -- 3: ifnull 7
+    ∷ 177  -- 6: return
+    ∷ 177  -- 7: return
+    ∷ []) []
+
+abbrev pub same_branch : CodeBody
+same_branch = code 2 0 (
+    178 ∷ 0 ∷ 14  -- 0: getstatic Box.it
+    ∷ 178 ∷ 0 ∷ 14  -- 3: getstatic Box.it
+    ∷ 165 ∷ 0 ∷ 4  -- 6: if_acmpeq 10
+    ∷ 177  -- 9: return
+    ∷ 177  -- 10: return
+    ∷ []) []
+
+abbrev pub other_branch : CodeBody
+other_branch = code 2 0 (
+    178 ∷ 0 ∷ 14  -- 0: getstatic Box.it
+    ∷ 1  -- 3: aconst_null
+    ∷ 165 ∷ 0 ∷ 4  -- 4: if_acmpeq 8
+    ∷ 177  -- 7: return
+    ∷ 177  -- 8: return
+    ∷ []) []
+
+abbrev pub lookup : CodeBody
+lookup = code 1 0 (
+    3  -- 0: iconst_0
+    ∷ 171 ∷ 0 ∷ 0  -- 1: lookupswitch, and its padding
+    ∷ 0 ∷ 0 ∷ 0 ∷ 19  -- its default: 20
+    ∷ 0 ∷ 0 ∷ 0 ∷ 1  -- one pair
+    ∷ 0 ∷ 0 ∷ 0 ∷ 5 ∷ 0 ∷ 0 ∷ 0 ∷ 20  -- for 5: 21
+    ∷ 177  -- 20: return
+    ∷ 177  -- 21: return
+    ∷ []) []
+
+abbrev pub class_constant : CodeBody
+class_constant = code 1 0 (
+    18 ∷ 10  -- 0: ldc Box
+    ∷ 87  -- 2: pop
+    ∷ 177  -- 3: return
+    ∷ []) []
+
+abbrev pub monitor : CodeBody
+monitor = code 1 0 (
+    178 ∷ 0 ∷ 14  -- 0: getstatic Box.it
+    ∷ 194  -- 3: monitorenter
+    ∷ 178 ∷ 0 ∷ 14  -- 4: getstatic Box.it
+    ∷ 195  -- 7: monitorexit
+    ∷ 177  -- 8: return
+    ∷ []) []
+
+abbrev pub first_number : CodeBody
+first_number = code 2 0 (
+    4  -- 0: iconst_1
+    ∷ 188 ∷ 10  -- 1: newarray int
+    ∷ 3  -- 3: iconst_0
+    ∷ 46  -- 4: iaload
+    ∷ 87  -- 5: pop
+    ∷ 177  -- 6: return
+    ∷ []) []
+
+abbrev pub null_field : CodeBody
+null_field = code 1 0 (
+    1  -- 0: aconst_null
+    ∷ 180 ∷ 0 ∷ 17  -- 1: getfield Box.next
+    ∷ 87  -- 4: pop
+    ∷ 177  -- 5: return
+    ∷ []) []
+
+abbrev pub null_throw : CodeBody
+null_throw = code 1 0 (
+    1  -- 0: aconst_null
+    ∷ 191  -- 1: athrow
+    ∷ []) []

@@ -5,7 +5,7 @@ ghost use Rattle.jvm_model.specs.declared.site.SiteKind.TheVariants.{Boot, New, 
 ghost use Rattle.bytecode_machine.specs.Objects.{ReadsField};
 ghost use Rattle.bytecode_machine.specs.States.{primitive_value, null_value, reference_to};
 ghost use Rattle.machine_examples.specs.Taking.{Takes, Shows, HasObject, HasArray, Advancing, Raising};
-ghost use Rattle.machine_examples.specs.Within.{runs, runs_with_arguments, branch, switch, wide_iinc, links, counts, statics, constant, makes, numbers, tables, boxes, misfit, division, null_cast, box_cast, string_cast, argument};
+ghost use Rattle.machine_examples.specs.Within.{runs, runs_with_arguments, branch, switch, wide_iinc, links, counts, statics, constant, makes, numbers, tables, boxes, misfit, division, null_cast, box_cast, string_cast, argument, null_branch, box_branch, same_branch, other_branch, lookup, class_constant, monitor, first_number, null_field, null_throw};
 
 /// A constant is pushed: a plain step.
 pub fn a_constant_is_pushed()
@@ -141,4 +141,64 @@ pub fn a_cast_raises()
 /// The entry gets an array of strings, and an element of it is read.
 pub fn an_argument_is_read()
     ensures { Takes (runs_with_arguments argument) (λ s t. Advancing (runs_with_arguments argument) (codes "aaload") s t × Shows 3 (reference_to 3 ∷ reference_to 0 ∷ []) t) }
+{}
+
+/// A test for null jumps at null.
+pub fn a_test_for_null_jumps()
+    ensures { Takes (runs null_branch) (λ s t. Advancing (runs null_branch) (codes "ifnull") s t × Shows 5 [] t) }
+{}
+
+/// At an object it goes on.
+pub fn a_test_for_null_goes_on()
+    ensures { Takes (runs box_branch) (λ s t. Advancing (runs box_branch) (codes "ifnull") s t × Shows 6 [] t) }
+{}
+
+/// A test whether two references are the same jumps at one object.
+pub fn a_test_of_one_object_jumps()
+    ensures { Takes (runs same_branch) (λ s t. Advancing (runs same_branch) (codes "if_acmpeq") s t × Shows 10 [] t) }
+{}
+
+/// At an object and null it goes on.
+pub fn a_test_of_two_references_goes_on()
+    ensures { Takes (runs other_branch) (λ s t. Advancing (runs other_branch) (codes "if_acmpeq") s t × Shows 7 [] t) }
+{}
+
+/// A `lookupswitch` may go to the target of a key.
+pub fn a_lookup_goes_to_a_target()
+    ensures { Takes (runs lookup) (λ s t. Advancing (runs lookup) (codes "lookupswitch") s t × Shows 21 [] t) }
+{}
+
+/// A class is loaded: the object that stands for all classes.
+pub fn a_class_is_loaded()
+    ensures { Takes (runs class_constant) (λ s t. Advancing (runs class_constant) (codes "ldc") s t × Shows 2 (reference_to 1 ∷ []) t × HasObject 1 Boot (codes "java/lang/Class") t) }
+{}
+
+/// The monitor of an object is entered.
+pub fn a_monitor_is_entered()
+    ensures { Takes (runs monitor) (λ s t. Advancing (runs monitor) (codes "monitorenter") s t × Shows 4 [] t × (t.world ≡ s.world)) }
+{}
+
+/// An element of an array of numbers is some primitive.
+pub fn a_number_is_read()
+    ensures { Takes (runs first_number) (λ s t. Advancing (runs first_number) (codes "iaload") s t × Shows 5 (primitive_value ∷ []) t) }
+{}
+
+/// The index may be none of the array.
+pub fn an_index_raises()
+    ensures { Takes (runs first_number) (λ s t. Raising (runs first_number) (codes "iaload") (codes "java/lang/ArrayIndexOutOfBoundsException") s t × HasObject 4 Thrown (codes "java/lang/ArrayIndexOutOfBoundsException") t) }
+{}
+
+/// The size of a new array may be negative.
+pub fn a_size_raises()
+    ensures { Takes (runs numbers) (λ s t. Raising (runs numbers) (codes "newarray") (codes "java/lang/NegativeArraySizeException") s t × HasObject 3 Thrown (codes "java/lang/NegativeArraySizeException") t) }
+{}
+
+/// A field of null is read.
+pub fn a_field_of_null_raises()
+    ensures { Takes (runs null_field) (λ s t. Raising (runs null_field) (codes "getfield") (codes "java/lang/NullPointerException") s t × HasObject 3 Thrown (codes "java/lang/NullPointerException") t) }
+{}
+
+/// Null is thrown.
+pub fn a_throw_of_null_raises()
+    ensures { Takes (runs null_throw) (λ s t. Raising (runs null_throw) (codes "athrow") (codes "java/lang/NullPointerException") s t × HasObject 3 Thrown (codes "java/lang/NullPointerException") t) }
 {}
