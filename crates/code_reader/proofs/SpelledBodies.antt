@@ -1,9 +1,10 @@
 -- The body of a Code attribute: what is read of it is spelled so, and what is spelled so is read.
-use Rattle.std.proofs.Common.{◌≡◌, ℕ, zero, suc, ◌+◌, ◌^◌, ◌<◌, ◌≤◌, Bool, false, ◌||◌, ◌==◌, cond, ltb, List, [], ◌++◌, length, Result, Ok, refl, sym, ap, ◌∙◌, subst, append_assoc, arith}
+use Rattle.std.proofs.Common.{◌≡◌, ◌⊎◌, inl, inr, ℕ, zero, suc, ◌+◌, ◌^◌, ◌<◌, ◌≤◌, Bool, false, ◌||◌, ◌==◌, cond, ltb, List, [], ◌∷◌, ◌++◌, length, Result, Ok, Err, refl, sym, ap, ◌∙◌, subst, append_assoc, arith}
 use Rattle.std.specs.Int.{w16, w32}
+use Rattle.std.specs.List.{AllByRecursion}
 use Rattle.std.proofs.lemmas.Bool.{eqb-true}
 use Rattle.std.proofs.lemmas.List.{append-nil, nil_from_length}
-use Rattle.std.proofs.lemmas.List.Elements.{recursion_from_All}
+use Rattle.std.proofs.lemmas.List.Elements.{recursion_from_All, All-from_recursion}
 use Rattle.jvm_model.specs.declared.class_file.Attribute.{Attribute}
 use Rattle.jvm_model.specs.declared.code.Handler.{Handler}
 use Rattle.jvm_model.specs.declared.pool.PoolEntry.{PoolEntry}
@@ -13,16 +14,25 @@ use Rattle.jvm_model.specs.Spelling.{u2, u4, table, attribute, AttributeFits}
 use Rattle.jvm_model.specs.declared.reason.Fault.{Fault}
 use Rattle.byte_reader.specs.Reading.{Place, ◌>>=◌, fault_at, number_at, bytes_at, table_at}
 use Rattle.byte_reader.specs.Structures.{attribute_at}
-use Rattle.byte_reader.proofs.Fields.{IsBytes, bind_ok, ok_is, one_ok, if_ok, unless_ok, goes_on_with, Takes, Takes-then, IsSpelledBy, IsReadBack, ListFits, wide16, wide32, number_takes, number_again, number_moves, bytes_take, bytes_again, table_takes, table_again}
+use Rattle.byte_reader.proofs.Fields.{IsBytes, bytes_of_each, bind_ok, ok_is, one_ok, not_both, if_ok, unless_ok, goes_on_with, Takes, Takes-then, IsSpelledBy, IsReadBack, ListFits, wide16, wide32, number_takes, number_again, number_moves, bytes_take, bytes_again, table_takes, table_again}
 use Rattle.byte_reader.proofs.Members.{attribute_takes, attribute_again}
 use Rattle.code_reader.specs.CodeReading.{Head, code_length_at, head_at, handler_at, tail_at}
 use Rattle.code_reader.specs.Division.{Spot, is_handler}
 
 -- ---- what is read
 
-handler_takes : (pool : List PoolEntry) (long : ℕ) (spots : List Spot) → IsSpelledBy (handler_at pool long spots) handler HandlerFits
-unfolding handler_at
-handler_takes pool long spots place x fits e =
+-- a handler, whatever it covers
+plain_handler_at : Place → Result (Handler × Place) Fault
+plain_handler_at place = do
+  start ← number_at w16 place
+  finish ← number_at w16 start.1
+  target ← number_at w16 finish.1
+  catch_type ← number_at w16 target.1
+  Ok (record { start = start.0; finish = finish.0; target = target.0; catch_type = catch_type.0 }, catch_type.1)
+
+plain_handler_takes : IsSpelledBy plain_handler_at handler HandlerFits
+unfolding plain_handler_at
+plain_handler_takes place x fits e =
     let a = bind_ok _ _ x e in
     let b = bind_ok _ _ x a.2 in
     let c = bind_ok _ _ x b.2 in
@@ -36,9 +46,24 @@ handler_takes pool long spots place x fits e =
     let four = Takes-then place (u2 a.0.0 ++ u2 b.0.0 ++ u2 c.0.0) c.0.1 (u2 d.0.0) d.0.1 three catch_type.0 in
     let h : Handler = record { start = a.0.0; finish = b.0.0; target = c.0.0; catch_type = d.0.0 } in
     let made : Handler × Place = (h, d.0.1) in
-    let g = if_ok (is_handler pool long spots h) _ (Ok made) x d.2 in
-    subst (λ (y : Handler × Place). Takes place (handler y.0) y.1 × HandlerFits y.0) (ok_is made x g.1)
+    subst (λ (y : Handler × Place). Takes place (handler y.0) y.1 × HandlerFits y.0) (ok_is made x d.2)
     (four, record { start = start.1; finish = finish.1; target = target.1; catch_type = catch_type.1 })
+
+-- one of a code is one
+plainly_read : (pool : List PoolEntry) (long : ℕ) (spots : List Spot) (place : Place) (x : Handler × Place) → handler_at pool long spots place ≡ Ok x → plain_handler_at place ≡ Ok x
+unfolding handler_at plain_handler_at
+plainly_read pool long spots place x e =
+    let a = bind_ok (number_at w16 place) _ x e in
+    let b = bind_ok (number_at w16 a.0.1) _ x a.2 in
+    let c = bind_ok (number_at w16 b.0.1) _ x b.2 in
+    let d = bind_ok (number_at w16 c.0.1) _ x c.2 in
+    let h : Handler = record { start = a.0.0; finish = b.0.0; target = c.0.0; catch_type = d.0.0 } in
+    let made : Handler × Place = (h, d.0.1) in
+    let g = if_ok (is_handler pool long spots h) _ (Ok made) x d.2 in
+    goes_on_with _ _ _ _ a.1 (goes_on_with _ _ _ _ b.1 (goes_on_with _ _ _ _ c.1 (goes_on_with _ _ _ _ d.1 g.1)))
+
+handler_takes : (pool : List PoolEntry) (long : ℕ) (spots : List Spot) → IsSpelledBy (handler_at pool long spots) handler HandlerFits
+handler_takes pool long spots place x fits e = plain_handler_takes place x fits (plainly_read pool long spots place x e)
 
 -- what stands before the handlers
 pub record TakesHead (place : Place) (head : Head) (after : Place) : Type 0 where
@@ -123,15 +148,6 @@ tail_takes pool long spots place handlers fits e =
 
 -- ---- what is spelled is read back
 
--- a handler, whatever it covers
-plain_handler_at : Place → Result (Handler × Place) Fault
-plain_handler_at place = do
-  start ← number_at w16 place
-  finish ← number_at w16 start.1
-  target ← number_at w16 finish.1
-  catch_type ← number_at w16 target.1
-  Ok (record { start = start.0; finish = finish.0; target = target.0; catch_type = catch_type.0 }, catch_type.1)
-
 handler_again : IsReadBack plain_handler_at handler HandlerFits
 unfolding plain_handler_at
 handler_again h o rest fits =
@@ -182,3 +198,69 @@ one_spelled bytes a b is_a is_b =
     let x = body_again bytes a is_a in
     let y = body_again bytes b is_b in
     ap (λ (z : Body × Place). z.0) (one_ok _ (a, record { offset = x.0; rest = [] }) (b, record { offset = y.0; rest = [] }) x.1 y.1)
+
+-- ---- whether bytes are a body
+
+all_of_it : (bytes text rest : List ℕ) → bytes ≡ text ++ rest → rest ≡ [] → bytes ≡ text
+all_of_it bytes text rest parts nothing = parts ∙ ap (λ (r : List ℕ). text ++ r) nothing ∙ append-nil text
+
+body_takes : (place : Place) (x : Body × Place) → IsBytes place.rest → body_at place ≡ Ok x → x.1.rest ≡ [] → IsCode place.rest x.0
+unfolding body_at
+body_takes place x fits e ends =
+    let stack = bind_ok _ _ x e in
+    let locals = bind_ok _ _ x stack.2 in
+    let long = bind_ok _ _ x locals.2 in
+    let code = bind_ok (bytes_at long.0.0 long.0.1) _ x long.2 in
+    let handlers = bind_ok {A = List Handler × Place} _ _ x code.2 in
+    let attributes = bind_ok {A = List Attribute × Place} (table_at attribute_at handlers.0.1) _ x handlers.2 in
+    let s = number_takes w16 (2 ^ 16) wide16 place stack.0 fits stack.1 in
+    let l = number_takes w16 (2 ^ 16) wide16 stack.0.1 locals.0 s.0.rest_fits locals.1 in
+    let n = number_takes w32 (2 ^ 32) wide32 locals.0.1 long.0 l.0.rest_fits long.1 in
+    let c = bytes_take long.0.0 long.0.1 code.0 n.0.rest_fits code.1 in
+    let h = table_takes plain_handler_at handler HandlerFits plain_handler_takes code.0.1 handlers.0 c.0.rest_fits handlers.1 in
+    let t = table_takes attribute_at attribute AttributeFits attribute_takes handlers.0.1 attributes.0 h.0.rest_fits attributes.1 in
+    let two = Takes-then place (u2 stack.0.0) stack.0.1 (u2 locals.0.0) locals.0.1 s.0 l.0 in
+    let three = Takes-then place (u2 stack.0.0 ++ u2 locals.0.0) locals.0.1 (u4 long.0.0) long.0.1 two n.0 in
+    let four = Takes-then place (u2 stack.0.0 ++ u2 locals.0.0 ++ u4 long.0.0) long.0.1 code.0.0 code.0.1 three c.0 in
+    let five = Takes-then place (u2 stack.0.0 ++ u2 locals.0.0 ++ u4 long.0.0 ++ code.0.0) code.0.1 (table handler handlers.0.0) handlers.0.1 four h.0 in
+    let six = Takes-then place (u2 stack.0.0 ++ u2 locals.0.0 ++ u4 long.0.0 ++ code.0.0 ++ table handler handlers.0.0) handlers.0.1 (table attribute attributes.0.0) attributes.0.1 five t.0 in
+    let b : Body = record { max_stack = stack.0.0; max_locals = locals.0.0; bytes = code.0.0; handlers = handlers.0.0; attributes = attributes.0.0 } in
+    let made : Body × Place = (b, attributes.0.1) in
+    let same : made ≡ x = ok_is made x attributes.2 in
+    let text : List ℕ = u2 stack.0.0 ++ u2 locals.0.0 ++ u4 long.0.0 ++ code.0.0 ++ table handler handlers.0.0 ++ table attribute attributes.0.0 in
+    let nothing : attributes.0.1.rest ≡ [] = ap (λ (y : Body × Place). y.1.rest) same ∙ ends in
+    let whole : place.rest ≡ text = all_of_it place.rest text attributes.0.1.rest six.parts nothing in
+    subst (λ (y : Body × Place). IsCode place.rest y.0) same (record {
+      max_stack = s.1;
+      max_locals = l.1;
+      code_length = omega (arith, n.1, c.1);
+      handler_count = h.1.0;
+      handlers = All-from_recursion HandlerFits handlers.0.0 h.1.1;
+      attribute_count = t.1.0;
+      attributes = All-from_recursion AttributeFits attributes.0.0 t.1.1;
+      spelled = subst (λ (k : ℕ). place.rest ≡ u2 stack.0.0 ++ u2 locals.0.0 ++ u4 k ++ code.0.0 ++ table handler handlers.0.0 ++ table attribute attributes.0.0) (sym c.1) whole;
+    })
+
+-- bytes are a body, or they are none
+pub body_or_not : (bytes : List ℕ) → AllByRecursion (λ b. b < 2 ^ 8) bytes → ((b : Body) × IsCode bytes b) ⊎ ((b : Body) → IsCode bytes b → ⊥)
+body_or_not bytes fits = by (body_at (record { offset = 0; rest = bytes })) refl
+  where
+    again : (b : Body) → IsCode bytes b → (end : ℕ) × (body_at (record { offset = 0; rest = bytes }) ≡ Ok (b, record { offset = end; rest = [] }))
+    again b is =
+        let a = body_again bytes b is in
+        (a.0, subst (λ (t : List ℕ). body_at (record { offset = 0; rest = t }) ≡ Ok (b, record { offset = a.0; rest = [] })) (append-nil bytes) a.1)
+
+    with_rest : (x : Body × Place) → body_at (record { offset = 0; rest = bytes }) ≡ Ok x → (rest : List ℕ) → x.1.rest ≡ rest → ((b : Body) × IsCode bytes b) ⊎ ((b : Body) → IsCode bytes b → ⊥)
+    with_rest x e [] ends = inl (x.0, body_takes (record { offset = 0; rest = bytes }) x (bytes_of_each bytes fits) e ends)
+    with_rest x e (r ∷ rest) more = inr missing
+      where
+        missing : (b : Body) → IsCode bytes b → ⊥
+        missing b is =
+            let a = again b is in
+            let same = ap (λ (y : Body × Place). y.1.rest) (one_ok _ (b, record { offset = a.0; rest = [] }) x a.1 e) in
+            let both : [] ≡ r ∷ rest = same ∙ more in
+            absurd cc
+
+    by : (read : Result (Body × Place) Fault) → body_at (record { offset = 0; rest = bytes }) ≡ read → ((b : Body) × IsCode bytes b) ⊎ ((b : Body) → IsCode bytes b → ⊥)
+    by (Err f) e = inr (λ b is. let a = again b is in not_both _ (b, record { offset = a.0; rest = [] }) f a.1 e)
+    by (Ok x) e = with_rest x e x.1.rest refl

@@ -12,3 +12,4 @@ mod ProgressRunning
 mod ProgressThrown
 mod ProgressStarts
 mod ProgressArrays
+pub mod Initialisers

@@ -9,14 +9,14 @@ use Rattle.op_model.specs.declared.op.Op.TheVariants.{Call, Return}
 use Rattle.op_model.specs.Supplies.{Given}
 use Rattle.bytecode_machine.specs.Described.{DescribedMethod, kept_by}
 use Rattle.bytecode_machine.specs.Objects.{Subject}
-use Rattle.bytecode_machine.specs.States.{Value, primitive_value, Frame, World, State, runs_on, throws_on, moved_to, waiting, with_object, new_object, site_at}
+use Rattle.bytecode_machine.specs.States.{Value, primitive_value, Frame, World, State, runs_on, throws_on, ends_with, moved_to, waiting, with_object, new_object, site_at}
 use Rattle.node_machine.specs.Nodes.{StandsAt}
-use Rattle.node_machine.specs.NodeSteps.{AtNode, Calls, is_selecting_kind, enters, gets_result, gets_exception}
+use Rattle.node_machine.specs.NodeSteps.{AtNode, Calls, Resumes, Ends, is_selecting_kind, enters, gets_result, gets_exception}
 use Rattle.node_machine.specs.Slots.{argument_values, argument_slots, returned_value}
 use Rattle.machine_laws.specs.Progress.{CanGive, HasOutcome, by_result, by_exception}
 use Rattle.machine_laws.proofs.ProgressCalls.{SomeGiven, gives}
 use Rattle.machine_laws.proofs.ProgressDecided.{DecidesSubtypes, AfterEvents, after_events}
-use Rattle.node_laws.specs.Progress.{GoesOn, HasSuccessor, IsGiven, HasTarget, IsCallable, Answers, Fails, ReturnsTo}
+use Rattle.node_laws.specs.Progress.{GoesOn, HasSuccessor, IsGiven, HasTarget, IsCallable, Enters, Answers, Fails, ReturnsTo}
 use Rattle.node_laws.proofs.Slots.{some_left}
 
 -- the newest frame stands at a call with a target
@@ -47,18 +47,19 @@ calls_by x given s h e = record {
 after_it : (x : Subject) → DecidesSubtypes x.program → (given : Given) (s : State) (h : HasCall x given s) → After x given s h
 after_it x decides given s h = after_events x decides (is_selecting_kind h.call.kind) (record { name = h.call.name; descriptor = h.call.descriptor }) (units_of x given s h) s.world
 
-pub enters_target : (x : Subject) → DecidesSubtypes x.program → (given : Given) (s : State) (h : HasCall x given s) → IsGiven given h.to.target → GoesOn x given s
+pub enters_target : (x : Subject) → DecidesSubtypes x.program → (given : Given) (s : State) (h : HasCall x given s) → IsGiven given h.to.target → Enters x given s h.at h.to.target
 enters_target x decides given s h m =
     let e = after_it x decides given s h in
     let l = some_left (argument_slots h.call.arguments) None primitive_value h.at.frame.slots in
     record {
       next = runs_on (record { method = Some h.to.target; offset = 0; slots = units_of x given s h; waits = false } ∷ waiting h.at.frame l.slots ∷ h.at.below) e.world;
-      step = enters h.at (record {
+      step = record {
         calls = calls_by x given s h e;
         left = l.slots;
         are_left = l.are_left;
         enters = record { method = m.0; is_given = m.1; slots = units_of x given s h; arguments = λ z. refl; after = refl };
-      });
+      };
+      target_is = refl;
     }
 
 answers_by : (x : Subject) (given : Given) (s : State) (h : HasCall x given s) (e : After x given s h) (d : DescribedMethod x h.to.target) (place : ℕ) (r : StubResult)
@@ -127,7 +128,7 @@ calls x decides given s at call is c = by c.callable
     h = record { at = at; call = call; is_call = is; to = c.to }
 
     by : IsGiven given c.to.target ⊎ (HasOutcome x c.to.target (argument_values call.arguments at.frame.slots) s.world × HasSuccessor at.now.node.successors) → GoesOn x given s
-    by (inl m) = enters_target x decides given s h m
+    by (inl m) = let e = enters_target x decides given s h m in record { next = e.next; step = enters at e.step }
     by (inr o) = by_outcome x decides given s h o.1 o.0
 
 -- ---- returns
@@ -157,3 +158,12 @@ returns_to x given s at value is caller rest below waits now call is_call succes
       };
       next_is = refl;
     }
+
+pub resumes_it : (x : Subject) (given : Given) (s : State) (at : AtNode x given s) (value : Option ℕ) → at.now.node.op ≡ Return value
+    → (caller : Frame) (rest : List Frame) → at.below ≡ caller ∷ rest → caller.waits ≡ false → (t : State) × Resumes x given s t at
+resumes_it x given s at value is caller rest below resumed =
+    (runs_on (caller ∷ rest) s.world, record { value = value; is_return = is; caller = caller; rest = rest; below = below; triggered = resumed; after = refl })
+
+pub ends_it : (x : Subject) (given : Given) (s : State) (at : AtNode x given s) (value : Option ℕ) → at.now.node.op ≡ Return value → at.frame.method ≡ None
+    → (t : State) × Ends x given s t at
+ends_it x given s at value is no_method = (ends_with s.world, record { value = value; is_return = is; no_method = no_method; after = refl })

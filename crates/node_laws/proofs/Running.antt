@@ -1,18 +1,18 @@
 -- The machine goes on at a node, operation by operation.
-use Rattle.std.proofs.Common.{◌≡◌, inl, inr, Option, ℕ, ◌∷◌, refl, sym, ap, ◌∙◌}
+use Rattle.std.proofs.Common.{◌≡◌, inl, inr, Option, ℕ, refl, sym, ap, ◌∙◌}
 use Rattle.op_model.specs.declared.op.Op.{Op}
 use Rattle.op_model.specs.declared.op.Op.TheVariants.{Assign, Load, Store, LoadElement, StoreElement, LoadStatic, StoreStatic, New, NewArray, Constant, Call, Return, Throw, Cast, Probe}
 use Rattle.op_model.specs.Supplies.{Given}
 use Rattle.jvm_model.specs.Table.{null_pointer}
 use Rattle.bytecode_machine.specs.Machine.{exception_class}
 use Rattle.bytecode_machine.specs.Objects.{Subject}
-use Rattle.bytecode_machine.specs.States.{State, runs_on, throws_on, ends_with, slot_at}
+use Rattle.bytecode_machine.specs.States.{State, slot_at}
 use Rattle.node_machine.specs.NodeSteps.{AtNode, advances, returns, resumes, ends, throws}
 use Rattle.machine_laws.proofs.ProgressDecided.{DecidesSubtypes}
 use Rattle.node_laws.specs.Progress.{GoesOn, CanAdvance, CanReturn, after_call, after_initialiser, of_start, CanThrow, MayRaise, IsReadyOp}
-use Rattle.node_laws.proofs.Calls.{calls, returns_to}
+use Rattle.node_laws.proofs.Calls.{calls, returns_to, resumes_it, ends_it}
 use Rattle.node_laws.proofs.Operations.{operations_go_on}
-use Rattle.node_laws.proofs.Thrown.{raises_listed}
+use Rattle.node_laws.proofs.Thrown.{throws_object, raises_listed}
 
 advances_it : (x : Subject) (given : Given) (s : State) (at : AtNode x given s) → CanAdvance x given s at → GoesOn x given s
 advances_it x given s at can =
@@ -23,20 +23,17 @@ leaves : (x : Subject) (given : Given) (s : State) (at : AtNode x given s) (valu
 leaves x given s at value is (after_call caller rest below waits now call is_call next) =
     let r = returns_to x given s at value is caller rest below waits now call is_call next.0 next.1 in
     record { next = r.next; step = returns at r.step }
-leaves x given s at value is (after_initialiser caller rest below resumed) = record {
-  next = runs_on (caller ∷ rest) s.world;
-  step = resumes at (record { value = value; is_return = is; caller = caller; rest = rest; below = below; triggered = resumed; after = refl });
-}
-leaves x given s at value is (of_start none) = record {
-  next = ends_with s.world;
-  step = ends at (record { value = value; is_return = is; no_method = none; after = refl });
-}
+leaves x given s at value is (after_initialiser caller rest below resumed) =
+    let r = resumes_it x given s at value is caller rest below resumed in
+    record { next = r.0; step = resumes at r.1 }
+leaves x given s at value is (of_start none) =
+    let e = ends_it x given s at value is none in
+    record { next = e.0; step = ends at e.1 }
 
 throws_it : (x : Subject) (given : Given) (s : State) (at : AtNode x given s) (value : ℕ) → at.now.node.op ≡ Throw value → CanThrow x s.world at.now.node.throws (slot_at at.frame.slots value) → GoesOn x given s
-throws_it x given s at value is (inl thrown) = record {
-  next = throws_on (at.frame ∷ at.below) s.world thrown.to.place;
-  step = throws at (record { value = value; is_throw = is; thrown = thrown; after = refl });
-}
+throws_it x given s at value is (inl thrown) =
+    let t = throws_object x given s at value is thrown in
+    record { next = t.0; step = throws at t.1 }
 throws_it x given s at value is (inr null) =
     let r = raises_listed x given s at null.1.number (exception_class null_pointer) null.1.listed null.1.is_class may in
     record { next = r.next; step = r.step }

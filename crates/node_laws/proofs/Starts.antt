@@ -10,24 +10,25 @@ use Rattle.op_model.specs.Supplies.{Given}
 use Rattle.bytecode_machine.specs.Machine.{AtStart, IsInitialiser}
 use Rattle.bytecode_machine.specs.Objects.{Subject}
 use Rattle.bytecode_machine.specs.Start.{arguments_of, start_frame, IsFirst}
-use Rattle.bytecode_machine.specs.States.{Frame, State, runs_on, ends_with, waiting, with_started}
+use Rattle.bytecode_machine.specs.States.{Frame, State, runs_on, waiting, with_started}
 use Rattle.node_machine.specs.Nodes.{IsClassNumber, AreStartNodes, StandsAt, of_start}
-use Rattle.node_machine.specs.NodeSteps.{AtNode, enters_entry, ends}
-use Rattle.node_laws.specs.Progress.{GoesOn, IsGiven, ReturnsTo, StartsOne}
-use Rattle.node_laws.proofs.Calls.{returns_to}
+use Rattle.node_machine.specs.NodeSteps.{AtNode, EntersEntry, Ends}
+use Rattle.node_laws.specs.Progress.{IsGiven, ReturnsTo, StartsOne}
+use Rattle.node_laws.proofs.Calls.{returns_to, ends_it}
 use Rattle.program_laws.proofs.Orders.{first_there}
 
-pub enters_it : (x : Subject) (given : Given) (s : State) → AtStart s 0 → (entry : Method) → slice_get x.program.methods x.entry ≡ Some entry → IsGiven given x.entry → GoesOn x given s
-enters_it x given s at entry stands m = record {
-  next = runs_on (record { method = Some x.entry; offset = 0; slots = arguments_of x.program entry; waits = false } ∷ waiting at.frame at.frame.slots ∷ at.below) s.world;
-  step = enters_entry at (record {
+pub enters_it : (x : Subject) (given : Given) (s : State) (at : AtStart s 0) (entry : Method) → slice_get x.program.methods x.entry ≡ Some entry → IsGiven given x.entry
+    → (t : State) × EntersEntry x given s t at
+enters_it x given s at entry stands m = (
+  runs_on (record { method = Some x.entry; offset = 0; slots = arguments_of x.program entry; waits = false } ∷ waiting at.frame at.frame.slots ∷ at.below) s.world,
+  record {
     entry = entry;
     stands = stands;
     left = at.frame.slots;
     are_left = λ z. refl;
     enters = record { method = m.0; is_given = m.1; slots = arguments_of x.program entry; arguments = λ z. refl; after = refl };
-  });
-}
+  },
+)
 
 second_of : (first second : Node) (offset : ℕ) → first.offset ≡ 0 → second.offset ≡ 1 → offset ≡ 1 → find (λ (n : Node). nat_eq n.offset offset) (first ∷ second ∷ []) ≡ Some second
 second_of first second offset e f g = rw g (rw e (rw f refl))
@@ -42,11 +43,13 @@ stands_at_return x given s at nodes are = record {
       (second_of are.call are.return at.frame.offset are.is_call.offset are.is_return.offset at.stands);
 }
 
-pub ends_it : (x : Subject) (given : Given) (s : State) → AtStart s 1 → (nodes : List Node) → AreStartNodes x nodes → GoesOn x given s
+pub start_ends : (x : Subject) (given : Given) (s : State) → AtStart s 1 → (nodes : List Node) → AreStartNodes x nodes
+    → (at : AtNode x given s) × (t : State) × Ends x given s t at
 unfolding stands_at_return
-ends_it x given s at nodes are =
+start_ends x given s at nodes are =
     let here : AtNode x given s = record { frame = at.frame; below = at.below; runs = at.runs; frames = at.frames; now = stands_at_return x given s at nodes are } in
-    record { next = ends_with s.world; step = ends here (record { value = None; is_return = are.is_return.op; no_method = at.no_method; after = refl }) }
+    let e = ends_it x given s here None are.is_return.op at.no_method in
+    (here, e.0, e.1)
 
 pub triggers_go_on : (x : Subject) (given : Given) (s : State) (at : AtNode x given s) (trigger : ClassNo) (class : List ℕ) (number : ℕ) → at.now.node.trigger ≡ Some trigger
     → IsClassNumber x.program trigger class → IsInitialiser x.program class number → (Contains s.world.started number → ⊥) → IsGiven given number → StartsOne x given s at number
@@ -71,8 +74,11 @@ triggers_go_on x given s at trigger class number is_trigger is_class initialiser
 
 -- ---- the first states, and the return of the entry
 
-pub first_goes_on : (x : Subject) (given : Given) (s : State) → IsFirst x s → IsGiven given x.entry → GoesOn x given s
-first_goes_on x given s first m = enters_it x given s at first.entry first.stands m
+pub first_goes_on : (x : Subject) (given : Given) (s : State) → IsFirst x s → IsGiven given x.entry
+    → (at : AtStart s 0) × (t : State) × EntersEntry x given s t at
+first_goes_on x given s first m =
+    let e = enters_it x given s at first.entry first.stands m in
+    (at, e.0, e.1)
   where
     at : AtStart s 0
     at = record {

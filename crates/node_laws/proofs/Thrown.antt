@@ -9,12 +9,13 @@ use Rattle.jvm_model.specs.declared.number.ClassNo.{ClassNo}
 use Rattle.jvm_model.specs.Programs.{Program, Class}
 use Rattle.jvm_model.specs.Subtypes.{Fits}
 use Rattle.op_model.specs.declared.node.NodeHandler.{NodeHandler}
+use Rattle.op_model.specs.declared.op.Op.TheVariants.{Throw}
 use Rattle.op_model.specs.Supplies.{Given}
 use Rattle.bytecode_machine.specs.Machine.{Throwing, unwound}
-use Rattle.bytecode_machine.specs.Objects.{Subject}
-use Rattle.bytecode_machine.specs.States.{reference_to, Frame, State, runs_on, moved_to, with_kept}
+use Rattle.bytecode_machine.specs.Objects.{Subject, IsOf}
+use Rattle.bytecode_machine.specs.States.{reference_to, Frame, State, runs_on, throws_on, moved_to, with_kept, slot_at}
 use Rattle.node_machine.specs.Nodes.{IsClassNumber, StandsAt}
-use Rattle.node_machine.specs.NodeSteps.{AtNode, Takes, all, fitting, IsFirstTaking, IsUncaught, Catches, Unwinds, raises, wraps}
+use Rattle.node_machine.specs.NodeSteps.{AtNode, Takes, all, fitting, IsFirstTaking, IsUncaught, Throws, Catches, Unwinds, raises, wraps}
 use Rattle.machine_laws.proofs.ProgressDecided.{DecidesFits}
 use Rattle.machine_laws.proofs.ProgressSteps.{thrown_by, throws_new}
 use Rattle.program_laws.proofs.Choices.{OrNot}
@@ -76,6 +77,10 @@ handler_or_none p decides class (g ∷ handlers) = by (takes_or_not p decides g 
   by (inr not_it) (inr none) = inr (none_here p class g handlers not_it none)
 
 -- ---- the steps
+
+pub throws_object : (x : Subject) (given : Given) (s : State) (at : AtNode x given s) (value : ℕ) → at.now.node.op ≡ Throw value
+    → IsOf x.program (codes "java/lang/Throwable") s.world (slot_at at.frame.slots value) → (t : State) × Throws x given s t at
+throws_object x given s at value is thrown = (throws_on (at.frame ∷ at.below) s.world thrown.to.place, record { value = value; is_throw = is; thrown = thrown; after = refl })
 
 pub raises_listed : (x : Subject) (given : Given) (s : State) (at : AtNode x given s) (number : ClassNo) (class : List ℕ) → Contains at.now.node.throws number
     → IsClassNumber x.program number class → MayRaise at.now.node.op at.frame.slots class → ThrowsOne x given s at.frame at.below [] class

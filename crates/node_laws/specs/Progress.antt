@@ -16,7 +16,7 @@ use Rattle.bytecode_machine.specs.Machine.{exception_class}
 use Rattle.bytecode_machine.specs.Objects.{Subject, Refers, IsOf, IsArrayOf, MayStand, IsConstant, Passes}
 use Rattle.bytecode_machine.specs.States.{Dimension, Value, null_value, Object, Frame, throwing, World, State, slot_at}
 use Rattle.node_machine.specs.Nodes.{IsClassNumber, StandsAt}
-use Rattle.node_machine.specs.NodeSteps.{AtNode, Advances, IsTargetOf, GetsResult, GetsException, Returns, Starts, NodeStep}
+use Rattle.node_machine.specs.NodeSteps.{AtNode, Advances, IsTargetOf, EntersTarget, GetsResult, GetsException, Returns, Starts, NodeStep}
 use Rattle.node_machine.specs.Slots.{argument_values}
 use Rattle.machine_laws.specs.Progress.{HasFields, HasOutcome}
 
@@ -98,6 +98,12 @@ pub record HasTarget (x : Subject) (w : World) (call : NodeCall) (units : List V
 pub record IsCallable (x : Subject) (given : Given) (w : World) (call : NodeCall) (units : List Value) (successors : List ℕ) : Type 0 where
   pub to : HasTarget x w call units
   pub callable : IsGiven given to.target ⊎ (HasOutcome x to.target units w × HasSuccessor successors)
+
+-- The call enters its target, which is this one.
+pub record Enters (x : Subject) (given : Given) (s : State) (at : AtNode x given s) (target : ℕ) : Type 0 where
+  pub next : State
+  pub step : EntersTarget x given s next at
+  pub target_is : step.calls.target ≡ target
 
 -- The call gives the result at a place of the target's description, and goes on at a successor.
 pub record Answers (x : Subject) (given : Given) (s : State) (at : AtNode x given s) (target place successor : ℕ) : Type 0 where

@@ -1,23 +1,23 @@
 //! When the machine that runs nodes goes on: that a step is there wherever one should be.
 
-ghost use Rattle.std.specs.Prelude.{codes, ◌≡◌, ◌⊎◌, ℕ, ◌<◌, ◌≤◌, false, true, List, [], ◌∷◌, length, slice_get, slice_set, Option, Some, Contains};
+ghost use Rattle.std.specs.Prelude.{codes, ◌≡◌, ◌⊎◌, ℕ, ◌<◌, ◌≤◌, false, true, List, [], ◌∷◌, length, slice_get, slice_set, Option, Some, None, Contains};
 ghost use Rattle.jvm_model.specs.declared.number.ClassNo.{ClassNo};
 ghost use Rattle.jvm_model.specs.declared.site.Site.{Site};
 ghost use Rattle.jvm_model.specs.declared.stub.StubResult.{StubResult};
 ghost use Rattle.jvm_model.specs.Programs.{Method};
 ghost use Rattle.op_model.specs.declared.node.Node.{Node};
 ghost use Rattle.op_model.specs.declared.op.Call.{Call as NodeCall};
-ghost use Rattle.op_model.specs.declared.op.Op.TheVariants.{LoadElement, StoreElement, NewArray, Call, Return};
+ghost use Rattle.op_model.specs.declared.op.Op.TheVariants.{LoadElement, StoreElement, NewArray, Call, Return, Throw};
 ghost use Rattle.op_model.specs.Supplies.{Given};
 ghost use Rattle.bytecode_machine.specs.Described.{DescribedMethod};
 ghost use Rattle.bytecode_machine.specs.Machine.{AtStart, Throwing, IsInitialiser};
-ghost use Rattle.bytecode_machine.specs.Objects.{Subject, IsArrayOf, MayStand};
+ghost use Rattle.bytecode_machine.specs.Objects.{Subject, IsOf, IsArrayOf, MayStand};
 ghost use Rattle.bytecode_machine.specs.States.{Frame, State, Value, World, null_value, elements, slot_at, with_contents};
 ghost use Rattle.node_machine.specs.Nodes.{IsClassNumber, AreStartNodes, StandsAt};
-ghost use Rattle.node_machine.specs.NodeSteps.{AtNode, Catches, Unwinds, IsUncaught};
+ghost use Rattle.node_machine.specs.NodeSteps.{AtNode, EntersEntry, Resumes, Ends, Throws, Catches, Unwinds, IsUncaught};
 ghost use Rattle.node_machine.specs.Slots.{argument_values};
 ghost use Rattle.machine_laws.specs.Progress.{CanGive, with_arrays};
-ghost use Rattle.node_laws.specs.Progress.{GoesOn, IsReadyOp, CanLead, GoesTo, Gives, dimensions_of, IsGiven, HasTarget, Answers, Fails, ReturnsTo, MayRaise, ThrowsOne, StartsOne};
+ghost use Rattle.node_laws.specs.Progress.{GoesOn, IsReadyOp, CanLead, GoesTo, Gives, dimensions_of, IsGiven, HasTarget, Enters, Answers, Fails, ReturnsTo, MayRaise, ThrowsOne, StartsOne};
 
 /// The machine goes on at a node that has what its operation asks for.
 pub fn running_goes_on()
@@ -49,7 +49,7 @@ pub fn arrays_go_on()
 /// and goes on at each successor; and it throws each listed exception.
 pub fn calls_go_on()
     ensures enters { (x : Subject) (given : Given) (s : State) (at : AtNode x given s) (call : NodeCall) → at.now.node.op ≡ Call call
-        → (to : HasTarget x s.world call (argument_values call.arguments at.frame.slots)) → IsGiven given to.target → GoesOn x given s }
+        → (to : HasTarget x s.world call (argument_values call.arguments at.frame.slots)) → IsGiven given to.target → Enters x given s at to.target }
     ensures gives { (x : Subject) (given : Given) (s : State) (at : AtNode x given s) (call : NodeCall) → at.now.node.op ≡ Call call
         → (to : HasTarget x s.world call (argument_values call.arguments at.frame.slots)) (d : DescribedMethod x to.target) (place : ℕ) (r : StubResult)
         → slice_get d.stub.returns place ≡ Some r → CanGive x to.target d (argument_values call.arguments at.frame.slots) s.world r
@@ -59,11 +59,22 @@ pub fn calls_go_on()
         → slice_get d.stub.throws place ≡ Some class → Fails x given s at to.target place }
 {}
 
-/// A return goes on at each successor of the call for which the caller waits.
+/// A return goes on at each successor of the call for which the caller waits. That of an initialiser goes on where the initialiser
+/// was triggered, and that of the start ends.
 pub fn returns_go_on()
-    ensures { (x : Subject) (given : Given) (s : State) (at : AtNode x given s) (value : Option ℕ) → at.now.node.op ≡ Return value
+    ensures to_calls { (x : Subject) (given : Given) (s : State) (at : AtNode x given s) (value : Option ℕ) → at.now.node.op ≡ Return value
         → (caller : Frame) (rest : List Frame) → at.below ≡ caller ∷ rest → caller.waits ≡ true → (now : StandsAt x given caller) (call : NodeCall) → now.node.op ≡ Call call
         → (successor : ℕ) → Contains now.node.successors successor → ReturnsTo x given s at successor }
+    ensures to_triggers { (x : Subject) (given : Given) (s : State) (at : AtNode x given s) (value : Option ℕ) → at.now.node.op ≡ Return value
+        → (caller : Frame) (rest : List Frame) → at.below ≡ caller ∷ rest → caller.waits ≡ false → (t : State) × Resumes x given s t at }
+    ensures ends { (x : Subject) (given : Given) (s : State) (at : AtNode x given s) (value : Option ℕ) → at.now.node.op ≡ Return value
+        → at.frame.method ≡ None → (t : State) × Ends x given s t at }
+{}
+
+/// An object that fits Throwable is thrown.
+pub fn objects_are_thrown()
+    ensures { (x : Subject) (given : Given) (s : State) (at : AtNode x given s) (value : ℕ) → at.now.node.op ≡ Throw value
+        → IsOf x.program (codes "java/lang/Throwable") s.world (slot_at at.frame.slots value) → (t : State) × Throws x given s t at }
 {}
 
 /// A node may throw a new object of each class that it lists: a throw raises a null pointer for null alone.
@@ -80,9 +91,10 @@ pub fn throwing_goes_on()
 
 /// It goes on at the start: to an entry that is given as nodes, and after that to the end.
 pub fn start_goes_on()
-    ensures calls { (x : Subject) (given : Given) (s : State) → AtStart s 0 → (entry : Method) → slice_get x.program.methods x.entry ≡ Some entry
-        → IsGiven given x.entry → GoesOn x given s }
-    ensures ends { (x : Subject) (given : Given) (s : State) → AtStart s 1 → (nodes : List Node) → AreStartNodes x nodes → GoesOn x given s }
+    ensures calls { (x : Subject) (given : Given) (s : State) (at : AtStart s 0) (entry : Method) → slice_get x.program.methods x.entry ≡ Some entry
+        → IsGiven given x.entry → (t : State) × EntersEntry x given s t at }
+    ensures ends { (x : Subject) (given : Given) (s : State) → AtStart s 1 → (nodes : List Node) → AreStartNodes x nodes
+        → (at : AtNode x given s) × (t : State) × Ends x given s t at }
 {}
 
 /// A node that may start an initialisation starts each initialiser that is given as nodes and was not started.

@@ -1,27 +1,29 @@
 //! That there are the nodes of the start, and that first states go on.
 
-ghost use Rattle.std.specs.Prelude.{◌≡◌, ◌⊎◌, true, List, ◌∷◌, Option, Some, None, ℕ, slice_get};
+ghost use Rattle.std.specs.Prelude.{◌≡◌, true, List, ◌∷◌, Option, Some, None, ℕ, slice_get};
 ghost use Rattle.jvm_model.specs.LinkedPrograms.{IsProgram};
 ghost use Rattle.jvm_model.specs.Programs.{Method};
 ghost use Rattle.op_model.specs.declared.node.Node.{Node};
 ghost use Rattle.op_model.specs.declared.op.Op.TheVariants.{Return};
 ghost use Rattle.op_model.specs.Supplies.{Given};
+ghost use Rattle.bytecode_machine.specs.Machine.{AtStart};
 ghost use Rattle.bytecode_machine.specs.Objects.{Subject};
 ghost use Rattle.bytecode_machine.specs.Start.{IsFirst};
 ghost use Rattle.bytecode_machine.specs.States.{Frame, State};
-ghost use Rattle.node_machine.specs.Nodes.{HasInitialiser, AreStartNodes};
-ghost use Rattle.node_machine.specs.NodeSteps.{AtNode};
-ghost use Rattle.node_laws.specs.Progress.{GoesOn, IsGiven, ReturnsTo};
+ghost use Rattle.node_machine.specs.Nodes.{AreStartNodes};
+ghost use Rattle.node_machine.specs.NodeSteps.{AtNode, EntersEntry};
+ghost use Rattle.node_laws.specs.Progress.{IsGiven, ReturnsTo};
 
-/// The start of each program has its nodes, where it is known whether the entry's class has an initialiser.
+/// The start of each program with the entry has its nodes.
 pub fn start_nodes_are_there()
     ensures { (x : Subject) (entry : Method) → slice_get x.program.methods x.entry ≡ Some entry → IsProgram x.program
-        → HasInitialiser x.program entry.class ⊎ (HasInitialiser x.program entry.class → ⊥) → (nodes : List Node) × AreStartNodes x nodes }
+        → (nodes : List Node) × AreStartNodes x nodes }
 {}
 
-/// A first state goes on, if the entry is given as nodes.
+/// From a first state the entry is called, if it is given as nodes.
 pub fn first_states_go_on()
-    ensures { (x : Subject) (given : Given) (s : State) → IsFirst x s → IsGiven given x.entry → GoesOn x given s }
+    ensures { (x : Subject) (given : Given) (s : State) → IsFirst x s → IsGiven given x.entry
+        → (at : AtStart s 0) × (t : State) × EntersEntry x given s t at }
 {}
 
 /// The return of the entry leads to the second node of the start.
