@@ -12,4 +12,4 @@ mod ProgressRunning
 mod ProgressThrown
 mod ProgressStarts
 mod ProgressArrays
-pub mod Initialisers
+pub mod KnownCode

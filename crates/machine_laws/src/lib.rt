@@ -2,6 +2,7 @@
 //! nothing, and hold of each program. No layer needs them to prove its own: they show that the definitions say what they should.
 #![tactic(auto)]
 
+pub mod initialisers;
 pub mod progress;
 pub mod start;
 pub mod survival;

@@ -16,7 +16,7 @@ use Rattle.node_machine.specs.Slots.{argument_values, argument_slots, returned_v
 use Rattle.machine_laws.specs.Progress.{CanGive, HasOutcome, by_result, by_exception}
 use Rattle.machine_laws.proofs.ProgressCalls.{SomeGiven, gives}
 use Rattle.machine_laws.proofs.ProgressDecided.{DecidesSubtypes, AfterEvents, after_events}
-use Rattle.node_laws.specs.Progress.{GoesOn, HasSuccessor, IsGiven, HasTarget, IsCallable, Enters, Answers, Fails, ReturnsTo}
+use Rattle.node_laws.specs.Progress.{GoesOn, HasSuccessor, IsGiven, HasCallTarget, IsCallable, GoesInto, Answers, Fails, ReturnsTo}
 use Rattle.node_laws.proofs.Slots.{some_left}
 
 -- the newest frame stands at a call with a target
@@ -24,7 +24,7 @@ pub record HasCall (x : Subject) (given : Given) (s : State) : Type 0 where
   pub at : AtNode x given s
   pub call : NodeCall
   pub is_call : at.now.node.op ≡ Call call
-  pub to : HasTarget x s.world call (argument_values call.arguments at.frame.slots)
+  pub to : HasCallTarget x s.world call (argument_values call.arguments at.frame.slots)
 
 abbrev units_of : (x : Subject) (given : Given) (s : State) → HasCall x given s → List Value
 units_of x given s h = argument_values h.call.arguments h.at.frame.slots
@@ -47,7 +47,7 @@ calls_by x given s h e = record {
 after_it : (x : Subject) → DecidesSubtypes x.program → (given : Given) (s : State) (h : HasCall x given s) → After x given s h
 after_it x decides given s h = after_events x decides (is_selecting_kind h.call.kind) (record { name = h.call.name; descriptor = h.call.descriptor }) (units_of x given s h) s.world
 
-pub enters_target : (x : Subject) → DecidesSubtypes x.program → (given : Given) (s : State) (h : HasCall x given s) → IsGiven given h.to.target → Enters x given s h.at h.to.target
+pub enters_target : (x : Subject) → DecidesSubtypes x.program → (given : Given) (s : State) (h : HasCall x given s) → IsGiven given h.to.target → GoesInto x given s h.at h.to.target
 enters_target x decides given s h m =
     let e = after_it x decides given s h in
     let l = some_left (argument_slots h.call.arguments) None primitive_value h.at.frame.slots in

@@ -10,7 +10,7 @@ use Rattle.bytecode_machine.specs.Objects.{Subject, IsArrayOf, MayStand, ReadsEl
 use Rattle.bytecode_machine.specs.States.{Dimension, Value, primitive_value, null_value, reference_to, fields, elements, World, State, updated, with_static, with_contents, with_object, new_object, slot_at, runs_on, moved_to}
 use Rattle.node_machine.specs.NodeSteps.{AtNode, Leads}
 use Rattle.machine_laws.specs.Progress.{with_arrays}
-use Rattle.node_laws.specs.Progress.{CanLead, GoesTo, Gives, dimensions_of}
+use Rattle.node_laws.specs.Progress.{CanLead, GoesTo, GoesToWith, dimensions_for}
 use Rattle.node_laws.proofs.Slots.{some_left, some_moved}
 
 -- an operation leads to some slots and a world
@@ -36,19 +36,19 @@ goes_with x given s at op is after way successor goes = record {
 
 -- ---- what arrays are made
 
-same_sites : (sites : List Site) (lengths : List ℕ) → length lengths ≡ length sites → map (λ (d : Dimension). d.site) (dimensions_of sites lengths) ≡ sites
+same_sites : (sites : List Site) (lengths : List ℕ) → length lengths ≡ length sites → map (λ (d : Dimension). d.site) (dimensions_for sites lengths) ≡ sites
 same_sites [] lengths e = refl
 same_sites (site ∷ sites) [] e = absurd (omega (arith, e))
 same_sites (site ∷ sites) (long ∷ lengths) e = ap (λ (more : List Site). site ∷ more) (same_sites sites lengths (omega (arith, e)))
 
-some_dimension : (sites : List Site) (first : ℕ) (others : List ℕ) → length (first ∷ others) ≡ length sites → 1 ≤ length (dimensions_of sites (first ∷ others))
+some_dimension : (sites : List Site) (first : ℕ) (others : List ℕ) → length (first ∷ others) ≡ length sites → 1 ≤ length (dimensions_for sites (first ∷ others))
 some_dimension [] first others e = absurd (omega (arith, e))
 some_dimension (site ∷ sites) first others e = omega arith
 
 makes_them : (x : Subject) (w : World) (sites : List Site) (first : ℕ) (others : List ℕ) → length (first ∷ others) ≡ length sites
-    → MakesArrays x sites w (reference_to (length w.heap)) (with_arrays x w (dimensions_of sites (first ∷ others)))
+    → MakesArrays x sites w (reference_to (length w.heap)) (with_arrays x w (dimensions_for sites (first ∷ others)))
 makes_them x w sites first others e = record {
-  dimensions = dimensions_of sites (first ∷ others);
+  dimensions = dimensions_for sites (first ∷ others);
   of_sites = same_sites sites (first ∷ others) e;
   some = some_dimension sites first others e;
   made_is = refl;
@@ -154,13 +154,13 @@ stores_element x given s at array value is of suits index inside =
 
 pub makes_arrays : (x : Subject) (given : Given) (s : State) (at : AtNode x given s) (sites : List Site) (target : ℕ) → at.now.node.op ≡ NewArray sites target
     → (first : ℕ) (others : List ℕ) → length (first ∷ others) ≡ length sites → (successor : ℕ) → Contains at.now.node.successors successor
-    → GoesTo x given s at successor (with_arrays x s.world (dimensions_of sites (first ∷ others)))
+    → GoesTo x given s at successor (with_arrays x s.world (dimensions_for sites (first ∷ others)))
 makes_arrays x given s at sites target is first others e =
     goes_with x given s at (NewArray sites target) is _ (make_way x s.world at.frame.slots sites target _ _ (makes_them x s.world sites first others e))
 
 pub loads_element : (x : Subject) (given : Given) (s : State) (at : AtNode x given s) (array target : ℕ) → at.now.node.op ≡ LoadElement array target
     → (of : IsArrayOf null_value s.world (slot_at at.frame.slots array)) (v : Value) → Contains of.array.values v
-    → (successor : ℕ) → Contains at.now.node.successors successor → Gives x given s at successor s.world target v
+    → (successor : ℕ) → Contains at.now.node.successors successor → GoesToWith x given s at successor s.world target v
 unfolding goes_with
 loads_element x given s at array target is of v among successor goes =
     let l = some_left (array ∷ []) (Some target) v at.frame.slots in

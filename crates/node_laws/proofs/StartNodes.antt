@@ -12,7 +12,7 @@ use Rattle.op_model.specs.declared.op.CallKind.TheVariants.{Static}
 use Rattle.op_model.specs.declared.op.Op.TheVariants.{Call, Return}
 use Rattle.bytecode_machine.specs.Machine.{IsInitialiser}
 use Rattle.bytecode_machine.specs.Objects.{Subject}
-use Rattle.machine_laws.proofs.Initialisers.{initialiser_or_not}
+use Rattle.machine_laws.proofs.KnownCode.{initialiser_or_not}
 use Rattle.node_machine.specs.Nodes.{IsClassNumber, HasInitialiser, IsInitialisationError, IsThrownAt, raised, initialising, AreThrownAt, AreStartNodes}
 use Rattle.program_laws.proofs.Choices.{OrNot, either_or_not, same_or_not}
 use Rattle.program_laws.proofs.Orders.{none_there, first_there, more_there, where_there}

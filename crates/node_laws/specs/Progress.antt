@@ -75,20 +75,20 @@ pub record GoesTo (x : Subject) (given : Given) (s : State) (at : AtNode x given
   pub world_is : step.world ≡ after
 
 -- It does so with a value in a slot.
-pub record Gives (x : Subject) (given : Given) (s : State) (at : AtNode x given s) (successor : ℕ) (after : World) (slot : ℕ) (v : Value) : Type 0 where
+pub record GoesToWith (x : Subject) (given : Given) (s : State) (at : AtNode x given s) (successor : ℕ) (after : World) (slot : ℕ) (v : Value) : Type 0 where
   pub to : GoesTo x given s at successor after
   pub reads : slot_at to.step.left slot ≡ v
 
 -- New arrays of some sites, and a length for each.
-abbrev pub dimensions_of : List Site → List ℕ → List Dimension
-dimensions_of [] lengths = []
-dimensions_of (site ∷ sites) [] = []
-dimensions_of (site ∷ sites) (long ∷ lengths) = record { site = site; long = long } ∷ dimensions_of sites lengths
+abbrev pub dimensions_for : List Site → List ℕ → List Dimension
+dimensions_for [] lengths = []
+dimensions_for (site ∷ sites) [] = []
+dimensions_for (site ∷ sites) (long ∷ lengths) = record { site = site; long = long } ∷ dimensions_for sites lengths
 
 -- ---- calls
 
 -- The target of a call with these units.
-pub record HasTarget (x : Subject) (w : World) (call : NodeCall) (units : List Value) : Type 0 where
+pub record HasCallTarget (x : Subject) (w : World) (call : NodeCall) (units : List Value) : Type 0 where
   pub resolved : Method
   pub stands : slice_get x.program.methods call.resolved.0 ≡ Some resolved
   pub target : ℕ
@@ -96,11 +96,11 @@ pub record HasTarget (x : Subject) (w : World) (call : NodeCall) (units : List V
 
 -- It is given as nodes, or has a description with an outcome.
 pub record IsCallable (x : Subject) (given : Given) (w : World) (call : NodeCall) (units : List Value) (successors : List ℕ) : Type 0 where
-  pub to : HasTarget x w call units
+  pub to : HasCallTarget x w call units
   pub callable : IsGiven given to.target ⊎ (HasOutcome x to.target units w × HasSuccessor successors)
 
 -- The call enters its target, which is this one.
-pub record Enters (x : Subject) (given : Given) (s : State) (at : AtNode x given s) (target : ℕ) : Type 0 where
+pub record GoesInto (x : Subject) (given : Given) (s : State) (at : AtNode x given s) (target : ℕ) : Type 0 where
   pub next : State
   pub step : EntersTarget x given s next at
   pub target_is : step.calls.target ≡ target

@@ -17,7 +17,7 @@ ghost use Rattle.node_machine.specs.Nodes.{IsClassNumber, AreStartNodes, StandsA
 ghost use Rattle.node_machine.specs.NodeSteps.{AtNode, EntersEntry, Resumes, Ends, Throws, Catches, Unwinds, IsUncaught};
 ghost use Rattle.node_machine.specs.Slots.{argument_values};
 ghost use Rattle.machine_laws.specs.Progress.{CanGive, with_arrays};
-ghost use Rattle.node_laws.specs.Progress.{GoesOn, IsReadyOp, CanLead, GoesTo, Gives, dimensions_of, IsGiven, HasTarget, Enters, Answers, Fails, ReturnsTo, MayRaise, ThrowsOne, StartsOne};
+ghost use Rattle.node_laws.specs.Progress.{GoesOn, IsReadyOp, CanLead, GoesTo, GoesToWith, dimensions_for, IsGiven, HasCallTarget, GoesInto, Answers, Fails, ReturnsTo, MayRaise, ThrowsOne, StartsOne};
 
 /// The machine goes on at a node that has what its operation asks for.
 pub fn running_goes_on()
@@ -35,27 +35,27 @@ pub fn operations_go_on()
 pub fn arrays_go_on()
     ensures loads { (x : Subject) (given : Given) (s : State) (at : AtNode x given s) (array target : ℕ) → at.now.node.op ≡ LoadElement array target
         → (of : IsArrayOf null_value s.world (slot_at at.frame.slots array)) (v : Value) → Contains of.array.values v
-        → (successor : ℕ) → Contains at.now.node.successors successor → Gives x given s at successor s.world target v }
+        → (successor : ℕ) → Contains at.now.node.successors successor → GoesToWith x given s at successor s.world target v }
     ensures stores { (x : Subject) (given : Given) (s : State) (at : AtNode x given s) (array value : ℕ) → at.now.node.op ≡ StoreElement array value
         → (of : IsArrayOf null_value s.world (slot_at at.frame.slots array)) → MayStand x.program s.world of.array.to.object.class (slot_at at.frame.slots value)
         → (index : ℕ) → index < length of.array.values → (successor : ℕ) → Contains at.now.node.successors successor
         → GoesTo x given s at successor (with_contents s.world of.array.to.place of.array.to.object (elements (slice_set of.array.values index (slot_at at.frame.slots value)))) }
     ensures makes { (x : Subject) (given : Given) (s : State) (at : AtNode x given s) (sites : List Site) (target : ℕ) → at.now.node.op ≡ NewArray sites target
         → (first : ℕ) (others : List ℕ) → length (first ∷ others) ≡ length sites → (successor : ℕ) → Contains at.now.node.successors successor
-        → GoesTo x given s at successor (with_arrays x s.world (dimensions_of sites (first ∷ others))) }
+        → GoesTo x given s at successor (with_arrays x s.world (dimensions_for sites (first ∷ others))) }
 {}
 
 /// A call enters a target that is given as nodes. Where the target is described, it gives each listed result that can be given,
 /// and goes on at each successor; and it throws each listed exception.
 pub fn calls_go_on()
     ensures enters { (x : Subject) (given : Given) (s : State) (at : AtNode x given s) (call : NodeCall) → at.now.node.op ≡ Call call
-        → (to : HasTarget x s.world call (argument_values call.arguments at.frame.slots)) → IsGiven given to.target → Enters x given s at to.target }
+        → (to : HasCallTarget x s.world call (argument_values call.arguments at.frame.slots)) → IsGiven given to.target → GoesInto x given s at to.target }
     ensures gives { (x : Subject) (given : Given) (s : State) (at : AtNode x given s) (call : NodeCall) → at.now.node.op ≡ Call call
-        → (to : HasTarget x s.world call (argument_values call.arguments at.frame.slots)) (d : DescribedMethod x to.target) (place : ℕ) (r : StubResult)
+        → (to : HasCallTarget x s.world call (argument_values call.arguments at.frame.slots)) (d : DescribedMethod x to.target) (place : ℕ) (r : StubResult)
         → slice_get d.stub.returns place ≡ Some r → CanGive x to.target d (argument_values call.arguments at.frame.slots) s.world r
         → (successor : ℕ) → Contains at.now.node.successors successor → Answers x given s at to.target place successor }
     ensures throws { (x : Subject) (given : Given) (s : State) (at : AtNode x given s) (call : NodeCall) → at.now.node.op ≡ Call call
-        → (to : HasTarget x s.world call (argument_values call.arguments at.frame.slots)) (d : DescribedMethod x to.target) (place : ℕ) (class : List ℕ)
+        → (to : HasCallTarget x s.world call (argument_values call.arguments at.frame.slots)) (d : DescribedMethod x to.target) (place : ℕ) (class : List ℕ)
         → slice_get d.stub.throws place ≡ Some class → Fails x given s at to.target place }
 {}
 
@@ -89,7 +89,7 @@ pub fn throwing_goes_on()
         → ((t : State) × Catches x given s t at) ⊎ ((t : State) × Unwinds x given s t at) }
 {}
 
-/// It goes on at the start: to an entry that is given as nodes, and after that to the end.
+/// The start calls an entry that is given as nodes, and after that it ends.
 pub fn start_goes_on()
     ensures calls { (x : Subject) (given : Given) (s : State) (at : AtStart s 0) (entry : Method) → slice_get x.program.methods x.entry ≡ Some entry
         → IsGiven given x.entry → (t : State) × EntersEntry x given s t at }
@@ -104,7 +104,8 @@ pub fn triggers_go_on()
         → StartsOne x given s at number }
 {}
 
-/// What no handler of an initialiser takes becomes an ExceptionInInitializerError where the node that waits lists that class.
+/// An object that no handler of an initialiser takes becomes an ExceptionInInitializerError, where the node that waits lists that
+/// class.
 pub fn initialisers_wrap()
     ensures { (x : Subject) (given : Given) (s : State) (at : Throwing s) (caller : Frame) (rest : List Frame) → IsUncaught x given at.frame at.object.class
         → at.below ≡ caller ∷ rest → caller.waits ≡ false → (now : StandsAt x given caller) (number : ClassNo) → Contains now.node.throws number

@@ -137,3 +137,10 @@ initialiser_or_not p program class = carried_over to back (some_below (IsInitial
 
     back : (number : ℕ) × IsInitialiser p class number → (number : ℕ) × (number < length p.methods) × IsInitialiser p class number
     back h = (h.0, slice_get_within p.methods h.0 h.1.code.method h.1.code.stands, h.1)
+
+pub some_initialiser_or_none : (p : Program) → IsProgram p → (class : List ℕ) → ((number : ℕ) × IsInitialiser p class number) ⊎ ((number : ℕ) → IsInitialiser p class number → ⊥)
+some_initialiser_or_none p program class = by (initialiser_or_not p program class)
+  where
+    by : OrNot ((number : ℕ) × IsInitialiser p class number) → ((number : ℕ) × IsInitialiser p class number) ⊎ ((number : ℕ) → IsInitialiser p class number → ⊥)
+    by (inl some) = inl some
+    by (inr none) = inr (λ number is. none (number, is))
