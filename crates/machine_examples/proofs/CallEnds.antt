@@ -23,7 +23,7 @@ the_entry_is_called =
 at_return : Arrives (runs rings) (main_at rings refl 3 [] (world rings refl))
 at_return =
     let step = get (runs rings) 4 (main_of rings refl) outside 0 [] (world rings refl) _ refl _ (call_row _ _ _ _ _ _ refl plain_units) _
-    (record { is_there = refl; names = house_named rings 38 8 _ _ refl refl refl refl refl; target = 8; is_target = (refl, refl); events = not_selecting _ _ _ _ _ refl })
+    (record { is_there = refl; names = house_named rings 38 9 _ _ refl refl refl refl refl; target = 9; is_target = (refl, refl); events = not_selecting _ _ _ _ _ refl })
     (described_at _ _ _ _ refl refl refl plain_units.is) 0 _ refl primitive_value _ (refl, refl) in
     goes _ _ _ (begun rings refl) (gets_result step.at step.step)
 

@@ -54,21 +54,21 @@ an_array_is_called =
 pub a_primitive_is_given : Takes (runs counts) (λ s t. GettingResult (runs counts) (codes "invokestatic") (codes "lib/House") (codes "count") s t × Shows 3 (primitive_value ∷ []) t)
 a_primitive_is_given =
     let step = get (runs counts) 4 (main_of counts refl) outside 0 [] (world counts refl) _ refl _ (call_row _ _ _ _ _ _ refl int_units) _
-    (record { is_there = refl; names = house_named counts 35 7 _ _ refl refl refl refl refl; target = 7; is_target = (refl, refl); events = not_selecting _ _ _ _ _ refl })
+    (record { is_there = refl; names = house_named counts 35 8 _ _ refl refl refl refl refl; target = 8; is_target = (refl, refl); events = not_selecting _ _ _ _ _ refl })
     (described_at _ _ _ _ refl refl refl int_units.is) 0 _ refl primitive_value _ (refl, refl) in
     takes _ _ _ _ (begun counts refl) (gets_result step.at step.step) (step, shows _ _ _)
 
 pub nothing_is_given : Takes (runs rings) (λ s t. GettingResult (runs rings) (codes "invokestatic") (codes "lib/House") (codes "ring") s t × Shows 3 [] t)
 nothing_is_given =
     let step = get (runs rings) 4 (main_of rings refl) outside 0 [] (world rings refl) _ refl _ (call_row _ _ _ _ _ _ refl plain_units) _
-    (record { is_there = refl; names = house_named rings 38 8 _ _ refl refl refl refl refl; target = 8; is_target = (refl, refl); events = not_selecting _ _ _ _ _ refl })
+    (record { is_there = refl; names = house_named rings 38 9 _ _ refl refl refl refl refl; target = 9; is_target = (refl, refl); events = not_selecting _ _ _ _ _ refl })
     (described_at _ _ _ _ refl refl refl plain_units.is) 0 _ refl primitive_value _ (refl, refl) in
     takes _ _ _ _ (begun rings refl) (gets_result step.at step.step) (step, shows _ _ _)
 
 pub null_is_given : Takes (runs gets_none) (λ s t. GettingResult (runs gets_none) (codes "invokestatic") (codes "lib/House") (codes "none") s t × Shows 3 (null_value ∷ []) t)
 null_is_given =
     let step = get (runs gets_none) 4 (main_of gets_none refl) outside 0 [] (world gets_none refl) _ refl _ (call_row _ _ _ _ _ _ refl door_units) _
-    (record { is_there = refl; names = house_named gets_none 42 9 _ _ refl refl refl refl refl; target = 9; is_target = (refl, refl); events = not_selecting _ _ _ _ _ refl })
+    (record { is_there = refl; names = house_named gets_none 42 10 _ _ refl refl refl refl refl; target = 10; is_target = (refl, refl); events = not_selecting _ _ _ _ _ refl })
     (described_at _ _ _ _ refl refl refl door_units.is) 0 _ refl null_value _ (refl, refl) in
     takes _ _ _ _ (begun gets_none refl) (gets_result step.at step.step) (step, shows _ _ _)
 
@@ -76,7 +76,7 @@ pub a_new_object_is_given : Takes (runs gets_fresh)
     (λ s t. GettingResult (runs gets_fresh) (codes "invokestatic") (codes "lib/House") (codes "fresh") s t × Shows 3 (reference_to 3 ∷ []) t × HasObject 3 Result (codes "Gate") t)
 a_new_object_is_given =
     let step = get (runs gets_fresh) 4 (main_of gets_fresh refl) outside 0 [] (world gets_fresh refl) _ refl _ (call_row _ _ _ _ _ _ refl door_units) _
-    (record { is_there = refl; names = house_named gets_fresh 48 11 _ _ refl refl refl refl refl; target = 11; is_target = (refl, refl); events = not_selecting _ _ _ _ _ refl })
+    (record { is_there = refl; names = house_named gets_fresh 48 12 _ _ refl refl refl refl refl; target = 12; is_target = (refl, refl); events = not_selecting _ _ _ _ _ refl })
     (described_at _ _ _ _ refl refl refl door_units.is) 0 _ refl (reference_to 3) _ (record { made_is = refl; after_is = refl }) in
     takes _ _ _ _ (begun gets_fresh refl) (gets_result step.at step.step) (step, shows _ _ _, has_object _ _ _ refl)
 
@@ -86,7 +86,7 @@ an_argument_is_given_back =
     (field_row _ _ _ _ _ refl door_type) refl (reference_to 2) _ _ (names_gate gets_same, (refl, refl)) refl in
     let step = get (runs gets_same) 4 (main_of gets_same refl) outside 3 (reference_to 2 ∷ []) (world gets_same refl) _ refl _
     (call_row _ _ _ _ _ _ refl door_to_door_units) _
-    (record { is_there = refl; names = house_named gets_same 45 10 _ _ refl refl refl refl refl; target = 10; is_target = (refl, refl); events = not_selecting _ _ _ _ _ refl })
+    (record { is_there = refl; names = house_named gets_same 45 11 _ _ refl refl refl refl refl; target = 11; is_target = (refl, refl); events = not_selecting _ _ _ _ _ refl })
     (described_at _ _ _ _ refl refl refl door_to_door_units.is) 0 _ refl (reference_to 2) _ (refl, refl) in
     takes _ _ _ _ (goes _ _ _ (begun gets_same refl) (advances first.at first.step)) (gets_result step.at step.step) (step, shows _ _ _)
 
@@ -103,7 +103,7 @@ at_put =
 
 puts : GettingResult (runs keeps) (codes "invokestatic") (codes "lib/House") (codes "put") (main_at keeps refl 3 (reference_to 2 ∷ []) (world keeps refl)) (main_at keeps refl 6 [] kept_world)
 puts = get (runs keeps) 4 (main_of keeps refl) outside 3 (reference_to 2 ∷ []) (world keeps refl) _ refl _ (call_row _ _ _ _ _ _ refl from_door_units) _
-    (record { is_there = refl; names = house_named keeps 52 12 _ _ refl refl refl refl refl; target = 12; is_target = (refl, refl); events = not_selecting _ _ _ _ _ refl })
+    (record { is_there = refl; names = house_named keeps 52 13 _ _ refl refl refl refl refl; target = 13; is_target = (refl, refl); events = not_selecting _ _ _ _ _ refl })
     (described_at _ _ _ _ refl refl refl from_door_units.is) 0 _ refl primitive_value _ (refl, refl)
 
 pub an_argument_is_kept : Takes (runs keeps) (λ s t. GettingResult (runs keeps) (codes "invokestatic") (codes "lib/House") (codes "put") s t × Shows 6 [] t × (t.world.kept ≡ 2 ∷ []))
@@ -113,7 +113,7 @@ an_argument_is_kept =
 pub a_kept_object_is_given : Takes (runs keeps) (λ s t. GettingResult (runs keeps) (codes "invokestatic") (codes "lib/House") (codes "take") s t × Shows 9 (reference_to 2 ∷ []) t)
 a_kept_object_is_given =
     let step = get (runs keeps) 4 (main_of keeps refl) outside 6 [] kept_world _ refl _ (call_row _ _ _ _ _ _ refl door_units) _
-    (record { is_there = refl; names = house_named keeps 55 13 _ _ refl refl refl refl refl; target = 13; is_target = (refl, refl); events = not_selecting _ _ _ _ _ refl })
+    (record { is_there = refl; names = house_named keeps 55 14 _ _ refl refl refl refl refl; target = 14; is_target = (refl, refl); events = not_selecting _ _ _ _ _ refl })
     (described_at _ _ _ _ refl refl refl door_units.is) 0 _ refl (reference_to 2) _ (record { class = _; of_result = refl; object = is_door keeps kept_world 0 refl; kept = (0, omega arith, refl) }, refl) in
     takes _ _ _ _ (goes _ _ _ at_put (gets_result puts.at puts.step)) (gets_result step.at step.step) (step, shows _ _ _)
 
@@ -125,7 +125,7 @@ failed_world = with_object (world fails refl) (new_object (program_with fails) (
 throws_failure : GettingException (runs fails) (codes "invokestatic") (codes "lib/House") (codes "fail") (main_at fails refl 0 [] (world fails refl)) (throws_on (frame_at 4 0 [] ∷ outside) failed_world 3)
 throws_failure =
     get_thrown (runs fails) 4 (main_of fails refl) outside 0 [] (world fails refl) _ refl _ (call_row _ _ _ _ _ _ refl plain_units) _
-    (record { is_there = refl; names = house_named fails 58 14 _ _ refl refl refl refl refl; target = 14; is_target = (refl, refl); events = not_selecting _ _ _ _ _ refl })
+    (record { is_there = refl; names = house_named fails 58 15 _ _ refl refl refl refl refl; target = 15; is_target = (refl, refl); events = not_selecting _ _ _ _ _ refl })
     (described_at _ _ _ _ refl refl refl plain_units.is) 0 _ refl
 
 pub a_described_method_throws : Takes (runs fails)

@@ -225,7 +225,7 @@ a_default_is_selected =
         selects = record {
           method = _;
           stands = refl;
-          chosen = by_default (none_found (program_with shuts) (codes "Gate" ∷ codes "Door" ∷ object_name ∷ []) shut_signature (IsInstanceWith shut_signature) (λ n m is. is.0) refl refl (codes "Gate") refl) shut_is_default;
+          chosen = by_default (none_found (program_with shuts) (codes "Gate" ∷ codes "Door" ∷ object_name ∷ []) shut_signature (IsInstanceWith shut_signature) (λ n m stands is. is.0) refl refl (codes "Gate") refl) shut_is_default;
         };
       };
       events = not_named _ _ _ _ _ refl;

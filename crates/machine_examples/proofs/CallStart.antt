@@ -47,7 +47,7 @@ abbrev pub outside : List Frame
 outside = waiting start_frame [] ∷ []
 
 module _ (k : CodeBody) where
-  -- ---- methods: their numbers are 0 and 1 in Closing, 2 in Door, 3 in Gate, 4 and 5 in Main, 6 in java/lang/Object, and from 7 on in the house
+  -- ---- methods: their numbers are 0 and 1 in Closing, 2 in Door, 3 in Gate, 4 and 5 in Main, 6 and 7 in java/lang/Object, and from 8 on in the house
 
   abbrev pub shut_of : MethodCode (program_with k) 1
   shut_of = built (program_with k) 1 _ closing_class 1 1 8 7 only_returns refl refl refl refl
@@ -62,7 +62,7 @@ module _ (k : CodeBody) where
   same_of = built (program_with k) 5 _ (main_class k) 1 9 8 9 same_number refl refl refl refl
 
   abbrev pub names_gate : NamesField (program_with k) main_pool 32 true
-  names_gate = declared_field _ _ _ _ 0 _ _ refl refl refl refl refl
+  names_gate = declared_field _ _ _ _ 1 _ _ refl refl refl refl refl
 
   -- a static method of the house is named
   abbrev pub house_named : (operand number : ℕ) (called : MemberReference) (m : Method) → member_at main_pool operand ≡ Some called → called.class ≡ codes "lib/House"

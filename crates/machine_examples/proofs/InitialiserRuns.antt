@@ -5,7 +5,7 @@ use Rattle.jvm_model.specs.declared.code.Handler.{Handler}
 use Rattle.jvm_model.specs.declared.site.SiteKind.TheVariants.{New, Thrown}
 use Rattle.jvm_model.specs.Code.{CodeBody}
 use Rattle.jvm_model.specs.Descriptors.{IsFieldDescriptor}
-use Rattle.jvm_model.specs.Resolution.{itself}
+use Rattle.jvm_model.specs.Resolution.{DeclaresField, itself, above, first}
 use Rattle.jvm_model.specs.Resolution.ResolvesFrom.{itself as resolved_there}
 use Rattle.jvm_model.specs.Subtypes.{by_class, same, below}
 use Rattle.bytecode_machine.specs.Machine.{MethodCode, Handles, IsInitialiser, by_start, of_class, of_field, of_method, advances, starts, resumes, denies, wraps, throws, catches, unwinds}
@@ -14,12 +14,12 @@ use Rattle.bytecode_machine.specs.Start.{start_frame, boot_site}
 use Rattle.bytecode_machine.specs.States.{Value, primitive_value, reference_to, Object, Frame, World, State, throwing, throws_on, waiting, new_object, with_object, with_kept, with_started, site_at}
 use Rattle.machine_examples.specs.Building.{handler}
 use Rattle.machine_examples.specs.Calling.{only_returns}
-use Rattle.machine_examples.specs.Initialising.{initialiser_name, broken_pool, broken_class, breaks, ready_class, main_class, program_with, runs, makes_ready, makes_late, calls_ready, reads_ready, makes_broken}
+use Rattle.machine_examples.specs.Initialising.{initialiser_name, broken_pool, broken_class, breaks, ready_class, main_class, program_with, runs, makes_ready, makes_late, calls_ready, reads_ready, reads_late, makes_broken}
 use Rattle.machine_examples.specs.Taking.{Takes, Shows, RunsIn, HasObject, Advancing, Unwinding, Starting, Resuming, Wrapping, Denying}
 use Rattle.machine_examples.proofs.Facts.{call_row, declared_field, field_row, has_object, runs_in, shows}
 use Rattle.machine_examples.proofs.Runs.{Arrives, goes, takes, built, body_fits, starts_at, started_in, enters_at, entered_in, first_world, frame_at, on, advance, plainly}
 use Rattle.machine_examples.proofs.Types.{base_type, class_type}
-use Rattle.machine_examples.proofs.Searches.{chain_up}
+use Rattle.machine_examples.proofs.Searches.{chain_up, no_field_of}
 use Rattle.machine_examples.proofs.CallStart.{plain_units}
 use Rattle.machine_examples.proofs.Throws.{throw, catch, unwind}
 use Rattle.machine_examples.proofs.Initialisers.{nothing_there, start, deny, resume, wrap}
@@ -135,6 +135,17 @@ an_initialiser_starts_at_a_field =
     (field_row _ _ _ _ _ refl (base_type 73 refl)) refl (codes "Ready")
     (of_field (declared_field _ _ _ _ 0 _ _ refl refl refl refl refl) refl) 3 (initialises_ready reads_ready) (nothing_there 3) in
     takes _ _ _ _ (begun reads_ready refl) (starts step.step) (step, runs_in _ _ _ _ _ _ refl refl refl)
+
+-- the class Late declares no field
+none_in_late : (other : ℕ) → DeclaresField (program_with reads_late) (record { name = codes "size"; descriptor = codes "I" }) (codes "Late") other → ⊥
+none_in_late other d = no_field_of (program_with reads_late) (codes "Late") refl other d.field d.stands d.of_class
+
+pub an_initialiser_starts_at_an_inherited_field : Takes (runs reads_late) (λ s t. Starting (runs reads_late) (codes "Ready") s t × RunsIn (runs reads_late) (codes "Ready") initialiser_name t)
+an_initialiser_starts_at_an_inherited_field =
+    let found = above _ _ _ refl none_in_late (first _ _ 0 (itself _ 0 (record { field = _; stands = refl; of_class = refl; is = refl }))) in
+    let step = start (runs reads_late) 1 (main_of reads_late refl) outside 0 [] (world reads_late refl) _ refl _ (field_row _ _ _ _ _ refl (base_type 73 refl)) refl (codes "Ready")
+    (of_field (record { named = _; is_named = refl; number = 0; found = found; field = _; stands = refl; kind = refl }) refl) 3 (initialises_ready reads_late) (nothing_there 3) in
+    takes _ _ _ _ (begun reads_late refl) (starts step.step) (step, runs_in _ _ _ _ _ _ refl refl refl)
 
 -- ---- at the entry
 

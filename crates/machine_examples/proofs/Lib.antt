@@ -12,6 +12,9 @@ mod CallStart
 mod CallRuns
 mod CallResults
 mod CallEnds
+mod CallMore
+mod CallChoices
 mod ExceptionRuns
 mod Initialisers
 mod InitialiserRuns
+mod LinkTests

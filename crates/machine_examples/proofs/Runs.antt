@@ -59,14 +59,21 @@ begins_so p number (Some f) e = by f.holds refl where
   by None g = by_default f e g refl
   by (Some class) g = holding f class e g refl
 
+pub begins_all : (p : Program) (number : ℕ) → BeginsAs p number (statics_of p number)
+begins_all p number = begins_so p number (slice_get p.fields number) refl
+
+abbrev pub world_with : Subject → List Object → (ℕ → Value) → World
+world_with x objects statics = record { heap = map (boot_object x) (boot_classes x.program) ++ objects; statics = statics; kept = []; started = [] }
+
 abbrev pub first_world : Subject → List Object → World
-first_world x objects = record { heap = map (boot_object x) (boot_classes x.program) ++ objects; statics = statics_of x.program; kept = []; started = [] }
+first_world x objects = world_with x objects (statics_of x.program)
 
 abbrev pub started_in : World → State
 started_in w = runs_on (start_frame ∷ []) w
 
-pub starts_at : (x : Subject) (code : MethodCode x.program x.entry) (objects : List Object) → AreArgumentObjects x code.method objects → Arrives x (started_in (first_world x objects))
-starts_at x code objects arguments = record {
+pub starts_with : (x : Subject) (code : MethodCode x.program x.entry) (objects : List Object) → AreArgumentObjects x code.method objects → (statics : ℕ → Value) → ((number : ℕ) → BeginsAs x.program number (statics number))
+    → Arrives x (started_in (world_with x objects statics))
+starts_with x code objects arguments statics begin = record {
   states = [];
   run = record {
     first = _;
@@ -77,13 +84,16 @@ starts_at x code objects arguments = record {
       stands = code.stands;
       objects = objects;
       arguments = arguments;
-      statics = statics_of x.program;
-      begins = λ number. begins_so x.program number (slice_get x.program.fields number) refl;
+      statics = statics;
+      begins = begin;
       is = refl;
     };
     steps = tt;
   };
 }
+
+pub starts_at : (x : Subject) (code : MethodCode x.program x.entry) (objects : List Object) → AreArgumentObjects x code.method objects → Arrives x (started_in (first_world x objects))
+starts_at x code objects arguments = starts_with x code objects arguments (statics_of x.program) (begins_all x.program)
 
 -- the start calls the entry
 abbrev pub entered_in : (x : Subject) → MethodCode x.program x.entry → World → State

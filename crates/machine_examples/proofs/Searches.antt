@@ -6,7 +6,7 @@ use Rattle.std.proofs.lemmas.Bool.{and_parts, and_from}
 use Rattle.std.proofs.lemmas.Option.{same_Some, none-some}
 use Rattle.std.proofs.lemmas.Slice.Eq.{bytes_eq-Decides}
 use Rattle.jvm_model.specs.Lookups.{Signature}
-use Rattle.jvm_model.specs.Programs.{Program, Class, Method, is_abstract}
+use Rattle.jvm_model.specs.Programs.{Program, Class, Field, Method, is_abstract}
 use Rattle.jvm_model.specs.Resolution.{Declares, IsFirst, IsFound, IsInherited, IsOnlyDefault}
 use Rattle.jvm_model.specs.Subtypes.{class_named, IsChain, IsProperSubtype}
 use Rattle.machine_examples.proofs.Types.{among, super_among, found_passes, found_is_any, or_second}
@@ -44,12 +44,12 @@ not_both true true h a b = true≢false (sym h)
 not_both true false h a b = true≢false (sym b)
 not_both false b h a c = true≢false (sym a)
 
-module _ (p : Program) (names : List (List ℕ)) (s : Signature) (Is : ℕ → Method → Type 0) (is_so : (n : ℕ) (m : Method) → Is n m → m.signature ≡ s) where
-  none_declared : no_method names s p ≡ true → (class : List ℕ) → among names class ≡ true → (other : ℕ) → Declares p Is class other → ⊥
+module _ (p : Program) (names : List (List ℕ)) (s : Signature) (Is : ℕ → Method → Type 0) (is_so : (n : ℕ) (m : Method) → slice_get p.methods n ≡ Some m → Is n m → m.signature ≡ s) where
+  pub none_declared : no_method names s p ≡ true → (class : List ℕ) → among names class ≡ true → (other : ℕ) → Declares p Is class other → ⊥
   none_declared none class inside other d =
       not_both (among names d.method.class) (has_signature s d.method)
       (stands_passes (λ (m : Method). not (among names m.class && has_signature s m)) p.methods other d.method none d.stands)
-      (subst (λ (n : List ℕ). among names n ≡ true) (sym d.of_class) inside) (signature_is s d.method (is_so other d.method d.is))
+      (subst (λ (n : List ℕ). among names n ≡ true) (sym d.of_class) inside) (signature_is s d.method (is_so other d.method d.stands d.is))
 
   -- the names are closed upward by superclasses
   abbrev pub chain_closed : Bool
@@ -109,3 +109,9 @@ only_default p class s number i concrete only = record {
 
     lowest : (other : ℕ) (o : IsInherited p class s other) → IsProperSubtype p o.method.class i.method.class → ⊥
     lowest other o below = below.1 (ap (λ (m : Method). m.class) (same_Some o.method i.method (sym o.stands ∙ ap (slice_get p.methods) (is_it other o) ∙ i.stands)))
+
+-- ---- no field
+
+-- a class without fields declares none
+pub no_field_of : (p : Program) (class : List ℕ) → list_all (λ (f : Field). not (bytes_eq f.class class)) p.fields ≡ true → (other : ℕ) (f : Field) → slice_get p.fields other ≡ Some f → f.class ≡ class → ⊥
+no_field_of p class none other f stands of_class = not_true (bytes_eq f.class class) (stands_passes (λ (g : Field). not (bytes_eq g.class class)) p.fields other f none stands) ((bytes_eq-Decides f.class class).1 of_class)

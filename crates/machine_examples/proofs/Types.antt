@@ -34,7 +34,7 @@ pub one_type : (type : List ℕ) → IsFieldDescriptor type → All IsFieldDescr
 one_type type is = All-cons IsFieldDescriptor type [] is no_types
 
 -- the units of a descriptor by its parameters and its result
-pub units_by : (parameters : List (List ℕ)) (outcome : List ℕ) → All IsFieldDescriptor parameters → leb (sum_by units_of parameters) 255 ≡ true → (outcome ≡ codes "V") ⊎ IsFieldDescriptor outcome
+abbrev pub units_by : (parameters : List (List ℕ)) (outcome : List ℕ) → All IsFieldDescriptor parameters → leb (sum_by units_of parameters) 255 ≡ true → (outcome ≡ codes "V") ⊎ IsFieldDescriptor outcome
     → HasDescriptorUnits (40 ∷ (flat_map (λ (p : List ℕ). p) parameters ++ 41 ∷ outcome)) (flat_map kinds_of parameters) (kinds_of outcome)
 units_by parameters outcome each few outcome_is = record {
   is = record { parameters = parameters; outcome = outcome; spelled = refl; each = each; units = leb-true _ _ few; outcome_is = outcome_is };
@@ -87,11 +87,11 @@ all_contained test xs x h there = All-contains (λ y. test y ≡ true) xs x (All
 super_there : (names : List (List ℕ)) (o : Option (List ℕ)) (super : List ℕ) → super_among names o ≡ true → o ≡ Some super → among names super ≡ true
 super_there names o super h e = subst (λ (q : Option (List ℕ)). super_among names q ≡ true) e h
 
-direct_among : (names : List (List ℕ)) (c : Class) (super : List ℕ) → super_among names c.super_class ≡ true → list_all (among names) c.interfaces ≡ true → IsDirectSuper c super → among names super ≡ true
+pub direct_among : (names : List (List ℕ)) (c : Class) (super : List ℕ) → super_among names c.super_class ≡ true → list_all (among names) c.interfaces ≡ true → IsDirectSuper c super → among names super ≡ true
 direct_among names c super h k (inl e) = super_there names c.super_class super h e
 direct_among names c super h k (inr there) = all_contained (among names) c.interfaces super k there
 
-stays_among : (p : Program) (names : List (List ℕ)) → closed_up names p ≡ true → (above name : List ℕ) → IsSubtype p above name → among names name ≡ true → among names above ≡ true
+pub stays_among : (p : Program) (names : List (List ℕ)) → closed_up names p ≡ true → (above name : List ℕ) → IsSubtype p above name → among names name ≡ true → among names above ≡ true
 stays_among p names up above _ (same name e) h = subst (λ (n : List ℕ). among names n ≡ true) e h
 stays_among p names up above _ (below name c super named direct more) h =
     let is : c.name ≡ name = (bytes_eq-Decides c.name name).0 (found_passes (λ (d : Class). bytes_eq d.name name) p.classes c named) in

@@ -9,9 +9,11 @@ use Rattle.jvm_model.specs.declared.class_file.Member.{Member}
 use Rattle.jvm_model.specs.declared.code.Handler.{Handler}
 use Rattle.jvm_model.specs.declared.pool.PoolEntry.{PoolEntry}
 use Rattle.jvm_model.specs.declared.pool.PoolEntry.TheVariants.{Utf8, Class}
+use Rattle.jvm_model.specs.declared.program.NamedClass.{NamedClass}
 use Rattle.jvm_model.specs.declared.program.Origin.{Origin}
 use Rattle.jvm_model.specs.declared.program.Origin.TheVariants.{Folder, Stub}
 use Rattle.jvm_model.specs.declared.stub.StubArgument.{StubArgument}
+use Rattle.jvm_model.specs.declared.stub.StubClass.{StubClass}
 use Rattle.jvm_model.specs.declared.stub.StubField.{StubField}
 use Rattle.jvm_model.specs.declared.stub.StubMethod.{StubMethod}
 use Rattle.jvm_model.specs.declared.stub.StubResult.{StubResult}
@@ -45,17 +47,18 @@ abbrev pub method : (flags name descriptor : ℕ) → CodeBody → Member
 method flags name descriptor k = record { flags = flags; name = name; descriptor = descriptor; attributes = record { name = 1; body = spell_code k } ∷ [] }
 
 -- A method without code.
-abbrev pub abstract_method : (flags name descriptor : ℕ) → Member
-abstract_method flags name descriptor = record { flags = flags; name = name; descriptor = descriptor; attributes = [] }
+abbrev pub without_code : (flags name descriptor : ℕ) → Member
+without_code flags name descriptor = record { flags = flags; name = name; descriptor = descriptor; attributes = [] }
 
 abbrev pub field : (flags name descriptor : ℕ) → Member
 field flags name descriptor = record { flags = flags; name = name; descriptor = descriptor; attributes = [] }
 
 -- A class by its constant pool, whose first entries are those above, its flags, the indices of its superinterfaces, and its members.
+-- Of its version a code needs no attribute for its branches (JVMS 4.7.4, 4.10).
 abbrev pub class_with : List PoolEntry → (flags : ℕ) → (interfaces : List ℕ) → (fields methods : List Member) → ClassFile
 class_with pool flags interfaces fields methods = record {
   minor = 0;
-  major = 52;
+  major = 49;
   pool = pool;
   flags = flags;
   this_class = 3;
@@ -66,9 +69,12 @@ class_with pool flags interfaces fields methods = record {
   attributes = [];
 }
 
--- It comes from a file of the folder, and no patch describes a method of it.
+-- It comes from a file of the folder, and patches describe native methods of it, or none.
+abbrev pub in_folder_with : List ℕ → ClassFile → List StubMethod → Origin
+in_folder_with file c natives = Folder (record { file = file; class = c }) natives
+
 abbrev pub in_folder : List ℕ → ClassFile → Origin
-in_folder file c = Folder (record { file = file; class = c }) []
+in_folder file c = in_folder_with file c []
 
 -- ---- stubs
 
@@ -108,6 +114,23 @@ library name super methods fields = Stub (record {
 -- A class of which nothing is said but its superclass.
 abbrev pub library_class : (name super : List ℕ) → Origin
 library_class name super = library name super [] []
+
+-- ---- programs
+
+-- The class files and the stubs that classes come from.
+abbrev pub files_of : List Origin → List NamedClass
+files_of [] = []
+files_of (Folder f natives ∷ others) = f ∷ files_of others
+files_of (Stub c ∷ others) = files_of others
+
+abbrev pub stubs_of : List Origin → List StubClass
+stubs_of [] = []
+stubs_of (Folder f natives ∷ others) = stubs_of others
+stubs_of (Stub c ∷ others) = c ∷ stubs_of others
+
+-- A patch that describes methods of a class.
+abbrev pub patch : List ℕ → List StubMethod → StubClass
+patch name methods = record { file = codes "-"; name = name; super_class = []; interfaces = []; is_interface = false; is_patch = true; methods = methods; fields = [] }
 
 -- ---- what is run
 

@@ -6,7 +6,7 @@ use Rattle.jvm_model.specs.declared.class_file.ClassFile.{ClassFile}
 use Rattle.jvm_model.specs.declared.pool.PoolEntry.{PoolEntry}
 use Rattle.jvm_model.specs.declared.pool.PoolEntry.TheVariants.{Utf8, Class, Fieldref, Methodref, InterfaceMethodref, NameAndType}
 use Rattle.jvm_model.specs.declared.program.Origin.{Origin}
-use Rattle.jvm_model.specs.declared.stub.StubArgument.TheVariants.{Argument}
+use Rattle.jvm_model.specs.declared.stub.StubArgument.TheVariants.{This, Argument}
 use Rattle.jvm_model.specs.declared.stub.StubMethod.{StubMethod}
 use Rattle.jvm_model.specs.declared.stub.StubResult.TheVariants.{Primitive, Void, Null, Given, New, Kept}
 use Rattle.jvm_model.specs.Code.{CodeBody}
@@ -14,7 +14,7 @@ use Rattle.jvm_model.specs.Linking.{program_from}
 use Rattle.jvm_model.specs.Programs.{Program, object_name}
 use Rattle.jvm_model.specs.Soundness.{plain_descriptor}
 use Rattle.bytecode_machine.specs.Objects.{Subject, string_name}
-use Rattle.machine_examples.specs.Building.{code, handler, pool_of, method, abstract_method, class_with, in_folder, described_with, gives, gives_static, holding, library, library_class, run_of}
+use Rattle.machine_examples.specs.Building.{code, handler, pool_of, method, without_code, field, class_with, in_folder, described_with, gives, gives_static, holding, library, library_class, run_of}
 
 -- ---- the classes of the folder
 
@@ -29,9 +29,9 @@ closing_pool = pool_of (codes "Closing") object_name (
     ∷ Utf8 (codes "shut")  -- 8
     ∷ [])
 
--- An interface: `close` is abstract, and `shut` is not.
+-- An interface: `close` is abstract, and `shut` is not, which the version 52 allows (JVMS 4.6).
 abbrev pub closing_class : ClassFile
-closing_class = class_with closing_pool 0x601 [] [] (abstract_method 0x401 6 7 ∷ method 1 8 7 only_returns ∷ [])
+closing_class = record (class_with closing_pool 0x601 [] [] (without_code 0x401 6 7 ∷ method 1 8 7 only_returns ∷ [])) { major = 52 }
 
 abbrev pub door_pool : List PoolEntry
 door_pool = pool_of (codes "Door") object_name (
@@ -120,6 +120,26 @@ main_pool = pool_of (codes "Main") object_name (
     ∷ Methodref 28 57  -- 58: House.fail
     ∷ Utf8 (codes "java/lang/Exception")  -- 59
     ∷ Class 59  -- 60
+    ∷ Utf8 (codes "<init>")  -- 61
+    ∷ NameAndType 61 7  -- 62
+    ∷ Methodref 5 62  -- 63: the constructor of Object
+    ∷ InterfaceMethodref 18 25  -- 64: Closing.hashCode
+    ∷ Methodref 13 21  -- 65: Door.shut
+    ∷ Utf8 (codes "make")  -- 66
+    ∷ Utf8 (codes "()Llib/House;")  -- 67
+    ∷ NameAndType 66 67  -- 68
+    ∷ Methodref 28 68  -- 69: House.make
+    ∷ Utf8 (codes "pick")  -- 70
+    ∷ Utf8 (codes "(JLDoor;)LDoor;")  -- 71
+    ∷ NameAndType 70 71  -- 72
+    ∷ Methodref 28 72  -- 73: House.pick
+    ∷ Utf8 (codes "me")  -- 74
+    ∷ NameAndType 74 67  -- 75
+    ∷ Methodref 28 75  -- 76: House.me
+    ∷ Utf8 (codes "title")  -- 77
+    ∷ Utf8 (codes "Ljava/lang/String;")  -- 78
+    ∷ NameAndType 77 78  -- 79
+    ∷ Fieldref 3 79  -- 80: Main.title, static
     ∷ [])
 
 -- `same` returns its number.
@@ -129,13 +149,13 @@ same_number = code 1 1 (
     ∷ 172  -- 1: ireturn
     ∷ []) []
 
--- `main` and `same` are static.
+-- `main` and `same` are static, and so is the field `title`.
 abbrev pub main_class : CodeBody → ClassFile
-main_class k = class_with main_pool 0x21 [] [] (method 9 6 7 k ∷ method 9 8 9 same_number ∷ [])
+main_class k = class_with main_pool 0x21 [] (field 9 77 78 ∷ []) (method 9 6 7 k ∷ method 9 8 9 same_number ∷ [])
 
 -- ---- the library
 
--- The methods of a house, which are static.
+-- The methods of a house, which are static but for the last two.
 abbrev pub house_methods : List StubMethod
 house_methods =
     gives_static (codes "count") (codes "()I") Primitive
@@ -146,18 +166,22 @@ house_methods =
     ∷ described_with true (codes "put") (codes "(LDoor;)V") (Void ∷ []) [] (Argument 1 ∷ [])
     ∷ gives_static (codes "take") (codes "()LDoor;") Kept
     ∷ described_with true (codes "fail") plain_descriptor [] (codes "java/lang/Exception" ∷ []) []
+    ∷ gives_static (codes "make") (codes "()Llib/House;") (New (codes "lib/House"))
+    ∷ gives (codes "pick") (codes "(JLDoor;)LDoor;") (Given (Argument 2))
+    ∷ gives (codes "me") (codes "()Llib/House;") (Given This)
     ∷ []
 
 abbrev pub house : Origin
 house = library (codes "lib/House") object_name house_methods (holding (codes "gate") (codes "LDoor;") (codes "Gate") ∷ [])
 
 abbrev pub object : Origin
-object = library object_name [] (gives (codes "hashCode") (codes "()I") Primitive ∷ []) []
+object = library object_name [] (gives (codes "hashCode") (codes "()I") Primitive ∷ gives (codes "<init>") plain_descriptor Void ∷ []) []
 
 -- ---- the program
 
-abbrev pub program_with : CodeBody → Program
-program_with k = program_from (
+-- The classes in byte order of their names.
+abbrev pub order : CodeBody → List Origin
+order k =
     in_folder (codes "Closing.class") closing_class
     ∷ in_folder (codes "Door.class") door_class
     ∷ in_folder (codes "Gate.class") gate_class
@@ -167,7 +191,10 @@ program_with k = program_from (
     ∷ library_class string_name object_name
     ∷ library_class (codes "java/lang/Throwable") object_name
     ∷ house
-    ∷ [])
+    ∷ []
+
+abbrev pub program_with : CodeBody → Program
+program_with k = program_from (order k)
 
 -- `main` is run, whose number is 4. Doors are closed once.
 abbrev pub runs : CodeBody → Subject
@@ -270,3 +297,60 @@ fails = code 1 0 (
     ∷ 87  -- 4: pop
     ∷ 177  -- 5: return
     ∷ []) (handler 0 3 4 60 ∷ [])  -- from 0 to 3, java/lang/Exception: 4
+
+-- ---- more calls
+
+-- An object is made, and its constructor is called.
+abbrev pub creates : CodeBody
+creates = code 2 0 (
+    187 ∷ 0 ∷ 5  -- 0: new Object
+    ∷ 89  -- 3: dup
+    ∷ 183 ∷ 0 ∷ 63  -- 4: invokespecial Object.<init>
+    ∷ 87  -- 7: pop
+    ∷ 177  -- 8: return
+    ∷ []) []
+
+-- A method of java/lang/Object is called as one of the interface.
+abbrev pub hashes_gate : CodeBody
+hashes_gate = code 1 0 (
+    178 ∷ 0 ∷ 32  -- 0: getstatic House.gate
+    ∷ 185 ∷ 0 ∷ 64 ∷ 1 ∷ 0  -- 3: invokeinterface Closing.hashCode
+    ∷ 87  -- 8: pop
+    ∷ 177  -- 9: return
+    ∷ []) []
+
+-- The interface's method is called as one of the class.
+abbrev pub shuts_door : CodeBody
+shuts_door = code 1 0 (
+    178 ∷ 0 ∷ 32  -- 0: getstatic House.gate
+    ∷ 182 ∷ 0 ∷ 65  -- 3: invokevirtual Door.shut
+    ∷ 177  -- 6: return
+    ∷ []) []
+
+-- The second argument is given back, after a receiver and a long.
+abbrev pub picks : CodeBody
+picks = code 4 0 (
+    184 ∷ 0 ∷ 69  -- 0: invokestatic House.make
+    ∷ 10  -- 3: lconst_1
+    ∷ 178 ∷ 0 ∷ 32  -- 4: getstatic House.gate
+    ∷ 182 ∷ 0 ∷ 73  -- 7: invokevirtual House.pick
+    ∷ 87  -- 10: pop
+    ∷ 177  -- 11: return
+    ∷ []) []
+
+abbrev pub gets_me : CodeBody
+gets_me = code 1 0 (
+    184 ∷ 0 ∷ 69  -- 0: invokestatic House.make
+    ∷ 182 ∷ 0 ∷ 76  -- 3: invokevirtual House.me
+    ∷ 87  -- 6: pop
+    ∷ 177  -- 7: return
+    ∷ []) []
+
+-- ---- a static field of type String
+
+abbrev pub reads_title : CodeBody
+reads_title = code 1 0 (
+    178 ∷ 0 ∷ 80  -- 0: getstatic Main.title
+    ∷ 87  -- 3: pop
+    ∷ 177  -- 4: return
+    ∷ []) []

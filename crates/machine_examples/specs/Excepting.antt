@@ -64,8 +64,9 @@ main_class k = class_with main_pool 0x21 [] [] (method 9 6 7 k ∷ method 9 8 7 
 abbrev pub alarm : Origin
 alarm = library (codes "lib/Alarm") object_name [] (holding (codes "fire") (codes "Ljava/lang/Exception;") (codes "java/lang/Exception") ∷ [])
 
-abbrev pub program_with : CodeBody → Program
-program_with k = program_from (
+-- The classes in byte order of their names.
+abbrev pub order : CodeBody → List Origin
+order k =
     in_folder (codes "Main.class") (main_class k)
     ∷ library_class (codes "java/lang/Error") (codes "java/lang/Throwable")
     ∷ library_class (codes "java/lang/Exception") (codes "java/lang/Throwable")
@@ -73,7 +74,10 @@ program_with k = program_from (
     ∷ library_class string_name object_name
     ∷ library_class (codes "java/lang/Throwable") object_name
     ∷ alarm
-    ∷ [])
+    ∷ []
+
+abbrev pub program_with : CodeBody → Program
+program_with k = program_from (order k)
 
 abbrev pub runs : CodeBody → Subject
 runs k = run_of (program_with k) 0 (codes "lib/Alarm")

@@ -5,6 +5,7 @@ use Rattle.std.specs.Prelude.{codes, ℕ, List, [], ◌∷◌}
 use Rattle.jvm_model.specs.declared.class_file.ClassFile.{ClassFile}
 use Rattle.jvm_model.specs.declared.pool.PoolEntry.{PoolEntry}
 use Rattle.jvm_model.specs.declared.pool.PoolEntry.TheVariants.{Utf8, Class, Fieldref, Methodref, NameAndType}
+use Rattle.jvm_model.specs.declared.program.Origin.{Origin}
 use Rattle.jvm_model.specs.Code.{CodeBody}
 use Rattle.jvm_model.specs.Linking.{program_from}
 use Rattle.jvm_model.specs.Programs.{Program, object_name}
@@ -71,6 +72,7 @@ main_pool = pool_of (codes "Main") object_name (
     ∷ Fieldref 10 18  -- 19: Ready.size
     ∷ Utf8 (codes "Late")  -- 20
     ∷ Class 20  -- 21
+    ∷ Fieldref 21 18  -- 22: Late.size
     ∷ [])
 
 abbrev pub main_class : CodeBody → ClassFile
@@ -80,8 +82,9 @@ main_class k = class_with main_pool 0x21 [] [] (method 9 6 7 k ∷ method 8 8 7 
 abbrev pub late_class : ClassFile
 late_class = class_with (pool_of (codes "Late") (codes "Ready") []) 0x21 [] [] []
 
-abbrev pub program_with : CodeBody → Program
-program_with k = program_from (
+-- The classes in byte order of their names.
+abbrev pub order : CodeBody → List Origin
+order k =
     in_folder (codes "Broken.class") broken_class
     ∷ in_folder (codes "Late.class") late_class
     ∷ in_folder (codes "Main.class") (main_class k)
@@ -91,7 +94,10 @@ program_with k = program_from (
     ∷ library_class string_name object_name
     ∷ library_class (codes "java/lang/Throwable") object_name
     ∷ alarm
-    ∷ [])
+    ∷ []
+
+abbrev pub program_with : CodeBody → Program
+program_with k = program_from (order k)
 
 -- `main` has the number 1.
 abbrev pub runs : CodeBody → Subject
@@ -122,6 +128,14 @@ calls_ready = code 1 0 (
 abbrev pub reads_ready : CodeBody
 reads_ready = code 1 0 (
     178 ∷ 0 ∷ 19  -- 0: getstatic Ready.size
+    ∷ 87  -- 3: pop
+    ∷ 177  -- 4: return
+    ∷ []) []
+
+-- The field of Ready is read as one of Late.
+abbrev pub reads_late : CodeBody
+reads_late = code 1 0 (
+    178 ∷ 0 ∷ 22  -- 0: getstatic Late.size
     ∷ 87  -- 3: pop
     ∷ 177  -- 4: return
     ∷ []) []

@@ -4,3 +4,4 @@ pub mod Within
 pub mod Calling
 pub mod Excepting
 pub mod Initialising
+pub mod Patching

@@ -53,9 +53,12 @@ box =
     library (codes "lib/Box") object_name (gives (codes "close") (codes "()V") Void ∷ [])
     (holding (codes "it") (codes "Llib/Box;") (codes "lib/Box") ∷ instance_field (codes "next") (codes "Llib/Box;") ∷ instance_field (codes "count") (codes "I") ∷ [])
 
+-- The classes in byte order of their names.
+abbrev pub order : (descriptor : ℕ) → CodeBody → List Origin
+order descriptor k = in_folder (codes "Main.class") (main_class descriptor k) ∷ library_class object_name [] ∷ library_class string_name object_name ∷ box ∷ []
+
 abbrev pub program_with : (descriptor : ℕ) → CodeBody → Program
-program_with descriptor k =
-    program_from (in_folder (codes "Main.class") (main_class descriptor k) ∷ library_class object_name [] ∷ library_class string_name object_name ∷ box ∷ [])
+program_with descriptor k = program_from (order descriptor k)
 
 -- `main` of ()V, with a code, is run.
 abbrev pub runs : CodeBody → Subject

@@ -3,8 +3,9 @@
 ghost use Rattle.std.specs.Prelude.{codes, ◌≡◌, [], ◌∷◌};
 ghost use Rattle.jvm_model.specs.declared.site.SiteKind.TheVariants.{Result, Thrown};
 ghost use Rattle.bytecode_machine.specs.States.{primitive_value, null_value, reference_to, ended};
-ghost use Rattle.machine_examples.specs.Calling.{runs, calls_same, closes, closes_by_interface, shuts, hashes, counts, rings, gets_none, gets_same, gets_fresh, keeps, fails};
-ghost use Rattle.machine_examples.specs.Taking.{Takes, Shows, HasObject, InState, Entering, GettingResult, GettingException, Returning, EnteringEntry, Ending, Catching};
+ghost use Rattle.machine_examples.specs.Calling.{runs, calls_same, closes, closes_by_interface, shuts, hashes, counts, rings, gets_none, gets_same, gets_fresh, keeps, fails, creates, hashes_gate, shuts_door, picks, gets_me, reads_title};
+ghost use Rattle.machine_examples.specs.Patching.{calls_native};
+ghost use Rattle.machine_examples.specs.Taking.{Takes, Shows, HasObject, InState, Advancing, Entering, GettingResult, GettingException, Returning, EnteringEntry, Ending, Catching};
 
 /// The start calls the entry.
 pub fn the_entry_is_called()
@@ -105,4 +106,44 @@ pub fn a_described_method_throws()
 /// The caller catches it: the handler has the object as its only operand.
 pub fn its_exception_is_caught()
     ensures { Takes (runs fails) (λ s t. Catching (runs fails) 3 (codes "java/lang/Exception") s t × Shows 4 (reference_to 3 ∷ []) t) }
+{}
+
+/// A constructor is called, on an object that was made: it is searched from the class that is named.
+pub fn a_constructor_is_called()
+    ensures { Takes (runs creates) (λ s t. GettingResult (runs creates) (codes "invokespecial") (codes "java/lang/Object") (codes "<init>") s t × Shows 7 (reference_to 3 ∷ []) t) }
+{}
+
+/// A method of java/lang/Object is called as one of an interface.
+pub fn a_method_of_object_is_called_through_an_interface()
+    ensures { Takes (runs hashes_gate) (λ s t. GettingResult (runs hashes_gate) (codes "invokeinterface") (codes "java/lang/Object") (codes "hashCode") s t × Shows 8 (primitive_value ∷ []) t) }
+{}
+
+/// A method of an interface that is not abstract is called as one of a class that does not declare it.
+pub fn a_default_is_called_on_a_class()
+    ensures { Takes (runs shuts_door) (λ s t. Entering (runs shuts_door) (codes "invokevirtual") (codes "Closing") (codes "shut") s t × Shows 0 (reference_to 2 ∷ []) t) }
+{}
+
+/// A described method gives its second argument back, which stands after the receiver and the two units of a long.
+pub fn an_argument_after_a_long_is_given_back()
+    ensures { Takes (runs picks) (λ s t. GettingResult (runs picks) (codes "invokevirtual") (codes "lib/House") (codes "pick") s t × Shows 10 (reference_to 2 ∷ []) t) }
+{}
+
+/// It gives its receiver back.
+pub fn a_receiver_is_given_back()
+    ensures { Takes (runs gets_me) (λ s t. GettingResult (runs gets_me) (codes "invokevirtual") (codes "lib/House") (codes "me") s t × Shows 6 (reference_to 3 ∷ []) t) }
+{}
+
+/// A native method is called, which a patch describes.
+pub fn a_native_method_is_called()
+    ensures { Takes calls_native (λ s t. GettingResult calls_native (codes "invokestatic") (codes "Main") (codes "ping") s t × Shows 3 (primitive_value ∷ []) t) }
+{}
+
+/// A static field of type String begins with null.
+pub fn a_string_begins_with_null()
+    ensures { Takes (runs reads_title) (λ s t. Advancing (runs reads_title) (codes "getstatic") s t × Shows 3 (null_value ∷ []) t) }
+{}
+
+/// Or with a string, since it may have a constant value.
+pub fn a_string_begins_with_a_constant()
+    ensures { Takes (runs reads_title) (λ s t. Advancing (runs reads_title) (codes "getstatic") s t × Shows 3 (reference_to 0 ∷ []) t) }
 {}

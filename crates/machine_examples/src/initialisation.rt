@@ -4,7 +4,7 @@ ghost use Rattle.std.specs.Prelude.{codes, ◌≡◌, [], ◌∷◌};
 ghost use Rattle.jvm_model.specs.declared.site.SiteKind.TheVariants.{New, Thrown};
 ghost use Rattle.bytecode_machine.specs.States.{throwing};
 ghost use Rattle.bytecode_machine.specs.Start.{start_frame};
-ghost use Rattle.machine_examples.specs.Initialising.{runs, initialiser_name, makes_ready, makes_late, calls_ready, reads_ready, makes_broken};
+ghost use Rattle.machine_examples.specs.Initialising.{runs, initialiser_name, makes_ready, makes_late, calls_ready, reads_ready, reads_late, makes_broken};
 ghost use Rattle.machine_examples.specs.Taking.{Takes, Shows, RunsIn, HasObject, Advancing, Unwinding, Starting, Resuming, Wrapping, Denying};
 
 /// An initialiser starts at `new`. The initialisers of the program are those of the methods 0, 2 and 3: of Broken, Main and Ready.
@@ -35,6 +35,11 @@ pub fn an_initialiser_starts_at_a_call()
 /// It starts where a static field is read.
 pub fn an_initialiser_starts_at_a_field()
     ensures { Takes (runs reads_ready) (λ s t. Starting (runs reads_ready) (codes "Ready") s t × RunsIn (runs reads_ready) (codes "Ready") initialiser_name t) }
+{}
+
+/// Where a class inherits the field, it is the initialiser of the class that declares it.
+pub fn an_initialiser_starts_at_an_inherited_field()
+    ensures { Takes (runs reads_late) (λ s t. Starting (runs reads_late) (codes "Ready") s t × RunsIn (runs reads_late) (codes "Ready") initialiser_name t) }
 {}
 
 /// It starts at the call of the entry, before the entry.

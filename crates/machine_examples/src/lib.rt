@@ -5,4 +5,5 @@
 pub mod calls;
 pub mod exceptions;
 pub mod initialisation;
+pub mod linked;
 pub mod within;
