@@ -1,20 +1,20 @@
-mod Runs
-mod Facts
-mod Types
-mod Searches
-mod CallSteps
-mod Throws
-mod WithinStart
-mod WithinRuns
-mod WithinArrays
-mod WithinTests
-mod CallStart
-mod CallRuns
-mod CallResults
-mod CallEnds
-mod CallMore
-mod CallChoices
-mod ExceptionRuns
-mod Initialisers
-mod InitialiserRuns
-mod LinkTests
+pub mod Runs
+pub mod Facts
+pub mod Types
+pub mod Searches
+pub mod CallSteps
+pub mod Throws
+pub mod WithinStart
+pub mod WithinRuns
+pub mod WithinArrays
+pub mod WithinTests
+pub mod CallStart
+pub mod CallRuns
+pub mod CallResults
+pub mod CallEnds
+pub mod CallMore
+pub mod CallChoices
+pub mod ExceptionRuns
+pub mod Initialisers
+pub mod InitialiserRuns
+pub mod LinkTests

@@ -11,29 +11,33 @@ use Rattle.bytecode_machine.specs.Described.{DescribedMethod, kept_by}
 use Rattle.bytecode_machine.specs.Objects.{Subject}
 use Rattle.bytecode_machine.specs.States.{Value, primitive_value, Frame, World, State, runs_on, throws_on, ends_with, moved_to, waiting, with_object, new_object, site_at}
 use Rattle.node_machine.specs.Nodes.{StandsAt}
-use Rattle.node_machine.specs.NodeSteps.{AtNode, Calls, call_units, Resumes, Ends, is_selecting_kind, enters, gets_result, gets_exception}
-use Rattle.node_machine.specs.Slots.{argument_slots, returned_value}
+use Rattle.node_machine.specs.NodeSteps.{AtNode, Calls, Resumes, Ends, is_selecting_kind, enters, gets_result, gets_exception}
+use Rattle.node_machine.specs.Slots.{argument_values, argument_slots, returned_value}
 use Rattle.machine_laws.specs.Progress.{CanGive, HasOutcome, by_result, by_exception}
 use Rattle.machine_laws.proofs.ProgressCalls.{SomeGiven, gives}
 use Rattle.machine_laws.proofs.ProgressDecided.{DecidesSubtypes, AfterEvents, after_events}
-use Rattle.node_laws.specs.Progress.{GoesOn, HasSuccessor, IsGiven, HasCallTarget, IsCallable, GoesInto, Answers, Fails, ReturnsTo}
+use Rattle.node_laws.specs.Progress.{GoesOn, HasSuccessor, IsGiven, HasCallTarget, InMethod, IsCallable, GoesInto, Answers, Fails, ReturnsTo}
 use Rattle.node_laws.proofs.Slots.{some_left}
 
 -- the newest frame stands at a call with a target
 pub record HasCall (x : Subject) (given : Given) (s : State) : Type 0 where
   pub at : AtNode x given s
+  pub number : ℕ
+  pub in_method : at.frame.method ≡ Some number
   pub call : NodeCall
   pub is_call : at.now.node.op ≡ Call call
-  pub to : HasCallTarget x s.world call (call_units x at.frame call)
+  pub to : HasCallTarget x s.world call (argument_values call.arguments at.frame.slots)
 
 abbrev units_of : (x : Subject) (given : Given) (s : State) → HasCall x given s → List Value
-units_of x given s h = call_units x h.at.frame h.call
+units_of x given s h = argument_values h.call.arguments h.at.frame.slots
 
 abbrev After : (x : Subject) (given : Given) (s : State) → HasCall x given s → Type 0
 After x given s h = AfterEvents x (is_selecting_kind h.call.kind) (record { name = h.call.name; descriptor = h.call.descriptor }) (units_of x given s h) s.world
 
 abbrev calls_by : (x : Subject) (given : Given) (s : State) (h : HasCall x given s) → After x given s h → Calls x given s h.at
 calls_by x given s h e = record {
+  number = h.number;
+  in_method = h.in_method;
   call = h.call;
   is_call = h.is_call;
   resolved = h.to.resolved;
@@ -121,13 +125,13 @@ by_outcome x decides given s h next (by_exception d place class listed) =
     record { next = f.next; step = gets_exception h.at f.step }
 
 pub calls : (x : Subject) → DecidesSubtypes x.program → (given : Given) (s : State) (at : AtNode x given s) (call : NodeCall) → at.now.node.op ≡ Call call
-    → IsCallable x given s.world call (call_units x at.frame call) at.now.node.successors → GoesOn x given s
-calls x decides given s at call is c = by c.callable
+    → InMethod at.frame → IsCallable x given s.world call (argument_values call.arguments at.frame.slots) at.now.node.successors → GoesOn x given s
+calls x decides given s at call is inside c = by c.callable
   where
     h : HasCall x given s
-    h = record { at = at; call = call; is_call = is; to = c.to }
+    h = record { at = at; number = inside.0; in_method = inside.1; call = call; is_call = is; to = c.to }
 
-    by : IsGiven given c.to.target ⊎ (HasOutcome x c.to.target (call_units x at.frame call) s.world × HasSuccessor at.now.node.successors) → GoesOn x given s
+    by : IsGiven given c.to.target ⊎ (HasOutcome x c.to.target (argument_values call.arguments at.frame.slots) s.world × HasSuccessor at.now.node.successors) → GoesOn x given s
     by (inl m) = let e = enters_target x decides given s h m in record { next = e.next; step = enters at e.step }
     by (inr o) = by_outcome x decides given s h o.1 o.0
 

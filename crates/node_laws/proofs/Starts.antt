@@ -1,100 +1,34 @@
 -- The start of the program, and initialisers.
-use Rattle.std.proofs.Common.{◌≡◌, ℕ, true, false, List, [], ◌∷◌, Option, Some, None, refl, sym, ap, ◌∙◌, subst, arith}
+use Rattle.std.proofs.Common.{◌≡◌, ℕ, true, false, List, [], ◌∷◌, Option, Some, None, refl, sym, ap, subst}
 use Rattle.std.specs.List.{slice_get, Contains, find}
-use Rattle.std.specs.Option.{option_map_or}
 use Rattle.std.specs.Prelude.{nat_eq}
-use Rattle.std.proofs.lemmas.Option.{none-some}
 use Rattle.jvm_model.specs.declared.number.ClassNo.{ClassNo}
-use Rattle.jvm_model.specs.Lookups.{Signature}
 use Rattle.jvm_model.specs.Programs.{Method}
 use Rattle.op_model.specs.declared.node.Node.{Node}
-use Rattle.op_model.specs.declared.op.Call.{Call as NodeCall}
-use Rattle.op_model.specs.declared.op.CallKind.TheVariants.{Static}
 use Rattle.op_model.specs.declared.op.Op.TheVariants.{Return}
 use Rattle.op_model.specs.Supplies.{Given}
-use Rattle.bytecode_machine.specs.Events.{HasEvents, unmoved}
 use Rattle.bytecode_machine.specs.Machine.{AtStart, IsInitialiser}
 use Rattle.bytecode_machine.specs.Objects.{Subject}
 use Rattle.bytecode_machine.specs.Start.{arguments_of, start_frame, IsFirst}
-use Rattle.bytecode_machine.specs.States.{Value, Frame, World, State, runs_on, waiting, with_started}
+use Rattle.bytecode_machine.specs.States.{Frame, State, runs_on, waiting, with_started}
 use Rattle.node_machine.specs.Nodes.{IsClassNumber, AreStartNodes, StandsAt, of_start}
-use Rattle.node_machine.specs.NodeSteps.{AtNode, Calls, EntersTarget, Ends, call_units, units_by, start_arguments}
-use Rattle.node_machine.specs.Slots.{argument_values}
+use Rattle.node_machine.specs.NodeSteps.{AtNode, EntersEntry, Ends}
 use Rattle.node_laws.specs.Progress.{IsGiven, ReturnsTo, StartsOne}
 use Rattle.node_laws.proofs.Calls.{returns_to, ends_it}
 use Rattle.program_laws.proofs.Orders.{first_there}
 
-first_of : (first second : Node) (offset : ℕ) → first.offset ≡ 0 → offset ≡ 0 → find (λ (n : Node). nat_eq n.offset offset) (first ∷ second ∷ []) ≡ Some first
-first_of first second offset e f = rw f (rw e refl)
-
-stands_at_call : (x : Subject) (given : Given) (f : Frame) → f.method ≡ None → f.offset ≡ 0 → (nodes : List Node) → AreStartNodes x nodes → StandsAt x given f
-stands_at_call x given f no_method stands nodes are = record {
-  locals = 0;
-  nodes = nodes;
-  of_method = of_start no_method are refl;
-  node = are.call;
-  is = subst (λ (ns : List Node). find (λ (n : Node). nat_eq n.offset f.offset) ns ≡ Some are.call) (sym are.is)
-      (first_of are.call are.return f.offset are.is_call.offset stands);
-}
-
--- the start's call has the arguments of the entry
-pub units_are : (x : Subject) (f : Frame) (call : NodeCall) (entry : Method) → f.method ≡ None → slice_get x.program.methods x.entry ≡ Some entry
-    → call_units x f call ≡ arguments_of x.program entry
-units_are x f call entry no_method stands =
-    ap (λ (m : Option ℕ). units_by m (argument_values call.arguments f.slots) (start_arguments x)) no_method
-    ∙ ap (λ (m : Option Method). option_map_or (arguments_of x.program) m []) stands
-
--- it is no event
-no_event : (x : Subject) (s : Signature) (units : List Value) (w : World) → HasEvents x false s units w w
-no_event x s units w = unmoved (λ e. let h : false ≡ true = e.selecting in absurd cc) refl
-
-abbrev start_call : (x : Subject) (nodes : List Node) → AreStartNodes x nodes → NodeCall
-start_call x nodes are = record {
-  kind = Static;
-  resolved = record { 0 = x.entry };
-  chosen = Some (record { 0 = x.entry });
-  name = are.is_call.entry.signature.name;
-  descriptor = are.is_call.entry.signature.descriptor;
-  arguments = [];
-  result = None;
-}
-
-abbrev start_calls : (x : Subject) (given : Given) (s : State) (at : AtStart s 0) (nodes : List Node) (are : AreStartNodes x nodes)
-    → (here : AtNode x given s) × Calls x given s here
-unfolding stands_at_call
-start_calls x given s at nodes are =
-    let here : AtNode x given s = record { frame = at.frame; below = at.below; runs = at.runs; frames = at.frames; now = stands_at_call x given at.frame at.no_method at.stands nodes are } in (
-      here,
-      record {
-        call = start_call x nodes are;
-        is_call = are.is_call.op;
-        resolved = are.is_call.entry;
-        stands = are.is_call.stands;
-        target = x.entry;
-        is_target = refl;
-        world = s.world;
-        events = no_event x _ _ s.world;
-      },
-    )
-
-pub enters_it : (x : Subject) (given : Given) (s : State) (at : AtStart s 0) (nodes : List Node) → AreStartNodes x nodes → IsGiven given x.entry
-    → (here : AtNode x given s) × (t : State) × EntersTarget x given s t here
-unfolding start_calls stands_at_call
-enters_it x given s at nodes are m =
-    let c = start_calls x given s at nodes are in
-    let units = call_units x at.frame (start_call x nodes are) in (
-      c.0,
-      runs_on (record { method = Some x.entry; offset = 0; slots = units; waits = false } ∷ waiting at.frame at.frame.slots ∷ at.below) s.world,
-      record {
-        calls = c.1;
-        left = at.frame.slots;
-        are_left = record { given = λ z e. absurd (none-some z e); cleared = λ z among ne. absurd (in_nothing z among); kept = λ z out ne. refl };
-        enters = record { method = m.0; is_given = m.1; slots = units; arguments = λ z. refl; after = refl };
-      },
-    )
-  where
-    in_nothing : (z : ℕ) → Contains [] z → ⊥
-    in_nothing z (k, l, e) = absurd (omega arith)
+pub enters_it : (x : Subject) (given : Given) (s : State) (at : AtStart s 0) (entry : Method) → slice_get x.program.methods x.entry ≡ Some entry → IsGiven given x.entry
+    → (t : State) × EntersEntry x given s t at
+enters_it x given s at entry stands m = (
+  runs_on (record { method = Some x.entry; offset = 0; slots = arguments_of x.program entry; waits = false } ∷ waiting at.frame at.frame.slots ∷ at.below) s.world,
+  record {
+    entry = entry;
+    stands = stands;
+    left = at.frame.slots;
+    are_left = λ z. refl;
+    enters = record { method = m.0; is_given = m.1; slots = arguments_of x.program entry; arguments = λ z. refl; after = refl };
+  },
+)
 
 second_of : (first second : Node) (offset : ℕ) → first.offset ≡ 0 → second.offset ≡ 1 → offset ≡ 1 → find (λ (n : Node). nat_eq n.offset offset) (first ∷ second ∷ []) ≡ Some second
 second_of first second offset e f g = rw g (rw e (rw f refl))
@@ -140,9 +74,11 @@ triggers_go_on x given s at trigger class number is_trigger is_class initialiser
 
 -- ---- the first states, and the return of the entry
 
-pub first_goes_on : (x : Subject) (given : Given) (s : State) → IsFirst x s → (nodes : List Node) → AreStartNodes x nodes → IsGiven given x.entry
-    → (here : AtNode x given s) × (t : State) × EntersTarget x given s t here
-first_goes_on x given s first nodes are m = enters_it x given s at nodes are m
+pub first_goes_on : (x : Subject) (given : Given) (s : State) → IsFirst x s → IsGiven given x.entry
+    → (at : AtStart s 0) × (t : State) × EntersEntry x given s t at
+first_goes_on x given s first m =
+    let e = enters_it x given s at first.entry first.stands m in
+    (at, e.0, e.1)
   where
     at : AtStart s 0
     at = record {
@@ -153,6 +89,19 @@ first_goes_on x given s first nodes are m = enters_it x given s at nodes are m
       no_method = refl;
       stands = refl;
     }
+
+first_of : (first second : Node) (offset : ℕ) → first.offset ≡ 0 → offset ≡ 0 → find (λ (n : Node). nat_eq n.offset offset) (first ∷ second ∷ []) ≡ Some first
+first_of first second offset e f = rw f (rw e refl)
+
+stands_at_call : (x : Subject) (given : Given) (f : Frame) → f.method ≡ None → f.offset ≡ 0 → (nodes : List Node) → AreStartNodes x nodes → StandsAt x given f
+stands_at_call x given f no_method stands nodes are = record {
+  locals = 0;
+  nodes = nodes;
+  of_method = of_start no_method are refl;
+  node = are.call;
+  is = subst (λ (ns : List Node). find (λ (n : Node). nat_eq n.offset f.offset) ns ≡ Some are.call) (sym are.is)
+      (first_of are.call are.return f.offset are.is_call.offset stands);
+}
 
 pub entries_return : (x : Subject) (given : Given) (s : State) (at : AtNode x given s) (value : Option ℕ) → at.now.node.op ≡ Return value
     → (caller : Frame) (rest : List Frame) → at.below ≡ caller ∷ rest → caller.method ≡ None → caller.offset ≡ 0 → caller.waits ≡ true

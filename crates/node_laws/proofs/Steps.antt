@@ -8,7 +8,8 @@ use Rattle.op_model.specs.Supplies.{Given}
 use Rattle.bytecode_machine.specs.Machine.{ThrowsNew}
 use Rattle.bytecode_machine.specs.Objects.{Subject}
 use Rattle.bytecode_machine.specs.States.{Value, Object, Frame, World, State, with_started}
-use Rattle.node_machine.specs.NodeSteps.{AtNode, Leads, Calls, call_units, is_selecting_kind, NodeStep, advances, enters, gets_result, gets_exception, returns, resumes, ends, raises, throws, catches, unwinds, starts, wraps}
+use Rattle.node_machine.specs.NodeSteps.{AtNode, Leads, Calls, is_selecting_kind, NodeStep, advances, enters, gets_result, gets_exception, enters_entry, returns, resumes, ends, raises, throws, catches, unwinds, starts, wraps}
+use Rattle.node_machine.specs.Slots.{argument_values}
 use Rattle.machine_laws.proofs.Described.{keeps_result, keeps_listed, unwound_world, world_of}
 use Rattle.machine_laws.proofs.Errors.{error_stays}
 use Rattle.machine_laws.proofs.Heaps.{Keeps, keeps_all, keeps_same, keeps_on, keeps_made, keeps_arrays, keeps_field, keeps_element, keeps_static, keeps_kept, keeps_started}
@@ -43,12 +44,12 @@ survives x given s t w e keeps place o held =
     record { later = stays.later; held = stays.held; site = stays.site; class = stays.class; automaton = inl stays.automaton }
 
 survives_moved : (x : Subject) (given : Given) (s t : State) (at : AtNode x given s) (c : Calls x given s at) (place : ℕ) (o : Object)
-    → Moves x (is_selecting_kind c.call.kind) (record { name = c.call.name; descriptor = c.call.descriptor }) (call_units x at.frame c.call) s.world t.world place o
+    → Moves x (is_selecting_kind c.call.kind) (record { name = c.call.name; descriptor = c.call.descriptor }) (argument_values c.call.arguments at.frame.slots) s.world t.world place o
     → Survives x given s t place o
 survives_moved x given s t at c place o m = record { later = m.later; held = m.held; site = m.site; class = m.class; automaton = by m.automaton }
   where
     by : (m.later.automaton ≡ o.automaton)
-        ⊎ IsMovedOn x (is_selecting_kind c.call.kind) (record { name = c.call.name; descriptor = c.call.descriptor }) (call_units x at.frame c.call) s.world place o m.later.automaton
+        ⊎ IsMovedOn x (is_selecting_kind c.call.kind) (record { name = c.call.name; descriptor = c.call.descriptor }) (argument_values c.call.arguments at.frame.slots) s.world place o m.later.automaton
         → (m.later.automaton ≡ o.automaton) ⊎ IsMovedBy x given s place o m.later.automaton
     by (inl e) = inl e
     by (inr i) = inr (record { at = at; calls = c; event = i.event; of_place = i.of_place; is = i.is })
@@ -71,6 +72,7 @@ objects_survive x given s t (advances at h) = survives x given s t h.world (worl
 objects_survive x given s t (enters at h) = after_call x given s t at h.calls h.calls.world (world_of t _ h.enters.after) (keeps_all h.calls.world)
 objects_survive x given s t (gets_result at h) = after_call x given s t at h.calls h.world (world_of t _ h.after) (keeps_result x _ _ _ h.calls.world h.value h.world h.gives)
 objects_survive x given s t (gets_exception at h) = after_call x given s t at h.calls h.world (world_of t _ h.after) (keeps_listed x _ _ _ h.calls.world h.thrown h.world h.throws)
+objects_survive x given s t (enters_entry at h) = survives x given s t s.world (world_of t _ h.enters.after) (keeps_all s.world)
 objects_survive x given s t (returns at h) = survives x given s t s.world (world_of t _ h.after) (keeps_all s.world)
 objects_survive x given s t (resumes at h) = survives x given s t s.world (world_of t _ h.after) (keeps_all s.world)
 objects_survive x given s t (ends at h) = survives x given s t s.world (world_of t _ h.after) (keeps_all s.world)

@@ -16,7 +16,8 @@ use Rattle.bytecode_machine.specs.Machine.{exception_class}
 use Rattle.bytecode_machine.specs.Objects.{Subject, Refers, IsOf, IsArrayOf, MayStand, IsConstant, Passes}
 use Rattle.bytecode_machine.specs.States.{Dimension, Value, null_value, Object, Frame, throwing, World, State, slot_at}
 use Rattle.node_machine.specs.Nodes.{IsClassNumber, StandsAt}
-use Rattle.node_machine.specs.NodeSteps.{AtNode, Advances, IsTargetOf, call_units, EntersTarget, GetsResult, GetsException, Returns, Starts, NodeStep}
+use Rattle.node_machine.specs.NodeSteps.{AtNode, Advances, IsTargetOf, EntersTarget, GetsResult, GetsException, Returns, Starts, NodeStep}
+use Rattle.node_machine.specs.Slots.{argument_values}
 use Rattle.machine_laws.specs.Progress.{HasFields, HasOutcome}
 
 -- Some step leaves the state.
@@ -93,6 +94,10 @@ pub record HasCallTarget (x : Subject) (w : World) (call : NodeCall) (units : Li
   pub target : ℕ
   pub is_target : IsTargetOf call.kind x.program call resolved w units target
 
+-- The frame is that of a method: the start calls the entry by a step of its own.
+abbrev pub InMethod : Frame → Type 0
+InMethod f = (number : ℕ) × (f.method ≡ Some number)
+
 -- It is given as nodes, or has a description with an outcome.
 pub record IsCallable (x : Subject) (given : Given) (w : World) (call : NodeCall) (units : List Value) (successors : List ℕ) : Type 0 where
   pub to : HasCallTarget x w call units
@@ -162,7 +167,7 @@ IsReadyOp (StoreStatic field value) x given s at = CanAdvance x given s at
 IsReadyOp (New site target) x given s at = CanAdvance x given s at
 IsReadyOp (NewArray sites target) x given s at = CanAdvance x given s at
 IsReadyOp (Constant site target) x given s at = CanAdvance x given s at
-IsReadyOp (Call call) x given s at = IsCallable x given s.world call (call_units x at.frame call) at.now.node.successors
+IsReadyOp (Call call) x given s at = InMethod at.frame × IsCallable x given s.world call (argument_values call.arguments at.frame.slots) at.now.node.successors
 IsReadyOp (Return value) x given s at = CanReturn x given at.frame at.below
 IsReadyOp (Throw value) x given s at = CanThrow x s.world at.now.node.throws (slot_at at.frame.slots value)
 IsReadyOp (Cast class slot) x given s at = CanAdvance x given s at

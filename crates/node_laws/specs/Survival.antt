@@ -5,14 +5,15 @@ use Rattle.op_model.specs.Supplies.{Given}
 use Rattle.bytecode_machine.specs.Events.{IsEvent}
 use Rattle.bytecode_machine.specs.Objects.{Subject}
 use Rattle.bytecode_machine.specs.States.{Object, State}
-use Rattle.node_machine.specs.NodeSteps.{AtNode, Calls, call_units, is_selecting_kind}
+use Rattle.node_machine.specs.NodeSteps.{AtNode, Calls, is_selecting_kind}
+use Rattle.node_machine.specs.Slots.{argument_values}
 
 -- The state is at a call of a kind that selects by the object's class, its units are an event of the object at a place, and this
 -- is the next state of the object's automaton.
 pub record IsMovedBy (x : Subject) (given : Given) (s : State) (place : ℕ) (o : Object) (next : ℕ) : Type 0 where
   pub at : AtNode x given s
   pub calls : Calls x given s at
-  pub event : IsEvent x (is_selecting_kind calls.call.kind) (record { name = calls.call.name; descriptor = calls.call.descriptor }) (call_units x at.frame calls.call) s.world
+  pub event : IsEvent x (is_selecting_kind calls.call.kind) (record { name = calls.call.name; descriptor = calls.call.descriptor }) (argument_values calls.call.arguments at.frame.slots) s.world
   pub of_place : event.receiver.place ≡ place
   pub is : next ≡ slice_index event.event.next o.automaton
 

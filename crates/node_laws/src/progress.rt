@@ -12,12 +12,12 @@ ghost use Rattle.op_model.specs.Supplies.{Given};
 ghost use Rattle.bytecode_machine.specs.Described.{DescribedMethod};
 ghost use Rattle.bytecode_machine.specs.Machine.{AtStart, Throwing, IsInitialiser};
 ghost use Rattle.bytecode_machine.specs.Objects.{Subject, IsOf, IsArrayOf, MayStand};
-ghost use Rattle.bytecode_machine.specs.Start.{arguments_of};
 ghost use Rattle.bytecode_machine.specs.States.{Frame, State, Value, World, null_value, elements, slot_at, with_contents};
 ghost use Rattle.node_machine.specs.Nodes.{IsClassNumber, AreStartNodes, StandsAt};
-ghost use Rattle.node_machine.specs.NodeSteps.{AtNode, EntersTarget, call_units, Resumes, Ends, Throws, Catches, Unwinds, IsUncaught};
+ghost use Rattle.node_machine.specs.NodeSteps.{AtNode, EntersEntry, Resumes, Ends, Throws, Catches, Unwinds, IsUncaught};
+ghost use Rattle.node_machine.specs.Slots.{argument_values};
 ghost use Rattle.machine_laws.specs.Progress.{CanGive, with_arrays};
-ghost use Rattle.node_laws.specs.Progress.{GoesOn, IsReadyOp, CanLead, GoesTo, GoesToWith, dimensions_for, IsGiven, HasCallTarget, GoesInto, Answers, Fails, ReturnsTo, MayRaise, ThrowsOne, StartsOne};
+ghost use Rattle.node_laws.specs.Progress.{GoesOn, IsReadyOp, CanLead, GoesTo, GoesToWith, dimensions_for, IsGiven, HasCallTarget, InMethod, GoesInto, Answers, Fails, ReturnsTo, MayRaise, ThrowsOne, StartsOne};
 
 /// The machine goes on at a node that has what its operation asks for.
 pub fn running_goes_on()
@@ -48,14 +48,14 @@ pub fn arrays_go_on()
 /// A call enters a target that is given as nodes. Where the target is described, it gives each listed result that can be given,
 /// and goes on at each successor; and it throws each listed exception.
 pub fn calls_go_on()
-    ensures enters { (x : Subject) (given : Given) (s : State) (at : AtNode x given s) (call : NodeCall) → at.now.node.op ≡ Call call
-        → (to : HasCallTarget x s.world call (call_units x at.frame call)) → IsGiven given to.target → GoesInto x given s at to.target }
-    ensures gives { (x : Subject) (given : Given) (s : State) (at : AtNode x given s) (call : NodeCall) → at.now.node.op ≡ Call call
-        → (to : HasCallTarget x s.world call (call_units x at.frame call)) (d : DescribedMethod x to.target) (place : ℕ) (r : StubResult)
-        → slice_get d.stub.returns place ≡ Some r → CanGive x to.target d (call_units x at.frame call) s.world r
+    ensures enters { (x : Subject) (given : Given) (s : State) (at : AtNode x given s) → InMethod at.frame → (call : NodeCall) → at.now.node.op ≡ Call call
+        → (to : HasCallTarget x s.world call (argument_values call.arguments at.frame.slots)) → IsGiven given to.target → GoesInto x given s at to.target }
+    ensures gives { (x : Subject) (given : Given) (s : State) (at : AtNode x given s) → InMethod at.frame → (call : NodeCall) → at.now.node.op ≡ Call call
+        → (to : HasCallTarget x s.world call (argument_values call.arguments at.frame.slots)) (d : DescribedMethod x to.target) (place : ℕ) (r : StubResult)
+        → slice_get d.stub.returns place ≡ Some r → CanGive x to.target d (argument_values call.arguments at.frame.slots) s.world r
         → (successor : ℕ) → Contains at.now.node.successors successor → Answers x given s at to.target place successor }
-    ensures throws { (x : Subject) (given : Given) (s : State) (at : AtNode x given s) (call : NodeCall) → at.now.node.op ≡ Call call
-        → (to : HasCallTarget x s.world call (call_units x at.frame call)) (d : DescribedMethod x to.target) (place : ℕ) (class : List ℕ)
+    ensures throws { (x : Subject) (given : Given) (s : State) (at : AtNode x given s) → InMethod at.frame → (call : NodeCall) → at.now.node.op ≡ Call call
+        → (to : HasCallTarget x s.world call (argument_values call.arguments at.frame.slots)) (d : DescribedMethod x to.target) (place : ℕ) (class : List ℕ)
         → slice_get d.stub.throws place ≡ Some class → Fails x given s at to.target place }
 {}
 
@@ -89,12 +89,10 @@ pub fn throwing_goes_on()
         → ((t : State) × Catches x given s t at) ⊎ ((t : State) × Unwinds x given s t at) }
 {}
 
-/// The start calls an entry that is given as nodes, with its arguments, and after that it ends.
+/// The start calls an entry that is given as nodes, and after that it ends.
 pub fn start_goes_on()
-    ensures calls { (x : Subject) (given : Given) (s : State) → AtStart s 0 → (nodes : List Node) → AreStartNodes x nodes → IsGiven given x.entry
-        → (at : AtNode x given s) × (t : State) × EntersTarget x given s t at }
-    ensures arguments { (x : Subject) (f : Frame) (call : NodeCall) (entry : Method) → f.method ≡ None → slice_get x.program.methods x.entry ≡ Some entry
-        → call_units x f call ≡ arguments_of x.program entry }
+    ensures calls { (x : Subject) (given : Given) (s : State) (at : AtStart s 0) (entry : Method) → slice_get x.program.methods x.entry ≡ Some entry
+        → IsGiven given x.entry → (t : State) × EntersEntry x given s t at }
     ensures ends { (x : Subject) (given : Given) (s : State) → AtStart s 1 → (nodes : List Node) → AreStartNodes x nodes
         → (at : AtNode x given s) × (t : State) × Ends x given s t at }
 {}

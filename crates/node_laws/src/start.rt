@@ -6,11 +6,12 @@ ghost use Rattle.jvm_model.specs.Programs.{Method};
 ghost use Rattle.op_model.specs.declared.node.Node.{Node};
 ghost use Rattle.op_model.specs.declared.op.Op.TheVariants.{Return};
 ghost use Rattle.op_model.specs.Supplies.{Given};
+ghost use Rattle.bytecode_machine.specs.Machine.{AtStart};
 ghost use Rattle.bytecode_machine.specs.Objects.{Subject};
 ghost use Rattle.bytecode_machine.specs.Start.{IsFirst};
 ghost use Rattle.bytecode_machine.specs.States.{Frame, State};
 ghost use Rattle.node_machine.specs.Nodes.{AreStartNodes};
-ghost use Rattle.node_machine.specs.NodeSteps.{AtNode, EntersTarget};
+ghost use Rattle.node_machine.specs.NodeSteps.{AtNode, EntersEntry};
 ghost use Rattle.node_laws.specs.Progress.{IsGiven, ReturnsTo};
 
 /// The start of each program with the entry has its nodes.
@@ -21,8 +22,8 @@ pub fn start_nodes_are_there()
 
 /// From a first state the entry is called, if it is given as nodes.
 pub fn first_states_go_on()
-    ensures { (x : Subject) (given : Given) (s : State) → IsFirst x s → (nodes : List Node) → AreStartNodes x nodes → IsGiven given x.entry
-        → (at : AtNode x given s) × (t : State) × EntersTarget x given s t at }
+    ensures { (x : Subject) (given : Given) (s : State) → IsFirst x s → IsGiven given x.entry
+        → (at : AtStart s 0) × (t : State) × EntersEntry x given s t at }
 {}
 
 /// The return of the entry leads to the second node of the start.

@@ -2,7 +2,6 @@
 -- The steps of nodes, on the states of the machine that runs bytecode. World, mode, offsets, waiting and the frames below are
 -- those of its steps; each successor of a node is open, and each class of which it may throw a new object.
 use Rattle.std.specs.Prelude.{codes, ◌≡◌, ◌⊎◌, ℕ, Bool, true, false, List, [], ◌∷◌, Option, Some, None, Ok, slice_get, Contains}
-use Rattle.std.specs.Option.{option_map_or}
 use Rattle.jvm_model.specs.declared.number.ClassNo.{ClassNo}
 use Rattle.jvm_model.specs.Programs.{Program, Method}
 use Rattle.jvm_model.specs.Subtypes.{Fits}
@@ -18,7 +17,7 @@ use Rattle.op_model.specs.declared.op.Op.TheVariants.{Assign, Load, Store, LoadE
 use Rattle.op_model.specs.Supplies.{Given}
 use Rattle.bytecode_machine.specs.Described.{GivesResult, ThrowsListed}
 use Rattle.bytecode_machine.specs.Events.{HasEvents}
-use Rattle.bytecode_machine.specs.Machine.{SelectsByObject, exception_class, ThrowsNew, Throwing, unwound, IsInitialiser}
+use Rattle.bytecode_machine.specs.Machine.{AtStart, SelectsByObject, exception_class, ThrowsNew, Throwing, unwound, IsInitialiser}
 use Rattle.bytecode_machine.specs.Objects.{Subject, Refers, IsOf, ReadsField, WritesField, ReadsElement, WritesElement, MakesObject, MakesArrays, IsConstant, Passes}
 use Rattle.bytecode_machine.specs.Start.{arguments_of}
 use Rattle.bytecode_machine.specs.States.{Value, primitive_value, null_value, reference_to, Frame, running, World, State, with_static, with_kept, with_started, runs_on, throws_on, ends_with, moved_to, waiting, slot_at}
@@ -87,14 +86,6 @@ pub record Advances (x : Subject) (given : Given) (s t : State) (at : AtNode x g
 
 -- ---- calls
 
--- The arguments of the entry.
-abbrev pub start_arguments : Subject → List Value
-start_arguments x = option_map_or (arguments_of x.program) (slice_get x.program.methods x.entry) []
-
-abbrev pub units_by : Option ℕ → List Value → List Value → List Value
-units_by None of_slots of_start = of_start
-units_by (Some number) of_slots of_start = of_slots
-
 -- The call selects its target by the object's class, so that it may be an event.
 abbrev pub is_selecting_kind : CallKind → Bool
 is_selecting_kind Virtual = true
@@ -109,20 +100,18 @@ IsTargetOf Special p c m w units target = IsOf p m.class w (slot_at units 0) × 
 IsTargetOf Static p c m w units target = c.chosen ≡ Some (record { 0 = target })
 IsTargetOf Interface p c m w units target = SelectsByObject p true m c.resolved.0 w units target
 
--- The units of a call: those of its slots; the start's call has the arguments that are there from the start.
-abbrev pub call_units : Subject → Frame → NodeCall → List Value
-call_units x f call = units_by f.method (argument_values call.arguments f.slots) (start_arguments x)
-
--- A call: its target, and the world after its events.
+-- A call in a method: its target, and the world after its events. The call of the start is a step of its own.
 pub record Calls (x : Subject) (given : Given) (s : State) (at : AtNode x given s) : Type 0 where
+  pub number : ℕ
+  pub in_method : at.frame.method ≡ Some number
   pub call : NodeCall
   pub is_call : at.now.node.op ≡ Call call
   pub resolved : Method
   pub stands : slice_get x.program.methods call.resolved.0 ≡ Some resolved
   pub target : ℕ
-  pub is_target : IsTargetOf call.kind x.program call resolved s.world (call_units x at.frame call) target
+  pub is_target : IsTargetOf call.kind x.program call resolved s.world (argument_values call.arguments at.frame.slots) target
   pub world : World
-  pub events : HasEvents x (is_selecting_kind call.kind) (record { name = call.name; descriptor = call.descriptor }) (call_units x at.frame call) s.world world
+  pub events : HasEvents x (is_selecting_kind call.kind) (record { name = call.name; descriptor = call.descriptor }) (argument_values call.arguments at.frame.slots) s.world world
 
 -- A method is given as nodes, and gets a frame with these units, for which the caller waits.
 pub record Enters (x : Subject) (given : Given) (number : ℕ) (units left : List Value) (caller : Frame) (below : List Frame) (w : World) (t : State) : Type 0 where
@@ -132,19 +121,19 @@ pub record Enters (x : Subject) (given : Given) (number : ℕ) (units left : Lis
   pub arguments : AreSame units slots
   pub after : t ≡ runs_on (record { method = Some number; offset = 0; slots = slots; waits = false } ∷ waiting caller left ∷ below) w
 
--- A call goes to a method that is given as nodes. That of the start goes to the entry.
+-- A call goes to a method that is given as nodes.
 pub record EntersTarget (x : Subject) (given : Given) (s t : State) (at : AtNode x given s) : Type 0 where
   pub calls : Calls x given s at
   pub left : List Value
   pub are_left : AreLeft (argument_slots calls.call.arguments) None primitive_value at.frame.slots left
-  pub enters : Enters x given calls.target (call_units x at.frame calls.call) left at.frame at.below calls.world t
+  pub enters : Enters x given calls.target (argument_values calls.call.arguments at.frame.slots) left at.frame at.below calls.world t
 
 -- A call goes to a described method, which gives a result.
 pub record GetsResult (x : Subject) (given : Given) (s t : State) (at : AtNode x given s) : Type 0 where
   pub calls : Calls x given s at
   pub value : Value
   pub world : World
-  pub gives : GivesResult x calls.target at.frame (call_units x at.frame calls.call) calls.world value world
+  pub gives : GivesResult x calls.target at.frame (argument_values calls.call.arguments at.frame.slots) calls.world value world
   pub left : List Value
   pub are_left : AreLeft (argument_slots calls.call.arguments) calls.call.result value at.frame.slots left
   pub next : ℕ
@@ -156,8 +145,16 @@ pub record GetsException (x : Subject) (given : Given) (s t : State) (at : AtNod
   pub calls : Calls x given s at
   pub thrown : ℕ
   pub world : World
-  pub throws : ThrowsListed x calls.target at.frame (call_units x at.frame calls.call) calls.world thrown world
+  pub throws : ThrowsListed x calls.target at.frame (argument_values calls.call.arguments at.frame.slots) calls.world thrown world
   pub after : t ≡ throws_on (at.frame ∷ at.below) world thrown
+
+-- The start calls the entry, with the arguments that are there from the start.
+pub record EntersEntry (x : Subject) (given : Given) (s t : State) (at : AtStart s 0) : Type 0 where
+  pub entry : Method
+  pub stands : slice_get x.program.methods x.entry ≡ Some entry
+  pub left : List Value
+  pub are_left : AreSame at.frame.slots left
+  pub enters : Enters x given x.entry (arguments_of x.program entry) left at.frame at.below s.world t
 
 -- ---- returns
 
@@ -279,6 +276,7 @@ pub data NodeStep (x : Subject) (given : Given) (s t : State) : Type 0 where
   enters : (at : AtNode x given s) → EntersTarget x given s t at → NodeStep x given s t
   gets_result : (at : AtNode x given s) → GetsResult x given s t at → NodeStep x given s t
   gets_exception : (at : AtNode x given s) → GetsException x given s t at → NodeStep x given s t
+  enters_entry : (at : AtStart s 0) → EntersEntry x given s t at → NodeStep x given s t
   returns : (at : AtNode x given s) → Returns x given s t at → NodeStep x given s t
   resumes : (at : AtNode x given s) → Resumes x given s t at → NodeStep x given s t
   ends : (at : AtNode x given s) → Ends x given s t at → NodeStep x given s t

@@ -1,0 +1,12 @@
+mod GoingOn
+mod Slots
+mod Steps
+mod StartNodes
+mod CallSteps
+mod WithinRuns
+mod CallRuns
+mod ExceptionRuns
+mod InitialiserRuns
+mod RaiseRuns
+mod ReturnRuns
+mod WithinTests

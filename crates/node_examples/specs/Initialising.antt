@@ -1,0 +1,96 @@
+-- Public contracts rest on this module.
+-- The methods of the programs with initialisers, as nodes. The classes have the numbers 0 to 8: Broken, Late, Main, Ready,
+-- Exception, Object, String, Throwable and Alarm. The initialisers have the numbers 0 in Broken, 2 in Main and 3 in Ready, and
+-- `main` the number 1. Where an error of initialisation is to be thrown, the program has the classes of both, with the numbers 9
+-- and 10: nodes throw new objects of the program's classes alone.
+use Rattle.std.specs.Prelude.{codes, ℕ, List, [], ◌∷◌, None}
+use Rattle.jvm_model.specs.declared.number.ClassNo.{ClassNo}
+use Rattle.jvm_model.specs.Code.{CodeBody}
+use Rattle.jvm_model.specs.Linking.{program_from}
+use Rattle.jvm_model.specs.Programs.{Program, object_name}
+use Rattle.op_model.specs.declared.lowered.LoweredMethod.{LoweredMethod}
+use Rattle.op_model.specs.declared.node.Node.{Node}
+use Rattle.op_model.specs.declared.op.Op.TheVariants.{LoadStatic, New}
+use Rattle.op_model.specs.Supplies.{Given}
+use Rattle.bytecode_machine.specs.Objects.{Subject, string_name}
+use Rattle.bytecode_machine.specs.States.{State}
+use Rattle.machine_examples.specs.Building.{in_folder, library_class, run_of}
+use Rattle.machine_examples.specs.Calling.{object}
+use Rattle.machine_examples.specs.Excepting.{alarm}
+use Rattle.machine_examples.specs.Initialising.{broken_class, late_class, main_class, ready_class, runs, makes_ready, makes_broken}
+use Rattle.node_examples.specs.Excepting.{throws}
+use Rattle.node_examples.specs.Lowering.{node, with_trigger, with_throws, with_handlers, catching, lowered, given_by, site_in, class_no, field_no}
+use Rattle.node_examples.specs.Taking.{TakesNode}
+use Rattle.node_examples.specs.Within.{pops, returns}
+
+-- ---- an initialiser that returns
+
+-- One that only returns.
+abbrev pub initialiser_nodes : ℕ → LoweredMethod
+initialiser_nodes number = lowered number 1 0 0 (returns 0 ∷ [])  -- return
+
+abbrev pub makes_ready_nodes : LoweredMethod
+makes_ready_nodes = lowered 1 0 1 0 (
+    with_trigger 3 (node 0 (New (site_in 1 0 (codes "Ready")) 0) (3 ∷ []))  -- new Ready
+    ∷ pops 3 0 4  -- pop
+    ∷ returns 4  -- return
+    ∷ [])
+
+abbrev pub given_ready : Given
+given_ready = given_by (makes_ready_nodes ∷ initialiser_nodes 2 ∷ initialiser_nodes 3 ∷ [])
+
+-- The program takes a step of a kind.
+abbrev pub ReadySteps : (State → State → Type 0) → Type 0
+ReadySteps Kind = TakesNode (runs makes_ready) given_ready Kind
+
+-- ---- one that fails
+
+-- The program with the classes of the errors.
+abbrev pub program_with_errors : CodeBody → Program
+program_with_errors k = program_from (
+    in_folder (codes "Broken.class") broken_class
+    ∷ in_folder (codes "Late.class") late_class
+    ∷ in_folder (codes "Main.class") (main_class k)
+    ∷ in_folder (codes "Ready.class") ready_class
+    ∷ library_class (codes "java/lang/Exception") (codes "java/lang/Throwable")
+    ∷ object
+    ∷ library_class string_name object_name
+    ∷ library_class (codes "java/lang/Throwable") object_name
+    ∷ alarm
+    ∷ library_class (codes "java/lang/ExceptionInInitializerError") (codes "java/lang/Throwable")
+    ∷ library_class (codes "java/lang/NoClassDefFoundError") (codes "java/lang/Throwable")
+    ∷ [])
+
+abbrev pub runs_with_errors : CodeBody → Subject
+runs_with_errors k = run_of (program_with_errors k) 1 (codes "Ready")
+
+abbrev pub errors : List ClassNo
+errors = class_no 9 ∷ class_no 10 ∷ []
+
+-- An object of Broken is made, at an offset.
+abbrev pub makes_one : (offset next : ℕ) → Node
+makes_one offset next = with_trigger 0 (with_throws errors (node offset (New (site_in 1 offset (codes "Broken")) 0) (next ∷ [])))
+
+abbrev pub makes_broken_nodes : LoweredMethod
+makes_broken_nodes = lowered 1 0 1 0 (
+    with_handlers (catching 5 None ∷ []) (makes_one 0 3)  -- new Broken
+    ∷ pops 3 0 4  -- pop
+    ∷ returns 4  -- return
+    ∷ pops 5 0 6  -- pop
+    ∷ makes_one 6 9  -- new Broken
+    ∷ pops 9 0 10  -- pop
+    ∷ returns 10  -- return
+    ∷ [])
+
+-- The initialiser of Broken.
+abbrev pub breaks_nodes : LoweredMethod
+breaks_nodes = lowered 0 0 1 0 (
+    with_trigger 8 (node 0 (LoadStatic (field_no 1) 0) (3 ∷ []))  -- getstatic Alarm.fire
+    ∷ throws 3 0  -- athrow
+    ∷ [])
+
+abbrev pub given_broken : Given
+given_broken = given_by (breaks_nodes ∷ makes_broken_nodes ∷ [])
+
+abbrev pub BrokenSteps : (State → State → Type 0) → Type 0
+BrokenSteps Kind = TakesNode (runs_with_errors makes_broken) given_broken Kind

@@ -1,0 +1,8 @@
+pub mod Lowering
+pub mod Taking
+pub mod Within
+pub mod Calling
+pub mod Excepting
+pub mod Initialising
+pub mod Raising
+pub mod Giving

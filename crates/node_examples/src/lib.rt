@@ -1,0 +1,11 @@
+//! The methods of small named programs as nodes, and laws that the same executions, state by state, are executions of bytecode and
+//! of nodes. They call nothing, and no layer needs them to prove its own: they show that the definitions let happen what should.
+#![tactic(auto)]
+
+pub mod calls;
+pub mod exceptions;
+pub mod initialisation;
+pub mod raises;
+pub mod returns;
+pub mod tests_within;
+pub mod within;
