@@ -9,26 +9,26 @@ use Rattle.jvm_model.specs.Resolution.{IsInstanceWith, IsOnlyDefault}
 use Rattle.jvm_model.specs.Selection.{Selects, upward, by_default}
 use Rattle.jvm_model.specs.Subtypes.{by_class, by_array, same}
 use Rattle.op_model.specs.declared.lowered.LoweredMethod.{LoweredMethod}
-use Rattle.bytecode_machine.specs.Machine.{SelectsByObject, gets_result, gets_exception, enters, returns, catches, ends, of_primitives}
+use Rattle.bytecode_machine.specs.Machine.{SelectsByObject, gets_result, gets_exception, enters, enters_entry, returns, catches, ends, of_primitives}
 use Rattle.bytecode_machine.specs.Start.{start_frame}
 use Rattle.bytecode_machine.specs.States.{primitive_value, reference_to, World, runs_on, throws_on, moved_to, waiting, with_object, with_kept, new_object, new_array, site_at, ended, ends_with}
 use Rattle.machine_examples.specs.Building.{handler}
-use Rattle.machine_examples.specs.Taking.{Shows, Ending}
+use Rattle.machine_examples.specs.Taking.{HasObject, Shows, Ending}
 use Rattle.machine_examples.specs.Calling.{program_with, runs, shuts, hashes, rings, keeps, fails}
-use Rattle.machine_examples.proofs.Facts.{call_row, described_at, field_row, makes_array, refers_to, shows}
-use Rattle.machine_examples.proofs.Runs.{advance, body_fits, entered_in, frame_at}
+use Rattle.machine_examples.proofs.Facts.{has_object, call_row, described_at, field_row, makes_array, refers_to, shows}
+use Rattle.machine_examples.proofs.Runs.{started_in, advance, body_fits, entered_in, frame_at}
 use Rattle.machine_examples.proofs.CallSteps.{enter as enter_code, get as get_result, get_thrown as get_exception, give_to_start, not_selecting, not_named}
 use Rattle.machine_examples.proofs.CallStart.{outside, main_of, shut_of, world, main_at, int_units, plain_units, door_units, from_door_units, door_type, names_gate, names_hash, names_shut, house_named, gate_below_closing, is_door, is_closing}
 use Rattle.machine_examples.proofs.Searches.{chain_up, differ, none_found, only_default}
 use Rattle.machine_examples.proofs.Throws.{catch as catch_code}
-use Rattle.node_machine.specs.NodeSteps.{gets_result as gets_result_node, gets_exception as gets_exception_node, enters as enters_node, returns as returns_node, catches as catches_node, ends as ends_node, fitting}
+use Rattle.node_machine.specs.NodeSteps.{enters_entry as enters_entry_node, gets_result as gets_result_node, gets_exception as gets_exception_node, enters as enters_node, returns as returns_node, catches as catches_node, ends as ends_node, fitting}
 use Rattle.node_examples.specs.Calling.{given_with, Steps, returns_only, shuts_nodes, hashes_nodes, rings_nodes, keeps_nodes, fails_nodes}
 use Rattle.node_examples.specs.Lowering.{class_no, catching}
-use Rattle.node_examples.specs.Taking.{EnteringNode, GettingOnNode, CatchingNode, ReturningNode, EndingNode}
+use Rattle.node_examples.specs.Taking.{EnteringEntryNode, ThrownAtNode, EnteringNode, GettingOnNode, CatchingNode, ReturningNode, EndingNode}
 use Rattle.node_examples.proofs.CallSteps.{enter, get, get_thrown, give_back, catch}
 use Rattle.node_examples.proofs.Slots.{are_left_by, reads_alike}
 use Rattle.node_examples.proofs.StartNodes.{start_stands}
-use Rattle.node_examples.proofs.Steps.{Arrives, goes, takes, starts_at, enters_at, operate, plainly, advanced, runs_there}
+use Rattle.node_examples.proofs.Steps.{at_start, Arrives, goes, takes, starts_at, enters_at, operate, plainly, advanced, runs_there}
 
 -- the first instruction of `main`
 pub begun : (k : CodeBody) (fits : body_fits k ≡ true) (m : LoweredMethod) → given_with m 4 ≡ Some (Ok m) → reads_alike [] (replicate (k.max_locals - 0) primitive_value) ≡ true
@@ -219,3 +219,36 @@ a_program_ends =
       step = record { value = None; is_return = refl; no_method = refl; after = refl };
     } in
     takes _ _ _ _ _ (goes _ _ _ _ at_return (returns returned.at returned.step) (returns_node returns_main.at returns_main.step)) (ends step.at step.step) (ends_node node_step.at node_step.step) (node_step, refl)
+
+-- ---- the first step, and a described method that throws
+
+pub the_entry_is_called : Steps rings rings_nodes (λ s t. EnteringEntryNode (runs rings) (given_with rings_nodes) s t × Shows 0 [] t)
+the_entry_is_called =
+    let x = runs rings in
+    let given = given_with rings_nodes in
+    let w = world rings refl in
+    let node_step : EnteringEntryNode x given (started_in w) (entered_in x (main_of rings refl) w) = record {
+      at = at_start w;
+      step = record {
+        entry = _;
+        stands = refl;
+        left = [];
+        are_left = λ z. refl;
+        enters = record { method = rings_nodes; is_given = refl; slots = []; arguments = λ z. refl; after = refl };
+      };
+    } in
+    takes _ _ _ _ _ (starts_at x given (main_of rings refl) [] refl)
+    (enters_entry (at_start w) (record { code = main_of rings refl; enters = record { code = main_of rings refl; after = refl } }))
+    (enters_entry_node node_step.at node_step.step) (node_step, shows _ _ _)
+
+pub a_described_method_throws : Steps fails fails_nodes (λ s t. ThrownAtNode (runs fails) (given_with fails_nodes) 15 s t × HasObject 3 Thrown (codes "java/lang/Exception") t)
+a_described_method_throws =
+    let x = runs fails in
+    let w = world fails refl in
+    let step = get_exception x 4 (main_of fails refl) outside 0 [] w _ refl _ (call_row _ _ _ _ _ _ refl plain_units) _
+    (record { is_there = refl; names = house_named fails 58 15 _ _ refl refl refl refl refl; target = 15; is_target = (refl, refl); events = not_selecting _ _ _ _ _ refl })
+    (described_at _ _ _ _ refl refl refl plain_units.is) 0 _ refl in
+    let node_step = get_thrown x (given_with fails_nodes) 4 fails_nodes refl outside 0 [] w _ refl w
+    (record { call = _; is_call = refl; resolved = _; stands = refl; target = 15; is_target = refl; events = not_selecting _ _ _ _ _ refl })
+    3 failed_world (record { called = described_at _ _ _ _ refl refl refl plain_units.is; place = 0; class = _; listed = refl; makes = record { made_is = refl; after_is = refl } }) in
+    takes _ _ _ _ _ (begun fails refl fails_nodes refl refl) (gets_exception step.at step.step) (gets_exception_node node_step.at node_step.step) (node_step, has_object _ _ _ refl)

@@ -38,7 +38,7 @@ use Rattle.node_examples.proofs.Slots.{are_left_by, reads_alike}
 use Rattle.node_examples.proofs.StartNodes.{start_stands}
 use Rattle.node_examples.proofs.Steps.{Arrives, goes, takes, starts_at, enters_at, operate, advanced}
 
-exception_type : IsFieldDescriptor (codes "Ljava/lang/Exception;")
+pub exception_type : IsFieldDescriptor (codes "Ljava/lang/Exception;")
 exception_type = class_type (codes "java") (codes "lang" ∷ codes "Exception" ∷ []) refl
 
 abbrev outside : List Frame
@@ -74,7 +74,7 @@ module _ (k : CodeBody) where
   abbrev inner_of : MethodCode (program_with k) 2
   inner_of = built (program_with k) 2 _ (main_class k) 2 9 11 7 inner refl refl refl refl
 
-  abbrev names_fire : NamesField (program_with k) main_pool 19 true
+  abbrev pub names_fire : NamesField (program_with k) main_pool 19 true
   names_fire = declared_field _ _ _ _ 0 _ _ refl refl refl refl refl
 
   -- the exception at the place 2
@@ -98,7 +98,7 @@ module _ (k : CodeBody) where
   takes_exceptions = fitting (class_no 2) (codes "java/lang/Exception") refl (record { class = _; stands = refl; named = refl }) fits_exception
 
   -- a static method of Main is named
-  abbrev main_named : (operand number : ℕ) (called : MemberReference) (m : Method) → member_at main_pool operand ≡ Some called → called.class ≡ codes "Main"
+  abbrev pub main_named : (operand number : ℕ) (called : MemberReference) (m : Method) → member_at main_pool operand ≡ Some called → called.class ≡ codes "Main"
       → slice_get (program_with k).methods number ≡ Some m → m.class ≡ codes "Main" → m.signature ≡ called.signature → NamesMethod (program_with k) main_pool operand
   main_named operand number called m named of_main stands of_class same_call = record {
     called = called;

@@ -5,10 +5,10 @@ use Rattle.jvm_model.specs.declared.code.Handler.{Handler}
 use Rattle.jvm_model.specs.declared.site.SiteKind.TheVariants.{Thrown}
 use Rattle.jvm_model.specs.Descriptors.{IsFieldDescriptor}
 use Rattle.jvm_model.specs.Subtypes.{by_class, same, below}
-use Rattle.bytecode_machine.specs.Machine.{MethodCode, Handles, IsInitialiser, by_start, of_class, starts, resumes, denies, wraps, throws, catches}
+use Rattle.bytecode_machine.specs.Machine.{unwinds, MethodCode, Handles, IsInitialiser, by_start, of_class, starts, resumes, denies, wraps, throws, catches}
 use Rattle.bytecode_machine.specs.Objects.{IsOf}
 use Rattle.bytecode_machine.specs.Start.{start_frame, boot_site}
-use Rattle.bytecode_machine.specs.States.{primitive_value, reference_to, Object, Frame, World, throws_on, waiting, new_object, with_object, with_kept, with_started, site_at}
+use Rattle.bytecode_machine.specs.States.{throwing, primitive_value, reference_to, Object, Frame, World, throws_on, waiting, new_object, with_object, with_kept, with_started, site_at}
 use Rattle.machine_examples.specs.Building.{handler}
 use Rattle.machine_examples.specs.Calling.{only_returns}
 use Rattle.machine_examples.specs.Initialising.{broken_pool, broken_class, breaks, ready_class, main_class, program_with, runs, makes_ready, makes_broken}
@@ -17,13 +17,13 @@ use Rattle.machine_examples.proofs.Facts.{declared_field, field_row, has_object,
 use Rattle.machine_examples.proofs.Runs.{built, started_in, entered_in, first_world, frame_at, on, advance}
 use Rattle.machine_examples.proofs.Types.{class_type}
 use Rattle.machine_examples.proofs.CallStart.{plain_units}
-use Rattle.machine_examples.proofs.Throws.{throw as throw_code, catch as catch_code}
+use Rattle.machine_examples.proofs.Throws.{unwind as unwind_code, throw as throw_code, catch as catch_code}
 use Rattle.machine_examples.proofs.Initialisers.{nothing_there, start as start_code, deny, resume as resume_code, wrap as wrap_code}
-use Rattle.node_machine.specs.NodeSteps.{starts as starts_node, resumes as resumes_node, raises as raises_node, wraps as wraps_node, throws as throws_node, catches as catches_node, all}
+use Rattle.node_machine.specs.NodeSteps.{unwinds as unwinds_node, starts as starts_node, resumes as resumes_node, raises as raises_node, wraps as wraps_node, throws as throws_node, catches as catches_node, all}
 use Rattle.node_examples.specs.Initialising.{given_ready, ReadySteps, initialiser_nodes, makes_ready_nodes, program_with_errors, runs_with_errors, makes_broken_nodes, breaks_nodes, given_broken, BrokenSteps}
 use Rattle.node_examples.specs.Lowering.{class_no, catching}
-use Rattle.node_examples.specs.Taking.{StartingNode, ResumingNode, RaisingNode, WrappingNode}
-use Rattle.node_examples.proofs.CallSteps.{start, resume, wrap, throw, catch, raise}
+use Rattle.node_examples.specs.Taking.{UnwindingNode, StartingNode, ResumingNode, RaisingNode, WrappingNode}
+use Rattle.node_examples.proofs.CallSteps.{unwind, start, resume, wrap, throw, catch, raise}
 use Rattle.node_examples.proofs.ExceptionRuns.{none_there}
 use Rattle.node_examples.proofs.Slots.{are_left_by, read_alike}
 use Rattle.node_examples.proofs.StartNodes.{start_stands}
@@ -193,3 +193,11 @@ a_failed_class_is_denied =
     refl refl (codes "Broken") (of_class (record { class = _; named = refl }) refl) 0 initialises_broken (0, omega arith, refl) in
     let node_step = raise x given_broken 1 makes_broken_nodes refl outside 6 [] wrapped_world _ refl (class_no 10) (1, omega arith, refl) (codes "java/lang/NoClassDefFoundError") (record { class = _; stands = refl; named = refl }) (λ value is_throw e. absurd cc) in
     takes _ _ _ _ _ popped (denies step.step) (raises_node node_step.at node_step.step) (node_step, shows _ _ _, has_object _ _ _ refl)
+
+-- it may leave the initialiser as it is
+pub an_exception_leaves_an_initialiser : BrokenSteps (λ s t. UnwindingNode (runs_with_errors makes_broken) given_broken 2 s t × (t.mode ≡ throwing 2) × Shows 0 [] t)
+an_exception_leaves_an_initialiser =
+    let x = runs_with_errors makes_broken in
+    let step = unwind_code x 0 broken_of main_below 3 (reference_to 2 ∷ []) broken_world 2 fire refl none_takes in
+    let node_step = unwind x given_broken 0 breaks_nodes refl main_below 3 (reference_to 2 ∷ []) broken_world _ refl 2 fire refl (none_there (program_with_errors makes_broken) (codes "java/lang/Exception")) in
+    takes _ _ _ _ _ at_failure (unwinds step.at step.step) (unwinds_node node_step.at node_step.step) (node_step, refl, record { frame = _; below = _; frames = refl; there = refl; slots_are = refl })

@@ -10,3 +10,10 @@ mod InitialiserRuns
 mod RaiseRuns
 mod ReturnRuns
 mod WithinTests
+mod ResultRuns
+mod TriggerRuns
+mod MoveLists
+mod NodesOf
+mod LoweredRuns
+mod LoweredCalls
+mod LoweredThrows

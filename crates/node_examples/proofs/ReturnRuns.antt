@@ -6,16 +6,16 @@ use Rattle.jvm_model.specs.Selection.{upward, at_super}
 use Rattle.op_model.specs.Supplies.{Given}
 use Rattle.bytecode_machine.specs.Events.{HasEvents, moved}
 use Rattle.bytecode_machine.specs.Machine.{MethodCode, NamesField, NamesMethod, SelectsByObject, enters, returns}
-use Rattle.bytecode_machine.specs.States.{Value, reference_to, Frame, World, State, with_automaton}
-use Rattle.machine_examples.specs.Calling.{program_with, runs as runs_calls, closes}
+use Rattle.bytecode_machine.specs.States.{Value, primitive_value, reference_to, Frame, World, State, with_automaton}
+use Rattle.machine_examples.specs.Calling.{program_with, main_pool as calls_pool, runs as runs_calls, closes, closes_by_interface, calls_same}
 use Rattle.machine_examples.specs.Taking.{Shows, InState}
 use Rattle.machine_examples.proofs.Facts.{call_row, declared_field, field_row, in_state, shows}
 use Rattle.machine_examples.proofs.Runs.{built, first_world, on, advance}
 use Rattle.machine_examples.proofs.CallSteps.{enter as enter_code, give_back as give_back_code, waiting_at, not_selecting}
-use Rattle.machine_examples.proofs.CallStart.{outside, main_of, door_close_of, gate_close_of, world, main_at, plain_units, door_units, door_type, names_gate, names_close, names_super, gate_in, gate_below_door, is_door}
+use Rattle.machine_examples.proofs.CallStart.{outside, main_of, door_close_of, gate_close_of, world, main_at, plain_units, door_units, door_type, names_gate, names_close, names_super, gate_in, gate_below_door, is_door, is_closing, names_interface_close, same_of, int_to_int_units}
 use Rattle.machine_examples.proofs.Searches.{chain_up, differ}
 use Rattle.node_machine.specs.NodeSteps.{enters as enters_node, returns as returns_node}
-use Rattle.node_examples.specs.Calling.{given_with, Steps, returns_only, gate_close_nodes, closes_nodes}
+use Rattle.node_examples.specs.Calling.{given_with, Steps, returns_only, gate_close_nodes, closes_nodes, closes_by_interface_nodes, calls_same_nodes, same_nodes}
 use Rattle.node_examples.specs.Giving.{main_pool, main_class, finds, find_gate, finding, runs, finds_nodes, find_gate_nodes, given}
 use Rattle.node_examples.specs.Taking.{TakesNode, EnteringNode, ReturningNode}
 use Rattle.node_examples.proofs.CallRuns.{begun}
@@ -182,3 +182,72 @@ an_event_leads_to_the_error =
     let node_step = enter (runs_calls closes) given_closes 4 closes_nodes refl outside 9 (reference_to 2 ∷ []) (gate_world 1) _ refl (gate_world 2)
     (record { call = _; is_call = refl; resolved = _; stands = refl; target = 3; is_target = close_selected 1; events = close_happens 1 }) gate_close_nodes refl [] refl (reference_to 2 ∷ []) refl in
     takes _ _ _ _ _ at_second (enters step.at step.step) (enters_node node_step.at node_step.step) (node_step, in_state _ _ _ refl, in_state _ _ _ refl)
+
+-- ---- a method of an interface
+
+-- the world after the event
+abbrev closed_world : World
+closed_world = with_automaton (world closes_by_interface refl) 2 (gate_in closes_by_interface 0) 1
+
+close_by_interface : SelectsByObject (program_with closes_by_interface) true (names_interface_close closes_by_interface).method 0 (world closes_by_interface refl) (reference_to 2 ∷ []) 3
+close_by_interface = record {
+  instance = refl;
+  receiver = is_closing closes_by_interface (world closes_by_interface refl) 0 refl;
+  selects = record {
+    method = _;
+    stands = refl;
+    chosen = upward (record { chain = chain_up (program_with closes_by_interface) 4 (Some (codes "Gate")); of_start = (refl, (refl, (refl, tt))); first = inl (record { method = _; stands = refl; of_class = refl; is = (refl, refl) }) });
+  };
+}
+
+close_observed : HasEvents (runs_calls closes_by_interface) true (names_interface_close closes_by_interface).called.signature (reference_to 2 ∷ []) (world closes_by_interface refl) closed_world
+close_observed = moved (record { selecting = refl; event = _; named = refl; receiver = (is_door closes_by_interface (world closes_by_interface refl) 0 refl).to; no_array = refl; observed = gate_below_door closes_by_interface }) refl
+
+pub an_interface_method_is_called : Steps closes_by_interface closes_by_interface_nodes (λ s t. EnteringNode (runs_calls closes_by_interface) (given_with closes_by_interface_nodes) 3 s t × InState 2 1 t)
+an_interface_method_is_called =
+    let x = runs_calls closes_by_interface in
+    let given = given_with closes_by_interface_nodes in
+    let c = main_of closes_by_interface refl in
+    let w = world closes_by_interface refl in
+    let first = advanced _ _ _ _ _ _ (begun closes_by_interface refl closes_by_interface_nodes refl refl)
+    (advance x 4 c outside 0 [] w _ refl _ (field_row _ _ _ _ _ refl door_type) refl (reference_to 2) _ _ (names_gate closes_by_interface, (refl, refl)) refl)
+    (operate x given 4 c closes_by_interface_nodes refl outside 0 [] w _ refl _ _ _ (record { value = reference_to 2; is_read = refl; are_left = are_left_by _ _ _ _ _ refl; same = refl }) refl) in
+    let step = enter_code x 4 c outside 3 (reference_to 2 ∷ []) w _ refl _ (call_row _ _ _ _ _ _ refl plain_units) _
+    (record { is_there = refl; names = names_interface_close closes_by_interface; target = 3; is_target = close_by_interface; events = close_observed }) (gate_close_of closes_by_interface) in
+    let node_step = enter x given 4 closes_by_interface_nodes refl outside 3 (reference_to 2 ∷ []) w _ refl closed_world
+    (record { call = _; is_call = refl; resolved = _; stands = refl; target = 3; is_target = close_by_interface; events = close_observed }) gate_close_nodes refl [] refl (reference_to 2 ∷ []) refl in
+    takes _ _ _ _ _ first (enters step.at step.step) (enters_node node_step.at node_step.step) (node_step, in_state _ _ _ refl)
+
+-- ---- a static method, which returns a primitive
+
+abbrev names_same : NamesMethod (program_with calls_same) calls_pool 11
+names_same = record {
+  called = _;
+  named = refl;
+  resolved = 5;
+  resolves = record {
+    class = _;
+    named = refl;
+    search = resolved_there (record { chain = chain_up (program_with calls_same) 3 (Some (codes "Main")); of_start = (refl, (refl, tt)); first = inl (record { method = _; stands = refl; of_class = refl; is = refl }) });
+  };
+  method = _;
+  stands = refl;
+}
+
+pub a_number_is_given_back : Steps calls_same calls_same_nodes (λ s t. ReturningNode (runs_calls calls_same) (given_with calls_same_nodes) s t × Shows 4 (primitive_value ∷ []) t)
+a_number_is_given_back =
+    let x = runs_calls calls_same in
+    let given = given_with calls_same_nodes in
+    let c = main_of calls_same refl in
+    let w = world calls_same refl in
+    let pushed = plainly x given 4 c calls_same_nodes refl outside 1 0 [] w _ refl (begun calls_same refl calls_same_nodes refl refl) in
+    let called = enter_code x 4 c outside 1 (primitive_value ∷ []) w _ refl _ (call_row _ _ _ _ _ _ refl int_to_int_units) _
+    (record { is_there = refl; names = names_same; target = 5; is_target = (refl, refl); events = not_selecting _ _ _ _ _ refl }) (same_of calls_same) in
+    let called_node = enter x given 4 calls_same_nodes refl outside 1 (primitive_value ∷ []) w _ refl w
+    (record { call = _; is_call = refl; resolved = _; stands = refl; target = 5; is_target = refl; events = not_selecting _ _ _ _ _ refl }) same_nodes refl [] refl (primitive_value ∷ []) refl in
+    let loaded = plainly x given 5 (same_of calls_same) same_nodes refl (waiting_at 4 1 [] ∷ outside) 1 0 (primitive_value ∷ []) w _ refl (goes _ _ _ _ pushed (enters called.at called.step) (enters_node called_node.at called_node.step)) in
+    let step = give_back_code x 5 (same_of calls_same) 4 c outside 1 (primitive_value ∷ primitive_value ∷ []) w _ refl _
+    refl refl refl _ int_to_int_units 1 [] _ refl _ (call_row _ _ _ _ _ _ refl int_to_int_units) in
+    let node_step = give_back x given 5 same_nodes refl (waiting_at 4 1 []) outside 1 (primitive_value ∷ primitive_value ∷ []) w _ refl None refl refl
+    (stands_on x given 4 calls_same_nodes refl 1 [] true _ refl) _ refl (primitive_value ∷ []) refl 4 refl in
+    takes _ _ _ _ _ loaded (returns step.at step.step) (returns_node node_step.at node_step.step) (node_step, shows _ _ _)

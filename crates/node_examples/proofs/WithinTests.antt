@@ -1,5 +1,5 @@
 -- The steps within a method that test, load other constants, or look at an object that must be there.
-use Rattle.std.proofs.Common.{codes, ◌≡◌, inl, inr, [], ◌∷◌, refl, arith}
+use Rattle.std.proofs.Common.{codes, inl, inr, [], ◌∷◌, refl, arith}
 use Rattle.jvm_model.specs.declared.site.SiteKind.TheVariants.{New as new_kind}
 use Rattle.op_model.specs.declared.op.Op.TheVariants.{Assign, Constant, Cast, Probe}
 use Rattle.bytecode_machine.specs.Machine.{of_primitives}

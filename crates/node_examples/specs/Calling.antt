@@ -114,3 +114,39 @@ fails_nodes = lowered 4 0 1 0 (
     ∷ pops 4 0 5  -- pop
     ∷ returns 5  -- return
     ∷ [])
+
+abbrev pub closes_by_interface_nodes : LoweredMethod
+closes_by_interface_nodes = lowered 4 0 1 0 (
+    reads_gate 0 0 3  -- getstatic House.gate
+    ∷ node 3 (Call (call_of Interface 0 None (codes "close") plain_descriptor (Some 0 ∷ []) None)) (8 ∷ [])  -- invokeinterface Closing.close
+    ∷ returns 8  -- return
+    ∷ [])
+
+abbrev pub counts_nodes : LoweredMethod
+counts_nodes = lowered 4 0 1 0 (
+    calls_house 0 8 (codes "count") (codes "()I") [] None 3  -- invokestatic House.count
+    ∷ pops 3 0 4  -- pop
+    ∷ returns 4  -- return
+    ∷ [])
+
+abbrev pub gets_none_nodes : LoweredMethod
+gets_none_nodes = lowered 4 0 1 0 (
+    calls_house 0 10 (codes "none") (codes "()LDoor;") [] (Some 0) 3  -- invokestatic House.none
+    ∷ pops 3 0 4  -- pop
+    ∷ returns 4  -- return
+    ∷ [])
+
+abbrev pub gets_same_nodes : LoweredMethod
+gets_same_nodes = lowered 4 0 1 0 (
+    reads_gate 0 0 3  -- getstatic House.gate
+    ∷ calls_house 3 11 (codes "same") (codes "(LDoor;)LDoor;") (Some 0 ∷ []) (Some 0) 6  -- invokestatic House.same
+    ∷ pops 6 0 7  -- pop
+    ∷ returns 7  -- return
+    ∷ [])
+
+abbrev pub gets_fresh_nodes : LoweredMethod
+gets_fresh_nodes = lowered 4 0 1 0 (
+    calls_house 0 12 (codes "fresh") (codes "()LDoor;") [] (Some 0) 3  -- invokestatic House.fresh
+    ∷ pops 3 0 4  -- pop
+    ∷ returns 4  -- return
+    ∷ [])

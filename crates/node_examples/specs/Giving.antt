@@ -16,6 +16,7 @@ use Rattle.op_model.specs.Supplies.{Given}
 use Rattle.bytecode_machine.specs.Objects.{Subject, string_name}
 use Rattle.machine_examples.specs.Building.{code, pool_of, method, class_with, in_folder, library_class, run_of}
 use Rattle.machine_examples.specs.Calling.{closing_class, door_class, gate_class, house, object}
+use Rattle.node_examples.specs.Calling.{reads_gate, returns_only, gate_close_nodes}
 use Rattle.node_examples.specs.Lowering.{node, with_trigger, lowered, given_by, field_no, method_no, call_of}
 use Rattle.node_examples.specs.Within.{pops, returns}
 
@@ -83,4 +84,4 @@ find_gate_nodes = lowered 5 0 1 0 (
     ∷ [])
 
 abbrev pub given : Given
-given = given_by (finds_nodes ∷ find_gate_nodes ∷ [])
+given = given_by (returns_only 1 ∷ returns_only 2 ∷ gate_close_nodes ∷ finds_nodes ∷ find_gate_nodes ∷ [])

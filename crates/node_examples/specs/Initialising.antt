@@ -3,14 +3,16 @@
 -- Exception, Object, String, Throwable and Alarm. The initialisers have the numbers 0 in Broken, 2 in Main and 3 in Ready, and
 -- `main` the number 1. Where an error of initialisation is to be thrown, the program has the classes of both, with the numbers 9
 -- and 10: nodes throw new objects of the program's classes alone.
-use Rattle.std.specs.Prelude.{codes, ℕ, List, [], ◌∷◌, None}
+use Rattle.std.specs.Prelude.{codes, ℕ, List, [], ◌∷◌, None, Some}
 use Rattle.jvm_model.specs.declared.number.ClassNo.{ClassNo}
 use Rattle.jvm_model.specs.Code.{CodeBody}
 use Rattle.jvm_model.specs.Linking.{program_from}
 use Rattle.jvm_model.specs.Programs.{Program, object_name}
+use Rattle.jvm_model.specs.Soundness.{plain_descriptor}
 use Rattle.op_model.specs.declared.lowered.LoweredMethod.{LoweredMethod}
 use Rattle.op_model.specs.declared.node.Node.{Node}
-use Rattle.op_model.specs.declared.op.Op.TheVariants.{LoadStatic, New}
+use Rattle.op_model.specs.declared.op.CallKind.TheVariants.{Static}
+use Rattle.op_model.specs.declared.op.Op.TheVariants.{Assign, LoadStatic, New, Call}
 use Rattle.op_model.specs.Supplies.{Given}
 use Rattle.bytecode_machine.specs.Objects.{Subject, string_name}
 use Rattle.bytecode_machine.specs.States.{State}
@@ -19,15 +21,32 @@ use Rattle.machine_examples.specs.Calling.{object}
 use Rattle.machine_examples.specs.Excepting.{alarm}
 use Rattle.machine_examples.specs.Initialising.{broken_class, late_class, main_class, ready_class, runs, makes_ready, makes_broken}
 use Rattle.node_examples.specs.Excepting.{throws}
-use Rattle.node_examples.specs.Lowering.{node, with_trigger, with_throws, with_handlers, catching, lowered, given_by, site_in, class_no, field_no}
-use Rattle.node_examples.specs.Taking.{TakesNode}
+use Rattle.node_examples.specs.Lowering.{node, with_trigger, with_throws, with_handlers, catching, lowered, given_by, site_in, primitive_in, class_no, field_no, method_no, call_of}
+use Rattle.node_examples.specs.Taking.{TakesNode, StartingNode}
 use Rattle.node_examples.specs.Within.{pops, returns}
 
--- ---- an initialiser that returns
+-- ---- methods beside main
 
 -- One that only returns.
 abbrev pub initialiser_nodes : ℕ → LoweredMethod
 initialiser_nodes number = lowered number 1 0 0 (returns 0 ∷ [])  -- return
+
+-- The static method of Ready.
+abbrev pub ready_go_nodes : LoweredMethod
+ready_go_nodes = lowered 4 1 0 0 (returns 0 ∷ [])  -- return
+
+-- The initialiser of Broken.
+abbrev pub breaks_nodes : LoweredMethod
+breaks_nodes = lowered 0 0 1 0 (
+    with_trigger 8 (node 0 (LoadStatic (field_no 1) 0) (3 ∷ []))  -- getstatic Alarm.fire
+    ∷ throws 3 0  -- athrow
+    ∷ [])
+
+-- Besides main these are given: the other methods with code.
+abbrev pub given_with : LoweredMethod → Given
+given_with m = given_by (breaks_nodes ∷ m ∷ initialiser_nodes 2 ∷ initialiser_nodes 3 ∷ ready_go_nodes ∷ [])
+
+-- ---- an initialiser that returns
 
 abbrev pub makes_ready_nodes : LoweredMethod
 makes_ready_nodes = lowered 1 0 1 0 (
@@ -37,11 +56,39 @@ makes_ready_nodes = lowered 1 0 1 0 (
     ∷ [])
 
 abbrev pub given_ready : Given
-given_ready = given_by (makes_ready_nodes ∷ initialiser_nodes 2 ∷ initialiser_nodes 3 ∷ [])
+given_ready = given_with makes_ready_nodes
 
 -- The program takes a step of a kind.
 abbrev pub ReadySteps : (State → State → Type 0) → Type 0
 ReadySteps Kind = TakesNode (runs makes_ready) given_ready Kind
+
+-- ---- other triggers
+
+-- Late has no initialiser of its own.
+abbrev pub makes_late_nodes : LoweredMethod
+makes_late_nodes = lowered 1 0 1 0 (
+    with_trigger 1 (node 0 (New (site_in 1 0 (codes "Late")) 0) (3 ∷ []))  -- new Late
+    ∷ pops 3 0 4  -- pop
+    ∷ returns 4  -- return
+    ∷ [])
+
+abbrev pub calls_ready_nodes : LoweredMethod
+calls_ready_nodes = lowered 1 0 1 0 (
+    with_trigger 3 (node 0 (Call (call_of Static 4 (Some (method_no 4)) (codes "go") plain_descriptor [] None)) (3 ∷ []))  -- invokestatic Ready.go
+    ∷ returns 3  -- return
+    ∷ [])
+
+-- The field is of a primitive type, so that nothing is read.
+abbrev pub reads_ready_nodes : LoweredMethod
+reads_ready_nodes = lowered 1 0 1 0 (
+    with_trigger 3 (node 0 (Assign (primitive_in 0 ∷ [])) (3 ∷ []))  -- getstatic Ready.size
+    ∷ pops 3 0 4  -- pop
+    ∷ returns 4  -- return
+    ∷ [])
+
+-- `main` of a code, as nodes, starts the initialiser of Ready.
+abbrev pub StartsReady : CodeBody → LoweredMethod → Type 0
+StartsReady k m = TakesNode (runs k) (given_with m) (StartingNode (runs k) (given_with m) 3)
 
 -- ---- one that fails
 
@@ -82,15 +129,8 @@ makes_broken_nodes = lowered 1 0 1 0 (
     ∷ returns 10  -- return
     ∷ [])
 
--- The initialiser of Broken.
-abbrev pub breaks_nodes : LoweredMethod
-breaks_nodes = lowered 0 0 1 0 (
-    with_trigger 8 (node 0 (LoadStatic (field_no 1) 0) (3 ∷ []))  -- getstatic Alarm.fire
-    ∷ throws 3 0  -- athrow
-    ∷ [])
-
 abbrev pub given_broken : Given
-given_broken = given_by (breaks_nodes ∷ makes_broken_nodes ∷ [])
+given_broken = given_with makes_broken_nodes
 
 abbrev pub BrokenSteps : (State → State → Type 0) → Type 0
 BrokenSteps Kind = TakesNode (runs_with_errors makes_broken) given_broken Kind

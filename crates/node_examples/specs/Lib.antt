@@ -6,3 +6,4 @@ pub mod Excepting
 pub mod Initialising
 pub mod Raising
 pub mod Giving
+pub mod Decoded

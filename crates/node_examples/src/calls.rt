@@ -1,11 +1,17 @@
 //! Calls, and what they give.
 
-ghost use Rattle.std.specs.Prelude.{◌≡◌, [], ◌∷◌};
+ghost use Rattle.std.specs.Prelude.{codes, ◌≡◌, [], ◌∷◌};
+ghost use Rattle.jvm_model.specs.declared.site.SiteKind.TheVariants.{Thrown};
 ghost use Rattle.bytecode_machine.specs.States.{reference_to, ended};
 ghost use Rattle.machine_examples.specs.Calling.{runs, shuts, hashes, rings, keeps, fails};
-ghost use Rattle.machine_examples.specs.Taking.{Shows};
-ghost use Rattle.node_examples.specs.Taking.{EnteringNode, GettingOnNode, CatchingNode, ReturningNode, EndingNode};
+ghost use Rattle.machine_examples.specs.Taking.{Shows, HasObject};
+ghost use Rattle.node_examples.specs.Taking.{EnteringEntryNode, ThrownAtNode, EnteringNode, GettingOnNode, CatchingNode, ReturningNode, EndingNode};
 ghost use Rattle.node_examples.specs.Calling.{given_with, Steps, shuts_nodes, hashes_nodes, rings_nodes, keeps_nodes, fails_nodes};
+
+/// The start calls the entry.
+pub fn the_entry_is_called()
+    ensures { Steps rings rings_nodes (λ s t. EnteringEntryNode (runs rings) (given_with rings_nodes) s t × Shows 0 [] t) }
+{}
 
 /// The entry returns to the start.
 pub fn the_entry_returns()
@@ -30,6 +36,11 @@ pub fn an_array_is_called()
 /// A described method gives an object that another one kept.
 pub fn a_kept_object_is_given()
     ensures { Steps keeps keeps_nodes (λ s t. GettingOnNode (runs keeps) (given_with keeps_nodes) 14 s t × Shows 9 (reference_to 2 ∷ []) t) }
+{}
+
+/// A described method throws a new object of a class that is listed.
+pub fn a_described_method_throws()
+    ensures { Steps fails fails_nodes (λ s t. ThrownAtNode (runs fails) (given_with fails_nodes) 15 s t × HasObject 3 Thrown (codes "java/lang/Exception") t) }
 {}
 
 /// What a described method throws is caught at its call.

@@ -2,10 +2,11 @@
 
 ghost use Rattle.std.specs.Prelude.{codes, ◌≡◌, [], ◌∷◌};
 ghost use Rattle.jvm_model.specs.declared.site.SiteKind.TheVariants.{Thrown};
+ghost use Rattle.bytecode_machine.specs.States.{throwing};
 ghost use Rattle.bytecode_machine.specs.Start.{start_frame};
 ghost use Rattle.machine_examples.specs.Initialising.{runs, makes_ready, makes_broken};
 ghost use Rattle.machine_examples.specs.Taking.{Shows, HasObject};
-ghost use Rattle.node_examples.specs.Taking.{StartingNode, ResumingNode, RaisingNode, WrappingNode};
+ghost use Rattle.node_examples.specs.Taking.{StartingNode, ResumingNode, RaisingNode, UnwindingNode, WrappingNode};
 ghost use Rattle.node_examples.specs.Initialising.{given_ready, ReadySteps, runs_with_errors, given_broken, BrokenSteps};
 
 /// An initialiser starts at new.
@@ -31,4 +32,9 @@ pub fn an_exception_is_wrapped()
 /// After that the next trigger of the class raises a NoClassDefFoundError, which its node lists.
 pub fn a_failed_class_is_denied()
     ensures { BrokenSteps (λ s t. RaisingNode (runs_with_errors makes_broken) given_broken (codes "java/lang/NoClassDefFoundError") s t × Shows 6 [] s × HasObject 4 Thrown (codes "java/lang/NoClassDefFoundError") t) }
+{}
+
+/// It may leave the initialiser as it is: whether it is wrapped is open.
+pub fn an_exception_leaves_an_initialiser()
+    ensures { BrokenSteps (λ s t. UnwindingNode (runs_with_errors makes_broken) given_broken 2 s t × (t.mode ≡ throwing 2) × Shows 0 [] t) }
 {}

@@ -5,7 +5,12 @@
 pub mod calls;
 pub mod exceptions;
 pub mod initialisation;
+pub mod lowering;
+pub mod lowering_calls;
+pub mod lowering_throws;
 pub mod raises;
+pub mod results;
 pub mod returns;
 pub mod tests_within;
+pub mod triggers;
 pub mod within;

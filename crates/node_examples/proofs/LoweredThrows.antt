@@ -1,0 +1,131 @@
+-- That the nodes of methods with handlers, or with instructions that raise, are those that the rules give.
+use Rattle.std.proofs.Common.{codes, ◌≡◌, ℕ, List, [], ◌∷◌, Some, None, refl}
+use Rattle.bytecode_machine.specs.Machine.{of_field, of_method, of_references}
+use Rattle.machine_examples.specs.Building.{handler as covers}
+use Rattle.machine_examples.specs.Excepting.{main_pool, program_with, catches_above}
+use Rattle.machine_examples.specs.Within.{main_pool as within_pool, misfit, division}
+use Rattle.machine_examples.proofs.CallStart.{plain_units}
+use Rattle.machine_examples.proofs.Facts.{call_row, field_row}
+use Rattle.machine_examples.proofs.WithinStart.{box_type}
+use Rattle.method_nodes.specs.LoweredMethods.IsCatch.{of_class}
+use Rattle.method_nodes.specs.LoweredMethods.{IsLowered, no_trigger, for_class}
+use Rattle.node_examples.specs.Decoded.{catches_above_code, catches_above_graph, inner_code, inner_graph, misfit_code, misfit_graph, division_code, division_graph}
+use Rattle.node_examples.specs.Excepting.{catches_above_nodes, inner_nodes}
+use Rattle.node_examples.specs.Raising.{program_with as raising, misfit_nodes, division_nodes}
+use Rattle.node_examples.specs.Lowering.{class_no, method_no}
+use Rattle.node_examples.proofs.ExceptionRuns.{main_named, names_fire, exception_type}
+use Rattle.node_examples.proofs.RaiseRuns.{names_it}
+use Rattle.node_examples.proofs.MoveLists.{are_moves_of}
+use Rattle.node_examples.proofs.NodesOf.{node_is, throws_nothing, throws_these}
+
+pub nodes_of_catches_above : IsLowered (program_with catches_above) 0 main_pool catches_above_code catches_above_graph catches_above_nodes
+nodes_of_catches_above = record {
+  method = _;
+  stands = refl;
+  number_is = refl;
+  slots = refl;
+  stack = refl;
+  params = record { parameters = []; results = []; of_descriptor = plain_units; is = refl };
+  nodes = (
+    node_is (program_with catches_above) 0 _ main_pool catches_above_code _ _ _ 0 refl refl _ refl _ (call_row _ _ _ _ _ _ refl plain_units) 0 refl refl (record { names = (main_named catches_above 10 1 _ _ refl refl refl refl refl); chosen = Some (method_no 1); is_chosen = refl; parameters = _; results = _; units = plain_units; is = refl }) refl (record { handler = covers 0 3 4 21; stands = refl; target = refl; catch = of_class (λ e. absurd cc) (codes "java/lang/Exception") _ refl (record { class = _; stands = refl; named = refl }) refl }, tt)
+        (Some (codes "Main")) (for_class refl (codes "Main") _ (of_method (main_named catches_above 10 1 _ _ refl refl refl refl refl) refl) (record { class = _; stands = refl; named = refl }) refl refl) (throws_nothing _ refl _ refl _),
+    (
+      node_is (program_with catches_above) 0 _ main_pool catches_above_code _ _ _ 1 refl refl _ refl _ refl 0 refl refl refl refl tt
+          None (no_trigger refl refl refl) (throws_nothing _ refl _ refl _),
+      (
+        node_is (program_with catches_above) 0 _ main_pool catches_above_code _ _ _ 2 refl refl _ refl _ refl 0 refl refl (record { moves = _; is = refl; each = are_moves_of _ _ _ refl }) refl tt
+            None (no_trigger refl refl refl) (throws_nothing _ refl _ refl _),
+        (
+          node_is (program_with catches_above) 0 _ main_pool catches_above_code _ _ _ 3 refl refl _ refl _ refl 0 refl refl refl refl tt
+              None (no_trigger refl refl refl) (throws_nothing _ refl _ refl _),
+          tt,
+        ),
+      ),
+    ),
+  );
+}
+
+pub nodes_of_inner : IsLowered (program_with catches_above) 2 main_pool inner_code inner_graph inner_nodes
+nodes_of_inner = record {
+  method = _;
+  stands = refl;
+  number_is = refl;
+  slots = refl;
+  stack = refl;
+  params = record { parameters = []; results = []; of_descriptor = plain_units; is = refl };
+  nodes = (
+    node_is (program_with catches_above) 2 _ main_pool inner_code _ _ _ 0 refl refl _ refl _ (field_row _ _ _ _ _ refl exception_type) 0 refl refl (record { names = (names_fire catches_above); is = refl }) refl tt
+        (Some (codes "lib/Alarm")) (for_class refl (codes "lib/Alarm") _ (of_field (names_fire catches_above) refl) (record { class = _; stands = refl; named = refl }) refl refl) (throws_nothing _ refl _ refl _),
+    (
+      node_is (program_with catches_above) 2 _ main_pool inner_code _ _ _ 1 refl refl _ refl _ refl 0 refl refl refl refl tt
+          None (no_trigger refl refl refl) (throws_nothing _ refl _ refl _),
+      tt,
+    ),
+  );
+}
+
+pub nodes_of_misfit : IsLowered (raising misfit) 0 within_pool misfit_code misfit_graph misfit_nodes
+nodes_of_misfit = record {
+  method = _;
+  stands = refl;
+  number_is = refl;
+  slots = refl;
+  stack = refl;
+  params = record { parameters = []; results = []; of_descriptor = plain_units; is = refl };
+  nodes = (
+    node_is (raising misfit) 0 _ within_pool misfit_code _ _ _ 0 refl refl _ refl _ refl 0 refl refl (record { moves = _; is = refl; each = are_moves_of _ _ _ refl }) refl tt
+        None (no_trigger refl refl refl) (throws_nothing _ refl _ refl _),
+    (
+      node_is (raising misfit) 0 _ within_pool misfit_code _ _ _ 1 refl refl _ refl _ refl 0 refl refl (codes "[Ljava/lang/String;" ∷ [], of_references refl (record { class = _; named = refl }) refl, refl) refl tt
+          None (no_trigger refl refl refl) (throws_these _ refl _ (class_no 8 ∷ []) refl refl _),
+      (
+        node_is (raising misfit) 0 _ within_pool misfit_code _ _ _ 2 refl refl _ refl _ refl 1 refl refl (record { moves = _; is = refl; each = are_moves_of _ _ _ refl }) refl tt
+            None (no_trigger refl refl refl) (throws_nothing _ refl _ refl _),
+        (
+          node_is (raising misfit) 0 _ within_pool misfit_code _ _ _ 3 refl refl _ refl _ (field_row _ _ _ _ _ refl box_type) 2 refl refl (record { names = (names_it misfit); is = refl }) refl tt
+              (Some (codes "lib/Box")) (for_class refl (codes "lib/Box") _ (of_field (names_it misfit) refl) (record { class = _; stands = refl; named = refl }) refl refl) (throws_nothing _ refl _ refl _),
+          (
+            node_is (raising misfit) 0 _ within_pool misfit_code _ _ _ 4 refl refl _ refl _ refl 0 refl refl refl refl tt
+                None (no_trigger refl refl refl) (throws_these _ refl _ (class_no 5 ∷ class_no 6 ∷ class_no 9 ∷ []) refl refl _),
+            (
+              node_is (raising misfit) 0 _ within_pool misfit_code _ _ _ 5 refl refl _ refl _ refl 0 refl refl refl refl tt
+                  None (no_trigger refl refl refl) (throws_nothing _ refl _ refl _),
+              tt,
+            ),
+          ),
+        ),
+      ),
+    ),
+  );
+}
+
+pub nodes_of_division : IsLowered (raising division) 0 within_pool division_code division_graph division_nodes
+nodes_of_division = record {
+  method = _;
+  stands = refl;
+  number_is = refl;
+  slots = refl;
+  stack = refl;
+  params = record { parameters = []; results = []; of_descriptor = plain_units; is = refl };
+  nodes = (
+    node_is (raising division) 0 _ within_pool division_code _ _ _ 0 refl refl _ refl _ refl 0 refl refl (record { moves = _; is = refl; each = are_moves_of _ _ _ refl }) refl tt
+        None (no_trigger refl refl refl) (throws_nothing _ refl _ refl _),
+    (
+      node_is (raising division) 0 _ within_pool division_code _ _ _ 1 refl refl _ refl _ refl 1 refl refl (record { moves = _; is = refl; each = are_moves_of _ _ _ refl }) refl tt
+          None (no_trigger refl refl refl) (throws_nothing _ refl _ refl _),
+      (
+        node_is (raising division) 0 _ within_pool division_code _ _ _ 2 refl refl _ refl _ refl 0 refl refl (record { moves = _; is = refl; each = are_moves_of _ _ _ refl }) refl tt
+            None (no_trigger refl refl refl) (throws_these _ refl _ (class_no 4 ∷ []) refl refl _),
+        (
+          node_is (raising division) 0 _ within_pool division_code _ _ _ 3 refl refl _ refl _ refl 0 refl refl (record { moves = _; is = refl; each = are_moves_of _ _ _ refl }) refl tt
+              None (no_trigger refl refl refl) (throws_nothing _ refl _ refl _),
+          (
+            node_is (raising division) 0 _ within_pool division_code _ _ _ 4 refl refl _ refl _ refl 0 refl refl refl refl tt
+                None (no_trigger refl refl refl) (throws_nothing _ refl _ refl _),
+            tt,
+          ),
+        ),
+      ),
+    ),
+  );
+}

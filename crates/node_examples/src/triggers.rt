@@ -1,0 +1,19 @@
+//! Triggers of an initialiser beside new of its class.
+
+ghost use Rattle.machine_examples.specs.Initialising.{makes_late, calls_ready, reads_ready};
+ghost use Rattle.node_examples.specs.Initialising.{StartsReady, makes_late_nodes, calls_ready_nodes, reads_ready_nodes};
+
+/// The initialiser of a superclass starts at new.
+pub fn an_initialiser_of_a_superclass_starts()
+    ensures { StartsReady makes_late makes_late_nodes }
+{}
+
+/// An initialiser starts at the call of a static method.
+pub fn an_initialiser_starts_at_a_call()
+    ensures { StartsReady calls_ready calls_ready_nodes }
+{}
+
+/// It starts at a static field, also where nothing is read.
+pub fn an_initialiser_starts_at_a_field()
+    ensures { StartsReady reads_ready reads_ready_nodes }
+{}
