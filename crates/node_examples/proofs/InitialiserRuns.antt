@@ -130,10 +130,10 @@ exception_type = class_type (codes "java") (codes "lang" âˆ· codes "Exception" â
 abbrev broken_main : MethodCode (program_with_errors makes_broken) 1
 broken_main = built (program_with_errors makes_broken) 1 _ (main_class makes_broken) 0 9 6 7 makes_broken refl refl refl refl
 
-abbrev broken_of : MethodCode (program_with_errors makes_broken) 0
+abbrev pub broken_of : MethodCode (program_with_errors makes_broken) 0
 broken_of = built (program_with_errors makes_broken) 0 _ broken_class 0 8 6 7 breaks refl refl refl refl
 
-abbrev initialises_broken : IsInitialiser (program_with_errors makes_broken) (codes "Broken") 0
+abbrev pub initialises_broken : IsInitialiser (program_with_errors makes_broken) (codes "Broken") 0
 initialises_broken = record { code = broken_of; named = refl; above = same _ refl }
 
 abbrev whole_world : World

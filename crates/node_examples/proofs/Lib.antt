@@ -17,3 +17,7 @@ mod NodesOf
 mod LoweredRuns
 mod LoweredCalls
 mod LoweredThrows
+mod LoweredTests
+mod LoweredResults
+mod LoweredTriggers
+mod LoweredErrors

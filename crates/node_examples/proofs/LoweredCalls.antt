@@ -1,5 +1,5 @@
 -- That the nodes of methods with calls are those that the rules give.
-use Rattle.std.proofs.Common.{codes, ◌≡◌, inl, inr, ℕ, List, [], ◌∷◌, Some, None, refl, arith}
+use Rattle.std.proofs.Common.{codes, inl, [], Some, None, refl, arith}
 use Rattle.jvm_model.specs.Selection.{SelectsSpecial, upward, at_super}
 use Rattle.bytecode_machine.specs.Machine.{of_field, of_method}
 use Rattle.machine_examples.specs.Calling.{main_pool, gate_pool, program_with, gets_same, closes, shuts}
@@ -7,7 +7,7 @@ use Rattle.machine_examples.proofs.CallStart.{plain_units, door_to_door_units, d
 use Rattle.machine_examples.proofs.Facts.{call_row, field_row}
 use Rattle.machine_examples.proofs.Searches.{chain_up, differ}
 use Rattle.method_nodes.specs.LoweredMethods.{IsLowered, no_trigger, for_class}
-use Rattle.node_examples.specs.Decoded.{gets_same_code, gets_same_graph, closes_code, closes_graph, shuts_code, shuts_graph, gate_close_code, gate_close_graph}
+use Rattle.node_examples.specs.DecodedCalls.{gets_same_code, gets_same_graph, closes_code, closes_graph, shuts_code, shuts_graph, gate_close_code, gate_close_graph}
 use Rattle.node_examples.specs.Calling.{gets_same_nodes, closes_nodes, shuts_nodes, gate_close_nodes}
 use Rattle.node_examples.specs.Lowering.{method_no}
 use Rattle.node_examples.proofs.MoveLists.{are_moves_of}

@@ -1,6 +1,5 @@
 -- That the nodes of some methods are those that the rules give.
-use Rattle.std.proofs.Common.{codes, ◌≡◌, inl, inr, ℕ, List, [], ◌∷◌, Some, None, refl, arith}
-use Rattle.jvm_model.specs.Soundness.{plain_descriptor}
+use Rattle.std.proofs.Common.{codes, [], ◌∷◌, Some, None, refl}
 use Rattle.bytecode_machine.specs.Machine.{of_class, of_field, of_references, nested}
 use Rattle.bytecode_machine.specs.Objects.{string_name}
 use Rattle.machine_examples.specs.Within.{main_pool, program_with, makes, switch, wide_iinc, links, counts, statics, constant, tables, boxes, box_cast}

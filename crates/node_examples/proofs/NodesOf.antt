@@ -1,5 +1,5 @@
 -- That nodes are those of a method: each by its instruction, its step of the graph, and its operation.
-use Rattle.std.proofs.Common.{codes, ◌≡◌, ◌⊎◌, inl, inr, ℕ, zero, suc, ◌+◌, Bool, true, false, not, ◌&&◌, ◌||◌, nat_eq, List, [], ◌∷◌, length, bytes_eq, Option, Some, None, slice_get, refl, sym, ap, ◌∙◌, subst, true≢false, eqb-true, arith}
+use Rattle.std.proofs.Common.{◌≡◌, ◌⊎◌, inl, inr, ℕ, zero, suc, ◌+◌, Bool, true, false, not, ◌&&◌, ◌||◌, nat_eq, List, [], ◌∷◌, length, bytes_eq, Option, Some, None, slice_get, refl, sym, ap, ◌∙◌, subst, true≢false, eqb-true, arith}
 use Rattle.std.specs.List.{Contains, AllZip, list_all}
 use Rattle.std.specs.Prelude.{◌↔◌}
 use Rattle.std.proofs.lemmas.Bool.{and_parts}
@@ -40,7 +40,7 @@ not_true : (b : Bool) → not b ≡ true → b ≡ true → ⊥
 not_true true h e = true≢false (sym h)
 not_true false h e = true≢false (sym e)
 
-none_there : {X : Type 0} (y : X) → Contains [] y → ⊥
+pub none_there : {X : Type 0} (y : X) → Contains [] y → ⊥
 none_there y there = let few = there.1 in omega arith
 
 pub throws_nothing : (p : Program) → has_no_error p ≡ true → (raises : List Raise) → has_none_of raises p ≡ true → (trigger : Option (List ℕ)) → AreThrownAt p raises trigger []
@@ -62,7 +62,7 @@ abbrev is_raised : List Raise → List ℕ → Bool
 is_raised [] name = false
 is_raised (k ∷ raises) name = bytes_eq name (exception_class k) || is_raised raises name
 
-abbrev is_listed : List ClassNo → ℕ → Bool
+abbrev pub is_listed : List ClassNo → ℕ → Bool
 is_listed [] number = false
 is_listed (c ∷ throws) number = nat_eq c.0 number || is_listed throws number
 
@@ -86,15 +86,15 @@ or_cases : (a b : Bool) → (a || b) ≡ true → (a ≡ true) ⊎ (b ≡ true)
 or_cases true b e = inl refl
 or_cases false b e = inr e
 
-or_first : (a b : Bool) → a ≡ true → (a || b) ≡ true
+pub or_first : (a b : Bool) → a ≡ true → (a || b) ≡ true
 or_first true b e = refl
 or_first false b e = absurd (true≢false (sym e))
 
-or_second : (a b : Bool) → b ≡ true → (a || b) ≡ true
+pub or_second : (a b : Bool) → b ≡ true → (a || b) ≡ true
 or_second true b e = refl
 or_second false b e = e
 
-if_true : (a b : Bool) → a ≡ true → (not a || b) ≡ true → b ≡ true
+pub if_true : (a b : Bool) → a ≡ true → (not a || b) ≡ true → b ≡ true
 if_true true b e h = h
 if_true false b e h = absurd (true≢false (sym e))
 
@@ -117,7 +117,7 @@ is_raised_by (q ∷ raises) name k (zero, few, same) e =
 is_raised_by (q ∷ raises) name k (suc n, few, same) e =
     or_second (bytes_eq name (exception_class q)) (is_raised raises name) (is_raised_by raises name k (n, omega arith, same) e)
 
-listed_there : (throws : List ClassNo) (c : ClassNo) → is_listed throws c.0 ≡ true → Contains throws c
+pub listed_there : (throws : List ClassNo) (c : ClassNo) → is_listed throws c.0 ≡ true → Contains throws c
 listed_there [] c e = absurd (true≢false (sym e))
 listed_there (k ∷ throws) c e = by (or_cases (nat_eq k.0 c.0) (is_listed throws c.0) e) (λ f. listed_there throws c f)
   where

@@ -31,10 +31,10 @@ finds_of = built finding 4 _ main_class 0 9 6 7 finds refl refl refl refl
 abbrev find_of : MethodCode finding 5
 find_of = built finding 5 _ main_class 1 9 8 9 find_gate refl refl refl refl
 
-abbrev gate_named : NamesField finding main_pool 17 true
+abbrev pub gate_named : NamesField finding main_pool 17 true
 gate_named = declared_field _ _ _ _ 0 _ _ refl refl refl refl refl
 
-abbrev find_named : NamesMethod finding main_pool 11
+abbrev pub find_named : NamesMethod finding main_pool 11
 find_named = record {
   called = _;
   named = refl;
@@ -220,7 +220,7 @@ an_interface_method_is_called =
 
 -- ---- a static method, which returns a primitive
 
-abbrev names_same : NamesMethod (program_with calls_same) calls_pool 11
+abbrev pub names_same : NamesMethod (program_with calls_same) calls_pool 11
 names_same = record {
   called = _;
   named = refl;

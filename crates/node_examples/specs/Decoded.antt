@@ -219,68 +219,6 @@ box_cast_graph = graph_of (
     ∷ step 7 0 []
     ∷ [])
 
-abbrev pub gets_same_code : Code
-gets_same_code = code_of 1 0 (
-    plainly_placed 0 178 32
-    ∷ plainly_placed 3 184 45
-    ∷ plainly_placed 6 87 0
-    ∷ plainly_placed 7 177 0
-    ∷ [])
-
-abbrev pub gets_same_graph : Graph
-gets_same_graph = graph_of (
-    step 0 0 (3 ∷ [])
-    ∷ step 3 1 (6 ∷ [])
-    ∷ step 6 1 (7 ∷ [])
-    ∷ step 7 0 []
-    ∷ [])
-
-abbrev pub closes_code : Code
-closes_code = code_of 1 0 (
-    plainly_placed 0 178 32
-    ∷ plainly_placed 3 182 16
-    ∷ plainly_placed 6 178 32
-    ∷ plainly_placed 9 182 16
-    ∷ plainly_placed 12 177 0
-    ∷ [])
-
-abbrev pub closes_graph : Graph
-closes_graph = graph_of (
-    step 0 0 (3 ∷ [])
-    ∷ step 3 1 (6 ∷ [])
-    ∷ step 6 0 (9 ∷ [])
-    ∷ step 9 1 (12 ∷ [])
-    ∷ step 12 0 []
-    ∷ [])
-
-abbrev pub shuts_code : Code
-shuts_code = code_of 1 0 (
-    plainly_placed 0 178 32
-    ∷ plainly_placed 3 185 22
-    ∷ plainly_placed 8 177 0
-    ∷ [])
-
-abbrev pub shuts_graph : Graph
-shuts_graph = graph_of (
-    step 0 0 (3 ∷ [])
-    ∷ step 3 1 (8 ∷ [])
-    ∷ step 8 0 []
-    ∷ [])
-
-abbrev pub gate_close_code : Code
-gate_close_code = code_of 1 1 (
-    plainly_placed 0 42 0
-    ∷ plainly_placed 1 183 9
-    ∷ plainly_placed 4 177 0
-    ∷ [])
-
-abbrev pub gate_close_graph : Graph
-gate_close_graph = graph_of (
-    step 0 0 (1 ∷ [])
-    ∷ step 1 1 (4 ∷ [])
-    ∷ step 4 0 []
-    ∷ [])
-
 abbrev pub catches_above_code : Code
 catches_above_code = code_with 1 0 (
     plainly_placed 0 184 10
@@ -345,4 +283,266 @@ division_graph = graph_of (
     ∷ step 2 2 (3 ∷ [])
     ∷ step 3 1 (4 ∷ [])
     ∷ step 4 0 []
+    ∷ [])
+
+abbrev pub branch_code : Code
+branch_code = code_of 1 0 (
+    plainly_placed 0 3 0
+    ∷ instruction_with 1 153 0 0 (5 ∷ [])
+    ∷ plainly_placed 4 0 0
+    ∷ plainly_placed 5 177 0
+    ∷ [])
+
+abbrev pub branch_graph : Graph
+branch_graph = graph_of (
+    step 0 0 (1 ∷ [])
+    ∷ step 1 1 (4 ∷ 5 ∷ [])
+    ∷ step 4 0 (5 ∷ [])
+    ∷ step 5 0 []
+    ∷ [])
+
+abbrev pub numbers_code : Code
+numbers_code = code_of 1 0 (
+    plainly_placed 0 5 0
+    ∷ plainly_placed 1 188 10
+    ∷ plainly_placed 3 190 0
+    ∷ plainly_placed 4 87 0
+    ∷ plainly_placed 5 177 0
+    ∷ [])
+
+abbrev pub numbers_graph : Graph
+numbers_graph = graph_of (
+    step 0 0 (1 ∷ [])
+    ∷ step 1 1 (3 ∷ [])
+    ∷ step 3 1 (4 ∷ [])
+    ∷ step 4 1 (5 ∷ [])
+    ∷ step 5 0 []
+    ∷ [])
+
+abbrev pub null_cast_code : Code
+null_cast_code = code_of 1 0 (
+    plainly_placed 0 1 0
+    ∷ plainly_placed 1 192 10
+    ∷ plainly_placed 4 87 0
+    ∷ plainly_placed 5 177 0
+    ∷ [])
+
+abbrev pub null_cast_graph : Graph
+null_cast_graph = graph_of (
+    step 0 0 (1 ∷ [])
+    ∷ step 1 1 (4 ∷ [])
+    ∷ step 4 1 (5 ∷ [])
+    ∷ step 5 0 []
+    ∷ [])
+
+abbrev pub null_branch_code : Code
+null_branch_code = code_of 1 0 (
+    plainly_placed 0 1 0
+    ∷ instruction_with 1 198 0 0 (5 ∷ [])
+    ∷ plainly_placed 4 177 0
+    ∷ plainly_placed 5 177 0
+    ∷ [])
+
+abbrev pub null_branch_graph : Graph
+null_branch_graph = graph_of (
+    step 0 0 (1 ∷ [])
+    ∷ step 1 1 (4 ∷ 5 ∷ [])
+    ∷ step 4 0 []
+    ∷ step 5 0 []
+    ∷ [])
+
+abbrev pub box_branch_code : Code
+box_branch_code = code_of 1 0 (
+    plainly_placed 0 178 14
+    ∷ instruction_with 3 198 0 0 (7 ∷ [])
+    ∷ plainly_placed 6 177 0
+    ∷ plainly_placed 7 177 0
+    ∷ [])
+
+abbrev pub box_branch_graph : Graph
+box_branch_graph = graph_of (
+    step 0 0 (3 ∷ [])
+    ∷ step 3 1 (6 ∷ 7 ∷ [])
+    ∷ step 6 0 []
+    ∷ step 7 0 []
+    ∷ [])
+
+abbrev pub same_branch_code : Code
+same_branch_code = code_of 2 0 (
+    plainly_placed 0 178 14
+    ∷ plainly_placed 3 178 14
+    ∷ instruction_with 6 165 0 0 (10 ∷ [])
+    ∷ plainly_placed 9 177 0
+    ∷ plainly_placed 10 177 0
+    ∷ [])
+
+abbrev pub same_branch_graph : Graph
+same_branch_graph = graph_of (
+    step 0 0 (3 ∷ [])
+    ∷ step 3 1 (6 ∷ [])
+    ∷ step 6 2 (9 ∷ 10 ∷ [])
+    ∷ step 9 0 []
+    ∷ step 10 0 []
+    ∷ [])
+
+abbrev pub other_branch_code : Code
+other_branch_code = code_of 2 0 (
+    plainly_placed 0 178 14
+    ∷ plainly_placed 3 1 0
+    ∷ instruction_with 4 165 0 0 (8 ∷ [])
+    ∷ plainly_placed 7 177 0
+    ∷ plainly_placed 8 177 0
+    ∷ [])
+
+abbrev pub other_branch_graph : Graph
+other_branch_graph = graph_of (
+    step 0 0 (3 ∷ [])
+    ∷ step 3 1 (4 ∷ [])
+    ∷ step 4 2 (7 ∷ 8 ∷ [])
+    ∷ step 7 0 []
+    ∷ step 8 0 []
+    ∷ [])
+
+abbrev pub lookup_code : Code
+lookup_code = code_of 1 0 (
+    plainly_placed 0 3 0
+    ∷ instruction_with 1 171 0 0 (20 ∷ 21 ∷ [])
+    ∷ plainly_placed 20 177 0
+    ∷ plainly_placed 21 177 0
+    ∷ [])
+
+abbrev pub lookup_graph : Graph
+lookup_graph = graph_of (
+    step 0 0 (1 ∷ [])
+    ∷ step 1 1 (20 ∷ 21 ∷ [])
+    ∷ step 20 0 []
+    ∷ step 21 0 []
+    ∷ [])
+
+abbrev pub class_constant_code : Code
+class_constant_code = code_of 1 0 (
+    plainly_placed 0 18 10
+    ∷ plainly_placed 2 87 0
+    ∷ plainly_placed 3 177 0
+    ∷ [])
+
+abbrev pub class_constant_graph : Graph
+class_constant_graph = graph_of (
+    step 0 0 (2 ∷ [])
+    ∷ step 2 1 (3 ∷ [])
+    ∷ step 3 0 []
+    ∷ [])
+
+abbrev pub monitor_code : Code
+monitor_code = code_of 1 0 (
+    plainly_placed 0 178 14
+    ∷ plainly_placed 3 194 0
+    ∷ plainly_placed 4 178 14
+    ∷ plainly_placed 7 195 0
+    ∷ plainly_placed 8 177 0
+    ∷ [])
+
+abbrev pub monitor_graph : Graph
+monitor_graph = graph_of (
+    step 0 0 (3 ∷ [])
+    ∷ step 3 1 (4 ∷ [])
+    ∷ step 4 0 (7 ∷ [])
+    ∷ step 7 1 (8 ∷ [])
+    ∷ step 8 0 []
+    ∷ [])
+
+abbrev pub first_number_code : Code
+first_number_code = code_of 2 0 (
+    plainly_placed 0 4 0
+    ∷ plainly_placed 1 188 10
+    ∷ plainly_placed 3 3 0
+    ∷ plainly_placed 4 46 0
+    ∷ plainly_placed 5 87 0
+    ∷ plainly_placed 6 177 0
+    ∷ [])
+
+abbrev pub first_number_graph : Graph
+first_number_graph = graph_of (
+    step 0 0 (1 ∷ [])
+    ∷ step 1 1 (3 ∷ [])
+    ∷ step 3 1 (4 ∷ [])
+    ∷ step 4 2 (5 ∷ [])
+    ∷ step 5 1 (6 ∷ [])
+    ∷ step 6 0 []
+    ∷ [])
+
+abbrev pub string_cast_code : Code
+string_cast_code = code_of 1 0 (
+    plainly_placed 0 178 14
+    ∷ plainly_placed 3 192 29
+    ∷ plainly_placed 6 87 0
+    ∷ plainly_placed 7 177 0
+    ∷ [])
+
+abbrev pub string_cast_graph : Graph
+string_cast_graph = graph_of (
+    step 0 0 (3 ∷ [])
+    ∷ step 3 1 (6 ∷ [])
+    ∷ step 6 1 (7 ∷ [])
+    ∷ step 7 0 []
+    ∷ [])
+
+abbrev pub null_throw_code : Code
+null_throw_code = code_of 1 0 (
+    plainly_placed 0 1 0
+    ∷ plainly_placed 1 191 0
+    ∷ [])
+
+abbrev pub null_throw_graph : Graph
+null_throw_graph = graph_of (
+    step 0 0 (1 ∷ [])
+    ∷ step 1 1 []
+    ∷ [])
+
+abbrev pub null_field_code : Code
+null_field_code = code_of 1 0 (
+    plainly_placed 0 1 0
+    ∷ plainly_placed 1 180 17
+    ∷ plainly_placed 4 87 0
+    ∷ plainly_placed 5 177 0
+    ∷ [])
+
+abbrev pub null_field_graph : Graph
+null_field_graph = graph_of (
+    step 0 0 (1 ∷ [])
+    ∷ step 1 1 (4 ∷ [])
+    ∷ step 4 1 (5 ∷ [])
+    ∷ step 5 0 []
+    ∷ [])
+
+abbrev pub catches_here_code : Code
+catches_here_code = code_with 1 0 (
+    plainly_placed 0 178 19
+    ∷ plainly_placed 3 191 0
+    ∷ plainly_placed 4 87 0
+    ∷ plainly_placed 5 177 0
+    ∷ []) (handler 0 4 4 23 ∷ handler 0 4 4 21 ∷ [])
+
+abbrev pub catches_here_graph : Graph
+catches_here_graph = graph_of (
+    step_with 0 0 (3 ∷ []) (0 ∷ 1 ∷ [])
+    ∷ step_with 3 1 [] (0 ∷ 1 ∷ [])
+    ∷ step 4 1 (5 ∷ [])
+    ∷ step 5 0 []
+    ∷ [])
+
+abbrev pub middle_code : Code
+middle_code = code_with 1 0 (
+    plainly_placed 0 184 13
+    ∷ plainly_placed 3 177 0
+    ∷ plainly_placed 4 87 0
+    ∷ plainly_placed 5 177 0
+    ∷ []) (handler 0 3 4 23 ∷ [])
+
+abbrev pub middle_graph : Graph
+middle_graph = graph_of (
+    step_with 0 0 (3 ∷ []) (0 ∷ [])
+    ∷ step 3 0 []
+    ∷ step 4 1 (5 ∷ [])
+    ∷ step 5 0 []
     ∷ [])

@@ -7,3 +7,4 @@ pub mod Initialising
 pub mod Raising
 pub mod Giving
 pub mod Decoded
+pub mod DecodedCalls

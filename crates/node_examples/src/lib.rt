@@ -1,5 +1,6 @@
-//! The methods of small named programs as nodes, and laws that the same executions, state by state, are executions of bytecode and
-//! of nodes. They call nothing, and no layer needs them to prove its own: they show that the definitions let happen what should.
+//! The methods of small named programs as nodes: laws that they are those of the rules, and that the same executions, state by state,
+//! are executions of bytecode and of nodes. They call nothing, and no layer needs them to prove its own: they show that the
+//! definitions let happen what should.
 #![tactic(auto)]
 
 pub mod calls;
@@ -7,7 +8,10 @@ pub mod exceptions;
 pub mod initialisation;
 pub mod lowering;
 pub mod lowering_calls;
+pub mod lowering_results;
+pub mod lowering_tests;
 pub mod lowering_throws;
+pub mod lowering_triggers;
 pub mod raises;
 pub mod results;
 pub mod returns;

@@ -2,7 +2,7 @@
 
 ghost use Rattle.machine_examples.specs.Calling.{main_pool, gate_pool, program_with, gets_same, closes, shuts};
 ghost use Rattle.method_nodes.specs.LoweredMethods.{IsLowered};
-ghost use Rattle.node_examples.specs.Decoded.{gets_same_code, gets_same_graph, closes_code, closes_graph, shuts_code, shuts_graph, gate_close_code, gate_close_graph};
+ghost use Rattle.node_examples.specs.DecodedCalls.{gets_same_code, gets_same_graph, closes_code, closes_graph, shuts_code, shuts_graph, gate_close_code, gate_close_graph};
 ghost use Rattle.node_examples.specs.Calling.{gets_same_nodes, closes_nodes, shuts_nodes, gate_close_nodes};
 
 /// The nodes of a method that calls a static one, with an argument and a result.
