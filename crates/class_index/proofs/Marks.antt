@@ -11,7 +11,7 @@ use Rattle.class_index.proofs.ClassLists.{has_push_new, has_push_other, all_befo
 -- no class is marked in the empty list
 pub marked_none : (n : ℕ) → AreMarked (replicate n false) []
 marked_none n = record {
-  told = λ x l. let below : x < n = omega (arith, length-replicate n false) in get_or-replicate n x false false below;
+  marked = λ x l. let below : x < n = omega (arith, length-replicate n false) in get_or-replicate n x false false below;
   below = All-nil (λ (x : ℕ). x < length (replicate n false));
   distinct = distinct_none;
 }
@@ -20,24 +20,24 @@ marked_none n = record {
 pub marked_push : (marks : List Bool) (items : List ℕ) (y : ℕ) → AreMarked marks items → y < length marks → get_or marks y false ≡ false
     → AreMarked (set marks y true) (items ++ y ∷ [])
 marked_push marks items y marked l unmarked = record {
-  told = λ x lx. let lx' : x < length marks = omega (arith, length-set marks y true) in
+  marked = λ x lx. let lx' : x < length marks = omega (arith, length-set marks y true) in
       elim (cases_eq x y) [
         | inl e ↦ subst (λ (z : ℕ). get_or (set marks y true) z false ≡ has (items ++ y ∷ []) z) (sym e)
             (get_or-set_same marks y true false l ∙ sym (has_push_new items y))
-        | inr ne ↦ get_or-set_other marks y x true false ne ∙ marked.told x lx' ∙ sym (has_push_other items y x ne)
+        | inr ne ↦ get_or-set_other marks y x true false ne ∙ marked.marked x lx' ∙ sym (has_push_other items y x ne)
       ];
   below = rw length-set (All-push (λ (x : ℕ). x < length marks) items y marked.below l);
-  distinct = IsDistinct-push nat_eq_equiv items y marked.distinct (sym (marked.told y l) ∙ unmarked);
+  distinct = IsDistinct-push nat_eq_equiv items y marked.distinct (sym (marked.marked y l) ∙ unmarked);
 }
 
 -- the last class goes, and its mark with it
 pub marked_pop : (marks : List Bool) (items : List ℕ) (y : ℕ) → AreMarked marks (items ++ y ∷ []) → AreMarked (set marks y false) items
 marked_pop marks items y marked = record {
-  told = λ x lx. let lx' : x < length marks = omega (arith, length-set marks y false) in
+  marked = λ x lx. let lx' : x < length marks = omega (arith, length-set marks y false) in
       elim (cases_eq x y) [
         | inl e ↦ subst (λ (z : ℕ). get_or (set marks y false) z false ≡ has items z) (sym e)
             (get_or-set_same marks y false false (subst (λ (z : ℕ). z < length marks) e lx') ∙ sym (distinct_last items y marked.distinct))
-        | inr ne ↦ get_or-set_other marks y x false false ne ∙ marked.told x lx' ∙ has_push_other items y x ne
+        | inr ne ↦ get_or-set_other marks y x false false ne ∙ marked.marked x lx' ∙ has_push_other items y x ne
       ];
   below = rw length-set (all_before (λ (x : ℕ). x < length marks) items y marked.below);
   distinct = distinct_before items y marked.distinct;

@@ -28,6 +28,6 @@ pub record HasFrontOf (old : Classes) (classes : List ℕ) (new : Classes) : Typ
 
 -- The marks tell which classes are in the list, in which none stands twice.
 pub record AreMarked (marks : List Bool) (items : List ℕ) : Type 0 where
-  pub told : (x : ℕ) → x < length marks → slice_index_or marks x false ≡ has items x
+  pub marked : (x : ℕ) → x < length marks → slice_index_or marks x false ≡ has items x
   pub below : All (λ (x : ℕ). x < length marks) items
   pub distinct : IsDistinct nat_eq items

@@ -232,14 +232,14 @@ one_told c code (Ok g) (Ok h) x y t u =
     ap graph_of (x.steps_are ∙ ap (steps_of code) marks ∙ sym y.steps_are)
 one_told c code (Ok g) (Err OutOfMemory) x y t u = absurd u
 one_told c code (Ok g) (Err (Cause f)) x y t u =
-    absurd (fault_here _ _ (y.within, f.reason) x.faultless y.told (ap (first_fault code.instructions) (one_walk c code x.marks y.marks x.is_walked y.is_walked)))
+    absurd (fault_here _ _ (y.within, f.reason) x.faultless y.first (ap (first_fault code.instructions) (one_walk c code x.marks y.marks x.is_walked y.is_walked)))
 one_told c code (Err OutOfMemory) b x y t u = absurd t
 one_told c code (Err (Cause f)) (Ok h) x y t u =
-    absurd (fault_here _ _ (x.within, f.reason) y.faultless x.told (ap (first_fault code.instructions) (one_walk c code y.marks x.marks y.is_walked x.is_walked)))
+    absurd (fault_here _ _ (x.within, f.reason) y.faultless x.first (ap (first_fault code.instructions) (one_walk c code y.marks x.marks y.is_walked x.is_walked)))
 one_told c code (Err (Cause f)) (Err OutOfMemory) x y t u = absurd u
 one_told c code (Err (Cause f)) (Err (Cause g)) x y t u =
     let marks = one_walk c code x.marks y.marks x.is_walked y.is_walked in
-    let same = same_Some (x.within, f.reason) (y.within, g.reason) (sym x.told ∙ ap (first_fault code.instructions) marks ∙ y.told) in
+    let same = same_Some (x.within, f.reason) (y.within, g.reason) (sym x.first ∙ ap (first_fault code.instructions) marks ∙ y.first) in
     let within : x.within ≡ y.within = ap (λ (f : ℕ × Reason). f.0) same in
     let reason : f.reason ≡ g.reason = ap (λ (f : ℕ × Reason). f.1) same in
     ap (λ (n : ℕ). refused_at n f.reason) (x.offset_is ∙ ap (λ (n : ℕ). code.at + n) within ∙ sym y.offset_is) ∙ ap (λ (q : Reason). refused_at g.offset q) reason

@@ -67,7 +67,7 @@ pub record IsFault (c : ClassFile) (code : Code) (offset : ℕ) (reason : Reason
   pub marks : List Mark
   pub is_walked : IsWalked c code marks
   pub within : ℕ
-  pub told : first_fault code.instructions marks ≡ Some (within, reason)
+  pub first : first_fault code.instructions marks ≡ Some (within, reason)
   pub offset_is : offset ≡ code.at + within
 
 -- The answer is the graph, or the first fault, or out of memory.

@@ -19,5 +19,3 @@ pub use effect::Effect;
 pub use mark::Mark;
 pub use steps::{Graph, GraphStep};
 
-#[cfg(test)]
-mod tests;

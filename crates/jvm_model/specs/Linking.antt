@@ -72,15 +72,15 @@ native_descriptions stubs c = with_descriptions [] (filter (λ (d : Description)
 
 -- ---- the program
 
-abbrev pub told : List Description → List StubMethod
-told ds = map (λ (d : Description). d.method) ds
+abbrev pub described_methods : List Description → List StubMethod
+described_methods ds = map (λ (d : Description). d.method) ds
 
 -- Where the classes come from: the class files, and the stubs that are classes of their own, with what patches say.
 abbrev pub folder_origin : List StubClass → NamedClass → Origin
-folder_origin stubs f = Folder f (told (native_descriptions stubs f.class))
+folder_origin stubs f = Folder f (described_methods (native_descriptions stubs f.class))
 
 abbrev pub stub_origin : List StubClass → StubClass → Origin
-stub_origin stubs c = Stub (record { file = c.file; name = c.name; super_class = c.super_class; interfaces = c.interfaces; is_interface = c.is_interface; is_patch = c.is_patch; methods = told (stub_descriptions stubs c); fields = c.fields })
+stub_origin stubs c = Stub (record { file = c.file; name = c.name; super_class = c.super_class; interfaces = c.interfaces; is_interface = c.is_interface; is_patch = c.is_patch; methods = described_methods (stub_descriptions stubs c); fields = c.fields })
 
 abbrev pub origins : List NamedClass → List StubClass → List Origin
 origins files stubs = map (folder_origin stubs) files ++ map (stub_origin stubs) (own_classes stubs)

@@ -211,6 +211,3 @@ pub fn code_place(class: &ClassFile, method: usize) -> u32
         + earlier_attributes
         + ATTRIBUTE_BODY
 }
-
-#[cfg(test)]
-mod tests;

@@ -189,6 +189,3 @@ fn row_among(all: &'static [Row], opcode: u8) -> Option<&'static Row>
 {
     all.get(opcode as usize)
 }
-
-#[cfg(test)]
-mod tests;

@@ -109,6 +109,3 @@ pub fn method(class: &ClassFile, index: u16) -> MemberReference<'_>
 {
     method_at(class.pool.as_slice(), index).unwrap()
 }
-
-#[cfg(test)]
-mod tests;

@@ -1,7 +1,7 @@
 //! The class files of a case.
 
 ghost use Rattle.std.specs.Prelude.{All, IfOk};
-ghost use Rattle.linking.specs.LinkTelling.{IsSoundFile};
+ghost use Rattle.linking.specs.LinkAnswers.{IsSoundFile};
 
 use crate::case_failure::{CaseFailure, CaseFault};
 use classfile_reader::read_class;

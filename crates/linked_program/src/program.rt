@@ -248,6 +248,3 @@ fn cycle_at(alloc: Global, class: &Origin) -> LinkFailure
         Origin::Stub(stub) => refused(alloc, &stub.file, 0, Reason::Cycle),
     }
 }
-
-#[cfg(test)]
-mod tests;

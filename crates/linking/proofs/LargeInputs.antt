@@ -27,7 +27,7 @@ use Rattle.linked_program.specs.MemberLists.{AreTooManyKeys}
 use Rattle.linked_program.proofs.MembersTold.{many_keys_more}
 use Rattle.linking.specs.declared.class_names.StubSource.TheVariants.{Base, User}
 use Rattle.linking.specs.Claims.{TellsEndOrLarge, all_names, file_name, stub_name, with_own_names}
-use Rattle.linking.specs.LinkTelling.{IsSoundFile}
+use Rattle.linking.specs.LinkAnswers.{IsSoundFile}
 use Rattle.linking.specs.Patching.{is_patch_stub, member_key, method_key, native_keys, own_one, patch_one}
 use Rattle.linking.specs.StubSources.{own_from}
 use Rattle.linking.specs.TooLarge.{AreTooManyDescriptions, AreTooManyNatives, HasLargeFile, HasLargeStub, IsTooLargeInput, in_classes, in_file, in_patches, in_stub, TellsTooMany}

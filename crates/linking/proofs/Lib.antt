@@ -9,7 +9,6 @@ pub mod DistinctNames
 pub mod FlatClaims
 pub mod OrderedPrograms
 pub mod PatchesAlone
-pub mod Orders
 pub mod SoundOrigins
 pub mod LargeInputs
 pub mod LinkSteps

@@ -23,7 +23,7 @@ use Rattle.linked_program.specs.Whole.{IsLinkable}
 use Rattle.linked_program.proofs.Assembled.{all_from}
 use Rattle.linked_program.proofs.Bridges.{map_to}
 use Rattle.linking.specs.Claims.{TellsEndOrLarge, unsorted}
-use Rattle.linking.specs.LinkTelling.{flat_claims, TellsLink, TellsLinkInOrder}
+use Rattle.linking.specs.LinkAnswers.{flat_claims, IsLinkAnswer, IsAnswerInOrder}
 use Rattle.linking.specs.TooLarge.{IsTooLargeInput, in_classes, in_file, in_patches, in_program, in_stub, TellsTooMany}
 use Rattle.linking.proofs.ClaimSteps.{met_append, met_back, met_front, unmet_back, unmet_front}
 use Rattle.linking.proofs.FlatClaims.{kind_flat, names_flat, there_flat}
@@ -31,7 +31,7 @@ use Rattle.linking.proofs.KnownClasses.{all_met_same, end_same, IsFlatClaim}
 use Rattle.linking.proofs.LargeInputs.{names_count}
 use Rattle.linking.proofs.Linkables.{linkable}
 use Rattle.linking.proofs.OrderedPrograms.{ordered_same}
-use Rattle.linking.proofs.Orders.{exists_order, in_order}
+use Rattle.program_laws.proofs.ClassOrders.{exists_order, in_order}
 
 -- A list in the order of what a function gives of its elements is mapped to a list in order.
 pub IsSorted-map : {X Y : Type 0} (f : X → Y) (cmp : Y → Y → Ordering) (xs : List X) → IsSorted (λ a b. cmp (f a) (f b)) xs → IsSorted cmp (map f xs)
@@ -54,7 +54,7 @@ large_in_order files ordered stubs is (in_program order in_order' large) =
     in_program order (record { same = IsPermutation-trans (origins files stubs) (origins ordered stubs) order moved in_order'.same; sorted = in_order'.sorted }) large
 
 -- What is told of class files in the order of their files is told of them in each order.
-pub told_in_order : (files ordered : List NamedClass) (stubs : List StubClass) → IsFileOrder files ordered → (r : Result Program (Failure LinkFault)) → TellsLinkInOrder ordered stubs r → TellsLink files stubs r
+pub told_in_order : (files ordered : List NamedClass) (stubs : List StubClass) → IsFileOrder files ordered → (r : Result Program (Failure LinkFault)) → IsAnswerInOrder ordered stubs r → IsLinkAnswer files stubs r
 told_in_order files ordered stubs is (Ok p) told = record { ordered = ordered; by_file = is; links = told }
 told_in_order files ordered stubs is (Err (Cause (Refused refusal))) told = record { ordered = ordered; by_file = is; links = told }
 told_in_order files ordered stubs is (Err (Cause TooMany)) told = large_in_order files ordered stubs is told
@@ -76,7 +76,7 @@ module _ (files : List NamedClass) (stubs : List StubClass) where
   all_flat = All-append IsFlatClaim (ns ++ ts) ks (All-append IsFlatClaim ns ts (names_flat files (own_classes stubs)) (there_flat files stubs)) (kind_flat files (own_classes stubs))
 
   -- a check that fails bars the program in each order
-  pub link_barred : (end : Failure LinkFault) → TellsEndOrLarge (IsTooLargeInput files stubs) (unsorted files stubs) (flat_claims files stubs) end → TellsLinkInOrder files stubs (Err end)
+  pub link_barred : (end : Failure LinkFault) → TellsEndOrLarge (IsTooLargeInput files stubs) (unsorted files stubs) (flat_claims files stubs) end → IsAnswerInOrder files stubs (Err end)
   link_barred (Cause (Refused refusal)) told =
       let order = exists_order (origins files stubs) in
       let p = program_from order.0 in
@@ -86,15 +86,15 @@ module _ (files : List NamedClass) (stubs : List StubClass) where
   link_barred OutOfMemory told = tt
 
   -- and so does an index that is full
-  pub index_barred : (e : Failure TooManyItems) (end : Failure LinkFault) → IsWidened (λ _ fault. fault ≡ TooMany) e end → TellsTooMany (IsTooLargeInput files stubs) e → TellsLinkInOrder files stubs (Err end)
-  index_barred (Cause _) (Cause fault) is told = subst (λ (f : LinkFault). TellsLinkInOrder files stubs (Err (Cause f))) (sym is) told
+  pub index_barred : (e : Failure TooManyItems) (end : Failure LinkFault) → IsWidened (λ _ fault. fault ≡ TooMany) e end → TellsTooMany (IsTooLargeInput files stubs) e → IsAnswerInOrder files stubs (Err end)
+  index_barred (Cause _) (Cause fault) is told = subst (λ (f : LinkFault). IsAnswerInOrder files stubs (Err (Cause f))) (sym is) told
   index_barred (Cause _) OutOfMemory is told = absurd is
   index_barred OutOfMemory (Cause _) is told = absurd is
   index_barred OutOfMemory OutOfMemory is told = tt
 
   pub handed_barred : {X : Type 0} (r : Result X (Failure TooManyItems)) (end : Failure LinkFault)
       → MatchResult r (λ x. ◌≡◌ {A = Result X (Failure LinkFault)} (Err end) (Ok x)) (λ e. IsWidened (λ _ fault. fault ≡ TooMany) e end) → IfErr r (TellsTooMany (IsTooLargeInput files stubs))
-      → TellsLinkInOrder files stubs (Err end)
+      → IsAnswerInOrder files stubs (Err end)
   handed_barred (Ok x) end cases told = absurd (cc cases)
   handed_barred (Err e) end cases told = index_barred e end cases told
 
@@ -109,7 +109,7 @@ module _ (files : List NamedClass) (stubs : List StubClass) where
     is_linkable = linkable files stubs order is (met_back p ns ts (met_front p (ns ++ ts) ks flat_met)) (met_back p (ns ++ ts) ks flat_met) (met_front p ns ts (met_front p (ns ++ ts) ks flat_met))
 
     -- what putting the program together tells is what linking gives
-    pub link_told : (r : Result Program (Failure LinkFault)) → Assembles order r → TellsLinkInOrder files stubs r
+    pub link_told : (r : Result Program (Failure LinkFault)) → Assembles order r → IsAnswerInOrder files stubs r
     link_told (Ok q) a = linked order is (met_append p (flat_claims files stubs) (map cycle_claim order) flat_met a.1) (ap Ok a.0)
     link_told (Err (Cause (Refused refusal))) a = barred order refusal is (unmet_back p refusal (flat_claims files stubs) (map cycle_claim order) flat_met a) refl
     link_told (Err (Cause TooMany)) a = in_program order is a

@@ -13,7 +13,7 @@ use Rattle.jvm_model.specs.declared.program.Origin.TheVariants.{Folder, Stub}
 use Rattle.jvm_model.specs.declared.stub.StubClass.{StubClass}
 use Rattle.jvm_model.specs.declared.stub.StubField.{StubField}
 use Rattle.jvm_model.specs.declared.stub.StubMethod.{StubMethod}
-use Rattle.jvm_model.specs.Linking.{AreMet, Meets, Claim, Description, is_there, of_kind, NamedSuper, class_from, description_claims, folder_origin, interface_places, IsOrder, kind_claim, kind_claims, mention_claim, name_claims, names, native_claims, native_descriptions, origins, own_classes, program_from, stub_descriptions, stub_origin, stub_there_claims, supers_of_file, supers_of_stub, superclass_place, there_claim, there_claims, told}
+use Rattle.jvm_model.specs.Linking.{AreMet, Meets, Claim, Description, is_there, of_kind, NamedSuper, class_from, description_claims, folder_origin, interface_places, IsOrder, kind_claim, kind_claims, mention_claim, name_claims, names, native_claims, native_descriptions, origins, own_classes, program_from, stub_descriptions, stub_origin, stub_there_claims, supers_of_file, supers_of_stub, superclass_place, there_claim, there_claims, described_methods}
 use Rattle.jvm_model.specs.LinkedPrograms.{HasSupers, IsThere}
 use Rattle.jvm_model.specs.Lookups.{class_name_at}
 use Rattle.jvm_model.specs.Programs.{Class, Program, class_or_none}
@@ -155,7 +155,7 @@ module _ (files : List NamedClass) (stubs : List StubClass) where
       ]
 
       -- what descriptions mention is there
-      told_from : (ds : List Description) (m : StubMethod) → Contains (told ds) m → (name : List ℕ) → Contains (method_names m) name
+      told_from : (ds : List Description) (m : StubMethod) → Contains (described_methods ds) m → (name : List ℕ) → Contains (method_names m) name
           → (d : Description) × Contains (description_claims ds) (mention_claim d.file name)
       told_from ds m among name mentioned =
           let d = map_from (λ (x : Description). x.method) ds m among in (

@@ -8,7 +8,7 @@ use Rattle.jvm_model.specs.declared.program.Origin.{Origin}
 use Rattle.jvm_model.specs.declared.stub.StubClass.{StubClass}
 use Rattle.jvm_model.specs.declared.stub.StubMethod.{StubMethod}
 use Rattle.jvm_model.specs.declared.program.Origin.TheVariants.{Folder, Stub}
-use Rattle.jvm_model.specs.Linking.{Description, descriptions, with_descriptions, told, native_descriptions, stub_descriptions, folder_origin, stub_origin, own_classes, origins}
+use Rattle.jvm_model.specs.Linking.{Description, descriptions, with_descriptions, described_methods, native_descriptions, stub_descriptions, folder_origin, stub_origin, own_classes, origins}
 use Rattle.jvm_model.specs.Programs.{name_of}
 use Rattle.linking.specs.Patching.{patches_for, is_patch_stub, is_native_in}
 use Rattle.linking.specs.TooLarge.{AreTooManyDescriptions, HasLargeFile, HasLargeStub}
@@ -32,14 +32,14 @@ native_descriptions_alone stubs c =
     ap (λ (ps : List StubClass). with_descriptions [] (filter (is_native_in c) (flat_map descriptions ps))) (patches_alone (name_of c) stubs)
 
 natives_alone : (stubs : List StubClass) (f : NamedClass) → folder_origin (filter is_patch_stub stubs) f ≡ folder_origin stubs f
-natives_alone stubs f = ap (λ (ds : List Description). Folder f (told ds)) (native_descriptions_alone stubs f.class)
+natives_alone stubs f = ap (λ (ds : List Description). Folder f (described_methods ds)) (native_descriptions_alone stubs f.class)
 
 pub stub_descriptions_alone : (stubs : List StubClass) (c : StubClass) → stub_descriptions (filter is_patch_stub stubs) c ≡ stub_descriptions stubs c
 stub_descriptions_alone stubs c =
     ap (λ (ps : List StubClass). with_descriptions (descriptions c) (flat_map descriptions ps)) (patches_alone c.name stubs)
 
-methods_alone : (stubs : List StubClass) (c : StubClass) → told (stub_descriptions (filter is_patch_stub stubs) c) ≡ told (stub_descriptions stubs c)
-methods_alone stubs c = ap told (stub_descriptions_alone stubs c)
+methods_alone : (stubs : List StubClass) (c : StubClass) → described_methods (stub_descriptions (filter is_patch_stub stubs) c) ≡ described_methods (stub_descriptions stubs c)
+methods_alone stubs c = ap described_methods (stub_descriptions_alone stubs c)
 
 stub_alone : (stubs : List StubClass) (c : StubClass) → stub_origin (filter is_patch_stub stubs) c ≡ stub_origin stubs c
 stub_alone stubs c =

@@ -12,13 +12,13 @@ use Rattle.jvm_model.specs.declared.program.Origin.{Origin}
 use Rattle.jvm_model.specs.declared.stub.StubClass.{StubClass}
 use Rattle.jvm_model.specs.declared.stub.StubMethod.{StubMethod}
 use Rattle.jvm_model.specs.Automata.{all_differ}
-use Rattle.jvm_model.specs.Linking.{Description, IsOrder, descriptions, folder_origin, native_descriptions, origins, own_classes, patches_of, stub_descriptions, stub_origin, told, with_description, with_descriptions}
+use Rattle.jvm_model.specs.Linking.{Description, IsOrder, descriptions, folder_origin, native_descriptions, origins, own_classes, patches_of, stub_descriptions, stub_origin, described_methods, with_description, with_descriptions}
 use Rattle.jvm_model.specs.StubRules.{IsSoundMethod, IsSoundStub}
 use Rattle.jvm_model.specs.Stubs.{is_same_method}
 use Rattle.linked_program.proofs.Pieces.{each_piece}
 use Rattle.linked_program.specs.Origins.{IsSoundOrigin}
 use Rattle.linking.proofs.Building.{and_true}
-use Rattle.linking.specs.LinkTelling.{IsSoundFile}
+use Rattle.linking.specs.LinkAnswers.{IsSoundFile}
 use Rattle.linking.specs.Patching.{is_native_in, patches_for}
 
 -- ---- descriptions that keep the rules
@@ -44,7 +44,7 @@ sound_with_all held (d ∷ ds) sound more =
     sound_with_all (with_description held d) ds (sound_with held d sound (All-head IsSoundDescription d ds more)) (All-tail IsSoundDescription d ds more)
 
 -- what they tell keeps the rules
-told_sound : (ds : List Description) → All IsSoundDescription ds → All IsSoundMethod (told ds)
+told_sound : (ds : List Description) → All IsSoundDescription ds → All IsSoundMethod (described_methods ds)
 told_sound ds sound = All-map IsSoundMethod (λ (d : Description). d.method) ds sound
 
 own_sound : (c : StubClass) → IsSoundStub c → All IsSoundDescription (descriptions c)
@@ -80,42 +80,42 @@ same-alike m n other h =
     (λ i. by_name i && by_descriptor i)
 
 -- a test that no description passes, none passes after one more that does not
-none_with : (test : StubMethod → Bool) (held : List Description) (d : Description) → list_any test (told held) ≡ false → test d.method ≡ false → list_any test (told (with_description held d)) ≡ false
+none_with : (test : StubMethod → Bool) (held : List Description) (d : Description) → list_any test (described_methods held) ≡ false → test d.method ≡ false → list_any test (described_methods (with_description held d)) ≡ false
 none_with test [] d none fails = ap (λ (b : Bool). b || false) fails
 none_with test (e ∷ others) d none fails =
-    let parts = or_parts (test e.method) (list_any test (told others)) none in
+    let parts = or_parts (test e.method) (list_any test (described_methods others)) none in
     by parts.0 parts.1 (is_same_method e.method d.method) (none_with test others d parts.1 fails)
   where
-    by : test e.method ≡ false → list_any test (told others) ≡ false → (b : Bool) → list_any test (told (with_description others d)) ≡ false
-        → list_any test (told (if b then d ∷ others else e ∷ with_description others d)) ≡ false
+    by : test e.method ≡ false → list_any test (described_methods others) ≡ false → (b : Bool) → list_any test (described_methods (with_description others d)) ≡ false
+        → list_any test (described_methods (if b then d ∷ others else e ∷ with_description others d)) ≡ false
     by first rest true more = (λ i. fails i || rest i)
     by first rest false more = (λ i. first i || more i)
 
 -- descriptions of different methods, after one more
-differ_with : (held : List Description) (d : Description) → all_differ is_same_method (told held) ≡ true → all_differ is_same_method (told (with_description held d)) ≡ true
+differ_with : (held : List Description) (d : Description) → all_differ is_same_method (described_methods held) ≡ true → all_differ is_same_method (described_methods (with_description held d)) ≡ true
 differ_with [] d differ = refl
 differ_with (e ∷ others) d differ =
-    let parts = and_true (not (list_any (is_same_method e.method) (told others))) (all_differ is_same_method (told others)) differ in
+    let parts = and_true (not (list_any (is_same_method e.method) (described_methods others))) (all_differ is_same_method (described_methods others)) differ in
     by parts.0 parts.1 (is_same_method e.method d.method) refl (differ_with others d parts.1)
   where
-    by : not (list_any (is_same_method e.method) (told others)) ≡ true → all_differ is_same_method (told others) ≡ true → (b : Bool) → is_same_method e.method d.method ≡ b
-        → all_differ is_same_method (told (with_description others d)) ≡ true → all_differ is_same_method (told (if b then d ∷ others else e ∷ with_description others d)) ≡ true
+    by : not (list_any (is_same_method e.method) (described_methods others)) ≡ true → all_differ is_same_method (described_methods others) ≡ true → (b : Bool) → is_same_method e.method d.method ≡ b
+        → all_differ is_same_method (described_methods (with_description others d)) ≡ true → all_differ is_same_method (described_methods (if b then d ∷ others else e ∷ with_description others d)) ≡ true
     by first rest true same more =
-        let alike : list_any (is_same_method d.method) (told others) ≡ list_any (is_same_method e.method) (told others) =
-        (λ i. list_any (λ (m : StubMethod). sym (same-alike e.method d.method m same) i) (told others)) in
-        let apart : not (list_any (is_same_method d.method) (told others)) ≡ true = ap not alike ∙ first in
+        let alike : list_any (is_same_method d.method) (described_methods others) ≡ list_any (is_same_method e.method) (described_methods others) =
+        (λ i. list_any (λ (m : StubMethod). sym (same-alike e.method d.method m same) i) (described_methods others)) in
+        let apart : not (list_any (is_same_method d.method) (described_methods others)) ≡ true = ap not alike ∙ first in
         (λ i. apart i && rest i)
     by first rest false same more =
-        let none = none_with (is_same_method e.method) others d (not-true (list_any (is_same_method e.method) (told others)) first) same in
-        let apart : not (list_any (is_same_method e.method) (told (with_description others d))) ≡ true = ap not none in
+        let none = none_with (is_same_method e.method) others d (not-true (list_any (is_same_method e.method) (described_methods others)) first) same in
+        let apart : not (list_any (is_same_method e.method) (described_methods (with_description others d))) ≡ true = ap not none in
         (λ i. apart i && more i)
 
-differ_with_all : (held ds : List Description) → all_differ is_same_method (told held) ≡ true → all_differ is_same_method (told (with_descriptions held ds)) ≡ true
+differ_with_all : (held ds : List Description) → all_differ is_same_method (described_methods held) ≡ true → all_differ is_same_method (described_methods (with_descriptions held ds)) ≡ true
 differ_with_all held [] differ = differ
 differ_with_all held (d ∷ ds) differ = differ_with_all (with_description held d) ds (differ_with held d differ)
 
 -- the methods of a stub are those of its own descriptions
-told_of : (file : List ℕ) (methods : List StubMethod) → told (map (λ m. record { method = m; file = file }) methods) ≡ methods
+told_of : (file : List ℕ) (methods : List StubMethod) → described_methods (map (λ m. record { method = m; file = file }) methods) ≡ methods
 told_of file [] = refl
 told_of file (m ∷ methods) = ap (λ (ms : List StubMethod). m ∷ ms) (told_of file methods)
 
@@ -132,7 +132,7 @@ stub_sound stubs all c sound = record {
   methods = told_sound (stub_descriptions stubs c) (sound_with_all (descriptions c) (patches_of c.name stubs) (own_sound c sound) (patches_sound c.name stubs all));
   fields = sound.fields;
   methods_differ =
-      let own : all_differ is_same_method (told (descriptions c)) ≡ true = ap (all_differ is_same_method) (told_of c.file c.methods) ∙ sound.methods_differ in
+      let own : all_differ is_same_method (described_methods (descriptions c)) ≡ true = ap (all_differ is_same_method) (told_of c.file c.methods) ∙ sound.methods_differ in
       differ_with_all (descriptions c) (patches_of c.name stubs) own;
   fields_differ = sound.fields_differ;
   patch = sound.patch;

@@ -4,4 +4,4 @@ pub mod PatchLists
 pub mod Supers
 pub mod StubSources
 pub mod TooLarge
-pub mod LinkTelling
+pub mod LinkAnswers

@@ -4,7 +4,7 @@ ghost use Rattle.std.specs.Prelude.{◌≡◌, ℕ, List, [], ◌∷◌, ◌++�
 ghost use Rattle.class_index.specs.FirstPlaces.{StandsNowhere};
 ghost use Rattle.class_index.specs.Limits.{AreTooMany};
 ghost use Rattle.linking.specs.Claims.{TellsClaimsOrLarge, HasTextsOf, with_own_names, file_name, stub_name};
-ghost use Rattle.linking.specs.LinkTelling.{IsSoundFile};
+ghost use Rattle.linking.specs.LinkAnswers.{IsSoundFile};
 ghost use Rattle.linking.specs.StubSources.{is_from, is_own_from, one_from, own_from};
 ghost use Rattle.linking.specs.TooLarge.{TellsTooMany};
 ghost use Rattle.jvm_model.specs.Linking.{base_first, claim, differs, file_claims, is_base_stub, own_classes, stub_claims};

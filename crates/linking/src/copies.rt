@@ -2,7 +2,7 @@
 
 ghost use Rattle.std.specs.Prelude.{◌≡◌, map, IfOk};
 ghost use Rattle.linking.specs.Patching.{description_of};
-ghost use Rattle.jvm_model.specs.Linking.{told};
+ghost use Rattle.jvm_model.specs.Linking.{described_methods};
 
 use crate::descriptions::Described;
 use jvm_model::{Bytes, Sequence, StubMethod, StubResult};
@@ -82,7 +82,7 @@ pub(crate) fn copied_methods(
     alloc: Global,
     all: &[Described<'_>],
 ) -> Result<Sequence<StubMethod>, AllocError>
-    ensures { IfOk result (λ copy. copy ≡ told (map description_of all.now)) }
+    ensures { IfOk result (λ copy. copy ≡ described_methods (map description_of all.now)) }
 {
     let mut copies = Vec::new(alloc);
     for described in all {

@@ -7,7 +7,7 @@ ghost use Rattle.jvm_model.specs.LinkedPrograms.{HasStubClasses};
 ghost use Rattle.jvm_model.specs.Linking.{IsFileOrder, IsOrder, class_from};
 ghost use Rattle.jvm_model.specs.StubRules.{IsSoundStub};
 ghost use Rattle.linking.specs.Claims.{TellsClaimsOrLarge, unsorted};
-ghost use Rattle.linking.specs.LinkTelling.{flat_claims, IsSoundFile, TellsLink, TellsLinkInOrder};
+ghost use Rattle.linking.specs.LinkAnswers.{flat_claims, IsSoundFile, IsLinkAnswer, IsAnswerInOrder};
 ghost use Rattle.linking.specs.TooLarge.{IsTooLargeInput};
 
 use crate::claims::{check_kinds, check_names, check_presence};
@@ -48,7 +48,7 @@ pub fn link(
 ) -> Result<Program, LinkFailure>
     requires files { All IsSoundFile classes.items }
     requires stubs { All IsSoundStub stubs.items }
-    ensures tells { TellsLink classes.items stubs.items result }
+    ensures tells { IsLinkAnswer classes.items stubs.items result }
     ensures base { IfOk result (λ p. HasStubClasses p stubs.items) }
 {
     put_files_in_order(&mut classes);
@@ -63,7 +63,7 @@ fn link_in_order(
 ) -> Result<Program, LinkFailure>
     requires files { All IsSoundFile files.items }
     requires stubs { All IsSoundStub stubs.items }
-    ensures tells { TellsLinkInOrder files.items stubs.items result }
+    ensures tells { IsAnswerInOrder files.items stubs.items result }
     ensures base { IfOk result (λ p. HasStubClasses p stubs.items) }
 {
     check(alloc, &files, &stubs)?;

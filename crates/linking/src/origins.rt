@@ -1,10 +1,10 @@
 //! Where the classes of a program come from: the class files, and the stubs with what patches add to them.
 
 ghost use Rattle.std.specs.Prelude.{◌≡◌, ◌++◌, map, filter, All, IfOk, OnOk, IfErr};
-ghost use Rattle.linking.specs.LinkTelling.{IsSoundFile};
+ghost use Rattle.linking.specs.LinkAnswers.{IsSoundFile};
 ghost use Rattle.linking.specs.Patching.{is_patch_stub, own_one, patch_one};
 ghost use Rattle.linking.specs.TooLarge.{AreTooManyDescriptions, AreTooManyNatives, HasLargeFile, HasLargeStub, IsTooLargeInput, TellsTooMany};
-ghost use Rattle.jvm_model.specs.Linking.{told, origins, folder_origin, stub_origin, native_descriptions, stub_descriptions, own_classes};
+ghost use Rattle.jvm_model.specs.Linking.{described_methods, origins, folder_origin, stub_origin, native_descriptions, stub_descriptions, own_classes};
 
 use crate::copies::copied_methods;
 use crate::patch_index::Patches;
@@ -89,7 +89,7 @@ fn told_of_file(
     patches: &Patches<'_>,
     f: &NamedClass,
 ) -> Result<Sequence<StubMethod>, IndexFailure>
-    ensures all { IfOk result (λ all. all ≡ told (native_descriptions patches.now f.now.class)) }
+    ensures all { IfOk result (λ all. all ≡ described_methods (native_descriptions patches.now f.now.class)) }
     ensures too_many { IfErr result (TellsTooMany (AreTooManyNatives patches.now f.now.class)) }
 {
     let all = native_descriptions(alloc, patches, &f.class)?;
@@ -115,7 +115,7 @@ fn told_of_stub(
     patches: &Patches<'_>,
     c: &StubClass,
 ) -> Result<Sequence<StubMethod>, IndexFailure>
-    ensures all { IfOk result (λ all. all ≡ told (stub_descriptions patches.now c.now)) }
+    ensures all { IfOk result (λ all. all ≡ described_methods (stub_descriptions patches.now c.now)) }
     ensures too_many { IfErr result (TellsTooMany (AreTooManyDescriptions (stub_descriptions patches.now c.now))) }
 {
     let all = stub_descriptions(alloc, patches, c)?;

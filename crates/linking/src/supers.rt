@@ -8,7 +8,7 @@ ghost use Rattle.linking.specs.Supers.{named_super, stub_superclass, stub_interf
 ghost use Rattle.jvm_model.specs.Linking.{claim, is_there, of_kind, own_classes, interface_places, superclass_place, supers_of_file, supers_of_stub};
 ghost use Rattle.jvm_model.specs.Lookups.{class_name_at};
 ghost use Rattle.jvm_model.specs.Soundness.{interfaces_offset};
-ghost use Rattle.linking.specs.LinkTelling.{IsSoundFile};
+ghost use Rattle.linking.specs.LinkAnswers.{IsSoundFile};
 
 use crate::known::Known;
 use class_index::texts::class_text;

@@ -19,7 +19,7 @@ use Rattle.jvm_model.specs.Programs.{Class, Program, object_name, name_of, class
 use Rattle.jvm_model.specs.Soundness.{interfaces_offset}
 use Rattle.jvm_model.specs.Stubs.{super_of, class_of_stub}
 use Rattle.jvm_model.specs.Subtypes.{class_named, IsDirectSuper, IsSubtype, same, below, IsCyclic}
-use Rattle.linking.proofs.Orders.{exists_order}
+use Rattle.program_laws.proofs.ClassOrders.{exists_order}
 use Rattle.stub_file.specs.BaseStubs.{base_classes}
 use Rattle.one_class_form.specs.FormParts.{HasShape}
 use Rattle.one_class_form.specs.OneClassPrograms.{IsProgramOf}

@@ -14,5 +14,3 @@ pub use laws::{
 };
 pub use straight_line::occurring_events;
 
-#[cfg(test)]
-mod tests;

@@ -2,6 +2,7 @@ pub mod ArrayNames
 pub mod Calls
 pub mod Chains
 pub mod Choices
+pub mod ClassOrders
 pub mod Decided
 pub mod Defaults
 pub mod FieldSearch

@@ -13,5 +13,3 @@ pub use laws::{automaton_or_refusal, one_automaton, one_refusal, property_is_sou
 pub use property_failure::{PropertyFailure, PropertyFault};
 pub use reading::read_property;
 
-#[cfg(test)]
-mod tests;

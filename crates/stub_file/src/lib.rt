@@ -19,5 +19,3 @@ pub use laws::{base_stubs_are_closed, one_answer};
 pub use reader::read_stubs;
 pub use stub_failure::{StubFailure, StubFault};
 
-#[cfg(test)]
-mod tests;

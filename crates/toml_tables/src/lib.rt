@@ -15,5 +15,3 @@ pub use table_access::{
 };
 pub use table_failure::{NoDocument, TableFailure};
 
-#[cfg(test)]
-mod tests;

@@ -12,8 +12,6 @@ pub mod real_tree;
 pub mod sink;
 pub mod steady_sink;
 pub mod steady_tree;
-#[cfg(test)]
-mod tests;
 pub mod tree;
 mod walk;
 

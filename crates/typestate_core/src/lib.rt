@@ -18,5 +18,3 @@ pub use one_class_form::{
 pub use status::Status;
 pub use verifier::run;
 
-#[cfg(test)]
-mod tests;

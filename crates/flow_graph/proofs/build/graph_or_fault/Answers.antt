@@ -28,7 +28,7 @@ returns-in-Some c =
       marks = c.in_ok-marks.marks.items;
       is_walked = walked_of c.args.class.now code c.in_ok-marks.marks.items c.requires.sound c.requires.code c.in_ok-marks.ensures.walked;
       within = c.in-Some.offset;
-      told = sym (c.first_fault.ensures ∙ ap (λ (ps : List PlacedInstruction). first_fault ps c.deref.result.now) c.as_slice.ensures ∙ ap (λ (ms : List Mark). first_fault code.instructions ms) c.deref.ensures.value)
+      first = sym (c.first_fault.ensures ∙ ap (λ (ps : List PlacedInstruction). first_fault ps c.deref.result.now) c.as_slice.ensures ∙ ap (λ (ms : List Mark). first_fault code.instructions ms) c.deref.ensures.value)
           ∙ c.in-Some.is;
       offset_is = refl;
     }

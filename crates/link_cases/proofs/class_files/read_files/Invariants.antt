@@ -1,5 +1,5 @@
 use Rattle.std.proofs.Common.{All}
-use Rattle.linking.specs.LinkTelling.{IsSoundFile}
+use Rattle.linking.specs.LinkAnswers.{IsSoundFile}
 use Rattle.link_cases.proofs.class_files.read_files.Given as goal
 
 abbrev pub invariant-loop-name : goal.invariant-loop-name

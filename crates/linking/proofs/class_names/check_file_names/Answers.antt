@@ -5,7 +5,7 @@ use Rattle.jvm_model.specs.Linking.{claim, differs, file_claims}
 use Rattle.jvm_model.specs.Soundness.{this_class_offset}
 use Rattle.class_index.specs.Limits.{AreTooMany}
 use Rattle.linking.specs.Claims.{file_name}
-use Rattle.linking.specs.LinkTelling.{IsSoundFile}
+use Rattle.linking.specs.LinkAnswers.{IsSoundFile}
 use Rattle.linking.proofs.ClaimSteps.{end_more, left_all, left_as, left_end}
 use Rattle.linking.proofs.ClassNames.{next_file, stop_file}
 use Rattle.linking.proofs.class_names.check_file_names.Goals as goal

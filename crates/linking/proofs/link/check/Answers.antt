@@ -3,7 +3,7 @@ use Rattle.std.proofs.lemmas.Result.{err_from_is_err_and}
 use Rattle.jvm_model.specs.Linking.{kind_claims, name_claims, own_classes, there_claims}
 use Rattle.class_index.specs.Limits.{AreTooMany}
 use Rattle.linking.specs.Claims.{all_names, unsorted}
-use Rattle.linking.specs.LinkTelling.{flat_claims}
+use Rattle.linking.specs.LinkAnswers.{flat_claims}
 use Rattle.linking.specs.Patching.{is_patch_stub}
 use Rattle.linking.specs.TooLarge.{IsTooLargeInput, in_classes, in_patches}
 use Rattle.linking.proofs.ClaimSteps.{end_back, end_front, met_append, tells_back, tells_unnumbered}

@@ -7,7 +7,7 @@ use Rattle.jvm_model.specs.declared.stub.StubClass.{StubClass}
 use Rattle.jvm_model.specs.Linking.{AreMet, IsOrder}
 use Rattle.linking.specs.Claims.{TellsEndOrLarge, unsorted}
 use Rattle.linking.specs.TooLarge.{IsTooLargeInput}
-use Rattle.linking.specs.LinkTelling.{flat_claims}
+use Rattle.linking.specs.LinkAnswers.{flat_claims}
 use Rattle.linking.proofs.LinkSteps.{handed_barred, is_linkable, link_barred, link_told, stubs_told}
 use Rattle.linking.proofs.SoundOrigins.{sound_order}
 use Rattle.linking.proofs.link.link_in_order.Goals as goal

@@ -1,7 +1,7 @@
 use Rattle.std.proofs.Common.{List, map, refl, sym, subst}
 use Rattle.std.specs.List.{flat_map}
 use Rattle.std.proofs.lemmas.Result.{err_from_is_err_and}
-use Rattle.linking.specs.LinkTelling.{IsSoundFile}
+use Rattle.linking.specs.LinkAnswers.{IsSoundFile}
 use Rattle.jvm_model.specs.declared.program.NamedClass.{NamedClass}
 use Rattle.jvm_model.specs.Linking.{supers_of_file}
 use Rattle.linking.specs.Claims.{super_claim}

@@ -15,18 +15,18 @@ use Rattle.linking.specs.TooLarge.{IsTooLargeInput}
 
 -- The call gives the outcome, which is a program or the first demand that is not met; or it says that there is too much to
 -- number, and this is so; or out of memory.
-abbrev pub TellsOutcome : (Result Program Refusal → Type 0) → Type 0 → Result Program (Failure LinkFault) → Type 0
-TellsOutcome IsOutcome Large (Ok p) = IsOutcome (Ok p)
-TellsOutcome IsOutcome Large (Err (Cause (Refused refusal))) = IsOutcome (Err refusal)
-TellsOutcome IsOutcome Large (Err (Cause TooMany)) = Large
-TellsOutcome IsOutcome Large (Err OutOfMemory) = Unit {0}
+abbrev pub IsAnswer : (Result Program Refusal → Type 0) → Type 0 → Result Program (Failure LinkFault) → Type 0
+IsAnswer IsOutcome Large (Ok p) = IsOutcome (Ok p)
+IsAnswer IsOutcome Large (Err (Cause (Refused refusal))) = IsOutcome (Err refusal)
+IsAnswer IsOutcome Large (Err (Cause TooMany)) = Large
+IsAnswer IsOutcome Large (Err OutOfMemory) = Unit {0}
 
 -- What linking class files and stubs gives; and what it gives of class files that are in the order of their files.
-abbrev pub TellsLink : List NamedClass → List StubClass → Result Program (Failure LinkFault) → Type 0
-TellsLink files stubs told = TellsOutcome (Links files stubs) (IsTooLargeInput files stubs) told
+abbrev pub IsLinkAnswer : List NamedClass → List StubClass → Result Program (Failure LinkFault) → Type 0
+IsLinkAnswer files stubs answer = IsAnswer (Links files stubs) (IsTooLargeInput files stubs) answer
 
-abbrev pub TellsLinkInOrder : List NamedClass → List StubClass → Result Program (Failure LinkFault) → Type 0
-TellsLinkInOrder files stubs told = TellsOutcome (LinksInOrder files stubs) (IsTooLargeInput files stubs) told
+abbrev pub IsAnswerInOrder : List NamedClass → List StubClass → Result Program (Failure LinkFault) → Type 0
+IsAnswerInOrder files stubs answer = IsAnswer (LinksInOrder files stubs) (IsTooLargeInput files stubs) answer
 
 -- The class file was checked (JVMS 4.8).
 abbrev pub IsSoundFile : NamedClass → Type 0
