@@ -1,9 +1,9 @@
 //! The target of a special call (JVMS 6.5.invokespecial).
 
-ghost use Rattle.std.specs.Prelude.{◌≡◌, ◌↔◌, codes, Some, slice_get, IsTrue, IfOk};
+ghost use Rattle.std.specs.Prelude.{◌≡◌, ◌↔◌, codes, Some, slice_get, IsTrue, IfOk, IfSome};
 ghost use Rattle.jvm_model.specs.Lookups.{lent_signature};
 ghost use Rattle.jvm_model.specs.Programs.{Method};
-ghost use Rattle.jvm_model.specs.Selection.{SpecialSelection, StartsSearch};
+ghost use Rattle.jvm_model.specs.Selection.{SelectsSpecial, SpecialSelection, StartsSearch};
 ghost use Rattle.linked_program.specs.Numbers.{name_at, IsClassNumber, IsMethodNumber, method_number};
 ghost use Rattle.hierarchy.specs.Searches.{Finds, IsReachedUpward, SelectsInstance};
 
@@ -32,15 +32,32 @@ pub fn special_target(
     ensures selection { (m : Method) → slice_get program.now.methods resolved.0 ≡ Some m
         → SpecialSelection program.now (name_at program.now current.0) (record { class = name_at program.now named.0; signature = m.signature }) (method_number result) }
 {
-    let signature = signature_of(program, resolved);
-    let start = search_start(program, current, named, signature);
-    let Some(target) = selected_from(program, start, signature) else {
+    let Some(target) = special_search(program, current, named, resolved) else {
         return Err(Reason::NoImplementation);
     };
     if is_abstract(program, target) {
         return Err(Reason::NoImplementation);
     }
     Ok(target)
+}
+
+/// The method that the search of a special call finds, abstract or not (JVMS 6.5.invokespecial). It takes no memory.
+pub fn special_search(
+    program: &Program,
+    current: ClassNo,
+    named: ClassNo,
+    resolved: MethodNo,
+) -> Option<MethodNo>
+    requires current { IsClassNumber program.now current.0 }
+    requires named { IsClassNumber program.now named.0 }
+    requires resolved { IsMethodNumber program.now resolved.0 }
+    ensures below { IfSome result (λ m. IsMethodNumber program.now m.0) }
+    ensures search { (m : Method) → slice_get program.now.methods resolved.0 ≡ Some m
+        → Finds (SelectsSpecial program.now (name_at program.now current.0) (record { class = name_at program.now named.0; signature = m.signature })) result }
+{
+    let signature = signature_of(program, resolved);
+    let start = search_start(program, current, named, signature);
+    selected_from(program, start, signature)
 }
 
 /// The class at which the search begins: at a call of a superclass's method, the superclass of the current class.

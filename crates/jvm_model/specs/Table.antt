@@ -53,6 +53,26 @@ pub data Operands : Type 0 where
   -- another instruction, whose operands are widened
   widened : Operands
 
+-- The operand is an index of the constant pool.
+abbrev pub is_pool_index : Operands → Bool
+is_pool_index nothing = false
+is_pool_index (implied local) = false
+is_pool_index value_1 = false
+is_pool_index value_2 = false
+is_pool_index type_code = false
+is_pool_index local_1 = false
+is_pool_index (pool_1 target) = true
+is_pool_index (pool_2 target) = true
+is_pool_index offset_2 = false
+is_pool_index offset_4 = false
+is_pool_index local_and_value = false
+is_pool_index pool_2_and_count = true
+is_pool_index pool_2_and_zeros = true
+is_pool_index pool_2_and_dimensions = true
+is_pool_index table_of_offsets = false
+is_pool_index pairs_with_offsets = false
+is_pool_index widened = false
+
 -- What a popped unit has to be.
 pub data UnitKind : Type 0 where
   any_kind : UnitKind
@@ -160,6 +180,54 @@ is_selecting throw_object = false
 is_selecting cast = false
 is_selecting leave_method = false
 is_selecting refused = false
+
+-- What calls a method that its operand names.
+abbrev pub is_call : Action → Bool
+is_call plain = false
+is_call load_constant = false
+is_call load_element = false
+is_call store_element = false
+is_call probe_element = false
+is_call probe_array = false
+is_call probe_object = false
+is_call get_static = false
+is_call put_static = false
+is_call get_field = false
+is_call put_field = false
+is_call invoke_virtual = true
+is_call invoke_special = true
+is_call invoke_static = true
+is_call invoke_interface = true
+is_call make_object = false
+is_call make_array = false
+is_call throw_object = false
+is_call cast = false
+is_call leave_method = false
+is_call refused = false
+
+-- What reads or writes the field that its operand names.
+abbrev pub is_field_access : Action → Bool
+is_field_access plain = false
+is_field_access load_constant = false
+is_field_access load_element = false
+is_field_access store_element = false
+is_field_access probe_element = false
+is_field_access probe_array = false
+is_field_access probe_object = false
+is_field_access get_static = true
+is_field_access put_static = true
+is_field_access get_field = true
+is_field_access put_field = true
+is_field_access invoke_virtual = false
+is_field_access invoke_special = false
+is_field_access invoke_static = false
+is_field_access invoke_interface = false
+is_field_access make_object = false
+is_field_access make_array = false
+is_field_access throw_object = false
+is_field_access cast = false
+is_field_access leave_method = false
+is_field_access refused = false
 
 -- What may start the initialisation of a class (JVMS 5.5).
 abbrev pub is_trigger : Action → Bool

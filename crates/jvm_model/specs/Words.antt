@@ -2,7 +2,7 @@
 -- The words that are printed for reasons.
 use Rattle.std.specs.Prelude.{codes, ℕ, List}
 use Rattle.jvm_model.specs.declared.reason.Reason.{Reason}
-use Rattle.jvm_model.specs.declared.reason.Reason.TheVariants.{Truncated, BadMagic, BadVersion, BadTag, BadIndex, BadUtf8, BadDescriptor, TrailingBytes, CodeMissing, CodeUnexpected, ClassTooLarge, BadOpcode, BadTarget, CodeCut, StackUnder, StackOver, StackMerge, FallsOff, BadLocal, BadHandler, Subroutine, DuplicateClass, MissingClass, Cycle, MissingField, MissingMethod, NoStub, NoImplementation, ClashingDefaults, PackageOverride, KindMismatch, BadToml, BadProperty, BadStub, NotYet}
+use Rattle.jvm_model.specs.declared.reason.Reason.TheVariants.{Truncated, BadMagic, BadVersion, BadTag, BadIndex, BadUtf8, BadDescriptor, TrailingBytes, CodeMissing, CodeUnexpected, ClassTooLarge, BadOpcode, BadTarget, CodeCut, StackUnder, StackOver, StackMerge, FallsOff, BadLocal, BadHandler, Subroutine, InvokeDynamic, MethodConstant, DuplicateClass, MissingClass, Cycle, MissingField, MissingMethod, NoStub, NoImplementation, ClashingDefaults, PackageOverride, KindMismatch, Reflection, Threads, Finalizer, BadToml, BadProperty, BadStub, NotYet}
 
 -- The word of a reason, as ASCII.
 abbrev pub word_of : Reason → List ℕ
@@ -27,6 +27,8 @@ word_of FallsOff = codes "FallsOff"
 word_of BadLocal = codes "BadLocal"
 word_of BadHandler = codes "BadHandler"
 word_of Subroutine = codes "Subroutine"
+word_of InvokeDynamic = codes "InvokeDynamic"
+word_of MethodConstant = codes "MethodConstant"
 word_of DuplicateClass = codes "DuplicateClass"
 word_of MissingClass = codes "MissingClass"
 word_of Cycle = codes "Cycle"
@@ -37,6 +39,9 @@ word_of NoImplementation = codes "NoImplementation"
 word_of ClashingDefaults = codes "ClashingDefaults"
 word_of PackageOverride = codes "PackageOverride"
 word_of KindMismatch = codes "KindMismatch"
+word_of Reflection = codes "Reflection"
+word_of Threads = codes "Threads"
+word_of Finalizer = codes "Finalizer"
 word_of BadToml = codes "BadToml"
 word_of BadProperty = codes "BadProperty"
 word_of BadStub = codes "BadStub"

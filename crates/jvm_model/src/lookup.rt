@@ -3,6 +3,7 @@
 
 ghost use Rattle.std.specs.Prelude.{◌≡◌, option_map};
 ghost use Rattle.jvm_model.specs.Lookups.{entry_at, lent_reference, lent_signature, text_at, class_name_at, signature_at, method_at};
+ghost use Rattle.jvm_model.specs.Instructions.{member_at, member_in};
 ghost use Rattle.std.specs.List.{list_any};
 ghost use Rattle.jvm_model.specs.declared.pool.EntryKind.{EntryKind};
 ghost use Rattle.jvm_model.specs.Programs.{is_class_initialiser};
@@ -90,6 +91,27 @@ pub fn signature_at(pool: &[PoolEntry], index: u16) -> Option<Signature<'_>>
         }
         _ => None,
     }
+}
+
+/// The field or the method that the entry at an index names (JVMS 4.4.2).
+pub fn member_at(pool: &[PoolEntry], index: u16) -> Option<MemberReference<'_>>
+    ensures { option_map (λ m. lent_reference m) result ≡ member_at pool.now index }
+{
+    match entry_at(pool, index)? {
+        PoolEntry::Fieldref { class, member } => member_in(pool, *class, *member),
+        PoolEntry::Methodref { class, member } => member_in(pool, *class, *member),
+        PoolEntry::InterfaceMethodref { class, member } => member_in(pool, *class, *member),
+        _ => None,
+    }
+}
+
+/// The member of the class and the signature that stand at two indices.
+fn member_in(pool: &[PoolEntry], class: u16, signature: u16) -> Option<MemberReference<'_>>
+    ensures { option_map (λ m. lent_reference m) result ≡ member_in pool.now class signature }
+{
+    let class = class_name_at(pool, class)?;
+    let signature = signature_at(pool, signature)?;
+    Some(MemberReference { class, signature })
 }
 
 /// The method that the Methodref entry at an index names (JVMS 4.4.2).

@@ -53,6 +53,10 @@ pub enum Reason {
     BadHandler,
     /// An instruction of a subroutine: `jsr`, `jsr_w` or `ret`.
     Subroutine,
+    /// A call whose target a method of the program chooses at run time: `invokedynamic`.
+    InvokeDynamic,
+    /// A method handle or a method type is loaded, or a method of java/lang/invoke/MethodHandle is called.
+    MethodConstant,
     /// Two classes have one name.
     DuplicateClass,
     /// A class that a class, a stub or a property names is not in the program.
@@ -73,6 +77,12 @@ pub enum Reason {
     PackageOverride,
     /// An interface stands where a class has to, a static member where an instance member has to, or the reverse.
     KindMismatch,
+    /// A class or a method that looks at the program itself is named.
+    Reflection,
+    /// A class of threads or of what they share is named, or a method by which they wait for each other is called.
+    Threads,
+    /// An object is made whose class has a method that the library calls by itself.
+    Finalizer,
     /// A file is too large, is not UTF-8, or is no TOML document.
     BadToml,
     /// A property file breaks a rule of its keys.
@@ -109,6 +119,8 @@ pub fn reason_word(reason: Reason) -> &'static str
         Reason::BadLocal => "BadLocal",
         Reason::BadHandler => "BadHandler",
         Reason::Subroutine => "Subroutine",
+        Reason::InvokeDynamic => "InvokeDynamic",
+        Reason::MethodConstant => "MethodConstant",
         Reason::DuplicateClass => "DuplicateClass",
         Reason::MissingClass => "MissingClass",
         Reason::Cycle => "Cycle",
@@ -119,6 +131,9 @@ pub fn reason_word(reason: Reason) -> &'static str
         Reason::ClashingDefaults => "ClashingDefaults",
         Reason::PackageOverride => "PackageOverride",
         Reason::KindMismatch => "KindMismatch",
+        Reason::Reflection => "Reflection",
+        Reason::Threads => "Threads",
+        Reason::Finalizer => "Finalizer",
         Reason::BadToml => "BadToml",
         Reason::BadProperty => "BadProperty",
         Reason::BadStub => "BadStub",

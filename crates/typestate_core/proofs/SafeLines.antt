@@ -5,7 +5,7 @@ use Rattle.std.proofs.lemmas.List.{append_cancel_left, append_cancel_right, take
 use Rattle.ts_outside.specs.Files.{File}
 use Rattle.jvm_model.specs.declared.automaton.Automaton.{Automaton}
 use Rattle.jvm_model.specs.declared.reason.Reason.{Reason}
-use Rattle.jvm_model.specs.declared.reason.Reason.TheVariants.{Truncated, BadMagic, BadVersion, BadTag, BadIndex, BadUtf8, BadDescriptor, TrailingBytes, CodeMissing, CodeUnexpected, ClassTooLarge, BadOpcode, BadTarget, CodeCut, StackUnder, StackOver, StackMerge, FallsOff, BadLocal, BadHandler, Subroutine, DuplicateClass, MissingClass, Cycle, MissingField, MissingMethod, NoStub, NoImplementation, ClashingDefaults, PackageOverride, KindMismatch, BadToml, BadProperty, BadStub, NotYet}
+use Rattle.jvm_model.specs.declared.reason.Reason.TheVariants.{Truncated, BadMagic, BadVersion, BadTag, BadIndex, BadUtf8, BadDescriptor, TrailingBytes, CodeMissing, CodeUnexpected, ClassTooLarge, BadOpcode, BadTarget, CodeCut, StackUnder, StackOver, StackMerge, FallsOff, BadLocal, BadHandler, Subroutine, InvokeDynamic, MethodConstant, DuplicateClass, MissingClass, Cycle, MissingField, MissingMethod, NoStub, NoImplementation, ClashingDefaults, PackageOverride, KindMismatch, Reflection, Threads, Finalizer, BadToml, BadProperty, BadStub, NotYet}
 use Rattle.jvm_model.specs.Soundness.{plain_descriptor}
 use Rattle.jvm_model.specs.Words.{word_of}
 use Rattle.typestate_core.specs.declared.status.Status.{Status}
@@ -73,6 +73,8 @@ refused_is_line file offset reason =
     word_plain BadLocal = refl
     word_plain BadHandler = refl
     word_plain Subroutine = refl
+    word_plain InvokeDynamic = refl
+    word_plain MethodConstant = refl
     word_plain DuplicateClass = refl
     word_plain MissingClass = refl
     word_plain Cycle = refl
@@ -83,6 +85,9 @@ refused_is_line file offset reason =
     word_plain ClashingDefaults = refl
     word_plain PackageOverride = refl
     word_plain KindMismatch = refl
+    word_plain Reflection = refl
+    word_plain Threads = refl
+    word_plain Finalizer = refl
     word_plain BadToml = refl
     word_plain BadProperty = refl
     word_plain BadStub = refl
