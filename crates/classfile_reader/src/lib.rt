@@ -11,4 +11,3 @@ mod soundness;
 
 pub use limit::CLASS_FILE_LIMIT;
 pub use read::read_class;
-

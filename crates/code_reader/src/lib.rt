@@ -16,4 +16,3 @@ mod switch;
 
 pub use place::method_offset;
 pub use read::{read_code, read_code_at};
-

@@ -18,4 +18,3 @@ pub use build::graph;
 pub use effect::Effect;
 pub use mark::Mark;
 pub use steps::{Graph, GraphStep};
-

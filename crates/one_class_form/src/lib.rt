@@ -13,4 +13,3 @@ pub use laws::{
     two_reads_is_spelled, two_reads_runs_to_its_end,
 };
 pub use straight_line::occurring_events;
-

@@ -12,4 +12,3 @@ mod state_list;
 pub use laws::{automaton_or_refusal, one_automaton, one_refusal, property_is_sound};
 pub use property_failure::{PropertyFailure, PropertyFault};
 pub use reading::read_property;
-

@@ -18,4 +18,3 @@ pub use base_table::base_stubs;
 pub use laws::{base_stubs_are_closed, one_answer};
 pub use reader::read_stubs;
 pub use stub_failure::{StubFailure, StubFault};
-

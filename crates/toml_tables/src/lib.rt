@@ -14,4 +14,3 @@ pub use table_access::{
     text_at, value_at,
 };
 pub use table_failure::{NoDocument, TableFailure};
-

@@ -17,4 +17,3 @@ pub use one_class_form::{
 };
 pub use status::Status;
 pub use verifier::run;
-
