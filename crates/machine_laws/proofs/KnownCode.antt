@@ -103,7 +103,7 @@ method_code_or_not p program number = by (slice_get p.methods number) refl
 
 -- ---- initialisers
 
-signature_or_not : (s t : Signature) → OrNot (s ≡ t)
+pub signature_or_not : (s t : Signature) → OrNot (s ≡ t)
 signature_or_not s t = carried_over to back (both_or_not (same_or_not s.name t.name) (λ e. same_or_not s.descriptor t.descriptor))
   where
     to : (s.name ≡ t.name) × (s.descriptor ≡ t.descriptor) → s ≡ t

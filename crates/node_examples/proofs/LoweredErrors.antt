@@ -16,7 +16,6 @@ use Rattle.method_nodes.specs.LoweredMethods.{IsLowered, no_trigger, for_class}
 use Rattle.node_machine.specs.Nodes.{IsClassNumber, HasInitialiser, IsInitialisationError, IsThrownAt, raised, initialising, AreThrownAt}
 use Rattle.node_examples.specs.DecodedCalls.{makes_broken_code, makes_broken_graph}
 use Rattle.node_examples.specs.Initialising.{program_with_errors, makes_broken_nodes, errors}
-use Rattle.node_examples.proofs.InitialiserRuns.{initialises_broken}
 use Rattle.node_examples.proofs.MoveLists.{are_moves_of}
 use Rattle.node_examples.proofs.NodesOf.{node_is, is_listed, listed_there, or_first, or_second, if_true, none_there}
 
@@ -51,7 +50,10 @@ abbrev p : Program
 p = program_with_errors makes_broken
 
 broken_has : HasInitialiser p (codes "Broken")
-broken_has = record { number = 0; initialiser = initialises_broken }
+broken_has = record {
+  number = 0;
+  initialiser = record { method = _; stands = refl; named = refl; file = _; place = _; member = _; of_file = refl; code = refl; above = same _ refl };
+}
 
 errors_thrown : AreThrownAt p [] (Some (codes "Broken")) errors
 errors_thrown = record { only = λ c there. only c there; all = λ c name is thrown. every c name is thrown }

@@ -5,4 +5,5 @@ mod Calls
 mod Thrown
 mod Starts
 mod Running
+mod CodedInitialisers
 mod StartNodes

@@ -10,9 +10,8 @@ use Rattle.jvm_model.specs.Programs.{Program, Class, Method}
 use Rattle.op_model.specs.declared.node.Node.{Node}
 use Rattle.op_model.specs.declared.op.CallKind.TheVariants.{Static}
 use Rattle.op_model.specs.declared.op.Op.TheVariants.{Call, Return}
-use Rattle.bytecode_machine.specs.Machine.{IsInitialiser}
 use Rattle.bytecode_machine.specs.Objects.{Subject}
-use Rattle.machine_laws.proofs.KnownCode.{initialiser_or_not}
+use Rattle.node_laws.proofs.CodedInitialisers.{has_initialiser_or_not}
 use Rattle.node_machine.specs.Nodes.{IsClassNumber, HasInitialiser, IsInitialisationError, IsThrownAt, raised, initialising, AreThrownAt, AreStartNodes}
 use Rattle.program_laws.proofs.Choices.{OrNot, either_or_not, same_or_not}
 use Rattle.program_laws.proofs.Orders.{none_there, first_there, more_there, where_there}
@@ -126,12 +125,12 @@ without_initialiser p class none = record {
     every at name is (raised raise c e) = absurd (none_there raise c)
     every at name is (initialising other e has_one error) = absurd (none (subst (HasInitialiser p) (sym (same_Some class other e)) has_one))
 
-some_thrown : (p : Program) → IsProgram p → (class : List ℕ) → SomeThrown p class
-some_thrown p program class = by (initialiser_or_not p program class)
+some_thrown : (p : Program) (class : List ℕ) → SomeThrown p class
+some_thrown p class = by (has_initialiser_or_not p class)
   where
-    by : OrNot ((number : ℕ) × IsInitialiser p class number) → SomeThrown p class
-    by (inl has) = with_initialiser p class (record { number = has.0; initialiser = has.1 })
-    by (inr none) = without_initialiser p class (λ has. none (has.number, has.initialiser))
+    by : OrNot (HasInitialiser p class) → SomeThrown p class
+    by (inl has) = with_initialiser p class has
+    by (inr none) = without_initialiser p class none
 
 -- ---- the number of the entry's class
 
@@ -198,7 +197,7 @@ some_start x entry stands program = (
 )
   where
     thrown : SomeThrown x.program entry.class
-    thrown = some_thrown x.program program entry.class
+    thrown = some_thrown x.program entry.class
 
     named : HasNumber x.program entry.class
     named = has_number x.program entry.class (All-contains (λ (m : Method). IsThere x.program m.class) x.program.methods entry program.methods (slice_among x.program.methods x.entry entry stands))

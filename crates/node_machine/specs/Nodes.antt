@@ -1,15 +1,20 @@
 -- Public contracts rest on this module.
 -- Programs of nodes: the nodes of a method, and those of the start of the program, where they stand, and what they may throw.
-use Rattle.std.specs.Prelude.{codes, ◌≡◌, ◌⊎◌, ◌↔◌, ℕ, nat_eq, find, List, [], ◌∷◌, Option, Some, None, Ok, slice_get, Contains}
+use Rattle.std.specs.Prelude.{codes, ◌≡◌, ◌⊎◌, ◌↔◌, ℕ, nat_eq, find, List, [], ◌∷◌, Option, Some, None, Ok, slice_get, Contains, IsTrue}
+use Rattle.std.specs.List.{list_any}
+use Rattle.jvm_model.specs.declared.class_file.ClassFile.{ClassFile}
+use Rattle.jvm_model.specs.declared.class_file.Member.{Member}
 use Rattle.jvm_model.specs.declared.number.ClassNo.{ClassNo}
-use Rattle.jvm_model.specs.Programs.{Program, Class, Method}
+use Rattle.jvm_model.specs.Programs.{Program, Class, Method, in_file}
+use Rattle.jvm_model.specs.Soundness.{is_code, plain_descriptor}
+use Rattle.jvm_model.specs.Subtypes.{IsSubtype}
 use Rattle.jvm_model.specs.Table.{Raise}
 use Rattle.op_model.specs.declared.lowered.LoweredMethod.{LoweredMethod}
 use Rattle.op_model.specs.declared.node.Node.{Node}
 use Rattle.op_model.specs.declared.op.CallKind.TheVariants.{Static}
 use Rattle.op_model.specs.declared.op.Op.TheVariants.{Call, Return}
 use Rattle.op_model.specs.Supplies.{Given}
-use Rattle.bytecode_machine.specs.Machine.{IsInitialiser, exception_class}
+use Rattle.bytecode_machine.specs.Machine.{exception_class}
 use Rattle.bytecode_machine.specs.Objects.{Subject}
 use Rattle.bytecode_machine.specs.States.{Frame}
 
@@ -21,10 +26,23 @@ pub record IsClassNumber (p : Program) (number : ClassNo) (name : List ℕ) : Ty
 
 -- ---- what a node throws
 
--- The class whose initialisation a node may start has an initialiser among its supertypes.
+-- The method of a number is an initialiser of the class or of one of its supertypes: <clinit> without parameters, for which the class
+-- file has a Code attribute, whether its code can be read or not (JVMS 2.9).
+pub record IsCodedInitialiser (p : Program) (class : List ℕ) (number : ℕ) : Type 0 where
+  pub method : Method
+  pub stands : slice_get p.methods number ≡ Some method
+  pub named : method.signature ≡ record { name = codes "<clinit>"; descriptor = plain_descriptor }
+  pub file : ClassFile
+  pub place : ℕ
+  pub member : Member
+  pub of_file : method.body ≡ in_file file place member
+  pub code : IsTrue (list_any (is_code file.pool) member.attributes)
+  pub above : IsSubtype p method.class class
+
+-- The class whose initialisation a node may start has one.
 pub record HasInitialiser (p : Program) (class : List ℕ) : Type 0 where
   pub number : ℕ
-  pub initialiser : IsInitialiser p class number
+  pub initialiser : IsCodedInitialiser p class number
 
 -- The errors that initialisation may give (JVMS 5.5).
 abbrev pub IsInitialisationError : List ℕ → Type 0
