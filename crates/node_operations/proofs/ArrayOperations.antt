@@ -1,17 +1,16 @@
 -- The operations that make arrays, of their rows.
-use Rattle.std.proofs.Common.{◌≡◌, ◌≢◌, ℕ, ◌+◌, ◌<◌, ◌≤◌, Bool, true, false, not, ◌||◌, eqb, List, [], ◌∷◌, length, map, replicate, Some, refl, sym, ap, ◌∙◌, subst, arith}
+use Rattle.std.proofs.Common.{◌≡◌, ℕ, ◌<◌, ◌≤◌, Bool, true, false, not, ◌||◌, eqb, List, length, map, Some, refl, sym, ap, ◌∙◌, subst, arith}
 use Rattle.std.proofs.lemmas.Bool.{false≢true, eqb-true}
 use Rattle.std.proofs.lemmas.List.{length-replicate}
-use Rattle.jvm_model.specs.declared.site.Site.{Site}
 use Rattle.jvm_model.specs.Instructions.{DecodedInstruction, array_row, RowBy}
 use Rattle.jvm_model.specs.RowViews.{row_view}
-use Rattle.jvm_model.specs.Table.{Row, row_of, UnitKind, primitive, Operands, pool_2_and_dimensions, Action, make_array}
+use Rattle.jvm_model.specs.Table.{Row, row_of, primitive, Operands, pool_2_and_dimensions, Action, make_array}
 use Rattle.bytecode_machine.specs.Machine.{NamesArrays}
 use Rattle.flow_graph.specs.Effects.{with_row}
 use Rattle.op_model.specs.declared.op.Op.{Op}
 use Rattle.op_model.specs.declared.op.Op.TheVariants.{NewArray}
 use Rattle.method_nodes.specs.Operations.{IsOp}
-use Rattle.node_operations.specs.Arms.{IsRowOf, HasRow, IsOperation, IsArrayOperation, site_at}
+use Rattle.node_operations.specs.ByAction.{IsRowOf, HasRow, IsOperation, IsArrayOperation, site_at}
 use Rattle.node_operations.specs.Placements.{placed_at}
 use Rattle.node_operations.specs.declared.placement.Placement.{Placement}
 use Rattle.node_operations.proofs.RowFacts.{implied_by, of_row, is_make_array}

@@ -1,12 +1,12 @@
 -- The operations of calls, of their rows.
-use Rattle.std.proofs.Common.{◌≡◌, ℕ, ◌+◌, ◌-◌, ◌≤◌, Bool, true, false, cond, List, [], ◌∷◌, ◌++◌, length, map, Option, Some, None, refl, sym, ap, ◌∙◌, subst, arith}
+use Rattle.std.proofs.Common.{◌≡◌, ℕ, ◌-◌, ◌≤◌, Bool, true, cond, List, ◌++◌, length, map, Option, Some, None, sym, ap, ◌∙◌, subst, arith}
 use Rattle.std.proofs.lemmas.Bool.{false≢true}
 use Rattle.std.proofs.lemmas.List.{length-map}
 use Rattle.std.proofs.lemmas.Option.{same_Some}
 use Rattle.jvm_model.specs.declared.number.MethodNo.{MethodNo}
 use Rattle.jvm_model.specs.declared.opcode.UnitKind.{UnitKind as CodeUnitKind}
 use Rattle.jvm_model.specs.declared.pool.PoolEntry.{PoolEntry}
-use Rattle.jvm_model.specs.Instructions.{DecodedInstruction, member_at, made_for, with_units, HasDescriptorUnits, IsCallRow, RowBy}
+use Rattle.jvm_model.specs.Instructions.{DecodedInstruction, member_at, HasDescriptorUnits, IsCallRow, RowBy}
 use Rattle.jvm_model.specs.Lookups.{MemberReference}
 use Rattle.jvm_model.specs.RowViews.{row_view, kind_view}
 use Rattle.jvm_model.specs.Table.{Row, UnitKind, Action, is_call, invoke_virtual, invoke_special, invoke_static, invoke_interface}
@@ -18,7 +18,7 @@ use Rattle.op_model.specs.declared.op.CallKind.TheVariants as calls
 use Rattle.op_model.specs.declared.op.Op.{Op}
 use Rattle.op_model.specs.declared.op.Op.TheVariants.{Call}
 use Rattle.method_nodes.specs.Operations.{Placed, IsOp, IsCallOp, IsChosen, unit_slots, value_slot}
-use Rattle.node_operations.specs.Arms.{IsRowOf, HasRow, IsOperation, IsCallee, call_kind, receiver_units}
+use Rattle.node_operations.specs.ByAction.{IsRowOf, HasRow, IsOperation, IsCallee, call_kind, receiver_units}
 use Rattle.node_operations.specs.Placements.{placed_at}
 use Rattle.node_operations.specs.UnitLists.{AreUnitsOf}
 use Rattle.node_operations.specs.declared.calls.Callee.{Callee}

@@ -2,7 +2,7 @@
 use Rattle.std.proofs.Common.{◌≡◌, ℕ, ◌+◌, List, [], ◌∷◌, length, codes, Option, Some, None, option_and_then, refl, sym, ap, ◌∙◌, subst, arith}
 use Rattle.std.proofs.lemmas.Option.{same_Some, none-some}
 use Rattle.jvm_model.specs.declared.pool.PoolEntry.{PoolEntry}
-use Rattle.jvm_model.specs.declared.pool.PoolEntry.TheVariants.{Utf8, Integer, Float, Long, Double, Class, Str, Fieldref, Methodref, InterfaceMethodref, NameAndType, MethodHandle, MethodType, InvokeDynamic, Taken}
+use Rattle.jvm_model.specs.declared.pool.PoolEntry.TheVariants.{Integer, Float, Class, Str, MethodHandle, MethodType}
 use Rattle.jvm_model.specs.Instructions.{constant_row, with_units, RowBy}
 use Rattle.jvm_model.specs.Lookups.{entry_at}
 use Rattle.jvm_model.specs.RowViews.{row_view}
@@ -15,7 +15,7 @@ use Rattle.op_model.specs.declared.op.Op.{Op}
 use Rattle.op_model.specs.declared.op.Op.TheVariants.{Assign, Constant}
 use Rattle.method_nodes.specs.Moves.{AreMovesOf}
 use Rattle.method_nodes.specs.Operations.{IsOp, of_string, of_class}
-use Rattle.node_operations.specs.Arms.{IsRowOf, IsOperation}
+use Rattle.node_operations.specs.ByAction.{IsRowOf, IsOperation}
 use Rattle.node_operations.specs.Constants.{constant_class_in, constant_class}
 use Rattle.node_operations.specs.MoveLists.{cleared_from}
 use Rattle.node_operations.specs.Placements.{judged_at, placed_at}

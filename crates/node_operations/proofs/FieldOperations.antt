@@ -2,10 +2,10 @@
 use Rattle.std.proofs.Common.{◌≡◌, ℕ, suc, ◌+◌, ◌-◌, Bool, true, false, ◌&&◌, ◌||◌, cond, eqb, List, [], ◌∷◌, ◌++◌, length, map, Some, MatchBool, refl, sym, ap, ◌∙◌, subst, arith}
 use Rattle.std.specs.List.{list_all}
 use Rattle.std.proofs.lemmas.Bool.{false≢true}
-use Rattle.std.proofs.lemmas.List.{length-map, append-nil}
+use Rattle.std.proofs.lemmas.List.{append-nil}
 use Rattle.std.proofs.lemmas.Option.{same_Some}
 use Rattle.jvm_model.specs.declared.number.FieldNo.{FieldNo}
-use Rattle.jvm_model.specs.Instructions.{DecodedInstruction, kinds_of, kinds_by, made_for, with_units, IsFieldRow, RowBy}
+use Rattle.jvm_model.specs.Instructions.{kinds_of, made_for, with_units, IsFieldRow, RowBy}
 use Rattle.jvm_model.specs.Lookups.{Signature, MemberReference}
 use Rattle.jvm_model.specs.RowViews.{row_view}
 use Rattle.jvm_model.specs.Table.{Row, row_of, UnitKind, any_kind, primitive, reference, UnitSource, Action, get_static, put_static, get_field, put_field, is_field_access}
@@ -17,9 +17,9 @@ use Rattle.op_model.specs.declared.op.Op.{Op}
 use Rattle.op_model.specs.declared.op.Source.TheVariants as sources
 use Rattle.op_model.specs.declared.op.Op.TheVariants.{Assign, Load, Store, LoadStatic, StoreStatic, Probe}
 use Rattle.method_nodes.specs.Moves.{AreMovesOf}
-use Rattle.method_nodes.specs.Operations.{IsOp, IsAssign, IsStaticOp, IsFieldOp, field_no}
-use Rattle.node_operations.specs.Arms.{IsRowOf, IsOperation, AccessesField}
-use Rattle.node_operations.specs.MoveLists.{move_to, moves_from, cleared_from, moves_of}
+use Rattle.method_nodes.specs.Operations.{IsOp, IsAssign, field_no}
+use Rattle.node_operations.specs.ByAction.{IsRowOf, IsOperation, AccessesField}
+use Rattle.node_operations.specs.MoveLists.{moves_from, cleared_from, moves_of}
 use Rattle.node_operations.specs.Placements.{placed_at}
 use Rattle.node_operations.specs.declared.access.Access.{Access}
 use Rattle.node_operations.specs.declared.placement.Placement.{Placement}

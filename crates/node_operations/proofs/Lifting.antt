@@ -1,5 +1,5 @@
 -- From the operation of a row to that of an instruction.
-use Rattle.std.proofs.Common.{◌≡◌, ◌⊎◌, inl, inr, ℕ, ◌+◌, ◌-◌, ◌≤◌, Bool, true, false, List, [], ◌∷◌, length, map, drop, Option, Some, None, Result, Ok, Err, IfOk, refl, sym, ap, ◌∙◌, subst, arith}
+use Rattle.std.proofs.Common.{◌≡◌, inl, inr, ℕ, ◌+◌, ◌-◌, true, List, ◌∷◌, length, drop, Some, None, Result, Ok, Err, IfOk, refl, sym, ap, ◌∙◌, subst, arith}
 use Rattle.std.proofs.lemmas.Bool.{false≢true}
 use Rattle.std.proofs.lemmas.List.{length-map}
 use Rattle.std.proofs.lemmas.Option.{same_Some}
@@ -15,8 +15,8 @@ use Rattle.op_model.specs.declared.op.Op.{Op}
 use Rattle.method_nodes.specs.Operations.{IsOp}
 use Rattle.instruction_reasons.specs.Reasons.{Judged, HasReason, dynamic, method_constant, IsFirstOf, IsFirstReason, reason_order, UsesMethodConstant}
 use Rattle.flow_graph.specs.declared.effect.Effect.{Effect}
-use Rattle.node_operations.specs.Arms.{IsRowOf, HasRow, IsOperation, IsTableOperation, is_of_table}
-use Rattle.node_operations.specs.Placements.{judged_at, placed_at, HasUnitsBelow, HasOperation}
+use Rattle.node_operations.specs.ByAction.{IsRowOf, HasRow, IsOperation, IsTableOperation, is_of_table}
+use Rattle.node_operations.specs.Placements.{placed_at, HasUnitsBelow, HasOperation}
 use Rattle.node_operations.specs.declared.placement.Placement.{Placement}
 
 -- what follows of each value that was made

@@ -1,8 +1,7 @@
 -- What the reference of an instruction names: a field, or the methods of a call.
-use Rattle.std.proofs.Common.{◌≡◌, ◌≢◌, ℕ, ◌+◌, ◌<◌, ◌≤◌, Bool, true, false, cond, ◌||◌, List, [], ◌∷◌, ◌++◌, length, map, Option, Some, None, Result, Ok, Err, refl, sym, ap, ◌∙◌, subst, arith}
+use Rattle.std.proofs.Common.{◌≡◌, ℕ, Bool, List, length, Option, Some, None, Result, Ok, refl, sym, ap, ◌∙◌, subst}
 use Rattle.std.specs.List.{slice_get}
-use Rattle.std.proofs.lemmas.Bool.{false≢true}
-use Rattle.std.proofs.lemmas.Option.{same_Some, none-some, slice_get_within}
+use Rattle.std.proofs.lemmas.Option.{same_Some, none-some}
 use Rattle.jvm_model.specs.declared.number.FieldNo.{FieldNo}
 use Rattle.jvm_model.specs.declared.number.MethodNo.{MethodNo}
 use Rattle.jvm_model.specs.declared.reason.Reason.{Reason}
@@ -10,11 +9,11 @@ use Rattle.jvm_model.specs.declared.access.AccessFlag.TheVariants.{Static}
 use Rattle.jvm_model.specs.Access.{has_flag}
 use Rattle.jvm_model.specs.Instructions.{member_at, kinds_of}
 use Rattle.jvm_model.specs.Lookups.{Signature, MemberReference}
-use Rattle.jvm_model.specs.Programs.{Program, Field, Method, Class as ProgramClass}
+use Rattle.jvm_model.specs.Programs.{Program, Field, Class as ProgramClass}
 use Rattle.jvm_model.specs.Resolution.{FindsField, FindsAmong, itself, above, nowhere, first, later, FieldResolution, MethodResolution, found, other_kind, not_found, Resolves}
 use Rattle.jvm_model.specs.RowViews.{row_view}
 use Rattle.jvm_model.specs.Selection.{SelectsSpecial}
-use Rattle.jvm_model.specs.Table.{Action, is_call, is_field_access, invoke_virtual, invoke_special, invoke_static, invoke_interface}
+use Rattle.jvm_model.specs.Table.{Action, invoke_virtual, invoke_special, invoke_static, invoke_interface}
 use Rattle.bytecode_machine.specs.Machine.{NamesField, NamesMethod}
 use Rattle.bytecode_machine.specs.States.{is_reference_type}
 use Rattle.hierarchy.proofs.ClassPlaces.{number_named, place_there}
@@ -25,13 +24,9 @@ use Rattle.instruction_reasons.specs.Judgements.{IsNamedMember, IsKnownTarget}
 use Rattle.instruction_reasons.specs.Reasons.{Judged, LooksUpField, LooksUpMethod, HasTarget, special, static, wants_static}
 use Rattle.linked_program.specs.declared.member_view.MemberView.{MemberView}
 use Rattle.linked_program.specs.Whole.{IsFieldView}
-use Rattle.op_model.specs.declared.op.CallKind.TheVariants as calls
-use Rattle.method_nodes.specs.Operations.{IsChosen}
-use Rattle.node_operations.specs.declared.access.Access.{Access}
-use Rattle.node_operations.specs.declared.calls.Callee.{Callee}
 use Rattle.node_operations.specs.declared.placement.Placement.{Placement}
-use Rattle.node_operations.specs.Arms.{AccessesField, IsCallee, call_kind, resolved_method}
-use Rattle.node_operations.specs.Placements.{judged_at, placed_at}
+use Rattle.node_operations.specs.ByAction.{AccessesField, IsCallee, call_kind, resolved_method}
+use Rattle.node_operations.specs.Placements.{judged_at}
 
 -- ---- fields
 

@@ -1,6 +1,6 @@
 -- Facts of the instruction table, each a test of all rows, and what the index of an instruction that names a class leads to.
-use Rattle.std.proofs.Common.{◌≡◌, ◌≢◌, ℕ, zero, suc, ◌≤◌, Bool, true, false, not, ◌&&◌, ◌||◌, leb, eqb, List, [], ◌∷◌, length, Option, Some, None, refl, sym, ap, ◌∙◌, subst}
-use Rattle.std.specs.List.{list_all, slice_get}
+use Rattle.std.proofs.Common.{◌≡◌, ◌≢◌, ℕ, ◌≤◌, Bool, true, false, not, ◌||◌, leb, eqb, List, [], ◌∷◌, length, Some, refl, sym, ap, ◌∙◌}
+use Rattle.std.specs.List.{list_all}
 use Rattle.std.specs.Option.{option_map_or}
 use Rattle.std.proofs.lemmas.Bool.{and_parts, leb-true, eqb-true, false≢true}
 use Rattle.std.proofs.lemmas.Option.{same_Some}
@@ -10,7 +10,7 @@ use Rattle.jvm_model.specs.declared.opcode.Operands.{Operands as CodeOperands}
 use Rattle.jvm_model.specs.declared.opcode.Operands.TheVariants as operands
 use Rattle.jvm_model.specs.declared.opcode.PoolTarget.TheVariants as targets
 use Rattle.jvm_model.specs.declared.pool.EntryKind.TheVariants as kinds
-use Rattle.jvm_model.specs.InstructionUses.{pool_target, target_kinds, has_shape, leads_there, leads_right}
+use Rattle.jvm_model.specs.InstructionUses.{pool_target, has_shape, leads_there, leads_right}
 use Rattle.jvm_model.specs.Lookups.{class_name_at}
 use Rattle.jvm_model.specs.RowViews.{operands_view}
 use Rattle.jvm_model.specs.Soundness.{leads_to}
@@ -19,7 +19,7 @@ use Rattle.jvm_model.proofs.SoundUses.{class_there}
 use Rattle.bytecode_machine.specs.Machine.{NamesClass}
 use Rattle.flow_graph.specs.Effects.{with_row}
 use Rattle.flow_graph.specs.Reading.{IsSoundInstruction}
-use Rattle.node_operations.specs.Arms.{names_class}
+use Rattle.node_operations.specs.ByAction.{names_class}
 use Rattle.node_operations.proofs.MovesMade.{makes_nothing, stands_passes}
 
 pub implied_by : (a b : Bool) → (not a || b) ≡ true → a ≡ true → b ≡ true

@@ -1,4 +1,4 @@
-pub mod Arms
+pub mod ByAction
 pub mod Constants
 pub mod MoveLists
 pub mod Placements

@@ -5,7 +5,7 @@ ghost use Rattle.jvm_model.specs.RowViews.{row_view};
 ghost use Rattle.jvm_model.specs.Table.{row_of, get_static, put_static, get_field, put_field, is_field_access};
 ghost use Rattle.instruction_reasons.specs.Judgements.{IsNamedMember};
 ghost use Rattle.instruction_reasons.specs.Reasons.{wants_static};
-ghost use Rattle.node_operations.specs.Arms.{AccessesField, HasRow, IsOperation};
+ghost use Rattle.node_operations.specs.ByAction.{AccessesField, HasRow, IsOperation};
 ghost use Rattle.node_operations.specs.Placements.{judged_at};
 
 use crate::moves::cleared;
@@ -18,15 +18,15 @@ use std::alloc::{AllocError, Global};
 
 /// A field that an instruction reads or writes.
 #[derive(Clone, Copy)]
-pub struct Access {
-    pub field: FieldNo,
-    pub is_reference: bool,
+pub(crate) struct Access {
+    pub(crate) field: FieldNo,
+    pub(crate) is_reference: bool,
     /// How many units a value of the field takes.
-    pub units: u32,
+    pub(crate) units: u32,
 }
 
 /// The operation of `getstatic`.
-pub fn get_static(alloc: Global, at: Placement<'_>) -> Result<Op, AllocError>
+pub(crate) fn get_static(alloc: Global, at: Placement<'_>) -> Result<Op, AllocError>
     requires row { row_of at.instruction.now.opcode ≡ Some (row_view at.row.now) }
     requires action { (row_view at.row.now).action ≡ get_static }
     requires member { IsNamedMember (judged_at at) at.member }
@@ -44,7 +44,7 @@ pub fn get_static(alloc: Global, at: Placement<'_>) -> Result<Op, AllocError>
 }
 
 /// The operation of `putstatic`.
-pub fn put_static(alloc: Global, at: Placement<'_>) -> Result<Op, AllocError>
+pub(crate) fn put_static(alloc: Global, at: Placement<'_>) -> Result<Op, AllocError>
     requires row { row_of at.instruction.now.opcode ≡ Some (row_view at.row.now) }
     requires action { (row_view at.row.now).action ≡ put_static }
     requires member { IsNamedMember (judged_at at) at.member }
@@ -64,7 +64,7 @@ pub fn put_static(alloc: Global, at: Placement<'_>) -> Result<Op, AllocError>
 }
 
 /// The operation of `getfield`.
-pub fn get_field(at: Placement<'_>) -> Op
+pub(crate) fn get_field(at: Placement<'_>) -> Op
     requires action { (row_view at.row.now).action ≡ get_field }
     requires member { IsNamedMember (judged_at at) at.member }
     requires units { HasRow at }
@@ -83,7 +83,7 @@ pub fn get_field(at: Placement<'_>) -> Op
 }
 
 /// The operation of `putfield`.
-pub fn put_field(at: Placement<'_>) -> Op
+pub(crate) fn put_field(at: Placement<'_>) -> Op
     requires action { (row_view at.row.now).action ≡ put_field }
     requires member { IsNamedMember (judged_at at) at.member }
     requires units { HasRow at }

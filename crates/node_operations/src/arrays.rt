@@ -6,7 +6,7 @@ ghost use Rattle.jvm_model.specs.Subtypes.{array_of, reference_descriptor};
 ghost use Rattle.jvm_model.specs.Table.{row_of, make_array};
 ghost use Rattle.bytecode_machine.specs.Machine.{primitive_array, nested_arrays};
 ghost use Rattle.flow_graph.specs.Reading.{IsSoundInstruction};
-ghost use Rattle.node_operations.specs.Arms.{site_at, HasRow, IsOperation, IsArrayOperation};
+ghost use Rattle.node_operations.specs.ByAction.{site_at, HasRow, IsOperation, IsArrayOperation};
 
 use crate::placement::Placement;
 use crate::sites::{class_at, new_site};
@@ -18,7 +18,7 @@ use op_model::Op;
 use std::alloc::{AllocError, Global};
 
 /// The operation that makes arrays, each of which holds the next ones.
-pub fn make_array(alloc: Global, at: Placement<'_>) -> Result<Op, AllocError>
+pub(crate) fn make_array(alloc: Global, at: Placement<'_>) -> Result<Op, AllocError>
     requires sound { IsSoundInstruction at.class.now at.instruction.now }
     requires row { row_of at.instruction.now.opcode ≡ Some (row_view at.row.now) }
     requires action { (row_view at.row.now).action ≡ make_array }
@@ -77,7 +77,7 @@ fn nested_sites(
 {
     let mut sites = Vec::new(alloc);
     let mut rest = array;
-    for _k in 0..count {
+    for _ in 0..count {
         sites.push(new_site(alloc, at, rest)?)?;
         rest = element_of(rest);
     }

@@ -6,7 +6,7 @@ ghost use Rattle.jvm_model.specs.Lookups.{lent_reference};
 ghost use Rattle.jvm_model.specs.RowViews.{row_view, action_view, kind_view};
 ghost use Rattle.jvm_model.specs.Table.{is_call};
 ghost use Rattle.instruction_reasons.specs.Judgements.{IsNamedMember};
-ghost use Rattle.node_operations.specs.Arms.{call_kind, receiver_units, resolved_method, HasRow, IsCallee, IsOperation};
+ghost use Rattle.node_operations.specs.ByAction.{call_kind, receiver_units, resolved_method, HasRow, IsCallee, IsOperation};
 ghost use Rattle.node_operations.specs.Placements.{judged_at};
 
 use crate::placement::Placement;
@@ -21,13 +21,13 @@ use std::alloc::{AllocError, Global};
 
 /// The methods of a call: the one that its reference resolves to, and the target that is known beforehand.
 #[derive(Clone, Copy)]
-pub struct Callee {
-    pub resolved: MethodNo,
-    pub chosen: Option<MethodNo>,
+pub(crate) struct Callee {
+    pub(crate) resolved: MethodNo,
+    pub(crate) chosen: Option<MethodNo>,
 }
 
 /// The operation of an instruction that calls a method.
-pub fn call(alloc: Global, at: Placement<'_>) -> Result<Op, AllocError>
+pub(crate) fn call(alloc: Global, at: Placement<'_>) -> Result<Op, AllocError>
     requires action { is_call (row_view at.row.now).action ≡ true }
     requires member { IsNamedMember (judged_at at) at.member }
     requires units { HasRow at }

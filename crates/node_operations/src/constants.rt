@@ -7,7 +7,7 @@ ghost use Rattle.jvm_model.specs.Table.{load_constant};
 ghost use Rattle.bytecode_machine.specs.Start.{boot_site};
 ghost use Rattle.op_model.specs.declared.op.Op.TheVariants.{Constant};
 ghost use Rattle.instruction_reasons.specs.Reasons.{UsesMethodConstant};
-ghost use Rattle.node_operations.specs.Arms.{IsOperation};
+ghost use Rattle.node_operations.specs.ByAction.{IsOperation};
 ghost use Rattle.node_operations.specs.Constants.{constant_class};
 ghost use Rattle.node_operations.specs.Placements.{judged_at};
 
@@ -21,7 +21,7 @@ use op_model::Op;
 use std::alloc::{AllocError, Global};
 
 /// The operation of an instruction that loads a constant, which is no method handle and no method type.
-pub fn load_constant(alloc: Global, at: Placement<'_>) -> Result<Op, AllocError>
+pub(crate) fn load_constant(alloc: Global, at: Placement<'_>) -> Result<Op, AllocError>
     requires action { (row_view at.row.now).action ≡ load_constant }
     requires no_method { UsesMethodConstant (judged_at at) → ⊥ }
     requires top { at.top < 2 ^ 18 }

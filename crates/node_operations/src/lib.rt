@@ -6,7 +6,7 @@ mod access;
 mod arrays;
 mod calls;
 mod constants;
-pub mod moves;
+mod moves;
 pub mod operation;
 pub mod placement;
 mod sites;

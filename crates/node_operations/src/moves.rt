@@ -10,7 +10,12 @@ use op_model::{Move, Source};
 use std::alloc::{AllocError, Global};
 
 /// The moves of a row whose lowest popped unit is the slot `base`; the operand names a local variable (JVMS 6.5).
-pub fn moves_of(alloc: Global, row: &Row, operand: u32, base: u32) -> Result<Vec<Move>, AllocError>
+pub(crate) fn moves_of(
+    alloc: Global,
+    row: &Row,
+    operand: u32,
+    base: u32,
+) -> Result<Vec<Move>, AllocError>
     requires operand { operand < 2 ^ 16 }
     requires base { base < 2 ^ 18 }
     requires pops { length row.now.pops.now ≤ 255 }
@@ -28,7 +33,7 @@ pub fn moves_of(alloc: Global, row: &Row, operand: u32, base: u32) -> Result<Vec
 }
 
 /// The moves by which so many slots, from one on, become those of primitives.
-pub fn cleared(alloc: Global, start: u32, count: u32) -> Result<Vec<Move>, AllocError>
+pub(crate) fn cleared(alloc: Global, start: u32, count: u32) -> Result<Vec<Move>, AllocError>
     requires { start + count < 2 ^ 32 }
     ensures { IfOk result (λ moves. moves.items ≡ cleared_from count start) }
 {

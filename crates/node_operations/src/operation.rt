@@ -6,7 +6,7 @@ ghost use Rattle.jvm_model.specs.Table.{row_of, refused};
 ghost use Rattle.flow_graph.specs.Reading.{IsSoundInstruction};
 ghost use Rattle.instruction_reasons.specs.Reasons.{IsFirstReason, UsesMethodConstant};
 ghost use Rattle.instruction_reasons.specs.Judgements.{IsNamedMember};
-ghost use Rattle.node_operations.specs.Arms.{HasRow, IsOperation};
+ghost use Rattle.node_operations.specs.ByAction.{HasRow, IsOperation};
 ghost use Rattle.node_operations.specs.Placements.{judged_at, HasUnitsBelow, HasOperation};
 
 use crate::access::{get_field, get_static, put_field, put_static};

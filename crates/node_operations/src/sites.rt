@@ -3,7 +3,7 @@
 ghost use Rattle.std.specs.Prelude.{◌≡◌, ◌<◌, ◌^◌, IfOk, Some};
 ghost use Rattle.jvm_model.specs.Lookups.{class_name_at};
 ghost use Rattle.bytecode_machine.specs.Machine.{NamesClass};
-ghost use Rattle.node_operations.specs.Arms.{site_at};
+ghost use Rattle.node_operations.specs.ByAction.{site_at};
 
 use crate::placement::Placement;
 use jvm_model::lookup::class_name_at;
@@ -12,7 +12,7 @@ use jvm_model::{Bytes, ClassFile, Sequence};
 use std::alloc::{AllocError, Global};
 
 /// What the instruction allocates of a class.
-pub fn new_site(alloc: Global, at: Placement<'_>, class: &[u8]) -> Result<Site, AllocError>
+pub(crate) fn new_site(alloc: Global, at: Placement<'_>, class: &[u8]) -> Result<Site, AllocError>
     ensures { IfOk result (λ site. site ≡ site_at at.entry class.now) }
 {
     Ok(Site {
@@ -24,7 +24,7 @@ pub fn new_site(alloc: Global, at: Placement<'_>, class: &[u8]) -> Result<Site, 
 }
 
 /// The name of the class, the interface or the array at an index of the constant pool (JVMS 4.4.1).
-pub fn class_at(class: &ClassFile, index: u32) -> &[u8]
+pub(crate) fn class_at(class: &ClassFile, index: u32) -> &[u8]
     requires small { index < 2 ^ 16 }
     requires there { NamesClass class.now.pool index }
     ensures { class_name_at class.now.pool index ≡ Some result.now }
@@ -33,7 +33,7 @@ pub fn class_at(class: &ClassFile, index: u32) -> &[u8]
 }
 
 /// A copy of the bytes.
-pub fn copy_of(alloc: Global, bytes: &[u8]) -> Result<Bytes, AllocError>
+pub(crate) fn copy_of(alloc: Global, bytes: &[u8]) -> Result<Bytes, AllocError>
     ensures { IfOk result (λ copy. copy ≡ bytes.now) }
 {
     Ok(Sequence::from_vec(Vec::from_slice(alloc, bytes)?))

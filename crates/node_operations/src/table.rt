@@ -6,7 +6,7 @@ ghost use Rattle.jvm_model.specs.Table.{row_of};
 ghost use Rattle.flow_graph.specs.Reading.{IsSoundInstruction};
 ghost use Rattle.bytecode_machine.specs.Machine.{NamesClass};
 ghost use Rattle.method_nodes.specs.Operations.{IsAssign, IsOp};
-ghost use Rattle.node_operations.specs.Arms.{is_of_table, names_class, HasRow, IsOperation, IsTableOperation};
+ghost use Rattle.node_operations.specs.ByAction.{is_of_table, names_class, HasRow, IsOperation, IsTableOperation};
 ghost use Rattle.node_operations.specs.Placements.{placed_at};
 ghost use Rattle.jvm_model.specs.Table.{plain, make_object, cast};
 
@@ -20,7 +20,7 @@ use op_model::Op;
 use std::alloc::{AllocError, Global};
 
 /// The operation of an instruction of which the table says all units.
-pub fn table_operation(alloc: Global, at: Placement<'_>) -> Result<Op, AllocError>
+pub(crate) fn table_operation(alloc: Global, at: Placement<'_>) -> Result<Op, AllocError>
     requires sound { IsSoundInstruction at.class.now at.instruction.now }
     requires row { row_of at.instruction.now.opcode ≡ Some (row_view at.row.now) }
     requires action { is_of_table (row_view at.row.now).action ≡ true }

@@ -14,15 +14,15 @@ use std::alloc::{AllocError, Global};
 
 /// The units of a method.
 #[derive(Drop)]
-pub struct MethodUnits {
+pub(crate) struct MethodUnits {
     /// Those of its parameters, without the receiver.
-    pub parameters: Vec<UnitKind>,
+    pub(crate) parameters: Vec<UnitKind>,
     /// Whether its result is a reference.
-    pub gives_reference: bool,
+    pub(crate) gives_reference: bool,
 }
 
 /// The units of a method descriptor.
-pub fn method_units(alloc: Global, descriptor: &[u8]) -> Result<MethodUnits, AllocError>
+pub(crate) fn method_units(alloc: Global, descriptor: &[u8]) -> Result<MethodUnits, AllocError>
     ensures { IfOk result (AreUnitsOf descriptor.now) }
 {
     let spelled = descriptor_of(alloc, descriptor)?;
@@ -88,14 +88,14 @@ fn is_reference_outcome(outcome: &Option<Kind>) -> bool
 }
 
 /// Whether a descriptor is that of a reference: of a class or an array (JVMS 4.3.2).
-pub fn is_reference_type(descriptor: &[u8]) -> bool
+pub(crate) fn is_reference_type(descriptor: &[u8]) -> bool
     ensures { result ≡ is_reference_type descriptor.now }
 {
     matches!(descriptor, [b'L' | b'[', ..])
 }
 
 /// How many units a field of a descriptor takes, by its first letter.
-pub fn field_units(descriptor: &[u8]) -> u32
+pub(crate) fn field_units(descriptor: &[u8]) -> u32
     ensures exact { result ≡ length (kinds_of descriptor.now) }
     ensures few { result ≤ 2 }
 {
@@ -107,7 +107,7 @@ pub fn field_units(descriptor: &[u8]) -> u32
 }
 
 /// The slots of units from one slot on; none of a primitive.
-pub fn unit_slots(
+pub(crate) fn unit_slots(
     alloc: Global,
     start: u32,
     units: &[UnitKind],
@@ -135,7 +135,7 @@ fn slot_of(unit: UnitKind, slot: u32) -> Option<u32>
 }
 
 /// The slot of a value of these units, if it is a reference.
-pub fn value_slot(start: u32, units: &[UnitKind]) -> Option<u32>
+pub(crate) fn value_slot(start: u32, units: &[UnitKind]) -> Option<u32>
     ensures { result ≡ value_slot start (map kind_view units.now) }
 {
     match units {

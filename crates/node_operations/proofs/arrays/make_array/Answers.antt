@@ -1,8 +1,7 @@
-use Rattle.std.proofs.Common.{◌≡◌, ℕ, false, List, [], ◌∷◌, refl, sym, ap, ◌∙◌}
+use Rattle.std.proofs.Common.{ℕ, List, [], ◌∷◌, refl, ap, ◌∙◌}
 use Rattle.jvm_model.specs.RowViews.{row_view, operands_view}
-use Rattle.jvm_model.specs.Subtypes.{array_of}
 use Rattle.bytecode_machine.specs.Machine.{NamesClass, of_primitives, of_references, nested, nested_arrays}
-use Rattle.node_operations.specs.Arms.{IsOperation, IsArrayOperation}
+use Rattle.node_operations.specs.ByAction.{IsOperation, IsArrayOperation}
 use Rattle.node_operations.proofs.ArrayOperations.{is_nested, pops_size, pops_sizes, has_size, makes_arrays}
 use Rattle.node_operations.proofs.Lifting.{if_ok}
 use Rattle.node_operations.proofs.RowFacts.{is_class_operands, array_of_references, class_named}

@@ -1,8 +1,8 @@
-use Rattle.std.proofs.Common.{◌≡◌, ℕ, suc, ◌+◌, ◌-◌, ◌<◌, ◌≤◌, List, [], ◌∷◌, ◌++◌, map, drop, refl, sym, ap, ◌∙◌, arith, append_assoc}
+use Rattle.std.proofs.Common.{◌≡◌, ℕ, suc, ◌+◌, ◌-◌, ◌<◌, ◌≤◌, List, [], ◌∷◌, ◌++◌, map, drop, sym, ap, ◌∙◌, arith, append_assoc}
 use Rattle.std.proofs.lemmas.List.{append-nil}
 use Rattle.jvm_model.specs.declared.site.Site.{Site}
 use Rattle.bytecode_machine.specs.Machine.{nested_arrays}
-use Rattle.node_operations.specs.Arms.{site_at}
+use Rattle.node_operations.specs.ByAction.{site_at}
 use Rattle.node_operations.specs.declared.placement.Placement.{Placement}
 use Rattle.node_operations.proofs.arrays.nested_sites.Goals as goal
 
@@ -25,10 +25,10 @@ none_left at sites all rest count k le is =
     let none : count - k ≡ 0 = omega arith in
     sym (append-nil sites) ∙ ap (λ (n : ℕ). sites ++ map (site_at at) (nested_arrays n rest)) (sym none) ∙ is
 
-pub loop-k-preserved : goal.loop-k-preserved
-loop-k-preserved c =
-    one_more c.args.at c.loop-k.sites.items c.push.new.self.items _ c.in_ok-new_site.field-0 c.loop-k.rest.now c.element_of-rest.result.now c.args.count c.loop-k._k c.loop-k-test.true c.in_ok-push.ensures.items c.in_ok-new_site.ensures c.element_of-rest.ensures
-    c.loop-k.invariant
+pub loop-preserved : goal.loop-preserved
+loop-preserved c =
+    one_more c.args.at c.loop.sites.items c.push.new.self.items _ c.in_ok-new_site.field-0 c.loop.rest.now c.element_of-rest.result.now c.args.count c.loop.counter c.loop-test.true c.in_ok-push.ensures.items c.in_ok-new_site.ensures c.element_of-rest.ensures
+    c.loop.invariant
 
 pub returns : goal.returns
-returns c = none_left c.args.at c.loop-k.sites.items _ c.loop-k.rest.now c.args.count c.loop-k._k c.loop-k-test.false c.loop-k.invariant
+returns c = none_left c.args.at c.loop.sites.items _ c.loop.rest.now c.args.count c.loop.counter c.loop-test.false c.loop.invariant

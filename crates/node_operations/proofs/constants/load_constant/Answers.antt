@@ -2,7 +2,7 @@ use Rattle.std.proofs.Common.{◌≡◌, ◌∙◌}
 use Rattle.bytecode_machine.specs.Start.{boot_site}
 use Rattle.op_model.specs.declared.op.Op.{Op}
 use Rattle.op_model.specs.declared.op.Op.TheVariants.{Constant}
-use Rattle.node_operations.specs.Arms.{IsOperation}
+use Rattle.node_operations.specs.ByAction.{IsOperation}
 use Rattle.node_operations.proofs.ConstantOperations.{loads_object, loads_number}
 use Rattle.node_operations.proofs.Lifting.{if_ok}
 use Rattle.node_operations.proofs.constants.load_constant.Goals as goal

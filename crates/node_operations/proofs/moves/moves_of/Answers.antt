@@ -1,4 +1,4 @@
-use Rattle.std.proofs.Common.{refl, sym}
+use Rattle.std.proofs.Common.{refl}
 use Rattle.std.proofs.lemmas.List.{length-map}
 use Rattle.jvm_model.specs.RowViews.{kind_view, source_view}
 use Rattle.node_operations.proofs.moves.moves_of.Goals as goal

@@ -1,4 +1,4 @@
-use Rattle.node_operations.specs.Arms.{IsOperation}
+use Rattle.node_operations.specs.ByAction.{IsOperation}
 use Rattle.node_operations.specs.Placements.{judged_at, HasOperation}
 use Rattle.node_operations.proofs.Lifting.{if_ok, has_row, has_operation, not_refused, no_method_constant}
 use Rattle.node_operations.proofs.operation.operation.Goals as goal

@@ -1,8 +1,6 @@
-use Rattle.std.proofs.Common.{List, refl, sym, subst, arith}
+use Rattle.std.proofs.Common.{refl, arith}
 use Rattle.std.proofs.lemmas.List.{length-map}
 use Rattle.jvm_model.specs.RowViews.{row_view, kind_view, source_view}
-use Rattle.op_model.specs.declared.op.Move.{Move}
-use Rattle.method_nodes.specs.Moves.{AreMovesOf}
 use Rattle.flow_graph.proofs.Rows.{few_pops, few_pushes}
 use Rattle.node_operations.proofs.MovesMade.{are_moves_of}
 use Rattle.node_operations.proofs.RowFacts.{few_stores, plain_makes_nothing}

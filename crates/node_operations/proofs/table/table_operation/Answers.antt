@@ -1,6 +1,6 @@
 use Rattle.std.proofs.Common.{◌≡◌, ◌+◌, ◌-◌, length, arith}
 use Rattle.jvm_model.specs.RowViews.{row_view}
-use Rattle.node_operations.specs.Arms.{IsOperation, IsTableOperation}
+use Rattle.node_operations.specs.ByAction.{IsOperation, IsTableOperation}
 use Rattle.node_operations.proofs.Lifting.{if_ok, table_pops, lift_table}
 use Rattle.node_operations.proofs.RowFacts.{class_operands, class_named}
 use Rattle.node_operations.proofs.table.table_operation.Goals as goal

@@ -1,5 +1,4 @@
-use Rattle.std.proofs.Common.{◌≡◌, List, map, ap, ◌∙◌}
-use Rattle.jvm_model.specs.declared.opcode.UnitKind.{UnitKind as CodeUnitKind}
+use Rattle.std.proofs.Common.{◌≡◌, map, ap, ◌∙◌}
 use Rattle.jvm_model.specs.RowViews.{kind_view}
 use Rattle.node_operations.specs.UnitLists.{parameter_units}
 use Rattle.node_operations.proofs.UnitsMade.{units_are}
