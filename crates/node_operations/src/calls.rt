@@ -54,13 +54,15 @@ pub(crate) fn call(alloc: Global, at: Placement<'_>) -> Result<Op, AllocError>
 
 /// How the target of a call is chosen.
 fn call_kind(action: Action) -> CallKind
+    requires { is_call (action_view action) ≡ true }
     ensures { result ≡ call_kind (action_view action) }
 {
     match action {
+        Action::InvokeVirtual => CallKind::Virtual,
         Action::InvokeSpecial => CallKind::Special,
         Action::InvokeStatic => CallKind::Static,
         Action::InvokeInterface => CallKind::Interface,
-        _ => CallKind::Virtual,
+        _ => unreachable!(),
     }
 }
 
