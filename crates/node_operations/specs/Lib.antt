@@ -1,1 +1,5 @@
+pub mod ByAction
+pub mod Constants
+pub mod MoveLists
 pub mod Placements
+pub mod UnitLists

@@ -2,8 +2,15 @@
 //! constant pool says of the units. The layer that lowers methods gives instructions of which nothing is wrong.
 #![tactic(auto)]
 
+mod access;
+mod arrays;
+mod calls;
+mod constants;
+mod moves;
 pub mod operation;
 pub mod placement;
+mod sites;
+mod table;
+mod units;
 
-pub use operation::operation;
 pub use placement::Placement;

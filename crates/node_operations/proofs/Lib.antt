@@ -1,0 +1,9 @@
+mod ArrayOperations
+mod CallOperations
+mod ConstantOperations
+mod FieldOperations
+mod Lifting
+mod MovesMade
+mod Named
+mod RowFacts
+mod UnitsMade

@@ -1,0 +1,16 @@
+use Rattle.std.proofs.Common.{◌+◌, ◌-◌, Bool, cond, sym, ap}
+use Rattle.op_model.specs.declared.op.Op.TheVariants.{Store, Probe}
+use Rattle.node_operations.proofs.FieldOperations.{puts_field}
+use Rattle.node_operations.proofs.access.put_field.Goals as goal
+
+pub returns-then-access : goal.returns-then-access
+returns-then-access c =
+    let a = c.accessed_field-access.result in
+    let base = c.args.at.top - 1 - a.units in
+    puts_field c.args.at a _ c.requires.action c.accessed_field-access.ensures.field (sym (ap (λ (b : Bool). cond b (Store base a.field (base + 1)) (Probe base)) c.if-access.true))
+
+pub returns : goal.returns
+returns c =
+    let a = c.accessed_field-access.result in
+    let base = c.args.at.top - 1 - a.units in
+    puts_field c.args.at a _ c.requires.action c.accessed_field-access.ensures.field (sym (ap (λ (b : Bool). cond b (Store base a.field (base + 1)) (Probe base)) c.if-access.false))
