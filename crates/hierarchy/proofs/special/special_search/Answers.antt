@@ -8,7 +8,7 @@ use Rattle.hierarchy.specs.Searches.{Finds, SelectsInstance}
 use Rattle.hierarchy.proofs.Resolving.{instance_within, special_from, special_instance}
 use Rattle.hierarchy.proofs.special.special_search.Goals as goal
 
-finds_special : (p : Program) (current named : List ℕ) (s t : Signature) (start : List ℕ) (r : Option MethodNo) → s ≡ t
+finds_special : (p : Program) (current named : List ℕ) (s t : Signature) (start : List ℕ) (r : Option MethodNo) → t ≡ s
     → StartsSearch p current (record { class = named; signature = s }) start → Finds (SelectsInstance p start s) r
     → Finds (SelectsSpecial p current (record { class = named; signature = t })) r
 finds_special p current named s t start (Some m) same starts selects = special_from p current named s t start m.0 same starts selects
