@@ -1,9 +1,5 @@
 //! The judgement of an instruction.
 
-ghost use Rattle.std.specs.Prelude.{IfOk, IfErr, Some, None};
-ghost use Rattle.linked_program.specs.Numbers.{IsClassNumber, IsFieldNumber, IsMethodNumber};
-ghost use Rattle.instruction_reasons.specs.Reasons.{IsFirstReason};
-ghost use Rattle.instruction_reasons.specs.Judgements.{judged, IsNamedMember};
 
 use jvm_model::opcode::{Action, Operands};
 use jvm_model::{ClassNo, FieldNo, MethodNo, PoolEntry, Reason};
@@ -32,16 +28,4 @@ pub enum NamedMember {
         resolved: MethodNo,
         target: Option<MethodNo>,
     },
-}
-
-/// The member that an instruction names, if it names one, where nothing is wrong with it; or the first reason in this order:
-/// `InvokeDynamic`, `MethodConstant`, `Reflection`, `Threads`, `NoStub`, `MissingField`, `MissingMethod`, `KindMismatch`,
-/// `NoImplementation`, `Finalizer`. It takes no memory.
-pub fn judge(instruction: JudgedInstruction<'_>) -> Result<NamedMember, Reason>
-    requires { IsClassNumber instruction.program.now instruction.current.0 }
-    ensures refused { IfErr result (λ reason. IsFirstReason (judged instruction) (Some reason)) }
-    ensures free { IfOk result (λ _. IsFirstReason (judged instruction) None) }
-    ensures member { IfOk result (IsNamedMember (judged instruction)) }
-{
-    todo!()
 }

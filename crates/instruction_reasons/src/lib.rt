@@ -4,5 +4,11 @@
 #![tactic(auto)]
 
 pub mod judgement;
+mod absent;
+mod finalizers;
+mod followed;
+mod members;
+mod names;
+mod texts;
 
-pub use judgement::{JudgedInstruction, NamedMember, judge};
+pub use judgement::{JudgedInstruction, NamedMember};

@@ -1,0 +1,3 @@
+pub mod Only
+pub mod Unfollowed
+pub mod Supertypes

@@ -1,0 +1,111 @@
+-- Only the proofs of this crate rest on this module.
+-- What look-ups answer, and the parts of the reasons that the functions of this crate test one by one.
+use Rattle.std.specs.Prelude.{codes, ◌≡◌, ◌≢◌, ◌⊎◌, ℕ, Bool, true, false, List, ◌++◌, replicate, Option, Some, None, Result, Ok, Err, slice_get, Contains, IsTrue}
+use Rattle.jvm_model.specs.declared.pool.PoolEntry.{PoolEntry}
+use Rattle.jvm_model.specs.declared.pool.PoolEntry.TheVariants.{Utf8, Integer, Float, Long, Double, Class, Str, Fieldref, Methodref, InterfaceMethodref, NameAndType, MethodHandle, MethodType, InvokeDynamic, Taken}
+use Rattle.jvm_model.specs.declared.reason.Reason.{Reason}
+use Rattle.jvm_model.specs.declared.reason.Reason.TheVariants as reasons
+use Rattle.jvm_model.specs.Lookups.{MemberReference, entry_at}
+use Rattle.jvm_model.specs.Programs.{Class as ProgramClass, Method, Program, is_private, is_static}
+use Rattle.jvm_model.specs.Resolution.{Declares}
+use Rattle.jvm_model.specs.Soundness.{is_array}
+use Rattle.jvm_model.specs.Subtypes.{class_named, IsChain}
+use Rattle.jvm_model.specs.Table.{Action, load_constant, invoke_special, invoke_interface}
+use Rattle.instruction_reasons.specs.Reasons.{Judged, Calls, Accesses, Names, IsUnder, IsFinalizer, IsOfThreads, IsNotThere, waiting_methods, LooksUpMethod, wants_static}
+
+-- The value, if there is one, is the only one of which the fact holds; there is none only where it holds of none.
+pub record IsOnly {X : Type 0} (P : X → Type 0) (found : Option X) : Type 0 where
+  pub holds : (x : X) → found ≡ Some x → P x
+  pub only : (x : X) → P x → found ≡ Some x
+
+-- There is something of which both facts hold.
+pub record Some-such {X : Type 0} (P Q : X → Type 0) : Type 0 where
+  pub one : X
+  pub first : P one
+  pub second : Q one
+
+-- ---- entries
+
+-- A method handle or a method type.
+abbrev pub is_method_constant : PoolEntry → Bool
+is_method_constant (Utf8 bytes) = false
+is_method_constant (Integer bits) = false
+is_method_constant (Float bits) = false
+is_method_constant (Long bits) = false
+is_method_constant (Double bits) = false
+is_method_constant (Class name) = false
+is_method_constant (Str text) = false
+is_method_constant (Fieldref class member) = false
+is_method_constant (Methodref class member) = false
+is_method_constant (InterfaceMethodref class member) = false
+is_method_constant (NameAndType name descriptor) = false
+is_method_constant (MethodHandle kind member) = true
+is_method_constant (MethodType descriptor) = true
+is_method_constant (InvokeDynamic bootstrap member) = false
+is_method_constant Taken = false
+
+-- Whether a reference to a method takes its class for an interface.
+abbrev pub reference_kind : PoolEntry → Option Bool
+reference_kind (Methodref class member) = Some false
+reference_kind (InterfaceMethodref class member) = Some true
+reference_kind _ = None
+
+-- ---- what the analysis does not follow
+
+-- A method handle or a method type is loaded.
+abbrev pub LoadsMethodConstant : Judged → Type 0
+LoadsMethodConstant j =
+    (j.action ≡ load_constant) × ((entry : PoolEntry) × (entry_at j.pool j.operand ≡ Some entry) × IsTrue (is_method_constant entry))
+
+-- A method of java/lang/Class, but for two.
+pub record IsReflectiveMember (m : MemberReference) : Type 0 where
+  pub of_class : m.class ≡ codes "java/lang/Class"
+  pub no_status : m.signature.name ≢ codes "desiredAssertionStatus"
+  pub no_name : m.signature.name ≢ codes "getName"
+
+-- ---- members of another kind
+
+-- The resolved method is not of the kind that the instruction asks for.
+pub data IsOtherKind (action : Action) (m : Method) : Type 0 where
+  other_static : is_static m ≢ wants_static action → IsOtherKind action m
+  private_call : action ≡ invoke_interface → IsTrue (is_private m) → IsOtherKind action m
+
+-- The method that the reference resolves to is of another kind; or the reference is.
+pub data CallsOtherKind (j : Judged) : Type 0 where
+  other_reference : LooksUpMethod j (Err reasons.KindMismatch) → CallsOtherKind j
+  other_method : (number : ℕ) (m : Method) → LooksUpMethod j (Ok number) → slice_get j.program.methods number ≡ Some m → IsOtherKind j.action m → CallsOtherKind j
+
+-- A method is called that no instruction of this action may call.
+pub data IsInternal (action : Action) (name : List ℕ) : Type 0 where
+  constructor_elsewhere : action ≢ invoke_special → name ≡ codes "<init>" → IsInternal action name
+  initialiser : name ≡ codes "<clinit>" → IsInternal action name
+
+-- ---- arrays
+
+-- The text is what stands behind this many [, and does not begin with another one.
+pub record IsBehindBrackets (name rest : List ℕ) : Type 0 where
+  pub dimensions : ℕ
+  pub is : name ≡ replicate dimensions 91 ++ rest
+  pub no_array : is_array rest ≡ false
+
+-- The text is the descriptor of a class (JVMS 4.3.2).
+abbrev pub IsClassDescriptor : List ℕ → List ℕ → Type 0
+IsClassDescriptor text class = text ≡ codes "L" ++ class ++ codes ";"
+
+-- ---- finalizers
+
+-- The class declares a finalizer.
+abbrev pub DeclaresFinalizer : Program → List ℕ → Type 0
+DeclaresFinalizer p class = (number : ℕ) × Declares p IsFinalizer class number
+
+-- The class is one of the folder, and declares a finalizer.
+abbrev pub IsFolderFinalizer : Program → ProgramClass → Type 0
+IsFolderFinalizer p c = IsTrue c.is_folder × DeclaresFinalizer p c.name
+
+-- A class of the folder from that of a name upward declares one.
+pub record HasFolderFinalizer (p : Program) (start : List ℕ) : Type 0 where
+  pub chain : List ProgramClass
+  pub of_start : IsChain p (Some start) chain
+  pub owner : ProgramClass
+  pub above : Contains chain owner
+  pub finalizes : IsFolderFinalizer p owner
