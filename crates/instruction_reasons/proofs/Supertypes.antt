@@ -1,7 +1,9 @@
 -- Subtypes of classes that are in the program, or are not.
 use Rattle.std.proofs.Common.{◌≡◌, ◌≢◌, ◌⊎◌, inl, inr, ℕ, List, Some, None, Option, refl, sym, ◌∙◌, subst}
-use Rattle.std.specs.Prelude.{Contains}
+use Rattle.std.specs.Prelude.{◌↔◌, Contains, IsTrue, IfSome, IfNone, is_none, slice_get}
+use Rattle.std.proofs.lemmas.Bool.{false≢true}
 use Rattle.std.proofs.lemmas.Option.{none-some}
+use Rattle.jvm_model.specs.declared.number.ClassNo.{ClassNo}
 use Rattle.jvm_model.specs.LinkedPrograms.{IsProgram}
 use Rattle.jvm_model.specs.Programs.{Class, Program}
 use Rattle.jvm_model.specs.Subtypes.{class_named, IsDirectSuper, IsSubtype, same, below}
@@ -46,3 +48,17 @@ above_there p program above name c named (same n e) = (c, subst (λ (x : List �
 above_there p program above name c named (below n e super named2 direct rest) =
     let up = super_there p program name super e named2 direct in
     above_there p program above super up.0 up.1 rest
+
+-- the class of a name, at its number
+pub class_by : (p : Program) → IsProgram p → (name : List ℕ) (n : ℕ) → IsClassNumber p n → name_at p n ≡ name
+    → (c : Class) × (slice_get p.classes n ≡ Some c) × (class_named p name ≡ Some c)
+class_by p program name n within is =
+    let there = class_of_number p program n within in
+    (there.0, there.1.stands, subst (λ (x : List ℕ). class_named p x ≡ Some there.0) is there.1.named)
+
+-- the test whether a class was found
+pub missing_test : (p : Program) → IsProgram p → (name : List ℕ) (o : Option ClassNo) → IfSome o (λ c. IsClassNumber p c.0 × (name_at p c.0 ≡ name)) → IfNone o (IsNowhere p name)
+    → IsTrue (is_none o) ↔ (class_named p name ≡ None)
+missing_test p program name None found nowhere = (λ _. not_named p name nowhere, λ _. refl)
+missing_test p program name (Some c) found nowhere =
+    (λ never. absurd (false≢true never), λ e. let there = named_by p program name c.0 found.0 found.1 in absurd (none-some there.0 (sym e ∙ there.1)))

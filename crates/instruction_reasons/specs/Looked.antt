@@ -5,9 +5,9 @@ use Rattle.jvm_model.specs.declared.pool.PoolEntry.{PoolEntry}
 use Rattle.jvm_model.specs.declared.pool.PoolEntry.TheVariants.{Utf8, Integer, Float, Long, Double, Class, Str, Fieldref, Methodref, InterfaceMethodref, NameAndType, MethodHandle, MethodType, InvokeDynamic, Taken}
 use Rattle.jvm_model.specs.declared.reason.Reason.{Reason}
 use Rattle.jvm_model.specs.declared.reason.Reason.TheVariants as reasons
-use Rattle.jvm_model.specs.Lookups.{MemberReference, entry_at}
-use Rattle.jvm_model.specs.Programs.{Class as ProgramClass, Method, Program, is_private, is_static}
-use Rattle.jvm_model.specs.Resolution.{Declares}
+use Rattle.jvm_model.specs.Lookups.{MemberReference, Signature, entry_at}
+use Rattle.jvm_model.specs.Programs.{Body, in_file, described, Class as ProgramClass, Method, Program, is_private, is_static}
+use Rattle.jvm_model.specs.Resolution.{Declares, HasSignature}
 use Rattle.jvm_model.specs.Soundness.{is_array}
 use Rattle.jvm_model.specs.Subtypes.{class_named, IsChain}
 use Rattle.jvm_model.specs.Table.{Action, load_constant, invoke_special, invoke_interface}
@@ -63,6 +63,12 @@ pub record IsReflectiveMember (m : MemberReference) : Type 0 where
   pub no_status : m.signature.name ≢ codes "desiredAssertionStatus"
   pub no_name : m.signature.name ≢ codes "getName"
 
+-- ---- what stands for a method
+
+abbrev pub is_in_file : Body → Bool
+is_in_file (in_file file number member) = true
+is_in_file (described description) = false
+
 -- ---- members of another kind
 
 -- The resolved method is not of the kind that the instruction asks for.
@@ -93,6 +99,10 @@ abbrev pub IsClassDescriptor : List ℕ → List ℕ → Type 0
 IsClassDescriptor text class = text ≡ codes "L" ++ class ++ codes ";"
 
 -- ---- finalizers
+
+-- The class declares the method of the name and descriptor.
+abbrev pub DeclaresOne : Program → Signature → List ℕ → Type 0
+DeclaresOne p s class = (number : ℕ) × Declares p (HasSignature s) class number
 
 -- The class declares a finalizer.
 abbrev pub DeclaresFinalizer : Program → List ℕ → Type 0

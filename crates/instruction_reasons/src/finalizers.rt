@@ -1,11 +1,12 @@
 //! Methods that the library calls by itself: finalizers, and what the constructor of an exception calls.
 
-ghost use Rattle.std.specs.Prelude.{◌≡◌, ◌↔◌, IsTrue};
+ghost use Rattle.std.specs.Prelude.{◌≡◌, ◌↔◌, Some, slice_get, IsTrue};
+ghost use Rattle.jvm_model.specs.Programs.{Class};
 ghost use Rattle.jvm_model.specs.RowViews.{action_view};
 ghost use Rattle.jvm_model.specs.Table.{make_object};
 ghost use Rattle.linked_program.specs.Numbers.{name_at, IsClassNumber};
 ghost use Rattle.instruction_reasons.specs.Judgements.{judged};
-ghost use Rattle.instruction_reasons.specs.Looked.{DeclaresFinalizer, HasFolderFinalizer, Some-such};
+ghost use Rattle.instruction_reasons.specs.Looked.{DeclaresFinalizer, DeclaresOne, HasFolderFinalizer, IsFolderFinalizer, Some-such};
 ghost use Rattle.instruction_reasons.specs.Reasons.{HasFinalizer, MakesFinalized, Names};
 
 use crate::judgement::JudgedInstruction;
@@ -15,23 +16,37 @@ use jvm_model::opcode::Action;
 use jvm_model::{ClassNo, Signature};
 use linked_program::program::Program;
 
+/// Whether a class declares the method of a name and a descriptor.
+fn declares(program: &Program, class: ClassNo, name: &[u8], descriptor: &[u8]) -> bool
+    requires { IsClassNumber program.now class.0 }
+    ensures { IsTrue result ↔ DeclaresOne program.now (record { name = name.now; descriptor = descriptor.now }) (name_at program.now class.0) }
+{
+    let signature = Signature { name, descriptor };
+    program.declared_method(class, signature).is_some()
+}
+
 /// Whether a class declares `finalize` of `()V`, or `fillInStackTrace` of `()Ljava/lang/Throwable;`.
 fn declares_finalizer(program: &Program, class: ClassNo) -> bool
     requires { IsClassNumber program.now class.0 }
     ensures { IsTrue result ↔ DeclaresFinalizer program.now (name_at program.now class.0) }
 {
-    let finalize = Signature {
-        name: b"finalize",
-        descriptor: b"()V",
-    };
-    if program.declared_method(class, finalize).is_some() {
+    if declares(program, class, b"finalize", b"()V") {
         return true;
     }
-    let fill = Signature {
-        name: b"fillInStackTrace",
-        descriptor: b"()Ljava/lang/Throwable;",
-    };
-    program.declared_method(class, fill).is_some()
+    declares(
+        program,
+        class,
+        b"fillInStackTrace",
+        b"()Ljava/lang/Throwable;",
+    )
+}
+
+/// Whether a class is one of the folder and declares such a method.
+fn is_folder_finalizer(program: &Program, class: ClassNo) -> bool
+    requires { IsClassNumber program.now class.0 }
+    ensures { (c : Class) → slice_get program.now.classes class.0 ≡ Some c → IsTrue result ↔ IsFolderFinalizer program.now c }
+{
+    program.is_folder(class) && declares_finalizer(program, class)
 }
 
 /// Whether a class of the folder, from a class upward through its superclasses, declares such a method.
@@ -42,7 +57,7 @@ fn has_folder_finalizer(program: &Program, class: ClassNo) -> bool
     program.well_formed();
     let mut current = class;
     'upward: for _passed in 0..program.class_count() {
-        if program.is_folder(current) && declares_finalizer(program, current) {
+        if is_folder_finalizer(program, current) {
             return true;
         }
         let Some(above) = program.super_class(current) else {

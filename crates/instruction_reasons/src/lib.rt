@@ -8,6 +8,8 @@ mod absent;
 mod finalizers;
 mod followed;
 mod members;
+mod methods;
+mod mismatch;
 mod names;
 mod texts;
 

@@ -1,0 +1,24 @@
+use Rattle.std.proofs.Common.{Bool, subst}
+use Rattle.jvm_model.specs.Lookups.{lent_reference, lent_signature}
+use Rattle.jvm_model.specs.Resolution.{FieldResolution}
+use Rattle.linked_program.specs.Numbers.{field_number}
+use Rattle.hierarchy.proofs.ClassPlaces.{class_of_number, name_at-at, named_at}
+use Rattle.instruction_reasons.specs.Judgements.{judged}
+use Rattle.instruction_reasons.proofs.Resolutions.{field_nowhere, field_looked}
+use Rattle.instruction_reasons.proofs.Supertypes.{class_by}
+use Rattle.instruction_reasons.proofs.members.field_outcome.Goals as goal
+
+pub returns-in_default-find_class : goal.returns-in_default-find_class
+returns-in_default-find_class c = field_nowhere (judged c.args.instruction) (lent_reference c.in-Some.field) c.in-Some.ensures c.in_default-find_class.ensures.none
+
+pub returns : goal.returns
+returns c =
+    let j = judged c.args.instruction in
+    let program = c.well_formed-2.ensures.program in
+    let field = lent_reference c.in-Some.field in
+    let number = c.in-Some-find_class.class.0 in
+    let found = c.in-Some-find_class.ensures.found in
+    let class = class_by j.program program field.class number found.0 found.1 in
+    let is = c.resolve_field.ensures.resolution class.0 class.1 in
+    field_looked j field class.0 (field_number c.resolve_field.result) program c.in-Some.ensures class.2
+    (subst (λ (b : Bool). FieldResolution j.program class.0 field.signature b (field_number c.resolve_field.result)) c.wants_static-is_static.ensures is)
