@@ -4,3 +4,6 @@ pub mod Supertypes
 pub mod Resolutions
 pub mod Finalizing
 pub mod ArrayElements
+pub mod OtherKinds
+pub mod Bodies
+pub mod Dispatch

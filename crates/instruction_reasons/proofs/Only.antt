@@ -58,3 +58,24 @@ either_else {A = A} {B = B} a b e failed test other = (λ yes. e.right (other.0 
     by : A ⊎ B → IsTrue b
     by (inl x) = absurd (false≢true (sym failed ∙ test.1 x))
     by (inr y) = other.1 y
+
+pub sum_either : (A B : Type 0) → IsEither A B (A ⊎ B)
+sum_either A B = record { left = λ a. inl a; right = λ b. inr b; cases = λ h. h }
+
+-- ---- more of what is the only one
+
+-- a test of the answer is a test of the fact
+pub only_test : {X : Type 0} (P : X → Type 0) (x : X) (o : Option X) (b : Bool) → IsOnly P o → (IsTrue b ↔ (o ≡ Some x)) → IsTrue b ↔ P x
+only_test P x o b only test = (λ passed. only.holds x (test.0 passed), λ h. test.1 (only.only x h))
+
+pub only_iff : {X : Type 0} (P Q : X → Type 0) (o : Option X) → ((x : X) → P x → Q x) → ((x : X) → Q x → P x) → IsOnly P o → IsOnly Q o
+only_iff P Q o to back only = record { holds = λ x e. to x (only.holds x e); only = λ x h. only.only x (back x h) }
+
+pub only_by : {X : Type 0} (P : X → Type 0) (o q : Option X) → o ≡ q → IsOnly P o → IsOnly P q
+only_by P o q e only = subst (λ v. IsOnly P v) e only
+
+pub proved : {P : Type 0} → P → IsTrue true ↔ P
+proved h = (λ _. h, λ _. refl)
+
+pub refuted : {P : Type 0} → (P → ⊥) → IsTrue false ↔ P
+refuted none = (λ never. absurd (false≢true never), λ h. absurd (none h))

@@ -1,7 +1,7 @@
 -- Subtypes of classes that are in the program, or are not.
-use Rattle.std.proofs.Common.{◌≡◌, ◌≢◌, ◌⊎◌, inl, inr, ℕ, List, Some, None, Option, refl, sym, ◌∙◌, subst}
-use Rattle.std.specs.Prelude.{◌↔◌, Contains, IsTrue, IfSome, IfNone, is_none, slice_get}
-use Rattle.std.proofs.lemmas.Bool.{false≢true}
+use Rattle.std.proofs.Common.{◌≡◌, ◌≢◌, ◌⊎◌, inl, inr, ℕ, Bool, not, List, Some, None, Option, refl, sym, ◌∙◌, subst}
+use Rattle.std.specs.Prelude.{◌↔◌, Contains, IsTrue, IfSome, IfNone, is_some, slice_get}
+use Rattle.std.proofs.lemmas.Bool.{both_ways, not-true, not-false}
 use Rattle.std.proofs.lemmas.Option.{none-some}
 use Rattle.jvm_model.specs.declared.number.ClassNo.{ClassNo}
 use Rattle.jvm_model.specs.LinkedPrograms.{IsProgram}
@@ -56,9 +56,11 @@ class_by p program name n within is =
     let there = class_of_number p program n within in
     (there.0, there.1.stands, subst (λ (x : List ℕ). class_named p x ≡ Some there.0) is there.1.named)
 
--- the test whether a class was found
-pub missing_test : (p : Program) → IsProgram p → (name : List ℕ) (o : Option ClassNo) → IfSome o (λ c. IsClassNumber p c.0 × (name_at p c.0 ≡ name)) → IfNone o (IsNowhere p name)
-    → IsTrue (is_none o) ↔ (class_named p name ≡ None)
-missing_test p program name None found nowhere = (λ _. not_named p name nowhere, λ _. refl)
-missing_test p program name (Some c) found nowhere =
-    (λ never. absurd (false≢true never), λ e. let there = named_by p program name c.0 found.0 found.1 in absurd (none-some there.0 (sym e ∙ there.1)))
+-- the test whether no class was found
+pub missing_test : (p : Program) → IsProgram p → (name : List ℕ) (o : Option ClassNo) (b : Bool) → is_some o ≡ not b → IfSome o (λ c. IsClassNumber p c.0 × (name_at p c.0 ≡ name))
+    → IfNone o (IsNowhere p name) → IsTrue b ↔ (class_named p name ≡ None)
+missing_test p program name None b tells found nowhere = (λ _. not_named p name nowhere, λ _. not-false b (sym tells))
+missing_test p program name (Some c) b tells found nowhere = (
+  λ passed. absurd (both_ways b (not-true b (sym tells)) passed),
+  λ e. let there = named_by p program name c.0 found.0 found.1 in absurd (none-some there.0 (sym e ∙ there.1)),
+)

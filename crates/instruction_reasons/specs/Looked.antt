@@ -1,6 +1,7 @@
 -- Only the proofs of this crate rest on this module.
 -- What look-ups answer, and the parts of the reasons that the functions of this crate test one by one.
-use Rattle.std.specs.Prelude.{codes, ◌≡◌, ◌≢◌, ◌⊎◌, ℕ, Bool, true, false, List, ◌++◌, replicate, Option, Some, None, Result, Ok, Err, slice_get, Contains, IsTrue}
+use Rattle.std.specs.Prelude.{codes, ◌≡◌, ◌≢◌, ◌⊎◌, ℕ, Bool, true, false, List, ◌++◌, replicate, Option, Some, None, Result, Ok, Err, slice_get, option_map, ◌↔◌, Contains, IsTrue}
+use Rattle.jvm_model.specs.declared.number.MethodNo.{MethodNo}
 use Rattle.jvm_model.specs.declared.pool.PoolEntry.{PoolEntry}
 use Rattle.jvm_model.specs.declared.pool.PoolEntry.TheVariants.{Utf8, Integer, Float, Long, Double, Class, Str, Fieldref, Methodref, InterfaceMethodref, NameAndType, MethodHandle, MethodType, InvokeDynamic, Taken}
 use Rattle.jvm_model.specs.declared.reason.Reason.{Reason}
@@ -8,10 +9,13 @@ use Rattle.jvm_model.specs.declared.reason.Reason.TheVariants as reasons
 use Rattle.jvm_model.specs.Lookups.{MemberReference, Signature, entry_at}
 use Rattle.jvm_model.specs.Programs.{Body, in_file, described, Class as ProgramClass, Method, Program, is_private, is_static}
 use Rattle.jvm_model.specs.Resolution.{Declares, HasSignature}
+use Rattle.jvm_model.specs.Selection.{SelectsSpecial}
 use Rattle.jvm_model.specs.Soundness.{is_array}
 use Rattle.jvm_model.specs.Subtypes.{class_named, IsChain}
 use Rattle.jvm_model.specs.Table.{Action, load_constant, invoke_special, invoke_interface}
-use Rattle.instruction_reasons.specs.Reasons.{Judged, Calls, Accesses, Names, IsUnder, IsFinalizer, IsOfThreads, IsNotThere, waiting_methods, LooksUpMethod, wants_static}
+use Rattle.instruction_reasons.specs.Reasons.{Judged, Calls, Accesses, Names, IsUnder, IsFinalizer, IsOfThreads, IsNotThere, waiting_methods, LooksUpField, LooksUpMethod, IsMismatched, HasTarget, IsUndescribed, wants_static}
+use Rattle.instruction_reasons.specs.declared.lookups.Lookups.{Lookups}
+use Rattle.linked_program.specs.Numbers.{field_number, method_number}
 
 -- The value, if there is one, is the only one of which the fact holds; there is none only where it holds of none.
 pub record IsOnly {X : Type 0} (P : X → Type 0) (found : Option X) : Type 0 where
@@ -85,6 +89,34 @@ pub data CallsOtherKind (j : Judged) : Type 0 where
 pub data IsInternal (action : Action) (name : List ℕ) : Type 0 where
   constructor_elsewhere : action ≢ invoke_special → name ≡ codes "<init>" → IsInternal action name
   initialiser : name ≡ codes "<clinit>" → IsInternal action name
+
+-- ---- targets
+
+-- The search of a special call finds the method.
+pub record SelectsCalled (j : Judged) (target : ℕ) : Type 0 where
+  pub number : ℕ
+  pub looked : LooksUpMethod j (Ok number)
+  pub selects : SelectsSpecial j.program j.current looked.method target
+
+-- A special call of the right kind, whose reference resolves to a method.
+pub record WantsTarget (j : Judged) : Type 0 where
+  pub special : j.action ≡ invoke_special
+  pub number : ℕ
+  pub looked : LooksUpMethod j (Ok number)
+  pub matched : IsMismatched j → ⊥
+
+-- The instruction goes to a native method that no stub describes.
+abbrev pub GoesUndescribed : Judged → Type 0
+GoesUndescribed j = Some-such (HasTarget j) (IsUndescribed j.program)
+
+-- ---- what is looked up once
+
+-- What the references of the instruction give, whether its member is of another kind, and its target.
+pub record AreLookups (j : Judged) (l : Lookups) : Type 0 where
+  pub field : IsOnly (LooksUpField j) (option_map field_number l.field)
+  pub method : IsOnly (LooksUpMethod j) (option_map method_number l.method)
+  pub mismatched : IsTrue l.mismatched ↔ IsMismatched j
+  pub target : IsOnly (HasTarget j) (option_map (λ (m : MethodNo). m.0) l.target)
 
 -- ---- arrays
 

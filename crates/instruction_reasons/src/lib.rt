@@ -7,10 +7,12 @@ pub mod judgement;
 mod absent;
 mod finalizers;
 mod followed;
+mod lookups;
 mod members;
 mod methods;
 mod mismatch;
 mod names;
+mod targets;
 mod texts;
 
 pub use judgement::{JudgedInstruction, NamedMember};

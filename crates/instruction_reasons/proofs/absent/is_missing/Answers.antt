@@ -3,4 +3,5 @@ use Rattle.instruction_reasons.proofs.absent.is_missing.Goals as goal
 
 pub returns : goal.returns
 returns c =
-    rw c.is_none.ensures (missing_test c.args.program.now c.well_formed-2.ensures.program c.args.name.now c.find_class.result c.find_class.ensures.found c.find_class.ensures.none)
+    missing_test c.args.program.now c.well_formed-2.ensures.program c.args.name.now c.find_class.result c.is_none.result c.is_none.ensures c.find_class.ensures.found
+    c.find_class.ensures.none
