@@ -7,3 +7,4 @@ pub mod ArrayElements
 pub mod OtherKinds
 pub mod Bodies
 pub mod Dispatch
+pub mod Undescribed

@@ -79,3 +79,10 @@ proved h = (λ _. h, λ _. refl)
 
 pub refuted : {P : Type 0} → (P → ⊥) → IsTrue false ↔ P
 refuted none = (λ never. absurd (false≢true never), λ h. absurd (none h))
+
+pub same_test : (a b : Bool) → a ≡ b → IsTrue a ↔ IsTrue b
+same_test a b e = (λ h. sym e ∙ h, λ h. e ∙ h)
+
+-- a test that failed
+pub failed : {P : Type 0} (b : Bool) → (IsTrue b ↔ P) → b ≡ false → P → ⊥
+failed b test e h = false≢true (sym e ∙ test.1 h)

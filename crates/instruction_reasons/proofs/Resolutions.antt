@@ -11,7 +11,7 @@ use Rattle.jvm_model.specs.Programs.{Class as ProgramClass, Program}
 use Rattle.jvm_model.specs.Resolution.{FieldResolution, MethodResolution}
 use Rattle.jvm_model.specs.Subtypes.{class_named}
 use Rattle.program_laws.proofs.Outcomes.{one_field_outcome, one_method_outcome}
-use Rattle.instruction_reasons.specs.Looked.{IsOnly, reference_kind}
+use Rattle.instruction_reasons.specs.Looked.{AccessesNone, CallsNone, IsOnly, reference_kind}
 use Rattle.instruction_reasons.specs.Reasons.{Judged, Accesses, Calls, IsByInterface, of_class, of_interface, LooksUpField, LooksUpMethod, wants_static}
 use Rattle.instruction_reasons.proofs.Only.{only_none, only_one, only_same}
 use Rattle.instruction_reasons.proofs.Supertypes.{IsNowhere, somewhere}
@@ -92,3 +92,13 @@ method_looked j m c b outcome program only named kind is =
     (subst (λ (d : ProgramClass). MethodResolution j.program d l.by_interface m.signature other) class
     (subst (λ (x : MemberReference). MethodResolution j.program l.class l.by_interface x.signature other) e l.is)) in
     one_method_outcome j.program c b m.signature outcome other program is here)
+
+-- ---- names of no class
+
+pub field_unnamed : (j : Judged) (f : MemberReference) → IsOnly (Accesses j) (Some f) → IsNowhere j.program f.class → AccessesNone j
+field_unnamed j f only nowhere m c accesses named =
+    somewhere j.program m.class c named (subst (λ (x : MemberReference). IsNowhere j.program x.class) (only_same (Accesses j) f m only accesses) nowhere)
+
+pub method_unnamed : (j : Judged) (f : MemberReference) → IsOnly (Calls j) (Some f) → IsNowhere j.program f.class → CallsNone j
+method_unnamed j f only nowhere m b c calls kind named =
+    somewhere j.program m.class c named (subst (λ (x : MemberReference). IsNowhere j.program x.class) (only_same (Calls j) f m only calls) nowhere)

@@ -1,6 +1,6 @@
 -- Only the proofs of this crate rest on this module.
 -- What look-ups answer, and the parts of the reasons that the functions of this crate test one by one.
-use Rattle.std.specs.Prelude.{codes, ◌≡◌, ◌≢◌, ◌⊎◌, ℕ, Bool, true, false, List, ◌++◌, replicate, Option, Some, None, Result, Ok, Err, slice_get, option_map, ◌↔◌, Contains, IsTrue}
+use Rattle.std.specs.Prelude.{codes, ◌≡◌, ◌≢◌, ◌⊎◌, ℕ, Bool, true, false, List, [], ◌∷◌, ◌++◌, replicate, Option, Some, None, Result, Ok, Err, slice_get, option_map, IfNone, ◌↔◌, Contains, IsTrue}
 use Rattle.jvm_model.specs.declared.number.MethodNo.{MethodNo}
 use Rattle.jvm_model.specs.declared.pool.PoolEntry.{PoolEntry}
 use Rattle.jvm_model.specs.declared.pool.PoolEntry.TheVariants.{Utf8, Integer, Float, Long, Double, Class, Str, Fieldref, Methodref, InterfaceMethodref, NameAndType, MethodHandle, MethodType, InvokeDynamic, Taken}
@@ -13,7 +13,7 @@ use Rattle.jvm_model.specs.Selection.{SelectsSpecial}
 use Rattle.jvm_model.specs.Soundness.{is_array}
 use Rattle.jvm_model.specs.Subtypes.{class_named, IsChain}
 use Rattle.jvm_model.specs.Table.{Action, load_constant, invoke_special, invoke_interface}
-use Rattle.instruction_reasons.specs.Reasons.{Judged, Calls, Accesses, Names, IsUnder, IsFinalizer, IsOfThreads, IsNotThere, waiting_methods, LooksUpField, LooksUpMethod, IsMismatched, HasTarget, IsUndescribed, wants_static}
+use Rattle.instruction_reasons.specs.Reasons.{Judged, Calls, Accesses, IsByInterface, Names, IsUnder, IsFinalizer, IsOfThreads, IsNotThere, waiting_methods, LooksUpField, LooksUpMethod, IsMismatched, HasTarget, IsUndescribed, wants_static}
 use Rattle.instruction_reasons.specs.declared.lookups.Lookups.{Lookups}
 use Rattle.linked_program.specs.Numbers.{field_number, method_number}
 
@@ -111,8 +111,18 @@ GoesUndescribed j = Some-such (HasTarget j) (IsUndescribed j.program)
 
 -- ---- what is looked up once
 
+-- No field is looked up in a class of the program; no method is.
+abbrev pub AccessesNone : Judged → Type 0
+AccessesNone j = (m : MemberReference) (c : ProgramClass) → Accesses j m → class_named j.program m.class ≡ Some c → ⊥
+
+abbrev pub CallsNone : Judged → Type 0
+CallsNone j = (m : MemberReference) (by_interface : Bool) (c : ProgramClass) → Calls j m → IsByInterface j.pool j.operand by_interface
+    → class_named j.program m.class ≡ Some c → ⊥
+
 -- What the references of the instruction give, whether its member is of another kind, and its target.
 pub record AreLookups (j : Judged) (l : Lookups) : Type 0 where
+  pub no_field : IfNone l.field (AccessesNone j)
+  pub no_method : IfNone l.method (CallsNone j)
   pub field : IsOnly (LooksUpField j) (option_map field_number l.field)
   pub method : IsOnly (LooksUpMethod j) (option_map method_number l.method)
   pub mismatched : IsTrue l.mismatched ↔ IsMismatched j
@@ -151,3 +161,12 @@ pub record HasFolderFinalizer (p : Program) (start : List ℕ) : Type 0 where
   pub owner : ProgramClass
   pub above : Contains chain owner
   pub finalizes : IsFolderFinalizer p owner
+
+-- ---- the first reason
+
+-- The reasons that are asked before anything is looked up, and those after them, in the order of all.
+abbrev pub unfollowed_reasons : List Reason
+unfollowed_reasons = reasons.InvokeDynamic ∷ reasons.MethodConstant ∷ reasons.Reflection ∷ reasons.Threads ∷ []
+
+abbrev pub member_reasons : List Reason
+member_reasons = reasons.NoStub ∷ reasons.MissingField ∷ reasons.MissingMethod ∷ reasons.KindMismatch ∷ reasons.NoImplementation ∷ reasons.Finalizer ∷ []

@@ -12,6 +12,7 @@ mod members;
 mod methods;
 mod mismatch;
 mod names;
+mod stubs;
 mod targets;
 mod texts;
 

@@ -1,10 +1,10 @@
 //! What the references of an instruction resolve to: the field that it reads or writes, and the method that it calls.
 
-ghost use Rattle.std.specs.Prelude.{◌≡◌, option_and_then, option_map};
+ghost use Rattle.std.specs.Prelude.{◌≡◌, option_and_then, option_map, IfNone};
 ghost use Rattle.jvm_model.specs.Lookups.{entry_at};
 ghost use Rattle.linked_program.specs.Numbers.{field_number, method_number};
 ghost use Rattle.instruction_reasons.specs.Judgements.{judged};
-ghost use Rattle.instruction_reasons.specs.Looked.{IsOnly, reference_kind};
+ghost use Rattle.instruction_reasons.specs.Looked.{AccessesNone, CallsNone, IsOnly, reference_kind};
 ghost use Rattle.instruction_reasons.specs.Reasons.{LooksUpField, LooksUpMethod};
 
 use crate::judgement::JudgedInstruction;
@@ -18,7 +18,8 @@ use jvm_model::{FieldNo, MethodNo, PoolEntry, Reason};
 /// What the reference to a field gives that the instruction reads or writes (JVMS 5.4.3.2): the field, or why none; `None` where no
 /// field is looked up in a class of the program.
 pub(crate) fn field_outcome(instruction: JudgedInstruction<'_>) -> Option<Result<FieldNo, Reason>>
-    ensures { IsOnly (LooksUpField (judged instruction.entry)) (option_map field_number result) }
+    ensures outcome { IsOnly (LooksUpField (judged instruction.entry)) (option_map field_number result) }
+    ensures none { IfNone result (AccessesNone (judged instruction.entry)) }
 {
     instruction.program.well_formed();
     let Some(field) = accessed(instruction) else {
@@ -52,7 +53,8 @@ fn takes_interface(pool: &[PoolEntry], index: u16) -> Option<bool>
 pub(crate) fn method_outcome(
     instruction: JudgedInstruction<'_>,
 ) -> Option<Result<MethodNo, Reason>>
-    ensures { IsOnly (LooksUpMethod (judged instruction.entry)) (option_map method_number result) }
+    ensures outcome { IsOnly (LooksUpMethod (judged instruction.entry)) (option_map method_number result) }
+    ensures none { IfNone result (CallsNone (judged instruction.entry)) }
 {
     instruction.program.well_formed();
     let Some(method) = called(instruction) else {

@@ -4,15 +4,17 @@ use Rattle.jvm_model.specs.Resolution.{FieldResolution}
 use Rattle.linked_program.specs.Numbers.{field_number}
 use Rattle.hierarchy.proofs.ClassPlaces.{class_of_number, name_at-at, named_at}
 use Rattle.instruction_reasons.specs.Judgements.{judged}
-use Rattle.instruction_reasons.proofs.Resolutions.{field_nowhere, field_looked}
+use Rattle.instruction_reasons.specs.Reasons.{Accesses}
+use Rattle.instruction_reasons.proofs.Only.{none_such}
+use Rattle.instruction_reasons.proofs.Resolutions.{field_nowhere, field_looked, field_unnamed}
 use Rattle.instruction_reasons.proofs.Supertypes.{class_by}
 use Rattle.instruction_reasons.proofs.members.field_outcome.Goals as goal
 
-pub returns-in_default-find_class : goal.returns-in_default-find_class
-returns-in_default-find_class c = field_nowhere (judged c.args.instruction) (lent_reference c.in-Some.field) c.in-Some.ensures c.in_default-find_class.ensures.none
+pub returns-in_default-find_class-clause-outcome : goal.returns-in_default-find_class-clause-outcome
+returns-in_default-find_class-clause-outcome c = field_nowhere (judged c.args.instruction) (lent_reference c.in-Some.field) c.in-Some.ensures c.in_default-find_class.ensures.none
 
-pub returns : goal.returns
-returns c =
+pub returns-clause-outcome : goal.returns-clause-outcome
+returns-clause-outcome c =
     let j = judged c.args.instruction in
     let program = c.well_formed-2.ensures.program in
     let field = lent_reference c.in-Some.field in
@@ -22,3 +24,9 @@ returns c =
     let is = c.resolve_field.ensures.resolution class.0 class.1 in
     field_looked j field class.0 (field_number c.resolve_field.result) program c.in-Some.ensures class.2
     (subst (λ (b : Bool). FieldResolution j.program class.0 field.signature b (field_number c.resolve_field.result)) c.wants_static-is_static.ensures is)
+
+pub returns-in_default-clause-none : goal.returns-in_default-clause-none
+returns-in_default-clause-none c = λ m class accesses named. none_such (Accesses (judged c.args.instruction)) c.in_default.ensures m accesses
+
+pub returns-in_default-find_class-clause-none : goal.returns-in_default-find_class-clause-none
+returns-in_default-find_class-clause-none c = field_unnamed (judged c.args.instruction) (lent_reference c.in-Some.field) c.in-Some.ensures c.in_default-find_class.ensures.none
