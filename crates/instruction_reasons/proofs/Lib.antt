@@ -8,3 +8,5 @@ pub mod OtherKinds
 pub mod Bodies
 pub mod Dispatch
 pub mod Undescribed
+pub mod FirstReasons
+pub mod FreeInstructions

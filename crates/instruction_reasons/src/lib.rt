@@ -16,4 +16,4 @@ mod stubs;
 mod targets;
 mod texts;
 
-pub use judgement::{JudgedInstruction, NamedMember};
+pub use judgement::{JudgedInstruction, NamedMember, judge};
