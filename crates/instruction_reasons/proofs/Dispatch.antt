@@ -1,14 +1,14 @@
 -- The target of a special or a static call is one, and a number of a method.
-use Rattle.std.proofs.Common.{◌≡◌, ◌⊎◌, inl, inr, ℕ, Bool, true, false, List, [], ◌∷◌, Option, Some, None, Result, Ok, Err, refl, sym, ◌∙◌, ap, subst}
+use Rattle.std.proofs.Common.{◌≡◌, inl, inr, ℕ, Bool, true, false, List, [], ◌∷◌, Option, Some, None, Result, Ok, Err, sym, ◌∙◌, ap, subst}
 use Rattle.std.specs.Prelude.{◌↔◌, IsTrue, MatchBool, option_map, slice_get}
-use Rattle.std.proofs.lemmas.Bool.{false≢true, true≢false}
-use Rattle.std.proofs.lemmas.Option.{none-some, same_Some}
+use Rattle.std.proofs.lemmas.Bool.{false≢true}
+use Rattle.std.proofs.lemmas.Option.{same_Some}
 use Rattle.jvm_model.specs.declared.number.MethodNo.{MethodNo}
 use Rattle.jvm_model.specs.declared.reason.Reason.{Reason}
 use Rattle.jvm_model.specs.LinkedPrograms.{IsProgram}
 use Rattle.jvm_model.specs.Lookups.{MemberReference, Signature}
 use Rattle.jvm_model.specs.Programs.{Class, Method, Program, is_abstract}
-use Rattle.jvm_model.specs.Resolution.{Declares, HasSignature, IsFirst, IsFound, IsFoundIn, IsFoundInInterface, declared_there, of_object, IsInstanceWith, Resolves, ResolvesFrom, itself, by_default, by_name}
+use Rattle.jvm_model.specs.Resolution.{HasSignature, IsFirst, IsFound, IsFoundIn, IsFoundInInterface, declared_there, of_object, IsInstanceWith, ResolvesFrom, itself, by_default, by_name}
 use Rattle.jvm_model.specs.Selection.{SelectsFrom, SelectsSpecial}
 use Rattle.jvm_model.specs.Subtypes.{class_named}
 use Rattle.jvm_model.specs.Table.{Action, invoke_special, invoke_static}
@@ -19,8 +19,8 @@ use Rattle.hierarchy.proofs.Hiding.{starts_same}
 use Rattle.hierarchy.proofs.Resolving.{instance_within}
 use Rattle.program_laws.proofs.Defaults.{one_selected}
 use Rattle.program_laws.proofs.Members.{alone_instance, one_found_in}
-use Rattle.instruction_reasons.specs.Looked.{IsOnly, SelectsCalled, Some-such, WantsTarget}
-use Rattle.instruction_reasons.specs.Reasons.{Judged, Calls, HasTarget, special, static, IsMismatched, IsUndescribed, LacksTarget, finds_none, finds_abstract, LooksUpMethod, wants_static}
+use Rattle.instruction_reasons.specs.Looked.{IsOnly, SelectsCalled, WantsTarget}
+use Rattle.instruction_reasons.specs.Reasons.{Judged, Calls, HasTarget, special, static, IsMismatched, LacksTarget, finds_none, finds_abstract, LooksUpMethod, wants_static}
 use Rattle.instruction_reasons.proofs.Only.{none_such, only_here, only_iff, only_none, only_one, only_same}
 use Rattle.instruction_reasons.proofs.OtherKinds.{method_within, ok_or_err, resolution_found, same_ok}
 use Rattle.instruction_reasons.proofs.Supertypes.{IsNowhere, somewhere}

@@ -1,5 +1,5 @@
 -- What an instruction without a reason names.
-use Rattle.std.proofs.Common.{◌≡◌, ◌⊎◌, inl, inr, ℕ, Bool, true, false, List, [], ◌∷◌, Option, Some, None, Result, Ok, Err, refl, sym, ◌∙◌, ap, subst}
+use Rattle.std.proofs.Common.{◌≡◌, ◌⊎◌, inl, inr, ℕ, Bool, true, false, List, Option, Some, None, Result, Ok, Err, refl, sym, ◌∙◌, ap, subst}
 use Rattle.std.specs.Prelude.{IfNone, IsTrue, option_and_then, option_map, if◌then◌else◌}
 use Rattle.std.proofs.lemmas.Bool.{false≢true, true≢false}
 use Rattle.std.proofs.lemmas.Option.{none-some, same_Some}
@@ -9,9 +9,9 @@ use Rattle.jvm_model.specs.declared.pool.PoolEntry.{PoolEntry}
 use Rattle.jvm_model.specs.declared.pool.PoolEntry.TheVariants.{Utf8, Integer, Float, Long, Double, Class, Str, Fieldref, Methodref, InterfaceMethodref, NameAndType, MethodHandle, MethodType, InvokeDynamic, Taken}
 use Rattle.jvm_model.specs.declared.reason.Reason.{Reason}
 use Rattle.jvm_model.specs.declared.reason.Reason.TheVariants as reasons
-use Rattle.jvm_model.specs.Instructions.{member_at, member_in, member_of}
+use Rattle.jvm_model.specs.Instructions.{member_of}
 use Rattle.jvm_model.specs.Lookups.{MemberReference, Signature, class_name_at, entry_at, signature_at}
-use Rattle.jvm_model.specs.Programs.{Class as ProgramClass, Program}
+use Rattle.jvm_model.specs.Programs.{Class as ProgramClass}
 use Rattle.jvm_model.specs.Resolution.{FieldResolution, MethodResolution, found, other_kind, not_found, missing}
 use Rattle.jvm_model.specs.Soundness.{is_array}
 use Rattle.jvm_model.specs.Subtypes.{class_named}
@@ -20,7 +20,7 @@ use Rattle.linked_program.specs.Numbers.{field_number}
 use Rattle.instruction_reasons.specs.Judgements.{IsKnownTarget}
 use Rattle.instruction_reasons.specs.Looked.{AccessesNone, CallsNone, IsOnly}
 use Rattle.instruction_reasons.specs.Named.{NamesMember, LeadsToMethod, LeadsToMember}
-use Rattle.instruction_reasons.specs.Reasons.{Judged, class_in, Names, Accesses, Calls, wants_static, LooksUpField, LooksUpMethod, IsMismatched, by_field, by_reference, HasTarget, static, special, LacksTarget, finds_none, LacksStub, of_class, of_array_field, of_array_method, of_field, of_method, a_class, IsFirstReason, HasReason, no_stub, missing_field, missing_method, kind_mismatch, no_implementation, reason_order}
+use Rattle.instruction_reasons.specs.Reasons.{Judged, class_in, Names, wants_static, LooksUpField, LooksUpMethod, IsMismatched, by_field, by_reference, HasTarget, static, special, LacksTarget, finds_none, LacksStub, of_class, of_array_field, of_array_method, of_field, of_method, a_class, IsFirstReason, no_stub, missing_field, missing_method, kind_mismatch, no_implementation, reason_order}
 use Rattle.instruction_reasons.proofs.Dispatch.{target_other}
 use Rattle.instruction_reasons.proofs.FirstReasons.{none_of}
 use Rattle.instruction_reasons.proofs.Only.{none_such, only_here}

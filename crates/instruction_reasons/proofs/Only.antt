@@ -3,7 +3,7 @@ use Rattle.std.proofs.Common.{◌≡◌, ◌⊎◌, inl, inr, Bool, true, false,
 use Rattle.std.specs.Prelude.{◌↔◌, IsTrue}
 use Rattle.std.proofs.lemmas.Bool.{false≢true}
 use Rattle.std.proofs.lemmas.Option.{none-some, same_Some}
-use Rattle.instruction_reasons.specs.Looked.{IsOnly, Some-such}
+use Rattle.instruction_reasons.specs.Looked.{IsOnly, HasSuch}
 
 -- what is asked for under a test, where the test is passed, and where it is not
 pub only_asked : {X : Type 0} (b : Bool) (e found : Option X) → b ≡ true → found ≡ e → IsOnly (λ (x : X). IsTrue b × (e ≡ Some x)) found
@@ -29,13 +29,13 @@ pub only_one : {X : Type 0} (P : X → Type 0) (x : X) → P x → ((y : X) → 
 only_one P x h same = record { holds = λ y is. subst P (same_Some x y is) h; only = λ y k. subst (λ z. Some x ≡ Some z) (same y k) refl }
 
 -- a test of the only one is a test whether there is such a one
-pub told : {X : Type 0} (P Q : X → Type 0) (x : X) (b : Bool) → IsOnly P (Some x) → (IsTrue b ↔ Q x) → IsTrue b ↔ Some-such P Q
+pub told : {X : Type 0} (P Q : X → Type 0) (x : X) (b : Bool) → IsOnly P (Some x) → (IsTrue b ↔ Q x) → IsTrue b ↔ HasSuch P Q
 told P Q x b o test = (
   λ yes. record { one = x; first = only_here P x o; second = test.0 yes },
   λ such. test.1 (subst Q (sym (only_same P x such.one o such.first)) such.second),
 )
 
-pub told_none : {X : Type 0} (P Q : X → Type 0) (b : Bool) → IsOnly P None → b ≡ false → IsTrue b ↔ Some-such P Q
+pub told_none : {X : Type 0} (P Q : X → Type 0) (b : Bool) → IsOnly P None → b ≡ false → IsTrue b ↔ HasSuch P Q
 told_none P Q b o failed = (λ yes. absurd (false≢true (sym failed ∙ yes)), λ such. absurd (none_such P o such.one such.first))
 
 -- ---- either of two

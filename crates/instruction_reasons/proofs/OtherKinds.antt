@@ -1,7 +1,7 @@
 -- Members of another kind than an instruction asks for, in parts.
-use Rattle.std.proofs.Common.{◌≡◌, ◌⊎◌, inl, inr, ℕ, Bool, true, false, List, Option, Some, None, Result, Ok, Err, refl, sym, ◌∙◌, ap, subst}
+use Rattle.std.proofs.Common.{◌≡◌, ◌⊎◌, inl, inr, ℕ, Bool, Option, Some, None, Result, Ok, Err, sym, ◌∙◌, ap, subst}
 use Rattle.std.specs.Prelude.{◌↔◌, IsTrue, is_ok, option_map, slice_get}
-use Rattle.std.proofs.lemmas.Bool.{false≢true, true≢false}
+use Rattle.std.proofs.lemmas.Bool.{true≢false}
 use Rattle.jvm_model.specs.declared.number.MethodNo.{MethodNo}
 use Rattle.jvm_model.specs.declared.reason.Reason.{Reason}
 use Rattle.jvm_model.specs.declared.reason.Reason.TheVariants as reasons
@@ -11,7 +11,7 @@ use Rattle.jvm_model.specs.Resolution.{MethodResolution, found, other_kind, not_
 use Rattle.linked_program.specs.Numbers.{IsMethodNumber, method_number}
 use Rattle.hierarchy.proofs.ClassPlaces.{method_there}
 use Rattle.hierarchy.proofs.Resolving.{resolves_within}
-use Rattle.instruction_reasons.specs.Looked.{CallsOtherKind, other_reference, other_method, IsInternal, constructor_elsewhere, initialiser, IsOnly, IsOtherKind, other_static, private_call, Some-such}
+use Rattle.instruction_reasons.specs.Looked.{CallsOtherKind, other_reference, other_method, IsInternal, constructor_elsewhere, initialiser, IsOnly, IsOtherKind, other_static, private_call, HasSuch}
 use Rattle.instruction_reasons.specs.Reasons.{Judged, Calls, IsMismatched, by_field, by_reference, by_static, by_private, by_constructor, by_initialiser, LooksUpField, LooksUpMethod}
 use Rattle.instruction_reasons.proofs.Only.{IsEither, only_here, only_same}
 
@@ -94,7 +94,7 @@ other_never j none (other_method number m l stands kind) = none (Ok number) l
 -- ---- all parts
 
 abbrev CallsInternal : Judged → Type 0
-CallsInternal j = Some-such (Calls j) (λ (m : MemberReference). IsInternal j.action m.signature.name)
+CallsInternal j = HasSuch (Calls j) (λ (m : MemberReference). IsInternal j.action m.signature.name)
 
 mismatch_cases : (j : Judged) → IsMismatched j → LooksUpField j (Err reasons.KindMismatch) ⊎ (CallsOtherKind j ⊎ CallsInternal j)
 mismatch_cases j (by_field l) = inl l

@@ -7,7 +7,7 @@ use Rattle.jvm_model.specs.declared.pool.PoolEntry.TheVariants.{Utf8, Integer, F
 use Rattle.jvm_model.specs.declared.reason.Reason.{Reason}
 use Rattle.jvm_model.specs.LinkedPrograms.{IsProgram}
 use Rattle.jvm_model.specs.Lookups.{MemberReference, entry_at}
-use Rattle.jvm_model.specs.Programs.{Class as ProgramClass, Program}
+use Rattle.jvm_model.specs.Programs.{Class as ProgramClass}
 use Rattle.jvm_model.specs.Resolution.{FieldResolution, MethodResolution}
 use Rattle.jvm_model.specs.Subtypes.{class_named}
 use Rattle.program_laws.proofs.Outcomes.{one_field_outcome, one_method_outcome}

@@ -1,6 +1,6 @@
 -- Subtypes of classes that are in the program, or are not.
-use Rattle.std.proofs.Common.{◌≡◌, ◌≢◌, ◌⊎◌, inl, inr, ℕ, Bool, not, List, Some, None, Option, refl, sym, ◌∙◌, subst}
-use Rattle.std.specs.Prelude.{◌↔◌, Contains, IsTrue, IfSome, IfNone, is_some, slice_get}
+use Rattle.std.proofs.Common.{◌≡◌, ◌≢◌, inl, inr, ℕ, Bool, not, List, Some, None, Option, refl, sym, ◌∙◌, subst}
+use Rattle.std.specs.Prelude.{◌↔◌, IsTrue, IfSome, IfNone, is_some, slice_get}
 use Rattle.std.proofs.lemmas.Bool.{both_ways, not-true, not-false}
 use Rattle.std.proofs.lemmas.Option.{none-some}
 use Rattle.jvm_model.specs.declared.number.ClassNo.{ClassNo}

@@ -1,20 +1,19 @@
 -- What no stub describes, in parts.
-use Rattle.std.proofs.Common.{◌≡◌, ℕ, Bool, Err, Result}
+use Rattle.std.proofs.Common.{Bool, Err}
 use Rattle.std.specs.Prelude.{◌↔◌, IsTrue}
-use Rattle.jvm_model.specs.declared.reason.Reason.{Reason}
 use Rattle.jvm_model.specs.declared.reason.Reason.TheVariants as reasons
 use Rattle.jvm_model.specs.Lookups.{MemberReference}
 use Rattle.jvm_model.specs.Soundness.{is_array}
-use Rattle.instruction_reasons.specs.Looked.{Some-such}
+use Rattle.instruction_reasons.specs.Looked.{HasSuch}
 use Rattle.instruction_reasons.specs.Reasons.{Judged, Accesses, Calls, Names, HasTarget, IsNotThere, IsUndescribed, LacksStub, of_class, of_array_field, of_array_method, of_field, of_method, of_target, LooksUpField, LooksUpMethod}
 
 -- The class of the member that is named is an array.
 abbrev pub NamesArray : (MemberReference → Type 0) → Type 0
-NamesArray P = Some-such P (λ (m : MemberReference). IsTrue (is_array m.class))
+NamesArray P = HasSuch P (λ (m : MemberReference). IsTrue (is_array m.class))
 
 -- the last of the six
-pub stub_last : (j : Judged) (b : Bool) → (Some-such (Names j) (IsNotThere j.program) → ⊥) → (NamesArray (Accesses j) → ⊥) → (NamesArray (Calls j) → ⊥)
-    → (LooksUpField j (Err reasons.NoStub) → ⊥) → (LooksUpMethod j (Err reasons.NoStub) → ⊥) → (IsTrue b ↔ Some-such (HasTarget j) (IsUndescribed j.program))
+pub stub_last : (j : Judged) (b : Bool) → (HasSuch (Names j) (IsNotThere j.program) → ⊥) → (NamesArray (Accesses j) → ⊥) → (NamesArray (Calls j) → ⊥)
+    → (LooksUpField j (Err reasons.NoStub) → ⊥) → (LooksUpMethod j (Err reasons.NoStub) → ⊥) → (IsTrue b ↔ HasSuch (HasTarget j) (IsUndescribed j.program))
     → IsTrue b ↔ LacksStub j
 stub_last j b there no_field_array no_method_array field method test = (λ passed. let such = test.0 passed in of_target such.one such.first such.second, by)
   where

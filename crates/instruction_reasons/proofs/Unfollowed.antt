@@ -1,5 +1,5 @@
 -- What the analysis does not follow, in parts.
-use Rattle.std.proofs.Common.{◌≡◌, ◌≢◌, ◌⊎◌, inl, inr, codes, Bool, Some, refl, List, ℕ}
+use Rattle.std.proofs.Common.{◌≡◌, ◌⊎◌, inl, inr, codes, Some, refl}
 use Rattle.std.specs.Prelude.{IsTrue, Contains}
 use Rattle.std.proofs.lemmas.Bool.{false≢true}
 use Rattle.jvm_model.specs.declared.pool.PoolEntry.{PoolEntry}
@@ -7,7 +7,7 @@ use Rattle.jvm_model.specs.declared.pool.PoolEntry.TheVariants.{Utf8, Integer, F
 use Rattle.jvm_model.specs.Lookups.{MemberReference, entry_at}
 use Rattle.jvm_model.specs.Table.{load_constant}
 use Rattle.instruction_reasons.specs.Reasons.{Judged, Calls, Names, IsUnder, UsesMethodConstant, loads_handle, loads_type, calls_handle, IsReflective, names_class as names_reflective, calls_class, UsesThreads, names_class as names_threads, calls_waiting, IsOfThreads, waiting_methods}
-use Rattle.instruction_reasons.specs.Looked.{Some-such, is_method_constant, IsReflectiveMember, LoadsMethodConstant}
+use Rattle.instruction_reasons.specs.Looked.{HasSuch, is_method_constant, IsReflectiveMember, LoadsMethodConstant}
 use Rattle.instruction_reasons.proofs.Only.{IsEither}
 
 -- ---- method constants
@@ -30,7 +30,7 @@ loads_entry j (InvokeDynamic bootstrap member) load at never = absurd (false≢t
 loads_entry j Taken load at never = absurd (false≢true never)
 
 abbrev CallsHandle : Judged → Type 0
-CallsHandle j = Some-such (Calls j) (λ (m : MemberReference). m.class ≡ codes "java/lang/invoke/MethodHandle")
+CallsHandle j = HasSuch (Calls j) (λ (m : MemberReference). m.class ≡ codes "java/lang/invoke/MethodHandle")
 
 constant_cases : (j : Judged) → UsesMethodConstant j → LoadsMethodConstant j ⊎ CallsHandle j
 constant_cases j (loads_handle kind member load at) = inl (load, (MethodHandle kind member, at, refl))
@@ -46,11 +46,11 @@ method_constant j = record {
 
 -- ---- reflection
 
-reflective_cases : (j : Judged) → IsReflective j → Some-such (Names j) (IsUnder (codes "java/lang/reflect/")) ⊎ Some-such (Calls j) IsReflectiveMember
+reflective_cases : (j : Judged) → IsReflective j → HasSuch (Names j) (IsUnder (codes "java/lang/reflect/")) ⊎ HasSuch (Calls j) IsReflectiveMember
 reflective_cases j (names_reflective class names under) = inl (record { one = class; first = names; second = under })
 reflective_cases j (calls_class m calls named status name) = inr (record { one = m; first = calls; second = record { of_class = named; no_status = status; no_name = name } })
 
-pub reflective : (j : Judged) → IsEither (Some-such (Names j) (IsUnder (codes "java/lang/reflect/"))) (Some-such (Calls j) IsReflectiveMember) (IsReflective j)
+pub reflective : (j : Judged) → IsEither (HasSuch (Names j) (IsUnder (codes "java/lang/reflect/"))) (HasSuch (Calls j) IsReflectiveMember) (IsReflective j)
 reflective j = record {
   left = λ such. names_reflective such.one such.first such.second;
   right = λ such. calls_class such.one such.first such.second.of_class such.second.no_status such.second.no_name;
@@ -60,13 +60,13 @@ reflective j = record {
 -- ---- threads
 
 abbrev CallsWaiting : Judged → Type 0
-CallsWaiting j = Some-such (Calls j) (λ (m : MemberReference). Contains waiting_methods m.signature)
+CallsWaiting j = HasSuch (Calls j) (λ (m : MemberReference). Contains waiting_methods m.signature)
 
-threads_cases : (j : Judged) → UsesThreads j → Some-such (Names j) (IsOfThreads j.program) ⊎ CallsWaiting j
+threads_cases : (j : Judged) → UsesThreads j → HasSuch (Names j) (IsOfThreads j.program) ⊎ CallsWaiting j
 threads_cases j (names_threads class names of_threads) = inl (record { one = class; first = names; second = of_threads })
 threads_cases j (calls_waiting m calls waiting) = inr (record { one = m; first = calls; second = waiting })
 
-pub threads : (j : Judged) → IsEither (Some-such (Names j) (IsOfThreads j.program)) (CallsWaiting j) (UsesThreads j)
+pub threads : (j : Judged) → IsEither (HasSuch (Names j) (IsOfThreads j.program)) (CallsWaiting j) (UsesThreads j)
 threads j = record {
   left = λ such. names_threads such.one such.first such.second;
   right = λ such. calls_waiting such.one such.first such.second;

@@ -1,6 +1,6 @@
 -- Only the proofs of this crate rest on this module.
 -- What look-ups answer, and the parts of the reasons that the functions of this crate test one by one.
-use Rattle.std.specs.Prelude.{codes, ◌≡◌, ◌≢◌, ◌⊎◌, ℕ, Bool, true, false, List, [], ◌∷◌, ◌++◌, replicate, Option, Some, None, Result, Ok, Err, slice_get, option_map, IfNone, ◌↔◌, Contains, IsTrue}
+use Rattle.std.specs.Prelude.{codes, ◌≡◌, ◌≢◌, ℕ, Bool, true, false, List, [], ◌∷◌, ◌++◌, replicate, Option, Some, None, Ok, Err, slice_get, option_map, IfNone, ◌↔◌, Contains, IsTrue}
 use Rattle.jvm_model.specs.declared.number.MethodNo.{MethodNo}
 use Rattle.jvm_model.specs.declared.pool.PoolEntry.{PoolEntry}
 use Rattle.jvm_model.specs.declared.pool.PoolEntry.TheVariants.{Utf8, Integer, Float, Long, Double, Class, Str, Fieldref, Methodref, InterfaceMethodref, NameAndType, MethodHandle, MethodType, InvokeDynamic, Taken}
@@ -13,7 +13,7 @@ use Rattle.jvm_model.specs.Selection.{SelectsSpecial}
 use Rattle.jvm_model.specs.Soundness.{is_array}
 use Rattle.jvm_model.specs.Subtypes.{class_named, IsChain}
 use Rattle.jvm_model.specs.Table.{Action, load_constant, invoke_special, invoke_interface}
-use Rattle.instruction_reasons.specs.Reasons.{Judged, Calls, Accesses, IsByInterface, Names, IsUnder, IsFinalizer, IsOfThreads, IsNotThere, waiting_methods, LooksUpField, LooksUpMethod, IsMismatched, HasTarget, IsUndescribed, wants_static}
+use Rattle.instruction_reasons.specs.Reasons.{Judged, Calls, Accesses, IsByInterface, IsFinalizer, LooksUpField, LooksUpMethod, IsMismatched, HasTarget, IsUndescribed, wants_static}
 use Rattle.instruction_reasons.specs.declared.lookups.Lookups.{Lookups}
 use Rattle.linked_program.specs.Numbers.{field_number, method_number}
 
@@ -23,7 +23,7 @@ pub record IsOnly {X : Type 0} (P : X → Type 0) (found : Option X) : Type 0 wh
   pub only : (x : X) → P x → found ≡ Some x
 
 -- There is something of which both facts hold.
-pub record Some-such {X : Type 0} (P Q : X → Type 0) : Type 0 where
+pub record HasSuch {X : Type 0} (P Q : X → Type 0) : Type 0 where
   pub one : X
   pub first : P one
   pub second : Q one
@@ -107,7 +107,7 @@ pub record WantsTarget (j : Judged) : Type 0 where
 
 -- The instruction goes to a native method that no stub describes.
 abbrev pub GoesUndescribed : Judged → Type 0
-GoesUndescribed j = Some-such (HasTarget j) (IsUndescribed j.program)
+GoesUndescribed j = HasSuch (HasTarget j) (IsUndescribed j.program)
 
 -- ---- what is looked up once
 

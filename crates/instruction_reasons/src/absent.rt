@@ -3,7 +3,7 @@
 ghost use Rattle.std.specs.Prelude.{◌≡◌, ◌↔◌, option_map, None, IsTrue};
 ghost use Rattle.jvm_model.specs.Subtypes.{class_named};
 ghost use Rattle.instruction_reasons.specs.Judgements.{judged};
-ghost use Rattle.instruction_reasons.specs.Looked.{IsBehindBrackets, IsClassDescriptor, IsOnly, Some-such};
+ghost use Rattle.instruction_reasons.specs.Looked.{IsBehindBrackets, IsClassDescriptor, IsOnly, HasSuch};
 ghost use Rattle.instruction_reasons.specs.Reasons.{IsElementClass, IsNotThere, Names};
 
 use crate::judgement::JudgedInstruction;
@@ -66,7 +66,7 @@ fn is_not_there(program: &Program, name: &[u8]) -> bool
 
 /// Whether the instruction names a class, or an array of a class, that is not in the program.
 pub(crate) fn names_missing(instruction: JudgedInstruction<'_>) -> bool
-    ensures { IsTrue result ↔ Some-such (Names (judged instruction.entry)) (IsNotThere instruction.entry.program.now) }
+    ensures { IsTrue result ↔ HasSuch (Names (judged instruction.entry)) (IsNotThere instruction.entry.program.now) }
 {
     match named_class(instruction) {
         Some(class) => is_not_there(instruction.program, class),

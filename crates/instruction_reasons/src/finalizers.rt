@@ -6,7 +6,7 @@ ghost use Rattle.jvm_model.specs.RowViews.{action_view};
 ghost use Rattle.jvm_model.specs.Table.{make_object};
 ghost use Rattle.linked_program.specs.Numbers.{name_at, IsClassNumber};
 ghost use Rattle.instruction_reasons.specs.Judgements.{judged};
-ghost use Rattle.instruction_reasons.specs.Looked.{DeclaresFinalizer, DeclaresOne, HasFolderFinalizer, IsFolderFinalizer, Some-such};
+ghost use Rattle.instruction_reasons.specs.Looked.{DeclaresFinalizer, DeclaresOne, HasFolderFinalizer, IsFolderFinalizer, HasSuch};
 ghost use Rattle.instruction_reasons.specs.Reasons.{HasFinalizer, MakesFinalized, Names};
 
 use crate::judgement::JudgedInstruction;
@@ -99,7 +99,7 @@ fn makes_object(action: Action) -> bool
 
 /// Whether the class that the instruction names has such a method.
 fn names_finalized(instruction: JudgedInstruction<'_>) -> bool
-    ensures { IsTrue result ↔ Some-such (Names (judged instruction.entry)) (HasFinalizer instruction.entry.program.now) }
+    ensures { IsTrue result ↔ HasSuch (Names (judged instruction.entry)) (HasFinalizer instruction.entry.program.now) }
 {
     match named_class(instruction) {
         Some(class) => is_finalized(instruction.program, class),

@@ -7,7 +7,7 @@ ghost use Rattle.jvm_model.specs.RowViews.{action_view};
 ghost use Rattle.jvm_model.specs.Subtypes.{IsSubtype};
 ghost use Rattle.jvm_model.specs.Table.{load_constant, refused};
 ghost use Rattle.instruction_reasons.specs.Judgements.{judged};
-ghost use Rattle.instruction_reasons.specs.Looked.{Some-such, is_method_constant, IsReflectiveMember, LoadsMethodConstant};
+ghost use Rattle.instruction_reasons.specs.Looked.{HasSuch, is_method_constant, IsReflectiveMember, LoadsMethodConstant};
 ghost use Rattle.instruction_reasons.specs.Reasons.{Calls, Names, IsOfThreads, IsReflective, IsUnder, UsesMethodConstant, UsesThreads, waiting_methods};
 
 use crate::judgement::JudgedInstruction;
@@ -65,7 +65,7 @@ fn loads_method_constant(instruction: JudgedInstruction<'_>) -> bool
 
 /// Whether it calls a method of a method handle.
 fn calls_handle(instruction: JudgedInstruction<'_>) -> bool
-    ensures { IsTrue result ↔ Some-such (Calls (judged instruction.entry)) (λ m. m.class ≡ codes "java/lang/invoke/MethodHandle") }
+    ensures { IsTrue result ↔ HasSuch (Calls (judged instruction.entry)) (λ m. m.class ≡ codes "java/lang/invoke/MethodHandle") }
 {
     match called(instruction) {
         Some(method) => is_text(method.class, METHOD_HANDLE),
@@ -82,7 +82,7 @@ pub(crate) fn uses_method_constant(instruction: JudgedInstruction<'_>) -> bool
 
 /// Whether it names a class of reflection.
 fn names_reflection(instruction: JudgedInstruction<'_>) -> bool
-    ensures { IsTrue result ↔ Some-such (Names (judged instruction.entry)) (IsUnder (codes "java/lang/reflect/")) }
+    ensures { IsTrue result ↔ HasSuch (Names (judged instruction.entry)) (IsUnder (codes "java/lang/reflect/")) }
 {
     match named_class(instruction) {
         Some(class) => is_under(class, REFLECTION),
@@ -101,7 +101,7 @@ fn is_reflective_member(method: MemberReference<'_>) -> bool
 
 /// Whether the instruction calls such a method.
 fn calls_reflection(instruction: JudgedInstruction<'_>) -> bool
-    ensures { IsTrue result ↔ Some-such (Calls (judged instruction.entry)) IsReflectiveMember }
+    ensures { IsTrue result ↔ HasSuch (Calls (judged instruction.entry)) IsReflectiveMember }
 {
     match called(instruction) {
         Some(method) => is_reflective_member(method),
@@ -145,7 +145,7 @@ fn is_of_threads(program: &Program, class: &[u8]) -> bool
 
 /// Whether the instruction names such a class.
 fn names_threads(instruction: JudgedInstruction<'_>) -> bool
-    ensures { IsTrue result ↔ Some-such (Names (judged instruction.entry)) (IsOfThreads instruction.entry.program.now) }
+    ensures { IsTrue result ↔ HasSuch (Names (judged instruction.entry)) (IsOfThreads instruction.entry.program.now) }
 {
     match named_class(instruction) {
         Some(class) => is_of_threads(instruction.program, class),
@@ -166,7 +166,7 @@ fn is_waiting(signature: Signature<'_>) -> bool
 
 /// Whether the instruction calls such a method.
 fn calls_waiting(instruction: JudgedInstruction<'_>) -> bool
-    ensures { IsTrue result ↔ Some-such (Calls (judged instruction.entry)) (λ m. Contains waiting_methods m.signature) }
+    ensures { IsTrue result ↔ HasSuch (Calls (judged instruction.entry)) (λ m. Contains waiting_methods m.signature) }
 {
     match called(instruction) {
         Some(method) => is_waiting(method.signature),

@@ -5,7 +5,7 @@ ghost use Rattle.jvm_model.specs.Programs.{Method};
 ghost use Rattle.jvm_model.specs.RowViews.{action_view};
 ghost use Rattle.linked_program.specs.Numbers.{IsMethodNumber, field_number, method_number};
 ghost use Rattle.instruction_reasons.specs.Judgements.{judged};
-ghost use Rattle.instruction_reasons.specs.Looked.{CallsOtherKind, IsInternal, IsOnly, IsOtherKind, Some-such};
+ghost use Rattle.instruction_reasons.specs.Looked.{CallsOtherKind, IsInternal, IsOnly, IsOtherKind, HasSuch};
 ghost use Rattle.instruction_reasons.specs.Reasons.{Calls, IsMismatched, LooksUpField, LooksUpMethod};
 
 use crate::judgement::JudgedInstruction;
@@ -85,7 +85,7 @@ fn is_internal(action: Action, name: &[u8]) -> bool
 
 /// Whether the instruction calls such a method.
 fn calls_internal(instruction: JudgedInstruction<'_>) -> bool
-    ensures { IsTrue result ↔ Some-such (Calls (judged instruction.entry)) (λ m. IsInternal (action_view instruction.entry.action) m.signature.name) }
+    ensures { IsTrue result ↔ HasSuch (Calls (judged instruction.entry)) (λ m. IsInternal (action_view instruction.entry.action) m.signature.name) }
 {
     match called(instruction) {
         Some(method) => is_internal(instruction.action, method.signature.name),
@@ -100,7 +100,7 @@ fn calls_mismatched(
 ) -> bool
     requires { IsOnly (LooksUpMethod (judged instruction)) (option_map method_number method) }
     ensures { IsTrue result ↔ (CallsOtherKind (judged instruction.entry)
-        ⊎ Some-such (Calls (judged instruction.entry)) (λ m. IsInternal (action_view instruction.entry.action) m.signature.name)) }
+        ⊎ HasSuch (Calls (judged instruction.entry)) (λ m. IsInternal (action_view instruction.entry.action) m.signature.name)) }
 {
     calls_other_kind(instruction, method) || calls_internal(instruction)
 }

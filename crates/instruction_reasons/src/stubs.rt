@@ -3,7 +3,7 @@
 ghost use Rattle.std.specs.Prelude.{◌≡◌, ◌↔◌, IsTrue};
 ghost use Rattle.jvm_model.specs.Soundness.{is_array};
 ghost use Rattle.instruction_reasons.specs.Judgements.{judged};
-ghost use Rattle.instruction_reasons.specs.Looked.{AreLookups, Some-such};
+ghost use Rattle.instruction_reasons.specs.Looked.{AreLookups, HasSuch};
 ghost use Rattle.instruction_reasons.specs.Reasons.{Accesses, Calls, LacksStub};
 
 use crate::absent::names_missing;
@@ -17,7 +17,7 @@ use jvm_model::Reason;
 
 /// Whether the instruction reads or writes a field of an array.
 fn accesses_array(instruction: JudgedInstruction<'_>) -> bool
-    ensures { IsTrue result ↔ Some-such (Accesses (judged instruction.entry)) (λ m. IsTrue (is_array m.class)) }
+    ensures { IsTrue result ↔ HasSuch (Accesses (judged instruction.entry)) (λ m. IsTrue (is_array m.class)) }
 {
     match accessed(instruction) {
         Some(field) => is_array(field.class),
@@ -27,7 +27,7 @@ fn accesses_array(instruction: JudgedInstruction<'_>) -> bool
 
 /// Whether it calls a method of an array.
 fn calls_array(instruction: JudgedInstruction<'_>) -> bool
-    ensures { IsTrue result ↔ Some-such (Calls (judged instruction.entry)) (λ m. IsTrue (is_array m.class)) }
+    ensures { IsTrue result ↔ HasSuch (Calls (judged instruction.entry)) (λ m. IsTrue (is_array m.class)) }
 {
     match called(instruction) {
         Some(method) => is_array(method.class),

@@ -3,7 +3,7 @@
 ghost use Rattle.std.specs.Prelude.{◌≡◌, ◌↔◌, ℕ, option_map, Some, Ok, IsTrue};
 ghost use Rattle.linked_program.specs.Numbers.{IsClassNumber, method_number};
 ghost use Rattle.instruction_reasons.specs.Judgements.{judged};
-ghost use Rattle.instruction_reasons.specs.Looked.{AreLookups, IsOnly, SelectsCalled, Some-such, WantsTarget};
+ghost use Rattle.instruction_reasons.specs.Looked.{AreLookups, IsOnly, SelectsCalled, HasSuch, WantsTarget};
 ghost use Rattle.instruction_reasons.specs.Reasons.{HasTarget, IsMismatched, IsUndescribed, LacksTarget, LooksUpMethod};
 
 use crate::judgement::JudgedInstruction;
@@ -104,7 +104,7 @@ pub(crate) fn lacks_target(instruction: JudgedInstruction<'_>, lookups: Lookups)
 /// Whether a special or a static call goes to a native method that no stub describes.
 pub(crate) fn goes_undescribed(instruction: JudgedInstruction<'_>, lookups: Lookups) -> bool
     requires { AreLookups (judged instruction) lookups }
-    ensures { IsTrue result ↔ Some-such (HasTarget (judged instruction.entry)) (IsUndescribed instruction.entry.program.now) }
+    ensures { IsTrue result ↔ HasSuch (HasTarget (judged instruction.entry)) (IsUndescribed instruction.entry.program.now) }
 {
     match lookups.target {
         Some(target) => is_undescribed(instruction.program, target),

@@ -1,7 +1,4 @@
-use Rattle.std.proofs.Common.{sym, subst, Bool}
-use Rattle.std.specs.Prelude.{◌↔◌, IsTrue}
 use Rattle.linked_program.specs.Numbers.{name_at}
-use Rattle.instruction_reasons.specs.Looked.{DeclaresOne}
 use Rattle.instruction_reasons.proofs.Finalizing.{declares_one}
 use Rattle.instruction_reasons.proofs.finalizers.declares.Goals as goal
 

@@ -1,4 +1,3 @@
-use Rattle.std.specs.Prelude.{◌↔◌}
 use Rattle.linked_program.specs.Numbers.{name_at}
 use Rattle.hierarchy.proofs.Chains.{HasRoom}
 use Rattle.instruction_reasons.specs.Looked.{HasFolderFinalizer}

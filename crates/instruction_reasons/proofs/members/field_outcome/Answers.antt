@@ -1,8 +1,7 @@
 use Rattle.std.proofs.Common.{Bool, subst}
-use Rattle.jvm_model.specs.Lookups.{lent_reference, lent_signature}
+use Rattle.jvm_model.specs.Lookups.{lent_reference}
 use Rattle.jvm_model.specs.Resolution.{FieldResolution}
 use Rattle.linked_program.specs.Numbers.{field_number}
-use Rattle.hierarchy.proofs.ClassPlaces.{class_of_number, name_at-at, named_at}
 use Rattle.instruction_reasons.specs.Judgements.{judged}
 use Rattle.instruction_reasons.specs.Reasons.{Accesses}
 use Rattle.instruction_reasons.proofs.Only.{none_such}

@@ -1,4 +1,4 @@
-use Rattle.std.proofs.Common.{◌∙◌, sym, subst, Bool, Option, Some, None}
+use Rattle.std.proofs.Common.{◌∙◌, sym, Some, None}
 use Rattle.jvm_model.specs.Lookups.{lent_reference}
 use Rattle.linked_program.specs.Numbers.{method_number}
 use Rattle.instruction_reasons.specs.Judgements.{judged}

@@ -5,7 +5,7 @@ use Rattle.linked_program.specs.Numbers.{field_number}
 use Rattle.instruction_reasons.specs.Judgements.{judged}
 use Rattle.instruction_reasons.specs.Reasons.{LooksUpField}
 use Rattle.instruction_reasons.proofs.Only.{either_else, only_test}
-use Rattle.instruction_reasons.proofs.OtherKinds.{mismatch, plain_err}
+use Rattle.instruction_reasons.proofs.OtherKinds.{mismatch}
 use Rattle.instruction_reasons.proofs.mismatch.is_mismatched.Goals as goal
 
 pub returns-else-field_fails : goal.returns-else-field_fails

@@ -1,5 +1,4 @@
-use Rattle.std.specs.Prelude.{◌↔◌, IsTrue}
-use Rattle.std.proofs.Common.{Bool, subst}
+use Rattle.std.specs.Prelude.{IsTrue}
 use Rattle.jvm_model.specs.Lookups.{MemberReference, lent_reference}
 use Rattle.jvm_model.specs.Soundness.{is_array}
 use Rattle.instruction_reasons.specs.Judgements.{judged}

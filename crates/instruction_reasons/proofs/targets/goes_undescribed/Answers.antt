@@ -1,4 +1,4 @@
-use Rattle.std.proofs.Common.{ℕ, Some, ap}
+use Rattle.std.proofs.Common.{ap}
 use Rattle.std.specs.Prelude.{option_map}
 use Rattle.jvm_model.specs.declared.number.MethodNo.{MethodNo}
 use Rattle.instruction_reasons.specs.Judgements.{judged}

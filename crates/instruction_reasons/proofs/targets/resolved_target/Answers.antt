@@ -1,8 +1,6 @@
-use Rattle.std.proofs.Common.{List, ℕ}
 use Rattle.std.specs.Prelude.{option_map}
 use Rattle.jvm_model.specs.declared.number.MethodNo.{MethodNo}
 use Rattle.instruction_reasons.specs.Judgements.{judged}
-use Rattle.instruction_reasons.specs.Reasons.{HasTarget}
 use Rattle.instruction_reasons.proofs.Dispatch.{target_special, target_static}
 use Rattle.instruction_reasons.proofs.targets.resolved_target.Goals as goal
 
