@@ -1,8 +1,8 @@
 -- What an instruction without a reason names.
 use Rattle.std.proofs.Common.{◌≡◌, ◌⊎◌, inl, inr, ℕ, Bool, true, false, List, Option, Some, None, Result, Ok, Err, refl, sym, ◌∙◌, ap, subst}
-use Rattle.std.specs.Prelude.{IfNone, IsTrue, option_and_then, option_map, if◌then◌else◌}
+use Rattle.std.specs.Prelude.{IfNone, IfSome, IsTrue, option_and_then, option_map, if◌then◌else◌}
 use Rattle.std.proofs.lemmas.Bool.{false≢true, true≢false}
-use Rattle.std.proofs.lemmas.Option.{none-some, same_Some}
+use Rattle.std.proofs.lemmas.Option.{none-some, same_Some, slice_get_within}
 use Rattle.jvm_model.specs.declared.number.FieldNo.{FieldNo}
 use Rattle.jvm_model.specs.declared.number.MethodNo.{MethodNo}
 use Rattle.jvm_model.specs.declared.pool.PoolEntry.{PoolEntry}
@@ -11,20 +11,20 @@ use Rattle.jvm_model.specs.declared.reason.Reason.{Reason}
 use Rattle.jvm_model.specs.declared.reason.Reason.TheVariants as reasons
 use Rattle.jvm_model.specs.Instructions.{member_of}
 use Rattle.jvm_model.specs.Lookups.{MemberReference, Signature, class_name_at, entry_at, signature_at}
-use Rattle.jvm_model.specs.Programs.{Class as ProgramClass}
+use Rattle.jvm_model.specs.Programs.{Class as ProgramClass, Program}
 use Rattle.jvm_model.specs.Resolution.{FieldResolution, MethodResolution, found, other_kind, not_found, missing}
 use Rattle.jvm_model.specs.Soundness.{is_array}
 use Rattle.jvm_model.specs.Subtypes.{class_named}
 use Rattle.jvm_model.specs.Table.{is_call, is_field_access, Action, plain, load_constant, load_element, store_element, probe_element, probe_array, probe_object, get_static, put_static, get_field, put_field, invoke_virtual, invoke_special, invoke_static, invoke_interface, make_object, make_array, throw_object, cast, leave_method, refused}
-use Rattle.linked_program.specs.Numbers.{field_number}
+use Rattle.linked_program.specs.Numbers.{field_number, IsFieldNumber, IsMethodNumber}
 use Rattle.instruction_reasons.specs.Judgements.{IsKnownTarget}
 use Rattle.instruction_reasons.specs.Looked.{AccessesNone, CallsNone, IsOnly}
 use Rattle.instruction_reasons.specs.Named.{NamesMember, LeadsToMethod, LeadsToMember}
 use Rattle.instruction_reasons.specs.Reasons.{Judged, class_in, Names, wants_static, LooksUpField, LooksUpMethod, IsMismatched, by_field, by_reference, HasTarget, static, special, LacksTarget, finds_none, LacksStub, of_class, of_array_field, of_array_method, of_field, of_method, a_class, IsFirstReason, no_stub, missing_field, missing_method, kind_mismatch, no_implementation, reason_order}
-use Rattle.instruction_reasons.proofs.Dispatch.{target_other}
+use Rattle.instruction_reasons.proofs.Dispatch.{target_other, target_within}
 use Rattle.instruction_reasons.proofs.FirstReasons.{none_of}
 use Rattle.instruction_reasons.proofs.Only.{none_such, only_here}
-use Rattle.instruction_reasons.proofs.OtherKinds.{ok_or_err, same_err}
+use Rattle.instruction_reasons.proofs.OtherKinds.{ok_or_err, same_err, same_ok}
 
 -- ---- no reason holds
 
@@ -193,3 +193,17 @@ pub no_access : (j : Judged) (m : Option (Result FieldNo Reason)) → IsFree j �
 no_access j m is named e none =
     not_so (is_field_access j.action)
     (λ access. access_there j is access (named.access access) (subst (λ (o : Option (Result FieldNo Reason)). IfNone o (AccessesNone j)) e none))
+
+-- ---- numbers
+
+resolved_field : (p : Program) (c : ProgramClass) (s : Signature) (b : Bool) (n : ℕ) → FieldResolution p c s b (Ok n) → IsFieldNumber p n
+resolved_field p c s b n (found number f x stands kind e) = subst (λ (k : ℕ). IsFieldNumber p k) (sym (same_ok n number e)) (slice_get_within p.fields number f stands)
+resolved_field p c s b n (other_kind number f x stands kind e) = absurd (ok_or_err n reasons.KindMismatch e)
+resolved_field p c s b n (not_found x e) = absurd (ok_or_err n (missing c reasons.MissingField) e)
+
+pub field_within : (j : Judged) (n : ℕ) → LooksUpField j (Ok n) → IsFieldNumber j.program n
+field_within j n l = resolved_field j.program l.class l.field.signature (wants_static j.action) n l.is
+
+pub target_numbers : (j : Judged) (target : Option MethodNo) → Targets j target → IfSome target (λ (m : MethodNo). IsMethodNumber j.program m.0)
+target_numbers j None only = tt
+target_numbers j (Some m) only = target_within j m.0 (only_here (HasTarget j) m.0 only)

@@ -4,7 +4,7 @@ ghost use Rattle.std.specs.Prelude.{IfOk, IfErr, Some, None};
 ghost use Rattle.linked_program.specs.Numbers.{IsClassNumber};
 ghost use Rattle.instruction_reasons.specs.Judgements.{judged, IsNamedMember};
 ghost use Rattle.instruction_reasons.specs.Looked.{AreLookups, member_reasons, unfollowed_reasons};
-ghost use Rattle.instruction_reasons.specs.Named.{NamesMember};
+ghost use Rattle.instruction_reasons.specs.Named.{HasNumbers, NamesMember};
 ghost use Rattle.instruction_reasons.specs.Reasons.{IsFirstOf, IsFirstReason};
 
 use crate::finalizers::makes_finalized;
@@ -91,7 +91,8 @@ fn first_of_members(instruction: JudgedInstruction<'_>, lookups: Lookups) -> Opt
 fn named_member(instruction: JudgedInstruction<'_>, lookups: Lookups) -> NamedMember
     requires lookups { AreLookups (judged instruction) lookups }
     requires free { IsFirstReason (judged instruction) None }
-    ensures { NamesMember (judged instruction.entry) → IsNamedMember (judged instruction.entry) result }
+    ensures member { NamesMember (judged instruction.entry) → IsNamedMember (judged instruction.entry) result }
+    ensures below { HasNumbers instruction.entry.program.now result }
 {
     match lookups.method {
         Some(Ok(resolved)) => NamedMember::Method {
@@ -110,11 +111,15 @@ fn named_member(instruction: JudgedInstruction<'_>, lookups: Lookups) -> NamedMe
 /// The member that an instruction names, if it names one, where nothing is wrong with it; or the first reason in this order:
 /// `InvokeDynamic`, `MethodConstant`, `Reflection`, `Threads`, `NoStub`, `MissingField`, `MissingMethod`, `KindMismatch`,
 /// `NoImplementation`, `Finalizer`. It takes no memory.
+///
+/// The member is told of an instruction of checked code, whose index leads to a reference to a member where it calls or accesses one
+/// (JVMS 4.9.1).
 pub fn judge(instruction: JudgedInstruction<'_>) -> Result<NamedMember, Reason>
     requires { IsClassNumber instruction.program.now instruction.current.0 }
     ensures refused { IfErr result (λ reason. IsFirstReason (judged instruction.entry) (Some reason)) }
     ensures free { IfOk result (λ _. IsFirstReason (judged instruction.entry) None) }
     ensures member { IfOk result (λ member. NamesMember (judged instruction.entry) → IsNamedMember (judged instruction.entry) member) }
+    ensures below { IfOk result (HasNumbers instruction.entry.program.now) }
 {
     if let Some(reason) = first_unfollowed(instruction) {
         return Err(reason);
