@@ -20,10 +20,15 @@ use jvm_model::{MemberReference, PoolEntry, Signature};
 use linked_program::program::Program;
 
 const METHOD_HANDLE: &[u8] = b"java/lang/invoke/MethodHandle";
+
 const CLASS: &[u8] = b"java/lang/Class";
+
 const REFLECTION: &[u8] = b"java/lang/reflect/";
+
 const THREAD: &[u8] = b"java/lang/Thread";
+
 const THREAD_GROUP: &[u8] = b"java/lang/ThreadGroup";
+
 const CONCURRENT: &[u8] = b"java/util/concurrent/";
 
 /// Whether an instruction of the action is `invokedynamic`, or another one that the table refuses.

@@ -3,10 +3,10 @@
 //! the instruction names. Nothing here takes memory.
 #![tactic(auto)]
 
-pub mod judgement;
 mod absent;
 mod finalizers;
 mod followed;
+pub mod judgement;
 mod lookups;
 mod members;
 mod methods;

@@ -29,12 +29,7 @@ pub(crate) fn field_outcome(instruction: JudgedInstruction<'_>) -> Option<Result
         return None;
     };
     let is_static = wants_static(instruction.action);
-    Some(resolve_field(
-        instruction.program,
-        class,
-        field.signature,
-        is_static,
-    ))
+    Some(resolve_field(instruction.program, class, field.signature, is_static))
 }
 
 /// Whether the reference at an index takes its class for an interface; `None` if it is no reference to a method (JVMS 4.4.2).
@@ -50,9 +45,7 @@ fn takes_interface(pool: &[PoolEntry], index: u16) -> Option<bool>
 
 /// What the reference to a method gives that the instruction calls (JVMS 5.4.3.3, 5.4.3.4): the method, or why none; `None` where
 /// no method is looked up in a class of the program.
-pub(crate) fn method_outcome(
-    instruction: JudgedInstruction<'_>,
-) -> Option<Result<MethodNo, Reason>>
+pub(crate) fn method_outcome(instruction: JudgedInstruction<'_>) -> Option<Result<MethodNo, Reason>>
     ensures outcome { IsOnly (LooksUpMethod (judged instruction.entry)) (option_map method_number result) }
     ensures none { IfNone result (CallsNone (judged instruction.entry)) }
 {
@@ -66,10 +59,5 @@ pub(crate) fn method_outcome(
     let Some(class) = find_class(instruction.program, method.class) else {
         return None;
     };
-    Some(resolve_method(
-        instruction.program,
-        class,
-        interface,
-        method.signature,
-    ))
+    Some(resolve_method(instruction.program, class, interface, method.signature))
 }

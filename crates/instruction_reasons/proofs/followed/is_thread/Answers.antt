@@ -7,7 +7,6 @@ use Rattle.linked_program.specs.Numbers.{name_at}
 use Rattle.instruction_reasons.proofs.Supertypes.{alone, above_there, named_by, somewhere}
 use Rattle.instruction_reasons.proofs.followed.is_thread.Goals as goal
 
-
 pub returns-then-is_text : goal.returns-then-is_text
 returns-then-is_text c = (λ _. same c.args.class.now (c.is_text.ensures.0 c.if-is_text.true), λ _. refl)
 

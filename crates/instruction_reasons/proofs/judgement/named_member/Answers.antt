@@ -36,8 +36,7 @@ returns-in-None-field-clause-member c = λ named.
 pub returns-in-Some-Ok-clause-below : goal.returns-in-Some-Ok-clause-below
 returns-in-Some-Ok-clause-below c =
     let j = judged c.args.instruction in
-    let only = at_outcome (LooksUpMethod j) c.args.lookups.method _ (Ok c.in-Some-Ok.resolved) c.in-Some-Ok.is (rw c.in-Some-Ok.is at c.in-Some-Ok.field-0-is) c.requires.lookups.method in
-    (
+    let only = at_outcome (LooksUpMethod j) c.args.lookups.method _ (Ok c.in-Some-Ok.resolved) c.in-Some-Ok.is (rw c.in-Some-Ok.is at c.in-Some-Ok.field-0-is) c.requires.lookups.method in (
       method_within j c.in-Some-Ok.resolved.0 (only_here (LooksUpMethod j) (Ok c.in-Some-Ok.resolved.0) only),
       target_numbers j c.args.lookups.target c.requires.lookups.target,
     )
