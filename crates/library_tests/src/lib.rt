@@ -6,6 +6,8 @@
 #[cfg(test)]
 mod documents;
 #[cfg(test)]
+mod form;
+#[cfg(test)]
 mod index;
 #[cfg(test)]
 mod linked;
@@ -17,3 +19,7 @@ mod one_method;
 mod outside;
 #[cfg(test)]
 mod readers;
+#[cfg(test)]
+mod run;
+#[cfg(test)]
+mod stream;

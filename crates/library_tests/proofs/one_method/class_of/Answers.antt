@@ -1,4 +1,4 @@
-use Rattle.std.proofs.Common.{codes, ◌≡◌, inl, ℕ, true, false, IsTrue, List, [], ◌∷◌, Some, refl, ap, sym, ◌∙◌, subst, arith}
+use Rattle.std.proofs.Common.{codes, ◌≡◌, inl, ℕ, false, IsTrue, List, [], ◌∷◌, Some, refl, ap, sym, ◌∙◌, subst, arith}
 use Rattle.std.proofs.lemmas.List.Elements.{All-nil, All-from_recursion}
 use Rattle.jvm_model.specs.declared.grammar.Grammar.TheVariants as grammars
 use Rattle.jvm_model.specs.declared.pool.PoolEntry.{PoolEntry}
