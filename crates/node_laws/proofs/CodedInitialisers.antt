@@ -1,5 +1,5 @@
 -- Whether a class has an initialiser that its class file has code for is decided; and each initialiser of the machine is one.
-use Rattle.std.proofs.Common.{codes, ◌≡◌, ◌⊎◌, inl, inr, ℕ, ◌<◌, Bool, true, false, ◌||◌, List, [], ◌∷◌, length, filter, Option, Some, None, refl, sym, ap, ◌∙◌, subst}
+use Rattle.std.proofs.Common.{codes, ◌≡◌, ◌⊎◌, inl, inr, ℕ, ◌<◌, Bool, true, false, ◌||◌, List, [], ◌∷◌, length, filter, cond, Option, Some, None, refl, sym, ap, ◌∙◌, subst}
 use Rattle.std.specs.Bool.{IsTrue}
 use Rattle.std.specs.List.{slice_get, list_any}
 use Rattle.std.proofs.lemmas.Option.{none-some, same_Some, slice_get_within}
@@ -27,19 +27,21 @@ module _ (p : Program) (class : List ℕ) (number : ℕ) where
   coded_by m stands (in_file file place member) e =
       carried_over to back (both_or_not (signature_or_not m.signature initialiser_signature) (λ s. both_or_not (true_or_not (list_any (is_code file.pool) member.attributes)) (λ c. subtype_or_not p m.class class)))
     where
-      to : (m.signature ≡ initialiser_signature) × IsTrue (list_any (is_code file.pool) member.attributes) × IsSubtype p m.class class → IsCodedInitialiser p class number
-      to h = record { method = m; stands = stands; named = h.0; file = file; place = place; member = member; of_file = e; code = h.1; above = h.2 }
+      to : (m.signature ≡ initialiser_signature) × (IsTrue (list_any (is_code file.pool) member.attributes) × IsSubtype p m.class class) → IsCodedInitialiser p class number
+      to h = record { method = m; stands = stands; named = h.0; file = file; place = place; member = member; of_file = e; code = h.1.0; above = h.1.1 }
 
-      back : IsCodedInitialiser p class number → (m.signature ≡ initialiser_signature) × IsTrue (list_any (is_code file.pool) member.attributes) × IsSubtype p m.class class
+      back : IsCodedInitialiser p class number → (m.signature ≡ initialiser_signature) × (IsTrue (list_any (is_code file.pool) member.attributes) × IsSubtype p m.class class)
       back c =
           let same : c.method ≡ m = same_Some c.method m (sym c.stands ∙ stands) in
           let both : in_file c.file c.place c.member ≡ in_file file place member = sym c.of_file ∙ ap (λ (n : Method). n.body) same ∙ e in
           let same_file : c.file ≡ file = cc in
           let same_member : c.member ≡ member = cc in (
             subst (λ (n : Method). n.signature ≡ initialiser_signature) same c.named,
-            subst (λ (f : ClassFile). IsTrue (list_any (is_code f.pool) member.attributes)) same_file
-                (subst (λ (n : Member). IsTrue (list_any (is_code c.file.pool) n.attributes)) same_member c.code),
-            subst (λ (n : Method). IsSubtype p n.class class) same c.above,
+            (
+              subst (λ (f : ClassFile). IsTrue (list_any (is_code f.pool) member.attributes)) same_file
+                  (subst (λ (n : Member). IsTrue (list_any (is_code c.file.pool) n.attributes)) same_member c.code),
+              subst (λ (n : Method). IsSubtype p n.class class) same c.above,
+            ),
           )
 
   coded_or_not : OrNot (IsCodedInitialiser p class number)
@@ -62,11 +64,11 @@ has_initialiser_or_not p class = carried_over to back (some_below (IsCodedInitia
 
 some_of_filter : {X : Type 0} (f : X → Bool) (xs : List X) (y : X) (ys : List X) → filter f xs ≡ y ∷ ys → list_any f xs ≡ true
 some_of_filter f [] y ys e = absurd cc
-some_of_filter f (x ∷ xs) y ys e = by (f x) refl
+some_of_filter f (x ∷ xs) y ys e = by (f x) refl (λ other. some_of_filter f xs y ys other)
   where
-    by : (b : Bool) → f x ≡ b → list_any f (x ∷ xs) ≡ true
-    by true is = ap (λ (b : Bool). b || list_any f xs) is
-    by false is = ap (λ (b : Bool). b || list_any f xs) is ∙ some_of_filter f xs y ys (sym (ap (λ (b : Bool). if b then x ∷ filter f xs else filter f xs) is) ∙ e)
+    by : (b : Bool) → f x ≡ b → (filter f xs ≡ y ∷ ys → list_any f xs ≡ true) → list_any f (x ∷ xs) ≡ true
+    by true is later = ap (λ (b : Bool). b || list_any f xs) is
+    by false is later = ap (λ (b : Bool). b || list_any f xs) is ∙ later (sym (ap (λ (b : Bool). cond b (x ∷ filter f xs) (filter f xs)) is) ∙ e)
 
 pub coded_initialiser : (p : Program) (class : List ℕ) (number : ℕ) → IsInitialiser p class number → IsCodedInitialiser p class number
 coded_initialiser p class number i = record {
