@@ -1,9 +1,9 @@
 -- Public contracts rest on this module.
 -- An instruction as the code of this crate judges it, and what it names where nothing is wrong with it.
-use Rattle.std.specs.Prelude.{◌≡◌, ℕ, false, Option, Some, None, Ok}
+use Rattle.std.specs.Prelude.{◌≡◌, false, Option, Some, None, Ok}
 use Rattle.jvm_model.specs.declared.number.MethodNo.{MethodNo}
 use Rattle.jvm_model.specs.RowViews.{action_view, operands_view}
-use Rattle.jvm_model.specs.Table.{is_call, is_field_access, Action, plain, load_constant, load_element, store_element, probe_element, probe_array, probe_object, get_static, put_static, get_field, put_field, invoke_virtual, invoke_special, invoke_static, invoke_interface, make_object, make_array, throw_object, cast, leave_method, refused}
+use Rattle.jvm_model.specs.Table.{is_call, is_field_access, Action, invoke_virtual, invoke_special, invoke_static, invoke_interface}
 use Rattle.linked_program.specs.Numbers.{name_at}
 use Rattle.instruction_reasons.specs.Reasons.{Judged, LooksUpField, LooksUpMethod, HasTarget}
 use Rattle.instruction_reasons.specs.declared.judgement.JudgedInstruction.{JudgedInstruction}

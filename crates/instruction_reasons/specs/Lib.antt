@@ -1,2 +1,4 @@
 pub mod Reasons
 pub mod Judgements
+pub mod Named
+pub mod Looked

@@ -1,7 +1,7 @@
 -- Public contracts rest on this module.
 -- Why an instruction has no node: what it names is not there, or is of another kind (JVMS 5.4.3, 6.5), or is something that the
 -- analysis does not follow.
-use Rattle.std.specs.Prelude.{codes, ◌≡◌, ◌≢◌, ◌⊎◌, ℕ, ◌+◌, Bool, true, false, List, [], ◌∷◌, ◌++◌, replicate, option_and_then, Option, Some, None, Result, Ok, Err, slice_get, Contains, IsTrue, if◌then◌else◌}
+use Rattle.std.specs.Prelude.{codes, ◌≡◌, ◌≢◌, ◌⊎◌, ℕ, ◌+◌, Bool, true, false, List, [], ◌∷◌, ◌++◌, replicate, option_and_then, Option, Some, None, Result, Ok, Err, slice_get, Contains, IsTrue}
 use Rattle.jvm_model.specs.declared.access.AccessFlag.TheVariants.{Native}
 use Rattle.jvm_model.specs.declared.class_file.ClassFile.{ClassFile}
 use Rattle.jvm_model.specs.declared.class_file.Member.{Member}

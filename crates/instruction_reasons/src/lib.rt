@@ -3,6 +3,17 @@
 //! the instruction names. Nothing here takes memory.
 #![tactic(auto)]
 
+mod absent;
+mod finalizers;
+mod followed;
 pub mod judgement;
+mod lookups;
+mod members;
+mod methods;
+mod mismatch;
+mod names;
+mod stubs;
+mod targets;
+mod texts;
 
 pub use judgement::{JudgedInstruction, NamedMember, judge};

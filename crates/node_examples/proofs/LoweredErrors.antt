@@ -7,6 +7,7 @@ use Rattle.std.proofs.lemmas.Option.{same_Some, none-some}
 use Rattle.std.proofs.lemmas.Slice.Eq.{bytes_eq-Decides}
 use Rattle.jvm_model.specs.declared.number.ClassNo.{ClassNo}
 use Rattle.jvm_model.specs.Programs.{Program, Class}
+use Rattle.jvm_model.specs.Subtypes.{same}
 use Rattle.bytecode_machine.specs.Machine.{of_class}
 use Rattle.machine_examples.specs.Building.{handler as covers}
 use Rattle.machine_examples.specs.Initialising.{main_pool, makes_broken}

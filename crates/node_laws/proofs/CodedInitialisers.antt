@@ -38,7 +38,7 @@ module _ (p : Program) (class : List ℕ) (number : ℕ) where
           let same_member : c.member ≡ member = cc in (
             subst (λ (n : Method). n.signature ≡ initialiser_signature) same c.named,
             subst (λ (f : ClassFile). IsTrue (list_any (is_code f.pool) member.attributes)) same_file
-            (subst (λ (n : Member). IsTrue (list_any (is_code c.file.pool) n.attributes)) same_member c.code),
+                (subst (λ (n : Member). IsTrue (list_any (is_code c.file.pool) n.attributes)) same_member c.code),
             subst (λ (n : Method). IsSubtype p n.class class) same c.above,
           )
 

@@ -1,0 +1,12 @@
+pub mod Only
+pub mod Unfollowed
+pub mod Supertypes
+pub mod Resolutions
+pub mod Finalizing
+pub mod ArrayElements
+pub mod OtherKinds
+pub mod Bodies
+pub mod Dispatch
+pub mod Undescribed
+pub mod FirstReasons
+pub mod FreeInstructions

@@ -1,0 +1,22 @@
+use Rattle.std.proofs.Common.{List, map, take, get_or, sym, subst}
+use Rattle.jvm_model.specs.declared.opcode.Raise.{Raise as Given}
+use Rattle.jvm_model.specs.declared.opcode.Raise.TheVariants.{NullPointer}
+use Rattle.jvm_model.specs.RowViews.{raise_view}
+use Rattle.jvm_model.specs.Table.{Raise}
+use Rattle.node_parts.specs.Exceptions.{AddsClass, AreRaised}
+use Rattle.node_parts.proofs.AddedClasses.{raised_more, views_push}
+use Rattle.node_parts.proofs.exceptions.raised_classes.Goals as goal
+
+pub loop-raise-preserved : goal.loop-raise-preserved
+loop-raise-preserved c =
+    let p = c.args.program.now in
+    let raises = c.args.raises.now in
+    let i = c.loop-raise.raise-index in
+    let old = c.loop-raise.raised.items in
+    let new = c.add_class.new.classes.items in
+    let r : Given = get_or raises i NullPointer in
+    let adds = subst (λ name. AddsClass p name old new) c.class_of.ensures c.in_ok-add_class.ensures in
+    record {
+      so_far = subst (λ (rs : List Raise). AreRaised p rs new) (sym (views_push raises i NullPointer c.loop-raise-test.true))
+          (raised_more p (map raise_view (take i raises)) (raise_view r) old new c.loop-raise.invariant.so_far adds);
+    }

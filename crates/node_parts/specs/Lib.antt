@@ -1,0 +1,4 @@
+pub mod Initialisers
+pub mod Exceptions
+pub mod Catches
+pub mod Entries

@@ -1,0 +1,95 @@
+//! Initialisers of classes (JVMS 2.9, 5.5).
+
+ghost use Rattle.std.specs.Prelude.{◌≡◌, ◌↔◌, ℕ, All, Contains, IsTrue, slice_get};
+ghost use Rattle.std.specs.List.{list_any};
+ghost use Rattle.jvm_model.specs.declared.class_file.Member.{Member};
+ghost use Rattle.jvm_model.specs.Soundness.{is_code};
+ghost use Rattle.linked_program.specs.Numbers.{name_at, IsClassNumber};
+ghost use Rattle.node_machine.specs.Nodes.{HasInitialiser};
+ghost use Rattle.node_parts.specs.Initialisers.{DeclaresInitialiser, DeclaresAt};
+
+use jvm_model::lookup::Signature;
+use jvm_model::sound::first_code;
+use jvm_model::{ClassFile, ClassNo, Member, PoolEntry};
+use linked_program::method_body::MethodBody;
+use linked_program::program::Program;
+
+/// Whether a class, or one of its supertypes, has an initialiser for which its class file has code (JVMS 2.9). It walks up the
+/// superclasses, and takes no memory.
+pub fn has_initialiser(program: &Program, class: ClassNo) -> bool
+    requires { IsClassNumber program.now class.0 }
+    ensures { IsTrue result ↔ HasInitialiser program.now (name_at program.now class.0) }
+{
+    program.well_formed();
+    let mut current = class;
+    'upward: for _passed in 0..program.class_count() {
+        if declares_at(program, current) {
+            return true;
+        }
+        let Some(above) = program.super_class(current) else {
+            return false;
+        };
+        current = above;
+    }
+    unreachable!()
+}
+
+/// Whether a class, or a supertype through one of its own superinterfaces, declares an initialiser.
+fn declares_at(program: &Program, class: ClassNo) -> bool
+    requires { IsClassNumber program.now class.0 }
+    ensures { IsTrue result ↔ DeclaresAt program.now class.0 }
+{
+    if declares_initialiser(program, class) {
+        return true;
+    }
+    any_declares(program, program.through_interfaces(class))
+}
+
+/// Whether one of these classes declares an initialiser.
+fn any_declares(program: &Program, classes: &[u32]) -> bool
+    requires { All (IsClassNumber program.now) classes.now }
+    ensures { IsTrue result ↔ ((number : ℕ) × Contains classes.now number × DeclaresInitialiser program.now (name_at program.now number)) }
+{
+    for number in classes {
+        if declares_initialiser(program, ClassNo(*number)) {
+            return true;
+        }
+    }
+    false
+}
+
+/// Whether the class itself declares an initialiser for which its class file has code.
+fn declares_initialiser(program: &Program, class: ClassNo) -> bool
+    requires { IsClassNumber program.now class.0 }
+    ensures { IsTrue result ↔ DeclaresInitialiser program.now (name_at program.now class.0) }
+{
+    program.well_formed();
+    let signature = Signature {
+        name: b"<clinit>",
+        descriptor: b"()V",
+    };
+    let Some(method) = program.declared_method(class, signature) else {
+        return false;
+    };
+    match program.method_body(method) {
+        MethodBody::InFile { file, number } => has_code(file, number),
+        MethodBody::Described(_) => false,
+    }
+}
+
+/// Whether the method of a number has an attribute named `Code` (JVMS 4.7.3).
+fn has_code(file: &ClassFile, number: usize) -> bool
+    ensures { (m : Member) → slice_get file.now.methods number ≡ Some m → result ≡ list_any (is_code file.now.pool) m.attributes }
+{
+    match file.methods.as_slice().get(number) {
+        Some(method) => is_coded(file.pool.as_slice(), method),
+        None => false,
+    }
+}
+
+/// Whether a method has an attribute named `Code`.
+fn is_coded(pool: &[PoolEntry], method: &Member) -> bool
+    ensures { result ≡ list_any (is_code pool.now) method.now.attributes }
+{
+    first_code(pool, method.attributes.as_slice()).is_some()
+}
