@@ -1,5 +1,5 @@
 -- What is known of the code of a method of a class file.
-use Rattle.std.proofs.Common.{◌≡◌, ℕ, ◌<◌, length, Ok, Some, refl, sym, subst, Bor}
+use Rattle.std.proofs.Common.{◌≡◌, ℕ, Ok, Some, refl, sym, subst, Bor}
 use Rattle.std.specs.List.{slice_get}
 use Rattle.class_index.proofs.OrderPlaces.{stands_below}
 use Rattle.code_reader.specs.CodeReading.{ReadsCode}

@@ -23,7 +23,7 @@ struct Linked {
 
 /// Prints the methods of a case, each as nodes or with its first refusal; or why the files have no program.
 pub fn tell_case<R: Print, T: Tree>(rt: &R, alloc: Global, tree: &mut T) -> Result<()> {
-    match linked(alloc, tree) {
+    match read_case(alloc, tree) {
         Ok(Linked { program, members }) => {
             let names = Names::of(alloc, &program, &members)?;
             tell_classes(rt, alloc, &program, &members.methods, &names)
@@ -37,7 +37,7 @@ pub fn tell_case<R: Print, T: Tree>(rt: &R, alloc: Global, tree: &mut T) -> Resu
 }
 
 /// The program of the files of a case, and what they declare.
-fn linked<T: Tree>(alloc: Global, tree: &mut T) -> Result<Linked, CaseFailure> {
+fn read_case<T: Tree>(alloc: Global, tree: &mut T) -> Result<Linked, CaseFailure> {
     let files = read_files(alloc, tree)?;
     let stubs = read_all_stubs(alloc, tree)?;
     let members = members_of(alloc, &files, &stubs)?;
@@ -114,7 +114,12 @@ fn tell_method<R: Print>(
 }
 
 /// Prints the sizes of a method, and its nodes.
-fn tell_nodes<R: Print>(rt: &R, alloc: Global, method: &LoweredMethod, names: &Names) -> Result<()> {
+fn tell_nodes<R: Print>(
+    rt: &R,
+    alloc: Global,
+    method: &LoweredMethod,
+    names: &Names,
+) -> Result<()> {
     let slots = method.slots;
     let stack = method.stack;
     let params = method.params;

@@ -1,18 +1,20 @@
 //! From a method of a program to its nodes.
 
-ghost use Rattle.std.specs.Prelude.{◌≡◌, IfOk, IfSome, Ok, Some, slice_get, true};
+ghost use Rattle.std.specs.Prelude.{◌≡◌, IfOk, IsTrue, Ok};
 ghost use Rattle.std.specs.List.{list_any};
 ghost use Rattle.code_reader.specs.CodeReading.{ReadsCode};
 ghost use Rattle.flow_graph.specs.Graphs.{IsGraph};
 ghost use Rattle.jvm_model.specs.Layout.{HasCodeAttribute};
-ghost use Rattle.jvm_model.specs.Soundness.{IsChecked};
+ghost use Rattle.jvm_model.specs.Soundness.{is_code, IsChecked};
 ghost use Rattle.linked_program.specs.Numbers.{IsMethodNumber};
 
 use code_reader::read_code;
 use failure::Failure;
 use flow_graph::{Graph, graph};
 use jvm_model::layout::is_code;
-use jvm_model::{ClassFile, Code, Fault, MethodNo, Name, ReadFailure, Refusal};
+use jvm_model::{
+    Attribute, ClassFile, Code, Fault, MethodNo, Name, PoolEntry, ReadFailure, Refusal,
+};
 use linked_program::method_body::MethodBody;
 use linked_program::program::Program;
 use lowering::lower_method;
@@ -70,17 +72,19 @@ fn refused(alloc: Global, file: &str, fault: Fault) -> SupplyFailure {
 
 /// Whether the method of a number has an attribute named `Code` (JVMS 4.7.3).
 fn has_code(class: &ClassFile, number: usize) -> bool
-    ensures { result ≡ true → HasCodeAttribute class.now number }
+    ensures { IsTrue result → HasCodeAttribute class.now number }
 {
-    let pool = class.pool.as_slice();
     match class.methods.as_slice().get(number) {
-        Some(method) => method
-            .attributes
-            .as_slice()
-            .iter()
-            .any(|attribute| is_code(pool, attribute)),
+        Some(method) => any_code(class.pool.as_slice(), method.attributes.as_slice()),
         None => false,
     }
+}
+
+/// Whether one of the attributes is named `Code`.
+fn any_code(pool: &[PoolEntry], attributes: &[Attribute]) -> bool
+    ensures { result ≡ list_any (is_code pool.now) attributes.now }
+{
+    attributes.iter().any(|attribute| is_code(pool, attribute))
 }
 
 /// The code and the flow graph of the method of a number.

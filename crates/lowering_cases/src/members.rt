@@ -43,8 +43,20 @@ pub fn members_of(
 fn add_file(alloc: Global, members: &mut Members, class: &ClassFile) -> Result<(), AllocError> {
     let pool = class.pool.as_slice();
     let name = shown(class_name_at(pool, class.this_class));
-    add_members(alloc, &mut members.methods, name, pool, class.methods.as_slice())?;
-    add_members(alloc, &mut members.fields, name, pool, class.fields.as_slice())
+    add_members(
+        alloc,
+        &mut members.methods,
+        name,
+        pool,
+        class.methods.as_slice(),
+    )?;
+    add_members(
+        alloc,
+        &mut members.fields,
+        name,
+        pool,
+        class.fields.as_slice(),
+    )
 }
 
 /// Adds the methods, or the fields, of a class file.
