@@ -174,6 +174,7 @@ class Code:
             words, note = by_offset[offset]
             line, after = self.node(offset, words, note, heights[offset])
             lines[offset] = line
+            assert after <= self.method.stack, (self.full, offset)
             covering = [h for h in self.method.handlers if h[0] <= offset < h[1]]
             for next_one, height in [(n, after) for n in self.follows(offset, words)] + [(h[2], 1) for h in covering]:
                 assert heights.get(next_one, height) == height, (self.full, next_one)
@@ -193,6 +194,7 @@ class Code:
             if self.case.initialised(trigger):
                 raises = raises + INIT
         line += "".join([" throws"] * bool(raises) + [" " + r for r in raises])
+        assert pops <= height, (self.full, offset)
         return line, height - pops + pushes
 
     def site(self, offset, name):
