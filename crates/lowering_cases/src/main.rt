@@ -1,5 +1,6 @@
 //! Lowers the methods of each case, and prints their nodes. A case is a folder in the one that is named: with class files, and perhaps
-//! a stub file `stubs.toml`. Beside them stands `source.txt`: what the class files were made of. It is not read.
+//! a stub file `stubs.toml`. Beside them stands `source.txt`: what the class files were made of. It is not read. The script
+//! `data/expect.py` makes of these texts alone what is to be printed.
 //!
 //! Of a case its name is printed, and then of each method whose code a class file of the case has, in the order of their numbers, its
 //! class, a full stop, its name and its descriptor. A line `refused FILE OFFSET REASON` follows, or a line
