@@ -1,0 +1,4 @@
+//! Linked programs, and the failures of a link.
+
+mod link_failure;
+mod program;

@@ -1,0 +1,7 @@
+//! The types of class files, and what they say.
+
+mod descriptor;
+mod grammar;
+mod layout;
+mod opcode;
+mod sound;

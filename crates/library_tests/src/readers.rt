@@ -1,0 +1,5 @@
+//! Class files, code and flow graphs that are read.
+
+mod class_file;
+mod code;
+mod graph;
