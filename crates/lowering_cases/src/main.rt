@@ -35,6 +35,11 @@
 //! A FIELD is its class, a full stop, its name, a colon and its descriptor. A SITE is in brackets: its kind, its method or `-`, its
 //! offset and its class. KIND is `virtual`, `special`, `static` or `interface`, NAME the name and the descriptor in the instruction,
 //! and an argument is the slot of a reference, or `.` for a unit of a primitive.
+//! So the node of a call that passes a long, in the range of a handler:
+//!
+//! ```text
+//! 5: call virtual A.f(J)LA; named f(J)LA; args 3 . . result 3 > 8 ! 9/java/lang/Error throws java/lang/NullPointerException
+//! ```
 #![tactic(auto)]
 
 mod case;
