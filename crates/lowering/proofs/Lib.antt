@@ -1,0 +1,12 @@
+pub mod SmallOperands
+pub mod CodeFacts
+pub mod Judged
+pub mod NamedMembers
+pub mod Walks
+pub mod MemberOwners
+pub mod MadeClasses
+pub mod StaticOwners
+pub mod StepPlaces
+pub mod NodesMade
+pub mod Answered
+pub mod OwnCode
