@@ -1,2 +1,1 @@
-pub mod ReadStubs
 pub mod Views

@@ -1,16 +1,12 @@
 //! A case: a folder of class files, with or without a stub file, and with queries.
 
 use crate::answer::answer;
-use crate::case_failure::{CaseFailure, CaseFault};
-use crate::class_files::read_files;
 use crate::flow::tell_graph;
 use crate::query::{Query, query_of};
-use crate::stubs::read_all_stubs;
 use anyhow::Result;
+use case_files::{CaseFailure, CaseFault, is_refusal, link_case, read_all_stubs, read_files};
 use failure::Failure;
-use linked_program::LinkFault;
 use linked_program::program::Program;
-use linking::link::link;
 use std::alloc::Global;
 use ts_outside::{Tree, TreeFault};
 
@@ -33,23 +29,11 @@ pub fn tell_case<R: Print, T: Tree>(rt: &R, alloc: Global, tree: &mut T) -> Resu
     }
 }
 
-/// Whether a file is refused.
-fn is_refusal(failure: &CaseFailure) -> bool {
-    matches!(failure, Failure::Cause(CaseFault::Refused(_)))
-}
-
 /// The program of the files of a case.
 fn linked<T: Tree>(alloc: Global, tree: &mut T) -> Result<Program, CaseFailure> {
     let files = read_files(alloc, tree)?;
     let stubs = read_all_stubs(alloc, tree)?;
-    match link(alloc, files, stubs) {
-        Ok(program) => Ok(program),
-        Err(Failure::Cause(LinkFault::Refused(refusal))) => Err(Failure::Cause(CaseFault::Refused(
-            refusal,
-        ))),
-        Err(Failure::Cause(LinkFault::TooMany)) => Err(Failure::Cause(CaseFault::TooMany)),
-        Err(Failure::OutOfMemory) => Err(Failure::OutOfMemory),
-    }
+    link_case(alloc, files, stubs)
 }
 
 /// Prints each query and its answer.

@@ -6,9 +6,8 @@ ghost use Rattle.jvm_model.specs.Layout.{HasCodeAttribute};
 ghost use Rattle.jvm_model.specs.Soundness.{is_code, IsSoundClass};
 ghost use Rattle.jvm_model.specs.Spelling.{spell};
 
-use crate::case_failure::CaseFailure;
-use crate::class_files::read_file;
 use crate::query::FileMethod;
+use case_files::{CaseFailure, read_file};
 use code_reader::read_code;
 use failure::Failure;
 use flow_graph::{Graph, graph};

@@ -5,18 +5,14 @@
 
 mod answer;
 mod case;
-mod case_failure;
-mod class_files;
 mod flow;
 mod query;
 mod searches;
-mod stubs;
 
 use crate::case::tell_case;
 use anyhow::{Result, bail};
-use std::alloc::Global;
-use std::rt::Files;
-use std::{env, fs, io};
+use case_files::folders;
+use std::env;
 use ts_outside::RealTree;
 
 fn main(rt: HostRuntime) -> Result<()> {
@@ -32,17 +28,4 @@ fn main(rt: HostRuntime) -> Result<()> {
         println!(rt; "")?;
     }
     Ok(())
-}
-
-/// The names of the folders in a folder, in byte order.
-fn folders(rt: &impl Files, alloc: Global, path: &str) -> io::Result<Vec<String>> {
-    let mut names = Vec::new(alloc);
-    for entry in fs::read_dir(&(rt, alloc), path)? {
-        let entry = entry?;
-        if fs::metadata(rt, entry.path())?.is_dir() {
-            names.push(String::from_str(alloc, entry.file_name())?)?;
-        }
-    }
-    names.sort()?;
-    Ok(names)
 }

@@ -1,0 +1,132 @@
+//! A case: a folder of class files, with or without a stub file.
+
+ghost use Rattle.linked_program.specs.Numbers.{IsClassNumber, IsMethodNumber};
+
+use crate::code::lowered;
+use crate::members::{MemberName, Members, members_of};
+use crate::names::{Names, signature_of};
+use crate::nodes::node_text;
+use anyhow::Result;
+use case_files::{CaseFailure, is_refusal, link_case, read_all_stubs, read_files};
+use failure::Failure;
+use jvm_model::{ClassNo, MethodNo, reason_word};
+use linked_program::program::Program;
+use op_model::LoweredMethod;
+use std::alloc::{AllocError, Global};
+use ts_outside::Tree;
+
+/// The program of a case, and the members of its classes.
+struct Linked {
+    program: Program,
+    members: Members,
+}
+
+/// Prints the methods of a case, each as nodes or with its first refusal; or why the files have no program.
+pub fn tell_case<R: Print, T: Tree>(rt: &R, alloc: Global, tree: &mut T) -> Result<()> {
+    match read_case(alloc, tree) {
+        Ok(Linked { program, members }) => {
+            let names = Names::of(alloc, &program, &members)?;
+            tell_classes(rt, alloc, &program, &members.methods, &names)
+        }
+        Err(failure) if is_refusal(&failure) => {
+            println!(rt; "{failure}")?;
+            Ok(())
+        }
+        Err(failure) => Err(failure.into()),
+    }
+}
+
+/// The program of the files of a case, and what they declare.
+fn read_case<T: Tree>(alloc: Global, tree: &mut T) -> Result<Linked, CaseFailure> {
+    let files = read_files(alloc, tree)?;
+    let stubs = read_all_stubs(alloc, tree)?;
+    let members = members_of(alloc, &files, &stubs)?;
+    let program = link_case(alloc, files, stubs)?;
+    Ok(Linked { program, members })
+}
+
+/// Prints the methods of the classes, in the order of their numbers.
+fn tell_classes<R: Print>(
+    rt: &R,
+    alloc: Global,
+    program: &Program,
+    methods: &[MemberName],
+    names: &Names,
+) -> Result<()> {
+    for number in 0..program.class_count() {
+        if let Ok(number) = u32::try_from(number) {
+            tell_class(rt, alloc, program, ClassNo(number), methods, names)?;
+        }
+    }
+    Ok(())
+}
+
+/// Prints the methods of a class, in the order of their numbers, which is that of its file.
+fn tell_class<R: Print>(
+    rt: &R,
+    alloc: Global,
+    program: &Program,
+    class: ClassNo,
+    methods: &[MemberName],
+    names: &Names,
+) -> Result<()>
+    requires { IsClassNumber program.now class.0 }
+{
+    let file = program.file_name(class).as_str();
+    for member in methods {
+        if member.class.as_bytes() == program.class_name(class)
+            && let Some(method) = program.declared_method(class, signature_of(member))
+        {
+            tell_method(rt, alloc, program, method, file, names)?;
+        }
+    }
+    Ok(())
+}
+
+/// Prints a method, if a class file has code for it.
+fn tell_method<R: Print>(
+    rt: &R,
+    alloc: Global,
+    program: &Program,
+    method: MethodNo,
+    file: &str,
+    names: &Names,
+) -> Result<()>
+    requires { IsMethodNumber program.now method.0 }
+{
+    let name = names.method(method);
+    match lowered(alloc, program, method, file) {
+        Ok(Some(lowered)) => {
+            println!(rt; "{name}")?;
+            tell_nodes(rt, alloc, &lowered, names)
+        }
+        Ok(None) => Ok(()),
+        Err(Failure::Cause(refusal)) => {
+            let file = refusal.file.as_str();
+            let offset = refusal.offset;
+            let reason = reason_word(refusal.reason);
+            println!(rt; "{name}")?;
+            println!(rt; "refused {file} {offset} {reason}")?;
+            Ok(())
+        }
+        Err(Failure::OutOfMemory) => Err(AllocError.into()),
+    }
+}
+
+/// Prints the sizes of a method, and its nodes.
+fn tell_nodes<R: Print>(
+    rt: &R,
+    alloc: Global,
+    method: &LoweredMethod,
+    names: &Names,
+) -> Result<()> {
+    let slots = method.slots;
+    let stack = method.stack;
+    let params = method.params;
+    println!(rt; "slots {slots} stack {stack} params {params}")?;
+    for node in method.nodes.as_slice() {
+        let text = node_text(alloc, names, node)?;
+        println!(rt; "{text}")?;
+    }
+    Ok(())
+}
