@@ -1,0 +1,3 @@
+pub mod EachEffect
+pub mod WalkEnds
+pub mod StepRows
