@@ -9,7 +9,7 @@ use Rattle.jvm_model.specs.declared.class_file.Attribute.{Attribute}
 use Rattle.jvm_model.specs.Descriptors.{IsFieldDescriptor, IsMethodDescriptor}
 use Rattle.jvm_model.specs.Names.{is_unqualified_name, IsClassName}
 use Rattle.jvm_model.specs.Soundness.{PlacedUse, UseHolds, IsIn, IsSoundClass, TextIsIn, is_array, places_of}
-use Rattle.library_tests.proofs.one_method.class_of.Goals as goal
+use Rattle.reader_tests.proofs.one_method.class_of.Goals as goal
 
 abbrev entries_are : List PoolEntry
 entries_are = entries.Utf8 (codes "Code") ∷ entries.Utf8 (codes "A") ∷ entries.Utf8 (codes "m") ∷ entries.Utf8 (codes "()V") ∷ entries.Class 2 ∷ []

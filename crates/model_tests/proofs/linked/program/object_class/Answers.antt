@@ -9,7 +9,7 @@ use Rattle.jvm_model.specs.declared.stub.StubResult.TheVariants.{Void}
 use Rattle.jvm_model.specs.Names.{IsClassName}
 use Rattle.jvm_model.specs.StubRules.{is_object_argument, IsSoundField, IsSoundMethod, IsSoundStub, MayReturn}
 use Rattle.jvm_model.proofs.ClassNames.{class_name_from_parts}
-use Rattle.library_tests.proofs.linked.program.object_class.Goals as goal
+use Rattle.model_tests.proofs.linked.program.object_class.Goals as goal
 
 abbrev constructor : StubMethod
 constructor = record { name = codes "<init>"; descriptor = codes "()V"; is_static = false; is_abstract = false; returns = Void ∷ []; throws = []; keeps = [] }

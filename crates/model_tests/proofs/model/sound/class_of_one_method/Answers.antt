@@ -11,7 +11,7 @@ use Rattle.jvm_model.specs.Descriptors.{IsFieldDescriptor, IsMethodDescriptor}
 use Rattle.jvm_model.specs.Lookups.{entry_at}
 use Rattle.jvm_model.specs.Names.{is_unqualified_name, IsClassName}
 use Rattle.jvm_model.specs.Soundness.{PlacedUse, UseHolds, IsIn, IsSoundClass, TextIsIn, is_array, leads_to, places_of}
-use Rattle.library_tests.proofs.model.sound.class_of_one_method.Goals as goal
+use Rattle.model_tests.proofs.model.sound.class_of_one_method.Goals as goal
 
 abbrev entries_are : List PoolEntry
 entries_are =

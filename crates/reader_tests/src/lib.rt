@@ -1,0 +1,10 @@
+//! Tests of the readers: each public call once on its happy path, and what no clause says. The programs `reader_cases` and `text_cases`
+//! have the tables of what is read and refused.
+#![tactic(auto)]
+
+#[cfg(test)]
+mod documents;
+#[cfg(test)]
+mod one_method;
+#[cfg(test)]
+mod readers;
