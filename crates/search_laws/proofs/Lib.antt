@@ -5,3 +5,7 @@ pub mod Declaring
 pub mod Inheriting
 pub mod Resolving
 pub mod FieldSearches
+pub mod Targets
+pub mod SpecialTargets
+pub mod Choosing
+pub mod CallOutcomes

@@ -3,3 +3,4 @@
 #![tactic(auto)]
 
 pub mod resolution;
+pub mod selection;
