@@ -1,0 +1,11 @@
+pub mod Bounded
+pub mod Classes
+pub mod Ranks
+pub mod Declaring
+pub mod Inheriting
+pub mod Resolving
+pub mod FieldSearches
+pub mod Targets
+pub mod SpecialTargets
+pub mod Choosing
+pub mod CallOutcomes
