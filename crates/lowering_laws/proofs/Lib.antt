@@ -1,2 +1,3 @@
 pub mod FirstReasons
 pub mod OneRefusal
+pub mod OneRow
