@@ -1,3 +1,5 @@
 pub mod FirstReasons
 pub mod OneRefusal
 pub mod OneRow
+pub mod Named
+pub mod OneOperation
