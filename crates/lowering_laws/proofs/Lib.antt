@@ -3,3 +3,5 @@ pub mod OneRefusal
 pub mod OneRow
 pub mod Named
 pub mod OneOperation
+pub mod Concerned
+pub mod AlikeNodes

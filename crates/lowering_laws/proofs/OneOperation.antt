@@ -16,28 +16,28 @@ use Rattle.bytecode_machine.specs.Machine.{NamesMethod}
 use Rattle.bytecode_machine.specs.Start.{boot_site}
 use Rattle.bytecode_machine.specs.States.{is_reference_type}
 use Rattle.method_nodes.specs.Operations.{Placed, IsAssign, IsCallOp, IsChosen, IsFieldOp, IsOp, IsStaticOp, field_no, new_site, unit_slots, value_slot}
-use Rattle.lowering_laws.specs.Alike.{AreAlike, equal, by_moves}
+use Rattle.lowering_laws.specs.Alike.{AlikeOps, equal, by_moves}
 use Rattle.lowering_laws.proofs.Named.{one_arrays, one_class, one_constant, one_target, same_field, same_method}
 use Rattle.lowering_laws.proofs.OneRow.{units_agree}
 
-same_moves : (i : Placed) (a b : Op) → IsAssign i a → IsAssign i b → AreAlike a b
+same_moves : (i : Placed) (a b : Op) → IsAssign i a → IsAssign i b → AlikeOps a b
 same_moves i a b x y =
     by_moves x.moves y.moves x.is y.is (record { each = λ m. (λ there. (y.each.each m).1 ((x.each.each m).0 there), λ there. (x.each.each m).1 ((y.each.each m).0 there)) })
 
 -- ---- fields
 
 by_reference : (i : Placed) (reference : Bool) (of_reference : FieldNo → Op) (m n : ℕ) (a b : Op) → m ≡ n → MatchBool reference (a ≡ of_reference (field_no m)) (IsAssign i a)
-    → MatchBool reference (b ≡ of_reference (field_no n)) (IsAssign i b) → AreAlike a b
+    → MatchBool reference (b ≡ of_reference (field_no n)) (IsAssign i b) → AlikeOps a b
 by_reference i true of_reference m n a b same x y = equal (x ∙ ap (λ (k : ℕ). of_reference (field_no k)) same ∙ sym y)
 by_reference i false of_reference m n a b same x y = same_moves i a b x y
 
-one_static : (i : Placed) → IsProgram i.program → (of_reference : FieldNo → Op) (a b : Op) → IsStaticOp i of_reference a → IsStaticOp i of_reference b → AreAlike a b
+one_static : (i : Placed) → IsProgram i.program → (of_reference : FieldNo → Op) (a b : Op) → IsStaticOp i of_reference a → IsStaticOp i of_reference b → AlikeOps a b
 one_static i program of_reference a b x y =
     let same = same_field i.program i.pool i.instruction.operand true program x.names y.names in
     let is = subst (λ (f : Field). MatchBool (is_reference_type f.signature.descriptor) (a ≡ of_reference (field_no x.names.number)) (IsAssign i a)) same.field x.is in
     by_reference i (is_reference_type y.names.field.signature.descriptor) of_reference x.names.number y.names.number a b same.number is y.is
 
-one_access : (i : Placed) → IsProgram i.program → (of_reference : FieldNo → Op) (a b : Op) → IsFieldOp i of_reference a → IsFieldOp i of_reference b → AreAlike a b
+one_access : (i : Placed) → IsProgram i.program → (of_reference : FieldNo → Op) (a b : Op) → IsFieldOp i of_reference a → IsFieldOp i of_reference b → AlikeOps a b
 one_access i program of_reference a b x y =
     let same = same_field i.program i.pool i.instruction.operand false program x.names y.names in
     equal (x.is
@@ -67,7 +67,7 @@ call_of i kind called resolved chosen results = Call (record {
   result = value_slot i.base results;
 })
 
-one_call : (i : Placed) → IsProgram i.program → (kind : CallKind) (a b : Op) → IsCallOp i kind a → IsCallOp i kind b → AreAlike a b
+one_call : (i : Placed) → IsProgram i.program → (kind : CallKind) (a b : Op) → IsCallOp i kind a → IsCallOp i kind b → AlikeOps a b
 one_call i program kind a b x y =
     let same = same_method i.program i.pool i.instruction.operand program x.names y.names in
     let chosen : x.chosen ≡ y.chosen = one_chosen kind i program x.names y.names x.chosen y.chosen same.called same.resolved x.is_chosen y.is_chosen in
@@ -81,7 +81,7 @@ one_call i program kind a b x y =
 
 -- ---- the operation
 
-pub one_op : (action : Action) (i : Placed) (a b : Op) → IsProgram i.program → IsOp action i a → IsOp action i b → AreAlike a b
+pub one_op : (action : Action) (i : Placed) (a b : Op) → IsProgram i.program → IsOp action i a → IsOp action i b → AlikeOps a b
 one_op plain i a b program x y = same_moves i a b x y
 one_op load_constant i a b program x y = equal (x.2 ∙ ap (λ (c : List ℕ). Constant (boot_site c) i.base) (one_constant i x.0 y.0 x.1 y.1) ∙ sym y.2)
 one_op load_element i a b program x y = equal (x ∙ sym y)
@@ -104,5 +104,5 @@ one_op cast i a b program x y = equal (x.1 ∙ ap (λ (c : List ℕ). Cast c i.b
 one_op leave_method i a b program x y = equal (x ∙ sym y)
 one_op refused i a b program x y = absurd x
 
-pub operation_once : (i : Placed) (a b : Op) → IsProgram i.program → IsOp i.row.action i a → IsOp i.row.action i b → AreAlike a b
+pub operation_once : (i : Placed) (a b : Op) → IsProgram i.program → IsOp i.row.action i a → IsOp i.row.action i b → AlikeOps a b
 operation_once i a b program x y = one_op i.row.action i a b program x y

@@ -4,11 +4,13 @@ ghost use Rattle.std.specs.Prelude.{◌≡◌, ℕ, Option};
 ghost use Rattle.jvm_model.specs.declared.code.Code.{Code};
 ghost use Rattle.jvm_model.specs.declared.reason.Reason.{Reason};
 ghost use Rattle.jvm_model.specs.declared.reason.Refusal.{Refusal};
+ghost use Rattle.jvm_model.specs.LinkedPrograms.{IsProgram};
 ghost use Rattle.jvm_model.specs.Programs.{Program};
 ghost use Rattle.flow_graph.specs.declared.steps.Graph.{Graph};
 ghost use Rattle.op_model.specs.declared.lowered.LoweredMethod.{LoweredMethod};
 ghost use Rattle.instruction_reasons.specs.Reasons.{Judged, IsFirstReason};
 ghost use Rattle.lowering.specs.Refusals.{IsAccepted, IsRefused};
+ghost use Rattle.lowering_laws.specs.Alike.{AlikeMethods};
 
 /// An instruction has one first reason, or none.
 pub fn one_first_reason()
@@ -25,4 +27,11 @@ pub fn one_refusal()
 pub fn refused_or_accepted()
     ensures { (p : Program) (number : ℕ) (code : Code) (graph : Graph) (r : Refusal) (l : LoweredMethod)
         → IsRefused p number code graph r → IsAccepted p number code graph l → ⊥ }
+{}
+
+/// A method of a program that has no reason has its nodes, which are one list, but for the order of moves, of successors and of thrown
+/// classes.
+pub fn one_acceptance()
+    ensures { (p : Program) (number : ℕ) (code : Code) (graph : Graph) (a b : LoweredMethod)
+        → IsProgram p → IsAccepted p number code graph a → IsAccepted p number code graph b → AlikeMethods a b }
 {}
