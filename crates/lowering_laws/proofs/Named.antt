@@ -1,5 +1,5 @@
 -- What an instruction names in a program is one.
-use Rattle.std.proofs.Common.{◌≡◌, ℕ, Bool, List, [], ◌∷◌, Some, sym, ap, ◌∙◌, subst}
+use Rattle.std.proofs.Common.{◌≡◌, ℕ, Bool, false, List, [], ◌∷◌, Some, None, Ok, refl, sym, ap, ◌∙◌, subst}
 use Rattle.std.specs.List.{slice_get}
 use Rattle.std.proofs.lemmas.Option.{same_Some}
 use Rattle.jvm_model.specs.declared.pool.PoolEntry.{PoolEntry}
@@ -7,15 +7,16 @@ use Rattle.jvm_model.specs.Instructions.{DecodedInstruction}
 use Rattle.jvm_model.specs.LinkedPrograms.{IsProgram}
 use Rattle.jvm_model.specs.Lookups.{MemberReference}
 use Rattle.jvm_model.specs.Programs.{Class, Program}
-use Rattle.jvm_model.specs.Resolution.{FindsField, HasSignature, IsFoundIn, IsInstanceWith, Resolves, ResolvesFrom}
+use Rattle.jvm_model.specs.Resolution.{FindsField, IsFoundIn, IsInstanceWith, Resolves, found}
 use Rattle.jvm_model.specs.Selection.{SelectsFrom, SelectsSpecial, StartsSearch, at_named, at_super}
 use Rattle.jvm_model.specs.Subtypes.{array_of, class_named}
 use Rattle.bytecode_machine.specs.Machine.{NamesArrays, NamesClass, NamesField, NamesMethod, nested, nested_arrays, of_primitives, of_references}
 use Rattle.method_nodes.specs.Operations.{LoadsConstantOf, Placed, of_class, of_string}
 use Rattle.program_laws.proofs.Chains.{one_class as same_class}
-use Rattle.program_laws.proofs.Defaults.{one_resolved, one_selected}
+use Rattle.program_laws.proofs.Defaults.{one_selected}
 use Rattle.program_laws.proofs.FieldSearch.{one_search}
-use Rattle.program_laws.proofs.Members.{alone_instance, alone_with, one_found_in}
+use Rattle.program_laws.proofs.Members.{alone_instance, one_found_in}
+use Rattle.program_laws.proofs.Outcomes.{one_method_outcome}
 
 -- ---- members
 
@@ -33,12 +34,13 @@ same_field p pool operand wants_static program x y =
       field = same_Some x.field y.field (sym x.stands ∙ ap (slice_get p.fields) number ∙ y.stands);
     }
 
+-- a class of this name; what resolution says of a reference rests on no more of it
+abbrev class_of_name : List ℕ → Class
+class_of_name name = record { name = name; super_class = None; interfaces = []; is_interface = false; is_folder = false; file = [] }
+
 one_resolution : (p : Program) (m : MemberReference) (i j : ℕ) → IsProgram p → Resolves p m i → Resolves p m j → i ≡ j
 one_resolution p m i j program x y =
-    let class : y.class ≡ x.class = same_class p m.class y.class x.class y.named x.named in
-    let other = subst (λ (c : Class). ResolvesFrom p m.class m.signature (IsFoundIn p (HasSignature m.signature) m.signature c) j) class y.search in
-    one_resolved p m.class m.signature (IsFoundIn p (HasSignature m.signature) m.signature x.class) i j
-    (record { one = λ k l. one_found_in p (HasSignature m.signature) m.signature x.class k l program (alone_with p m.signature program) }) x.search other
+    let same = one_method_outcome p (class_of_name m.class) false m.signature (Ok i) (Ok j) program (found i x refl refl) (found j y refl refl) in cc same
 
 pub record SameMethod (p : Program) (pool : List PoolEntry) (operand : ℕ) (x y : NamesMethod p pool operand) : Type 0 where
   pub called : x.called ≡ y.called
