@@ -3,7 +3,7 @@ use Rattle.std.proofs.Common.{◌≡◌, ◌⊎◌, inl, inr, ℕ, ◌<◌, ◌�
 use Rattle.std.specs.List.{AllByRecursion, Contains, slice_get}
 use Rattle.std.proofs.lemmas.Bool.{cases_lt}
 use Rattle.std.proofs.lemmas.List.Elements.{recursion_from_All}
-use Rattle.std.proofs.lemmas.Option.{same_Some, none-some, slice_get_within, slice_get-get_or, get_or_from_slice_get}
+use Rattle.std.proofs.lemmas.Option.{same_Some, none-some, slice_get-get_or}
 use Rattle.jvm_model.specs.declared.class_file.ClassFile.{ClassFile}
 use Rattle.jvm_model.specs.declared.class_file.Member.{Member}
 use Rattle.jvm_model.specs.declared.code.Code.{Code}
@@ -26,6 +26,7 @@ use Rattle.op_model.specs.declared.lowered.LoweredMethod.{LoweredMethod}
 use Rattle.node_parts.specs.Entries.{IsFirstUnknown, AreKnown, entry_offset}
 use Rattle.instruction_reasons.specs.Reasons.{Judged, IsFirstReason}
 use Rattle.lowering.specs.Refusals.{AreFree, HasFirstReason, IsAccepted, IsFirstRefusal, at_entry, at_instruction, IsJudgedAt, IsOwnCode, IsRefused, IsRefusedAt, here, later}
+use Rattle.lowering.proofs.StepPlaces.{one_at}
 use Rattle.lowering_laws.proofs.FirstReasons.{one_reason}
 
 -- ---- the member of a class file
@@ -61,23 +62,6 @@ same_own p number code graph x y =
     }
 
 -- ---- instructions stand at offsets of their own
-
-earlier : (ps : List PlacedInstruction) → AreInOrder ps → (i j : ℕ) (p q : PlacedInstruction) → i < j → slice_get ps i ≡ Some p → slice_get ps j ≡ Some q → p.offset < q.offset
-earlier ps ordered i j p q lt at_i at_j =
-    let below = ordered.below i j p lt (slice_get_within ps j q at_j) in
-    let first = ap (λ (x : PlacedInstruction). x.offset) (get_or_from_slice_get ps i p p at_i) in
-    let second = ap (λ (x : PlacedInstruction). x.offset) (get_or_from_slice_get ps j q p at_j) in
-    omega (arith, below, first, second)
-
-one_at : (ps : List PlacedInstruction) → AreInOrder ps → (i j : ℕ) (p q : PlacedInstruction) → slice_get ps i ≡ Some p → slice_get ps j ≡ Some q → p.offset ≡ q.offset → p ≡ q
-one_at ps ordered i j p q at_i at_j same = by (cases_lt i j) (cases_lt j i)
-  where
-    by : (i < j) ⊎ (j ≤ i) → (j < i) ⊎ (i ≤ j) → p ≡ q
-    by (inl lt) other = let less = earlier ps ordered i j p q lt at_i at_j in absurd (omega (arith, less, same))
-    by (inr le) (inl lt) = let less = earlier ps ordered j i q p lt at_j at_i in absurd (omega (arith, less, same))
-    by (inr le) (inr ge) =
-        let number : i ≡ j = omega (arith, le, ge) in
-        same_Some p q (sym at_i ∙ ap (slice_get ps) number ∙ at_j)
 
 there_at : (ps : List PlacedInstruction) (p : PlacedInstruction) → (there : Contains ps p) → slice_get ps there.0 ≡ Some p
 there_at ps p there = slice_get-get_or ps there.0 p there.1 ∙ ap (λ (q : PlacedInstruction). Some q) there.2
