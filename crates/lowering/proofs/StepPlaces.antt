@@ -46,7 +46,7 @@ earlier ps ordered i j p q lt at_i at_j =
     let second = ap (λ (x : PlacedInstruction). x.offset) (get_or_from_slice_get ps j q p at_j) in
     omega (arith, below, first, second)
 
-one_at : (ps : List PlacedInstruction) → AreInOrder ps → (i j : ℕ) (p q : PlacedInstruction) → slice_get ps i ≡ Some p → slice_get ps j ≡ Some q → p.offset ≡ q.offset → p ≡ q
+pub one_at : (ps : List PlacedInstruction) → AreInOrder ps → (i j : ℕ) (p q : PlacedInstruction) → slice_get ps i ≡ Some p → slice_get ps j ≡ Some q → p.offset ≡ q.offset → p ≡ q
 one_at ps ordered i j p q at_i at_j same = by (cases_lt i j) (cases_lt j i)
   where
     by : (i < j) ⊎ (j ≤ i) → (j < i) ⊎ (i ≤ j) → p ≡ q
