@@ -1,4 +1,4 @@
--- A method has one list of nodes, but for the order of moves, of successors and of thrown classes.
+-- A method has one list of nodes, but for the order and the repeats of moves, of successors and of thrown classes.
 use Rattle.std.proofs.Common.{◌≡◌, ℕ, ◌+◌, List, [], ◌∷◌, length, Option, Some, if◌then◌else◌, refl, sym, ap, ◌∙◌, subst, arith}
 use Rattle.std.specs.List.{AllZip, Contains}
 use Rattle.std.proofs.lemmas.Bool.{false≢true}

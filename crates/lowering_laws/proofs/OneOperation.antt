@@ -1,4 +1,4 @@
--- An instruction has one operation, but for the order of moves.
+-- An instruction has one operation, but for the order and the repeats of moves.
 use Rattle.std.proofs.Common.{◌≡◌, ℕ, Bool, ◌+◌, true, false, List, map, Option, Some, if◌then◌else◌, sym, ap, ◌∙◌, subst}
 use Rattle.std.specs.Bool.{MatchBool}
 use Rattle.jvm_model.specs.declared.number.FieldNo.{FieldNo}

@@ -1,5 +1,5 @@
 -- Public contracts rest on this module.
--- Operations, nodes and methods that differ in the order of lists alone: of moves, of successors and of thrown classes.
+-- Operations, nodes and methods that differ in the order and the repeats in lists alone: of moves, of successors and of thrown classes.
 use Rattle.std.specs.Prelude.{◌≡◌, ◌↔◌, List, Contains}
 use Rattle.std.specs.List.{AllZip}
 use Rattle.op_model.specs.declared.lowered.LoweredMethod.{LoweredMethod}
@@ -8,7 +8,7 @@ use Rattle.op_model.specs.declared.op.Move.{Move}
 use Rattle.op_model.specs.declared.op.Op.{Op}
 use Rattle.op_model.specs.declared.op.Op.TheVariants.{Assign}
 
--- The lists have the same members, in any order.
+-- The lists have the same members, in any order and each any number of times.
 pub record HaveSame {A : Type 0} (xs ys : List A) : Type 0 where
   pub each : (x : A) → Contains xs x ↔ Contains ys x
 
@@ -17,7 +17,7 @@ pub data AlikeOps (a b : Op) : Type 0 where
   equal : a ≡ b → AlikeOps a b
   by_moves : (xs ys : List Move) → a ≡ Assign xs → b ≡ Assign ys → HaveSame xs ys → AlikeOps a b
 
--- The nodes are equal but for the order of moves, of successors and of thrown classes.
+-- The nodes are equal but for the order and the repeats of moves, of successors and of thrown classes.
 pub record AlikeNodes (a b : Node) : Type 0 where
   pub offset : a.offset ≡ b.offset
   pub op : AlikeOps a.op b.op
@@ -26,7 +26,7 @@ pub record AlikeNodes (a b : Node) : Type 0 where
   pub trigger : a.trigger ≡ b.trigger
   pub throws : HaveSame a.throws b.throws
 
--- The methods are equal but for that order in their nodes.
+-- The methods are equal but for those in their nodes.
 pub record AlikeMethods (a b : LoweredMethod) : Type 0 where
   pub method : a.method ≡ b.method
   pub slots : a.slots ≡ b.slots

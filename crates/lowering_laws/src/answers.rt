@@ -29,8 +29,8 @@ pub fn refused_or_accepted()
         → IsRefused p number code graph r → IsAccepted p number code graph l → ⊥ }
 {}
 
-/// A method of a program that has no reason has its nodes, which are one list, but for the order of moves, of successors and of thrown
-/// classes.
+/// The nodes with which a method of a program is accepted are one list, but for the order and the repeats of moves, of successors and of
+/// thrown classes.
 pub fn one_acceptance()
     ensures { (p : Program) (number : ℕ) (code : Code) (graph : Graph) (a b : LoweredMethod)
         → IsProgram p → IsAccepted p number code graph a → IsAccepted p number code graph b → AlikeMethods a b }

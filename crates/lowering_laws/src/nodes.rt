@@ -1,4 +1,4 @@
-//! The laws of nodes: what the definitions say of an instruction's node leaves no choice but the order of lists.
+//! The laws of nodes: what the definitions say of an instruction's node leaves no choice but the order and the repeats in some lists.
 
 ghost use Rattle.std.specs.Prelude.{◌≡◌, ℕ, List};
 ghost use Rattle.jvm_model.specs.declared.code.Code.{Code};
@@ -20,12 +20,12 @@ pub fn one_row()
     ensures { (pool : List PoolEntry) (i : DecodedInstruction) (r s : Row) → IsRowAt pool i r → IsRowAt pool i s → r ≡ s }
 {}
 
-/// An instruction of a program has at most one operation, but for the order of moves.
+/// An instruction of a program has at most one operation, but for the order and the repeats of moves.
 pub fn one_operation()
     ensures { (i : Placed) (a b : Op) → IsProgram i.program → IsOp i.row.action i a → IsOp i.row.action i b → AlikeOps a b }
 {}
 
-/// The nodes of a method of a program are one list, but for the order of moves, of successors and of thrown classes.
+/// The nodes of a method of a program are one list, but for the order and the repeats of moves, of successors and of thrown classes.
 pub fn nodes_alike()
     ensures { (p : Program) (number : ℕ) (pool : List PoolEntry) (code : Code) (graph : Graph) (a b : LoweredMethod)
         → IsProgram p → IsOwnCode p number code graph → IsLowered p number pool code graph a → IsLowered p number pool code graph b → AlikeMethods a b }
