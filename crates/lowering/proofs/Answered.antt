@@ -19,7 +19,8 @@ use Rattle.method_nodes.specs.LoweredMethods.{IsNodeOf}
 use Rattle.op_model.specs.declared.node.Node.{Node}
 use Rattle.node_parts.specs.Entries.{IsFirstUnknown, entry_offset}
 use Rattle.code_reader.proofs.MachineBodies.{code_is_the_body}
-use Rattle.lowering.specs.Bodies.{IsJudgedStep, IsNodeAt, IsOwnBody, IsRefusalIn, IsStepsRefusal}
+use Rattle.lowering.specs.Bodies.{IsJudgedStep, IsOrderedAt, IsOwnBody, IsRefusalIn, IsStepsRefusal}
+use Rattle.lowering.specs.Orders.{IsInOrder}
 use Rattle.lowering.specs.Refusals.{AreFree, IsFirstRefusal, IsLoweringAnswer, IsOwnCode, IsRefusedAt, at_entry, at_instruction, HasFirstReason}
 use Rattle.lowering.specs.declared.body.JudgedStep.{JudgedStep}
 use Rattle.lowering.specs.declared.body.MethodCode.{MethodCode}
@@ -80,8 +81,15 @@ module _ (b : MethodCode) (number : ℕ) (graph : Graph) (own : IsOwnBody b numb
   method_number = slice_get_within b.program.now.methods b.method.0 own.known.method own.known.stands
 
   -- the nodes of the steps are those of the method
-  pub nodes_of : (steps : List GraphStep) (nodes : List Node) → AllZip (IsNodeAt b) steps nodes → AllZip (IsNodeOf b.program.now b.method.0 own.known.method b.class.now.pool b.code.now) steps nodes
+  pub nodes_of : (steps : List GraphStep) (nodes : List Node) → AllZip (IsOrderedAt b) steps nodes → AllZip (IsNodeOf b.program.now b.method.0 own.known.method b.class.now.pool b.code.now) steps nodes
   nodes_of [] [] h = tt
   nodes_of [] (n ∷ nodes) h = absurd h
   nodes_of (s ∷ steps) [] h = absurd h
-  nodes_of (s ∷ steps) (n ∷ nodes) h = (h.0 own.known.method own.known.stands, nodes_of steps nodes h.1)
+  nodes_of (s ∷ steps) (n ∷ nodes) h = ((h.0 own.known.method own.known.stands).node, nodes_of steps nodes h.1)
+
+  -- and they are in order
+  pub ordered_of : (steps : List GraphStep) (nodes : List Node) → AllZip (IsOrderedAt b) steps nodes → AllZip (IsInOrder b.program.now b.method.0 own.known.method b.class.now.pool b.code.now) steps nodes
+  ordered_of [] [] h = tt
+  ordered_of [] (n ∷ nodes) h = absurd h
+  ordered_of (s ∷ steps) [] h = absurd h
+  ordered_of (s ∷ steps) (n ∷ nodes) h = (h.0 own.known.method own.known.stands, ordered_of steps nodes h.1)

@@ -18,10 +18,10 @@ use Rattle.flow_graph.specs.Effects.{with_row}
 use Rattle.method_nodes.specs.LoweredMethods.{HasTrigger, no_trigger, for_class, IsHandlerAt}
 use Rattle.method_nodes.specs.Operations.{Placed}
 use Rattle.node_machine.specs.Nodes.{AreThrownAt}
-use Rattle.node_parts.specs.Exceptions.{IsTriggerOf, no_class, a_class as of_class}
+use Rattle.node_parts.specs.Exceptions.{IsTriggerOf, IsThrownList, no_class, a_class as of_class}
 use Rattle.op_model.specs.declared.node.NodeHandler.{NodeHandler}
 use Rattle.op_model.specs.declared.op.Op.{Op}
-use Rattle.lowering.specs.Bodies.{HasStepOperation, IsJudgedStep, IsMethodCode, IsNodeAt, TriggersAt, nothing, a_class}
+use Rattle.lowering.specs.Bodies.{HasStepOperation, HasStepOrder, IsJudgedStep, IsMethodCode, IsNodeAt, IsOrderedAt, TriggersAt, nothing, a_class}
 use Rattle.lowering.specs.declared.body.JudgedStep.{JudgedStep}
 use Rattle.lowering.specs.declared.body.MethodCode.{MethodCode}
 
@@ -102,7 +102,7 @@ module _ (b : MethodCode) (known : IsMethodCode b) (step : GraphStep) (j : Judge
   triggered trigger (a_class some name number concerns number_of e) =
       record { class = Some name; triggers = for_class (row.trigger ∙ some) name number concerns number_of e refl; of = of_class number name number_of e refl }
 
-  pub node_of : (successors : List ℕ) (handlers : List NodeHandler) (trigger : Option ClassNo) (throws : List ClassNo) → successors ≡ step.successors
+  abbrev node_of : (successors : List ℕ) (handlers : List NodeHandler) (trigger : Option ClassNo) (throws : List ClassNo) → successors ≡ step.successors
       → AllZip (IsHandlerAt b.program.now b.class.now.pool b.code.now.handlers) step.handlers handlers → TriggersAt b j trigger
       → ((name : Option (List ℕ)) → IsTriggerOf b.program.now trigger name → AreThrownAt b.program.now (row_view j.row.now).raises name throws)
       → IsNodeAt b step (record { offset = step.offset; op = op; successors = successors; handlers = handlers; trigger = trigger; throws = throws })
@@ -146,6 +146,19 @@ module _ (b : MethodCode) (known : IsMethodCode b) (step : GraphStep) (j : Judge
 
       raises : (name : Option (List ℕ)) → AreThrownAt b.program.now (row_view j.row.now).raises name throws → AreThrownAt b.program.now has.row.raises name throws
       raises name h = subst (λ (all : _). AreThrownAt b.program.now all name throws) (sym row.raises) h
+
+  -- and it is in order
+  pub ordered_node : (successors : List ℕ) (handlers : List NodeHandler) (trigger : Option ClassNo) (throws : List ClassNo) → (same : successors ≡ step.successors)
+      → (handled : AllZip (IsHandlerAt b.program.now b.class.now.pool b.code.now.handlers) step.handlers handlers) → (triggers : TriggersAt b j trigger)
+      → (thrown : (name : Option (List ℕ)) → IsTriggerOf b.program.now trigger name → AreThrownAt b.program.now (row_view j.row.now).raises name throws)
+      → HasStepOrder b step j op → ((name : Option (List ℕ)) → IsTriggerOf b.program.now trigger name → IsThrownList b.program.now (row_view j.row.now).raises name throws)
+      → IsOrderedAt b step (record { offset = step.offset; op = op; successors = successors; handlers = handlers; trigger = trigger; throws = throws })
+  ordered_node successors handlers trigger throws same handled triggers thrown order listed = λ m stands. record {
+    node = node_of successors handlers trigger throws same handled triggers thrown m stands;
+    op = order.for_row has.row has.of_row has.base has.lowest;
+    successors = same;
+    throws = subst (λ (all : _). IsThrownList b.program.now all (triggered trigger triggers).class throws) (sym row.raises) (listed (triggered trigger triggers).class (triggered trigger triggers).of);
+  }
 
 -- ---- the handlers of the node
 

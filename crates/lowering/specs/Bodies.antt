@@ -28,10 +28,12 @@ use Rattle.op_model.specs.declared.node.Node.{Node}
 use Rattle.op_model.specs.declared.op.Op.{Op}
 use Rattle.method_nodes.specs.LoweredMethods.{IsNodeOf}
 use Rattle.method_nodes.specs.Operations.{IsOp}
+use Rattle.node_operations.specs.Orders.{IsOrderedOp}
 use Rattle.instruction_reasons.specs.declared.judgement.NamedMember.{NamedMember}
 use Rattle.instruction_reasons.specs.declared.judgement.NamedMember.TheVariants.{NoMember, Field, Method}
 use Rattle.instruction_reasons.specs.Judgements.{IsNamedMember}
 use Rattle.instruction_reasons.specs.Reasons.{Judged, IsFirstReason}
+use Rattle.lowering.specs.Orders.{IsInOrder}
 use Rattle.lowering.specs.Refusals.{HasFirstReason, IsRefusedAt}
 use Rattle.lowering.specs.declared.body.MethodCode.{MethodCode}
 use Rattle.lowering.specs.declared.body.JudgedStep.{JudgedStep}
@@ -103,6 +105,11 @@ pub record HasStepOperation (b : MethodCode) (step : GraphStep) (j : JudgedStep)
     base = base;
   }) op
 
+-- Its moves are in order, by each row that the constant pool allows, wherever its lowest unit is.
+pub record HasStepOrder (b : MethodCode) (step : GraphStep) (j : JudgedStep) (op : Op) : Type 0 where
+  pub for_row : (row : Row) → IsRowAt b.class.now.pool (with_row j.placed.now.instruction (row_view j.row.now)) row → (base : ℕ) → base + length row.pops ≡ b.code.now.max_locals + step.height
+      → IsOrderedOp row j.placed.now.instruction.operand base op
+
 -- The class that the instruction names, if it is in the program.
 pub data IsMadeClass (b : MethodCode) (j : JudgedStep) (class : Option ClassNo) : Type 0 where
   made : (name : List ℕ) (number : ClassNo) → class_name_at b.class.now.pool j.placed.now.instruction.operand ≡ Some name
@@ -132,6 +139,10 @@ pub data TriggersAt (b : MethodCode) (j : JudgedStep) (trigger : Option ClassNo)
 -- The node is that of the step, in the method of the number.
 abbrev pub IsNodeAt : MethodCode → GraphStep → Node → Type 0
 IsNodeAt b step n = (m : ProgramMethod) → slice_get b.program.now.methods b.method.0 ≡ Some m → IsNodeOf b.program.now b.method.0 m b.class.now.pool b.code.now step n
+
+-- And it is in order.
+abbrev pub IsOrderedAt : MethodCode → GraphStep → Node → Type 0
+IsOrderedAt b step n = (m : ProgramMethod) → slice_get b.program.now.methods b.method.0 ≡ Some m → IsInOrder b.program.now b.method.0 m b.class.now.pool b.code.now step n
 
 -- The failure is the refusal with the file of the method's class; or out of memory.
 abbrev pub IsRefusalIn : MethodCode → ℕ → Reason → Failure Refusal → Type 0

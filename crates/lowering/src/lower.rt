@@ -4,7 +4,8 @@ ghost use Rattle.std.specs.Prelude.{All, IfOk, IfNone, IfSome};
 ghost use Rattle.std.specs.List.{AllZip};
 ghost use Rattle.node_parts.specs.Catches.{IsCatchOf};
 ghost use Rattle.node_parts.specs.Entries.{AreKnown, IsFirstUnknown};
-ghost use Rattle.lowering.specs.Bodies.{IsJudgedStep, IsMethodCode, IsNodeAt, IsOwnBody, IsStepOf};
+ghost use Rattle.lowering.specs.Bodies.{IsJudgedStep, IsMethodCode, IsOrderedAt, IsOwnBody, IsStepOf};
+ghost use Rattle.lowering.specs.Orders.{AreInOrder};
 ghost use Rattle.lowering.specs.Refusals.{IsLoweringAnswer, IsOwnCode};
 
 use crate::body::{JudgedStep, MethodCode};
@@ -35,7 +36,8 @@ pub fn lower_method(
     graph: &Graph,
 ) -> Result<LoweredMethod, SupplyFailure>
     requires { IsOwnCode program.now method.0 code.now graph.now }
-    ensures { IsLoweringAnswer program.now method.0 code.now graph.now result }
+    ensures answer { IsLoweringAnswer program.now method.0 code.now graph.now result }
+    ensures order { IfOk result (AreInOrder program.now method.0 code.now graph.now) }
 {
     program.well_formed();
     let MethodBody::InFile { file, number } = program.method_body(method) else {
@@ -59,7 +61,8 @@ fn lower_body(
     graph: &Graph,
 ) -> Result<LoweredMethod, SupplyFailure>
     requires { IsOwnBody body number graph.now }
-    ensures { IsLoweringAnswer body.entry.program.now body.entry.method.0 body.entry.code.now graph.now result }
+    ensures answer { IsLoweringAnswer body.entry.program.now body.entry.method.0 body.entry.code.now graph.now result }
+    ensures order { IfOk result (AreInOrder body.entry.program.now body.entry.method.0 body.entry.code.now graph.now) }
 {
     let steps = graph.steps.as_slice();
     let judged = judge_steps(alloc, body, steps)?;
@@ -107,7 +110,7 @@ fn nodes(
     requires judged { AllZip (IsJudgedStep body) steps.now judged.now }
     requires catches { AllZip (IsCatchOf body.program.now body.class.now.pool) body.code.now.handlers catches.now }
     requires known { AreKnown body.program.now body.class.now.pool body.code.now.handlers steps.now }
-    ensures { IfOk result (λ nodes. AllZip (IsNodeAt body.entry) steps.now nodes.items) }
+    ensures { IfOk result (λ nodes. AllZip (IsOrderedAt body.entry) steps.now nodes.items) }
 {
     let mut nodes = Vec::new(alloc);
     for number in 0..steps.len() {

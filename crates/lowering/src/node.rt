@@ -5,7 +5,7 @@ ghost use Rattle.std.specs.List.{AllZip};
 ghost use Rattle.flow_graph.specs.declared.steps.GraphStep.{GraphStep};
 ghost use Rattle.linked_program.specs.Numbers.{IsClassNumber};
 ghost use Rattle.node_parts.specs.Catches.{IsCatchOf, IsUnknownEntry};
-ghost use Rattle.lowering.specs.Bodies.{HasStepOperation, IsJudgedStep, IsMemberNumber, IsMadeClass, IsMethodCode, IsNodeAt, IsStepOf, NamesOwner, TriggersAt};
+ghost use Rattle.lowering.specs.Bodies.{HasStepOperation, HasStepOrder, IsJudgedStep, IsMemberNumber, IsMadeClass, IsMethodCode, IsOrderedAt, IsStepOf, NamesOwner, TriggersAt};
 
 use crate::body::{JudgedStep, MethodCode};
 use flow_graph::GraphStep;
@@ -33,7 +33,7 @@ pub(crate) fn node(
     requires judged { IsJudgedStep body step.now judged }
     requires catches { AllZip (IsCatchOf body.program.now body.class.now.pool) body.code.now.handlers catches.now }
     requires known { (place : ℕ) → Contains step.now.handlers place → IsUnknownEntry body.program.now body.class.now.pool body.code.now.handlers place → ⊥ }
-    ensures { IfOk result (IsNodeAt body.entry step.now) }
+    ensures { IfOk result (IsOrderedAt body.entry step.now) }
 {
     let trigger = trigger_of(body, judged);
     let op = operation_of(alloc, body, step, judged)?;
@@ -67,7 +67,8 @@ fn operation_of(
     requires body { IsMethodCode body }
     requires step { IsStepOf body step.now }
     requires judged { IsJudgedStep body step.now judged }
-    ensures { IfOk result (HasStepOperation body.entry step.now judged.entry) }
+    ensures operation { IfOk result (HasStepOperation body.entry step.now judged.entry) }
+    ensures order { IfOk result (HasStepOrder body.entry step.now judged.entry) }
 {
     operation(
         alloc,

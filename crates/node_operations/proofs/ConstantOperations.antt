@@ -17,10 +17,11 @@ use Rattle.method_nodes.specs.Moves.{AreMovesOf}
 use Rattle.method_nodes.specs.Operations.{IsOp, of_string, of_class}
 use Rattle.node_operations.specs.ByAction.{IsRowOf, IsOperation}
 use Rattle.node_operations.specs.Constants.{constant_class_in, constant_class}
-use Rattle.node_operations.specs.MoveLists.{cleared_from}
+use Rattle.node_operations.specs.MoveLists.{cleared_from, moves_of}
+use Rattle.node_operations.specs.Orders.{IsOrdered}
 use Rattle.node_operations.specs.Placements.{judged_at, placed_at}
 use Rattle.node_operations.specs.declared.placement.Placement.{Placement}
-use Rattle.node_operations.proofs.FieldOperations.{pushes_primitives}
+use Rattle.node_operations.proofs.FieldOperations.{pushes_primitives, pushed_moves}
 
 module _ (at : Placement) (action : (row_view at.row.now).action ≡ load_constant) where
   abbrev listed : Row
@@ -89,4 +90,28 @@ module _ (at : Placement) (action : (row_view at.row.now).action ≡ load_consta
   loads_number pool moves same unused none is = record {
     for_row = λ r of_row base lowest.
         number_by moves (entry_at at.class.now.pool at.instruction.now.operand) r base unused refl (ap (λ (p : List PoolEntry). constant_class p at.instruction.now.operand) (sym same) ∙ sym none) (constant_row_of r of_row) lowest is;
+  }
+
+  -- its moves are those of the row, in their order
+  ordered : (r : Row) (base : ℕ) (moves : List Move) → number_row ≡ r → base + length r.pops ≡ at.top → moves ≡ cleared_from 1 at.top → moves ≡ moves_of r at.instruction.now.operand base
+  ordered r base moves same lowest is =
+      is ∙ ap (λ (z : ℕ). cleared_from 1 z) (at_top r number_row base same refl lowest)
+      ∙ sym (pushed_moves number_row (primitive ∷ []) at.instruction.now.operand base refl refl refl refl)
+      ∙ ap (λ (x : Row). moves_of x at.instruction.now.operand base) same
+
+  ordered_by : (moves : List Move) (o : Option PoolEntry) (r : Row) (base : ℕ) → (UsesMethodConstant (judged_at at) → ⊥) → entry_at at.class.now.pool at.instruction.now.operand ≡ o → option_and_then constant_class_in o ≡ None
+      → option_and_then (constant_row listed) o ≡ Some r → base + length r.pops ≡ at.top → moves ≡ cleared_from 1 at.top → moves ≡ moves_of r at.instruction.now.operand base
+  ordered_by moves (Some (Integer bits)) r base unused stands none of_row lowest is = ordered r base moves (same_Some number_row r of_row) lowest is
+  ordered_by moves (Some (Float bits)) r base unused stands none of_row lowest is = ordered r base moves (same_Some number_row r of_row) lowest is
+  ordered_by moves (Some (Str text)) r base unused stands none of_row lowest is = absurd (none-some (codes "java/lang/String") (sym none))
+  ordered_by moves (Some (Class name)) r base unused stands none of_row lowest is = absurd (none-some (codes "java/lang/Class") (sym none))
+  ordered_by moves (Some (MethodHandle kind member)) r base unused stands none of_row lowest is = absurd (unused (loads_handle kind member action stands))
+  ordered_by moves (Some (MethodType descriptor)) r base unused stands none of_row lowest is = absurd (unused (loads_type descriptor action stands))
+  ordered_by moves _ r base unused stands none of_row lowest is = absurd (none-some r of_row)
+
+  pub number_in_order : (pool : List PoolEntry) (moves : List Move) → pool ≡ at.class.now.pool → (UsesMethodConstant (judged_at at) → ⊥) → None ≡ constant_class pool at.instruction.now.operand → moves ≡ cleared_from 1 at.top
+      → IsOrdered at (Assign moves)
+  number_in_order pool moves same unused none is = record {
+    for_row = λ r of_row base lowest.
+        ordered_by moves (entry_at at.class.now.pool at.instruction.now.operand) r base unused refl (ap (λ (p : List PoolEntry). constant_class p at.instruction.now.operand) (sym same) ∙ sym none) (constant_row_of r of_row) lowest is;
   }

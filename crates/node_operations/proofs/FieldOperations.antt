@@ -20,6 +20,7 @@ use Rattle.method_nodes.specs.Moves.{AreMovesOf}
 use Rattle.method_nodes.specs.Operations.{IsOp, IsAssign, field_no}
 use Rattle.node_operations.specs.ByAction.{IsRowOf, IsOperation, AccessesField}
 use Rattle.node_operations.specs.MoveLists.{moves_from, cleared_from, moves_of}
+use Rattle.node_operations.specs.Orders.{IsOrdered}
 use Rattle.node_operations.specs.Placements.{placed_at}
 use Rattle.node_operations.specs.declared.access.Access.{Access}
 use Rattle.node_operations.specs.declared.placement.Placement.{Placement}
@@ -70,25 +71,29 @@ reads_by : (r : Row) (pushes : List UnitSource) → r.stores ≡ [] → r.pushes
 reads_by r pushes s p e = ap (λ (x : List UnitSource). list_all is_read x && list_all is_read r.pushes) s ∙ ap (λ (x : List UnitSource). list_all is_read x) p ∙ e
 
 -- primitives are pushed, and nothing is popped
-pub pushes_primitives : (r : Row) (kinds : List UnitKind) (operand base : ℕ) → r.stores ≡ [] → r.pops ≡ [] → r.pushes ≡ map made_for kinds → list_all is_primitive kinds ≡ true → AreMovesOf r operand base (cleared_from (length kinds) base)
-pushes_primitives r kinds operand base s q p e =
+pub pushed_moves : (r : Row) (kinds : List UnitKind) (operand base : ℕ) → r.stores ≡ [] → r.pops ≡ [] → r.pushes ≡ map made_for kinds → list_all is_primitive kinds ≡ true → moves_of r operand base ≡ cleared_from (length kinds) base
+pushed_moves r kinds operand base s q p e =
     let made = moves_from operand base base (map made_for kinds) in
     let none : 0 - length (map made_for kinds) ≡ 0 = omega arith in
-    let same : moves_of r operand base ≡ cleared_from (length kinds) base =
     by_parts operand base r.stores [] r.pushes (map made_for kinds) (length r.pops) 0 s p (ap (λ (ks : List UnitKind). length ks) q)
     ∙ ap (λ (n : ℕ). made ++ cleared_from n (base + length (map made_for kinds))) none
     ∙ append-nil made
-    ∙ made_moves kinds operand base base e in
-    subst (λ (ms : List Move). AreMovesOf r operand base ms) same (are_moves_of r operand base (reads_by r (map made_for kinds) s p (made_read kinds e)))
+    ∙ made_moves kinds operand base base e
+
+pub pushes_primitives : (r : Row) (kinds : List UnitKind) (operand base : ℕ) → r.stores ≡ [] → r.pops ≡ [] → r.pushes ≡ map made_for kinds → list_all is_primitive kinds ≡ true → AreMovesOf r operand base (cleared_from (length kinds) base)
+pushes_primitives r kinds operand base s q p e =
+    subst (λ (ms : List Move). AreMovesOf r operand base ms) (pushed_moves r kinds operand base s q p e) (are_moves_of r operand base (reads_by r (map made_for kinds) s p (made_read kinds e)))
 
 -- units are popped, and nothing is pushed
-pub pops_units : (r : Row) (count operand base : ℕ) → r.stores ≡ [] → r.pushes ≡ [] → length r.pops ≡ count → AreMovesOf r operand base (cleared_from count base)
-pops_units r count operand base s p q =
+popped_moves : (r : Row) (count operand base : ℕ) → r.stores ≡ [] → r.pushes ≡ [] → length r.pops ≡ count → moves_of r operand base ≡ cleared_from count base
+popped_moves r count operand base s p q =
     let all : count - 0 ≡ count = omega arith in
     let from : base + 0 ≡ base = omega arith in
-    let same : moves_of r operand base ≡ cleared_from count base =
-    by_parts operand base r.stores [] r.pushes [] (length r.pops) count s p q ∙ ap (λ (n : ℕ). cleared_from n (base + 0)) all ∙ ap (λ (z : ℕ). cleared_from count z) from in
-    subst (λ (ms : List Move). AreMovesOf r operand base ms) same (are_moves_of r operand base (reads_by r [] s p refl))
+    by_parts operand base r.stores [] r.pushes [] (length r.pops) count s p q ∙ ap (λ (n : ℕ). cleared_from n (base + 0)) all ∙ ap (λ (z : ℕ). cleared_from count z) from
+
+pub pops_units : (r : Row) (count operand base : ℕ) → r.stores ≡ [] → r.pushes ≡ [] → length r.pops ≡ count → AreMovesOf r operand base (cleared_from count base)
+pops_units r count operand base s p q =
+    subst (λ (ms : List Move). AreMovesOf r operand base ms) (popped_moves r count operand base s p q) (are_moves_of r operand base (reads_by r [] s p refl))
 
 -- ---- the row of an access
 
@@ -226,4 +231,37 @@ module _ (at : Placement) where
           names = acc.names;
           is = subst (λ (b : Bool). MatchBool b (Assign moves ≡ StoreStatic (field_no acc.names.number) base) (IsAssign (placed_at at units base) (Assign moves))) (sym by_type) assign;
         }));
+  }
+
+  -- its moves are those of the row, in their order
+  pub gets_in_order : (a : Access) (moves : List Move) → row_of at.instruction.now.opcode ≡ Some listed → listed.action ≡ get_static → AccessesField at (wants_static listed.action) a → a.is_reference ≡ false
+      → moves ≡ cleared_from a.units at.top → IsOrdered at (Assign moves)
+  gets_in_order a moves known e access refers is = record {
+    for_row = λ row of_row base lowest.
+        (let acc = wanted a get_static e access in
+        let value = kinds_of acc.names.field.signature.descriptor in
+        let units = with_units listed [] (map made_for value) in
+        let same : row ≡ units = access_row true a acc (λ value. []) (map made_for) row (of_action get_static row e of_row) in
+        let none : length row.pops ≡ 0 = ap (λ (r : Row). length r.pops) same in
+        let bases : at.top ≡ base = omega (arith, none, lowest) in
+        let by_type : is_reference_type acc.names.field.signature.descriptor ≡ false = sym acc.is_reference ∙ refers in
+        is ∙ ap (λ (n : ℕ). cleared_from n at.top) acc.units ∙ ap (λ (z : ℕ). cleared_from (length value) z) bases
+        ∙ sym (pushed_moves units value at.instruction.now.operand base (no_stores_of get_static known e refl) refl refl (all_primitive acc.names.field.signature.descriptor by_type))
+        ∙ ap (λ (r : Row). moves_of r at.instruction.now.operand base) (sym same));
+  }
+
+  pub puts_in_order : (a : Access) (moves : List Move) → row_of at.instruction.now.opcode ≡ Some listed → listed.action ≡ put_static → AccessesField at (wants_static listed.action) a → a.is_reference ≡ false
+      → moves ≡ cleared_from a.units (at.top - a.units) → IsOrdered at (Assign moves)
+  puts_in_order a moves known e access refers is = record {
+    for_row = λ row of_row base lowest.
+        (let acc = wanted a put_static e access in
+        let value = kinds_of acc.names.field.signature.descriptor in
+        let units = with_units listed value [] in
+        let same : row ≡ units = access_row true a acc (λ value. value) (λ value. []) row (of_action put_static row e of_row) in
+        let pops : length row.pops ≡ length value = ap (λ (r : Row). length r.pops) same in
+        let count : a.units ≡ length value = acc.units in
+        let bases : at.top - a.units ≡ base = omega (arith, pops, count, lowest) in
+        is ∙ ap (λ (n : ℕ). cleared_from n (at.top - a.units)) count ∙ ap (λ (z : ℕ). cleared_from (length value) z) bases
+        ∙ sym (popped_moves units (length value) at.instruction.now.operand base (no_stores_of put_static known e refl) refl refl)
+        ∙ ap (λ (r : Row). moves_of r at.instruction.now.operand base) (sym same));
   }

@@ -7,15 +7,18 @@ use Rattle.jvm_model.specs.declared.code.Instruction.{Instruction as Given}
 use Rattle.jvm_model.specs.declared.pool.PoolEntry.{PoolEntry}
 use Rattle.jvm_model.specs.declared.reason.Reason.{Reason}
 use Rattle.jvm_model.specs.declared.reason.Reason.TheVariants as reasons
+use Rattle.jvm_model.specs.declared.site.Site.{Site}
 use Rattle.jvm_model.specs.Instructions.{DecodedInstruction, RowBy}
 use Rattle.jvm_model.specs.RowViews.{row_view, kind_view}
 use Rattle.jvm_model.specs.Table.{Row, row_of, Action, plain, load_element, store_element, probe_element, probe_array, probe_object, make_object, throw_object, cast, leave_method, refused}
 use Rattle.flow_graph.specs.Effects.{with_row, IsRowEffect, IsEffectBy}
 use Rattle.op_model.specs.declared.op.Op.{Op}
+use Rattle.op_model.specs.declared.op.Op.TheVariants.{Constant}
 use Rattle.method_nodes.specs.Operations.{IsOp}
 use Rattle.instruction_reasons.specs.Reasons.{Judged, HasReason, dynamic, method_constant, IsFirstOf, IsFirstReason, reason_order, UsesMethodConstant}
 use Rattle.flow_graph.specs.declared.effect.Effect.{Effect}
-use Rattle.node_operations.specs.ByAction.{IsRowOf, HasRow, IsOperation, IsTableOperation, is_of_table}
+use Rattle.node_operations.specs.ByAction.{IsRowOf, HasRow, IsOperation, IsTableOperation, IsArrayOperation, is_of_table}
+use Rattle.node_operations.specs.Orders.{IsOrderedOp, IsOrdered}
 use Rattle.node_operations.specs.Placements.{placed_at, HasUnitsBelow, HasOperation}
 use Rattle.node_operations.specs.declared.placement.Placement.{Placement}
 
@@ -51,6 +54,22 @@ lift_table at base op h lowest is = record {
       let bases : base ≡ other = omega (arith, table_pops at row h of_row, lowest, e) in
       subst (λ (r : Row). IsOp r.action (placed_at at r other) op) (sym same) (subst (λ (z : ℕ). IsOp (row_view at.row.now).action (placed_at at (row_view at.row.now) z) op) bases is));
 }
+
+pub order_table : (at : Placement) (base : ℕ) (op : Op) → is_of_table (row_view at.row.now).action ≡ true → base + length at.row.now.pops.now ≡ at.top → IsOrderedOp (row_view at.row.now) at.instruction.now.operand base op → IsOrdered at op
+order_table at base op h lowest is = record {
+  for_row = λ row of_row other e.
+      (let same : row ≡ row_view at.row.now = table_row (row_view at.row.now).action at.class.now.pool (with_row at.instruction.now (row_view at.row.now)) row h of_row in
+      let bases : base ≡ other = omega (arith, table_pops at row h of_row, lowest, e) in
+      subst (λ (r : Row). IsOrderedOp r at.instruction.now.operand other op) (sym same) (subst (λ (z : ℕ). IsOrderedOp (row_view at.row.now) at.instruction.now.operand z op) bases is));
+}
+
+-- ---- operations without moves
+
+pub arrays_in_order : (at : Placement) (units : ℕ) (arrays : List (List ℕ)) (op : Op) → IsArrayOperation at units arrays op → IsOrdered at op
+arrays_in_order at units arrays op is = record { for_row = λ row of_row base lowest. subst (λ (o : Op). IsOrderedOp row at.instruction.now.operand base o) (sym is.is) tt }
+
+pub constant_in_order : (at : Placement) (op : Op) (site : Site) (target : ℕ) → op ≡ Constant site target → IsOrdered at op
+constant_in_order at op site target is = record { for_row = λ row of_row base lowest. subst (λ (o : Op). IsOrderedOp row at.instruction.now.operand base o) (sym is) tt }
 
 -- ---- that an instruction has a row
 

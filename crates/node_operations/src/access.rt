@@ -6,6 +6,7 @@ ghost use Rattle.jvm_model.specs.Table.{row_of, get_static, put_static, get_fiel
 ghost use Rattle.instruction_reasons.specs.Judgements.{IsNamedMember};
 ghost use Rattle.instruction_reasons.specs.Reasons.{wants_static};
 ghost use Rattle.node_operations.specs.ByAction.{AccessesField, HasRow, IsOperation};
+ghost use Rattle.node_operations.specs.Orders.{IsOrdered};
 ghost use Rattle.node_operations.specs.Placements.{judged_at};
 
 use crate::moves::cleared;
@@ -31,7 +32,8 @@ pub(crate) fn get_static(alloc: Global, at: Placement<'_>) -> Result<Op, AllocEr
     requires action { (row_view at.row.now).action ≡ get_static }
     requires member { IsNamedMember (judged_at at) at.member }
     requires top { at.top < 2 ^ 18 }
-    ensures { IfOk result (IsOperation at.entry) }
+    ensures operation { IfOk result (IsOperation at.entry) }
+    ensures order { IfOk result (IsOrdered at.entry) }
 {
     let access = accessed_field(at);
     if access.is_reference {
@@ -50,7 +52,8 @@ pub(crate) fn put_static(alloc: Global, at: Placement<'_>) -> Result<Op, AllocEr
     requires member { IsNamedMember (judged_at at) at.member }
     requires units { HasRow at }
     requires top { at.top < 2 ^ 18 }
-    ensures { IfOk result (IsOperation at.entry) }
+    ensures operation { IfOk result (IsOperation at.entry) }
+    ensures order { IfOk result (IsOrdered at.entry) }
 {
     let access = accessed_field(at);
     let base = at.top - access.units;
@@ -68,7 +71,8 @@ pub(crate) fn get_field(at: Placement<'_>) -> Op
     requires action { (row_view at.row.now).action ≡ get_field }
     requires member { IsNamedMember (judged_at at) at.member }
     requires units { HasRow at }
-    ensures { IsOperation at.entry result }
+    ensures operation { IsOperation at.entry result }
+    ensures order { IsOrdered at.entry result }
 {
     let access = accessed_field(at);
     let base = at.top - 1;
@@ -87,7 +91,8 @@ pub(crate) fn put_field(at: Placement<'_>) -> Op
     requires action { (row_view at.row.now).action ≡ put_field }
     requires member { IsNamedMember (judged_at at) at.member }
     requires units { HasRow at }
-    ensures { IsOperation at.entry result }
+    ensures operation { IsOperation at.entry result }
+    ensures order { IsOrdered at.entry result }
 {
     let access = accessed_field(at);
     let base = at.top - 1 - access.units;

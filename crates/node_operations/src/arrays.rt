@@ -7,6 +7,7 @@ ghost use Rattle.jvm_model.specs.Table.{row_of, make_array};
 ghost use Rattle.bytecode_machine.specs.Machine.{primitive_array, nested_arrays};
 ghost use Rattle.flow_graph.specs.Reading.{IsSoundInstruction};
 ghost use Rattle.node_operations.specs.ByAction.{site_at, HasRow, IsOperation, IsArrayOperation};
+ghost use Rattle.node_operations.specs.Orders.{IsOrdered};
 
 use crate::placement::Placement;
 use crate::sites::{class_at, new_site};
@@ -25,7 +26,8 @@ pub(crate) fn make_array(alloc: Global, at: Placement<'_>) -> Result<Op, AllocEr
     requires units { HasRow at }
     requires top { at.top < 2 ^ 18 }
     requires operand { at.instruction.now.operand < 2 ^ 16 }
-    ensures { IfOk result (IsOperation at.entry) }
+    ensures operation { IfOk result (IsOperation at.entry) }
+    ensures order { IfOk result (IsOrdered at.entry) }
 {
     match at.row.operands {
         Operands::TypeCode => one_array(alloc, at, primitive_array(at.instruction.operand)),

@@ -7,6 +7,7 @@ ghost use Rattle.jvm_model.specs.RowViews.{row_view, action_view, kind_view};
 ghost use Rattle.jvm_model.specs.Table.{is_call};
 ghost use Rattle.instruction_reasons.specs.Judgements.{IsNamedMember};
 ghost use Rattle.node_operations.specs.ByAction.{call_kind, receiver_units, resolved_method, HasRow, IsCallee, IsOperation};
+ghost use Rattle.node_operations.specs.Orders.{IsOrdered};
 ghost use Rattle.node_operations.specs.Placements.{judged_at};
 
 use crate::placement::Placement;
@@ -33,7 +34,8 @@ pub(crate) fn call(alloc: Global, at: Placement<'_>) -> Result<Op, AllocError>
     requires units { HasRow at }
     requires operand { at.instruction.now.operand < 2 ^ 16 }
     requires top { at.top < 2 ^ 18 }
-    ensures { IfOk result (IsOperation at.entry) }
+    ensures operation { IfOk result (IsOperation at.entry) }
+    ensures order { IfOk result (IsOrdered at.entry) }
 {
     let kind = call_kind(at.row.action);
     let callee = callee_of(at);

@@ -9,6 +9,7 @@ ghost use Rattle.op_model.specs.declared.op.Op.TheVariants.{Constant};
 ghost use Rattle.instruction_reasons.specs.Reasons.{UsesMethodConstant};
 ghost use Rattle.node_operations.specs.ByAction.{IsOperation};
 ghost use Rattle.node_operations.specs.Constants.{constant_class};
+ghost use Rattle.node_operations.specs.Orders.{IsOrdered};
 ghost use Rattle.node_operations.specs.Placements.{judged_at};
 
 use crate::moves::cleared;
@@ -26,7 +27,8 @@ pub(crate) fn load_constant(alloc: Global, at: Placement<'_>) -> Result<Op, Allo
     requires no_method { UsesMethodConstant (judged_at at) → ⊥ }
     requires top { at.top < 2 ^ 18 }
     requires operand { at.instruction.now.operand < 2 ^ 16 }
-    ensures { IfOk result (IsOperation at.entry) }
+    ensures operation { IfOk result (IsOperation at.entry) }
+    ensures order { IfOk result (IsOrdered at.entry) }
 {
     match constant_class(at.class.pool.as_slice(), at.instruction.operand as u16) {
         Some(class) => constant(alloc, class, at.top),

@@ -7,6 +7,7 @@ ghost use Rattle.flow_graph.specs.Reading.{IsSoundInstruction};
 ghost use Rattle.instruction_reasons.specs.Reasons.{IsFirstReason, UsesMethodConstant};
 ghost use Rattle.instruction_reasons.specs.Judgements.{IsNamedMember};
 ghost use Rattle.node_operations.specs.ByAction.{HasRow, IsOperation};
+ghost use Rattle.node_operations.specs.Orders.{IsOrdered};
 ghost use Rattle.node_operations.specs.Placements.{judged_at, HasUnitsBelow, HasOperation};
 
 use crate::access::{get_field, get_static, put_field, put_static};
@@ -28,7 +29,8 @@ pub fn operation(alloc: Global, at: Placement<'_>) -> Result<Op, AllocError>
     requires units { HasUnitsBelow at }
     requires top { at.top < 2 ^ 18 }
     requires operand { at.instruction.now.operand < 2 ^ 16 }
-    ensures { IfOk result (HasOperation at.entry) }
+    ensures operation { IfOk result (HasOperation at.entry) }
+    ensures order { IfOk result (IsOrdered at.entry) }
 {
     operation_by_action(alloc, at)
 }
@@ -43,7 +45,8 @@ fn operation_by_action(alloc: Global, at: Placement<'_>) -> Result<Op, AllocErro
     requires units { HasRow at }
     requires top { at.top < 2 ^ 18 }
     requires operand { at.instruction.now.operand < 2 ^ 16 }
-    ensures { IfOk result (IsOperation at.entry) }
+    ensures operation { IfOk result (IsOperation at.entry) }
+    ensures order { IfOk result (IsOrdered at.entry) }
 {
     match at.row.action {
         Action::Plain

@@ -7,6 +7,7 @@ ghost use Rattle.flow_graph.specs.Reading.{IsSoundInstruction};
 ghost use Rattle.bytecode_machine.specs.Machine.{NamesClass};
 ghost use Rattle.method_nodes.specs.Operations.{IsAssign, IsOp};
 ghost use Rattle.node_operations.specs.ByAction.{is_of_table, names_class, HasRow, IsOperation, IsTableOperation};
+ghost use Rattle.node_operations.specs.Orders.{IsOrderedOp, IsOrdered};
 ghost use Rattle.node_operations.specs.Placements.{placed_at};
 ghost use Rattle.jvm_model.specs.Table.{plain, make_object, cast};
 
@@ -27,7 +28,8 @@ pub(crate) fn table_operation(alloc: Global, at: Placement<'_>) -> Result<Op, Al
     requires units { HasRow at }
     requires top { at.top < 2 ^ 18 }
     requires operand { at.instruction.now.operand < 2 ^ 16 }
-    ensures { IfOk result (IsOperation at.entry) }
+    ensures operation { IfOk result (IsOperation at.entry) }
+    ensures order { IfOk result (IsOrdered at.entry) }
 {
     operation_from(alloc, at, at.top - at.row.pops.len() as u32)
 }
@@ -39,7 +41,8 @@ fn operation_from(alloc: Global, at: Placement<'_>, base: u32) -> Result<Op, All
     requires named { names_class (row_view at.row.now).action ≡ true → NamesClass at.class.now.pool at.instruction.now.operand }
     requires base { base < 2 ^ 18 }
     requires operand { at.instruction.now.operand < 2 ^ 16 }
-    ensures { IfOk result (IsTableOperation at.entry base) }
+    ensures operation { IfOk result (IsTableOperation at.entry base) }
+    ensures order { IfOk result (IsOrderedOp (row_view at.entry.row.now) at.entry.instruction.now.operand base) }
 {
     match at.row.action {
         Action::Plain => assign(alloc, at, base),
@@ -80,7 +83,8 @@ fn assign(alloc: Global, at: Placement<'_>, base: u32) -> Result<Op, AllocError>
     requires action { (row_view at.row.now).action ≡ plain }
     requires base { base < 2 ^ 18 }
     requires operand { at.instruction.now.operand < 2 ^ 16 }
-    ensures { IfOk result (IsAssign (placed_at at.entry (row_view at.entry.row.now) base)) }
+    ensures operation { IfOk result (IsAssign (placed_at at.entry (row_view at.entry.row.now) base)) }
+    ensures order { IfOk result (IsOrderedOp (row_view at.entry.row.now) at.entry.instruction.now.operand base) }
 {
     let moves = moves_of(alloc, at.row, at.instruction.operand, base)?;
     Ok(Op::Assign(Sequence::from_vec(moves)))
@@ -90,7 +94,8 @@ fn assign(alloc: Global, at: Placement<'_>, base: u32) -> Result<Op, AllocError>
 fn make_object(alloc: Global, at: Placement<'_>, base: u32) -> Result<Op, AllocError>
     requires named { NamesClass at.class.now.pool at.instruction.now.operand }
     requires operand { at.instruction.now.operand < 2 ^ 16 }
-    ensures { IfOk result (IsOp make_object (placed_at at.entry (row_view at.entry.row.now) base)) }
+    ensures operation { IfOk result (IsOp make_object (placed_at at.entry (row_view at.entry.row.now) base)) }
+    ensures order { IfOk result (IsOrderedOp (row_view at.entry.row.now) at.entry.instruction.now.operand base) }
 {
     let class = class_at(at.class, at.instruction.operand);
     Ok(Op::New {
@@ -103,7 +108,8 @@ fn make_object(alloc: Global, at: Placement<'_>, base: u32) -> Result<Op, AllocE
 fn cast(alloc: Global, at: Placement<'_>, base: u32) -> Result<Op, AllocError>
     requires named { NamesClass at.class.now.pool at.instruction.now.operand }
     requires operand { at.instruction.now.operand < 2 ^ 16 }
-    ensures { IfOk result (IsOp cast (placed_at at.entry (row_view at.entry.row.now) base)) }
+    ensures operation { IfOk result (IsOp cast (placed_at at.entry (row_view at.entry.row.now) base)) }
+    ensures order { IfOk result (IsOrderedOp (row_view at.entry.row.now) at.entry.instruction.now.operand base) }
 {
     let class = class_at(at.class, at.instruction.operand);
     Ok(Op::Cast {

@@ -1,4 +1,5 @@
 pub mod AddedClasses
+pub mod OrderedClasses
 pub mod TakenHandlers
 pub mod ParameterCounts
 pub mod CatchTypes

@@ -1,11 +1,11 @@
 //! The classes of the exceptions that an instruction may itself throw (JVMS 2.10, 5.5, 6.5).
 
-ghost use Rattle.std.specs.Prelude.{◌≡◌, ℕ, List, Option, map, IfOk, IfSome, OnOk};
+ghost use Rattle.std.specs.Prelude.{◌≡◌, ℕ, List, Option, ◌++◌, map, IfOk, IfSome, OnOk};
 ghost use Rattle.jvm_model.specs.RowViews.{raise_view};
 ghost use Rattle.linked_program.specs.Numbers.{IsClassNumber};
 ghost use Rattle.bytecode_machine.specs.Machine.{exception_class};
 ghost use Rattle.node_machine.specs.Nodes.{AreThrownAt};
-ghost use Rattle.node_parts.specs.Exceptions.{AddsClass, AreRaised, IsTriggerOf};
+ghost use Rattle.node_parts.specs.Exceptions.{AddsClass, AreRaised, IsThrownList, IsTriggerOf, number_named, numbers_named};
 
 use crate::initialisers::has_initialiser;
 use jvm_model::ClassNo;
@@ -22,8 +22,10 @@ pub fn thrown_classes(
     trigger: Option<ClassNo>,
 ) -> Result<Vec<ClassNo>, AllocError>
     requires { IfSome trigger (λ class. IsClassNumber program.now class.0) }
-    ensures { IfOk result (λ thrown. (name : Option (List ℕ)) → IsTriggerOf program.now trigger name
+    ensures thrown { IfOk result (λ thrown. (name : Option (List ℕ)) → IsTriggerOf program.now trigger name
         → AreThrownAt program.now (map (λ r. raise_view r) raises.now) name thrown.items) }
+    ensures order { IfOk result (λ thrown. (name : Option (List ℕ)) → IsTriggerOf program.now trigger name
+        → IsThrownList program.now (map (λ r. raise_view r) raises.now) name thrown.items) }
 {
     let mut thrown = raised_classes(alloc, program, raises)?;
     let Some(class) = trigger else {
@@ -46,7 +48,8 @@ fn raised_classes(
     program: &Program,
     raises: &[Raise],
 ) -> Result<Vec<ClassNo>, AllocError>
-    ensures { IfOk result (λ raised. AreRaised program.now (map (λ r. raise_view r) raises.now) raised.items) }
+    ensures raised { IfOk result (λ raised. AreRaised program.now (map (λ r. raise_view r) raises.now) raised.items) }
+    ensures order { IfOk result (λ raised. raised.items ≡ numbers_named program.now (map (λ raise. exception_class raise) (map (λ r. raise_view r) raises.now))) }
 {
     let mut raised = Vec::new(alloc);
     for raise in raises {
@@ -57,7 +60,8 @@ fn raised_classes(
 
 /// Adds the class of a name, if it is in the program.
 fn add_class(program: &Program, classes: &mut Vec<ClassNo>, name: &[u8]) -> Result<(), AllocError>
-    ensures { OnOk result (AddsClass program.now name.now classes.old.items classes.new.items) }
+    ensures added { OnOk result (AddsClass program.now name.now classes.old.items classes.new.items) }
+    ensures order { OnOk result (classes.new.items ≡ classes.old.items ++ number_named program.now name.now) }
 {
     program.well_formed();
     if let Some(class) = program.find(name) {

@@ -7,11 +7,12 @@ use Rattle.flow_graph.specs.declared.steps.GraphStep.{GraphStep}
 use Rattle.method_nodes.specs.LoweredMethods.{IsNodeOf}
 use Rattle.op_model.specs.declared.node.Node.{Node}
 use Rattle.node_parts.specs.Entries.{AreKnown, IsFirstUnknown}
-use Rattle.lowering.proofs.Answered.{first_of_entries, free_of, method_number, nodes_of, own_code, refused_is, steps_answer}
+use Rattle.lowering.specs.Orders.{IsInOrder}
+use Rattle.lowering.proofs.Answered.{first_of_entries, free_of, method_number, nodes_of, ordered_of, own_code, refused_is, steps_answer}
 use Rattle.lowering.proofs.lower.lower_body.Goals as goal
 
-pub returns-in_err-judged : goal.returns-in_err-judged
-returns-in_err-judged c =
+pub returns-in_err-judged-clause-answer : goal.returns-in_err-judged-clause-answer
+returns-in_err-judged-clause-answer c =
     let p = err_from_is_err_and c.from_residual.result c.from_residual.ensures.1 in
     rw (p.1, p.2) (steps_answer c.args.body c.args.number c.args.graph.now c.requires c.as_slice-steps.result.now c.in_err-judged.field-0.0 c.as_slice-steps.ensures c.in_err-judged.ensures.refused)
 
@@ -21,8 +22,8 @@ entry_offset-offset-requires-clause-there c =
     let first = subst (λ (o : Option _). IfSome o (IsFirstUnknown b.program.now b.class.now.pool b.code.now.handlers c.as_slice-steps.result.now)) c.in-Some.is c.in_ok-place.ensures.found in
     slice_get_within b.code.now.handlers c.in-Some.place first.unknown.handler first.unknown.stands
 
-pub returns-in-Some : goal.returns-in-Some
-returns-in-Some c =
+pub returns-in-Some-clause-answer : goal.returns-in-Some-clause-answer
+returns-in-Some-clause-answer c =
     let b = c.args.body in
     let g = c.args.graph.now in
     let first = subst (λ (o : Option _). IfSome o (IsFirstUnknown b.program.now b.class.now.pool b.code.now.handlers c.as_slice-steps.result.now)) c.in-Some.is c.in_ok-place.ensures.found in
@@ -32,8 +33,8 @@ returns-in-Some c =
 pub parameter_units-requires : goal.parameter_units-requires
 parameter_units-requires c = method_number c.args.body c.args.number c.args.graph.now c.requires
 
-pub returns : goal.returns
-returns c =
+pub returns-clause-answer : goal.returns-clause-answer
+returns-clause-answer c =
     let b = c.args.body in
     let g = c.args.graph.now in
     let own = c.requires in
@@ -54,4 +55,17 @@ returns c =
         nodes = subst (λ (ns : List Node). AllZip R g.steps ns) (sym c.from_vec.ensures)
             (subst (λ (ss : List GraphStep). AllZip R ss c.in_ok-nodes.field-0.items) c.as_slice-steps.ensures (nodes_of b c.args.number g own steps c.in_ok-nodes.field-0.items c.in_ok-nodes.ensures));
       };
+    }
+
+pub returns-clause-order : goal.returns-clause-order
+returns-clause-order c =
+    let b = c.args.body in
+    let g = c.args.graph.now in
+    let own = c.requires in
+    let steps = c.as_slice-steps.result.now in
+    let R = IsInOrder b.program.now b.method.0 own.known.method b.class.now.pool b.code.now in
+    record {
+      own = own_code b c.args.number g own;
+      nodes = subst (λ (ns : List Node). AllZip R g.steps ns) (sym c.from_vec.ensures)
+          (subst (λ (ss : List GraphStep). AllZip R ss c.in_ok-nodes.field-0.items) c.as_slice-steps.ensures (ordered_of b c.args.number g own steps c.in_ok-nodes.field-0.items c.in_ok-nodes.ensures));
     }

@@ -7,7 +7,7 @@ use Rattle.code_reader.proofs.ToldCodes.{Contains-from_slice_get}
 use Rattle.flow_graph.specs.declared.steps.GraphStep.{GraphStep}
 use Rattle.flow_graph.proofs.Effects.{zip_length}
 use Rattle.op_model.specs.declared.node.Node.{Node}
-use Rattle.lowering.specs.Bodies.{IsJudgedStep, IsNodeAt}
+use Rattle.lowering.specs.Bodies.{IsJudgedStep, IsOrderedAt}
 use Rattle.lowering.specs.declared.body.JudgedStep.{JudgedStep}
 use Rattle.lowering.proofs.Walks.{zip_at}
 use Rattle.lowering.proofs.lower.nodes.Goals as goal
@@ -35,7 +35,7 @@ node-requires-clause-known c = λ place covers unknown.
 
 pub loop-number-preserved : goal.loop-number-preserved
 loop-number-preserved c =
-    let R = IsNodeAt c.args.body in
+    let R = IsOrderedAt c.args.body in
     let steps = c.args.steps.now in
     let i = c.loop-number.number in
     let s = c.index-steps-number.result in

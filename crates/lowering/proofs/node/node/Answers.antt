@@ -7,7 +7,8 @@ use Rattle.jvm_model.specs.RowViews.{row_view}
 use Rattle.method_nodes.specs.LoweredMethods.{IsHandlerAt}
 use Rattle.node_machine.specs.Nodes.{AreThrownAt}
 use Rattle.node_parts.specs.Catches.{IsUnknownEntry}
-use Rattle.lowering.proofs.NodesMade.{node_of, same_handlers}
+use Rattle.node_parts.specs.Exceptions.{IsThrownList}
+use Rattle.lowering.proofs.NodesMade.{ordered_node, same_handlers}
 use Rattle.lowering.proofs.node.node.Goals as goal
 
 pub node_handlers-requires-clause-known : goal.node_handlers-requires-clause-known
@@ -23,6 +24,7 @@ returns c =
     let handlers : AllZip (IsHandlerAt b.program.now b.class.now.pool b.code.now.handlers) step.handlers c.from_vec-2.result =
     same_handlers b.program.now b.class.now.pool c.as_slice.result.now b.code.now.handlers c.as_slice-2.result.now step.handlers c.as_slice-3.result.now c.in_ok-handlers.handlers.items c.from_vec-2.result c.as_slice.ensures
     c.as_slice-2.ensures c.as_slice-3.ensures c.from_vec-2.ensures c.in_ok-handlers.ensures in
-    node_of b c.requires.body step c.args.judged c.requires.judged c.in_ok-op.op c.in_ok-op.ensures c.from_vec.result c.from_vec-2.result c.trigger_of-trigger.result c.from_vec-3.result successors handlers
+    ordered_node b c.requires.body step c.args.judged c.requires.judged c.in_ok-op.op c.in_ok-op.ensures.operation c.from_vec.result c.from_vec-2.result c.trigger_of-trigger.result c.from_vec-3.result successors handlers
     c.trigger_of-trigger.ensures.trigger
-    (λ name of. subst (λ (throws : List ClassNo). AreThrownAt b.program.now (row_view c.args.judged.row.now).raises name throws) (sym c.from_vec-3.ensures) (c.in_ok-throws.ensures name of))
+    (λ name of. subst (λ (throws : List ClassNo). AreThrownAt b.program.now (row_view c.args.judged.row.now).raises name throws) (sym c.from_vec-3.ensures) (c.in_ok-throws.ensures.thrown name of)) c.in_ok-op.ensures.order
+    (λ name of. subst (λ (throws : List ClassNo). IsThrownList b.program.now (row_view c.args.judged.row.now).raises name throws) (sym c.from_vec-3.ensures) (c.in_ok-throws.ensures.order name of))

@@ -1,5 +1,5 @@
-use Rattle.std.proofs.Common.{ℕ, ◌+◌, ap, ◌∙◌, arith}
-use Rattle.lowering.specs.Bodies.{HasStepOperation}
+use Rattle.std.proofs.Common.{ℕ, ◌+◌, sym, ap, ◌∙◌, arith}
+use Rattle.lowering.specs.Bodies.{HasStepOperation, HasStepOrder}
 use Rattle.lowering.proofs.CodeFacts.{operand_below, sound_instruction}
 use Rattle.lowering.proofs.StepPlaces.{few_below, if_ok, step_effect}
 use Rattle.lowering.proofs.node.operation_of.Goals as goal
@@ -29,11 +29,16 @@ operation-requires-clause-top c =
 pub operation-requires-clause-operand : goal.operation-requires-clause-operand
 operation-requires-clause-operand c = operand_below c.args.body c.requires.body c.args.judged.placed.now c.requires.judged.stands
 
-pub returns : goal.returns
-returns c = if_ok c.operation.result _ (HasStepOperation c.args.body c.args.step.now c.args.judged) c.operation.ensures (λ op has. record {
+pub returns-clause-operation : goal.returns-clause-operation
+returns-clause-operation c = if_ok c.operation.result _ (HasStepOperation c.args.body c.args.step.now c.args.judged) c.operation.ensures.operation (λ op has. record {
   row = has.row;
   of_row = has.of_row;
   base = has.base;
   lowest = has.lowest ∙ ap (λ (locals : ℕ). locals + c.args.step.now.height) c.from.ensures;
   is = has.is;
+})
+
+pub returns-clause-order : goal.returns-clause-order
+returns-clause-order c = if_ok c.operation.result _ (HasStepOrder c.args.body c.args.step.now c.args.judged) c.operation.ensures.order (λ op is. record {
+  for_row = λ row of_row base lowest. is.for_row row of_row base (lowest ∙ ap (λ (locals : ℕ). locals + c.args.step.now.height) (sym c.from.ensures));
 })

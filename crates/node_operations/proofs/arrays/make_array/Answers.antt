@@ -3,7 +3,8 @@ use Rattle.jvm_model.specs.RowViews.{row_view, operands_view}
 use Rattle.bytecode_machine.specs.Machine.{NamesClass, of_primitives, of_references, nested, nested_arrays}
 use Rattle.node_operations.specs.ByAction.{IsOperation, IsArrayOperation}
 use Rattle.node_operations.proofs.ArrayOperations.{is_nested, pops_size, pops_sizes, has_size, makes_arrays}
-use Rattle.node_operations.proofs.Lifting.{if_ok}
+use Rattle.node_operations.specs.Orders.{IsOrdered}
+use Rattle.node_operations.proofs.Lifting.{if_ok, arrays_in_order}
 use Rattle.node_operations.proofs.RowFacts.{is_class_operands, array_of_references, class_named}
 use Rattle.node_operations.proofs.arrays.make_array.Goals as goal
 
@@ -28,16 +29,16 @@ one_array-requires-in_default c =
     let is = array_of_references at.instruction.now.opcode (row_view at.row.now) at.row.now.operands c.requires.row c.requires.action refl c.in_default.not-TypeCode c.in_default.not-Pool2AndDimensions in
     has_size at c.requires.row c.requires.action (ap is_nested is) c.requires.units
 
-pub returns-in-TypeCode : goal.returns-in-TypeCode
-returns-in-TypeCode c =
+pub returns-in-TypeCode-clause-operation : goal.returns-in-TypeCode-clause-operation
+returns-in-TypeCode-clause-operation c =
     let at = c.args.at in
     let array = c.primitive_array.result.now in
     if_ok c.one_array.result (IsArrayOperation at 1 (array ∷ [])) (IsOperation at) c.one_array.ensures
     (λ op is. makes_arrays at c.requires.row c.requires.action 1 (array ∷ []) op (pops_size at c.requires.row c.requires.action (ap (λ o. is_nested (operands_view o)) c.in-TypeCode.is))
     (of_primitives (ap operands_view c.in-TypeCode.is) (ap (λ (x : List ℕ). x ∷ []) c.primitive_array.ensures)) is)
 
-pub returns-in-Pool2AndDimensions : goal.returns-in-Pool2AndDimensions
-returns-in-Pool2AndDimensions c =
+pub returns-in-Pool2AndDimensions-clause-operation : goal.returns-in-Pool2AndDimensions-clause-operation
+returns-in-Pool2AndDimensions-clause-operation c =
     let at = c.args.at in
     let arrays = nested_arrays at.instruction.now.dimensions c.class_at-array.result.now in
     let names : NamesClass at.class.now.pool at.instruction.now.operand = record { class = c.class_at-array.result.now; named = c.class_at-array.ensures } in
@@ -45,8 +46,8 @@ returns-in-Pool2AndDimensions c =
     (λ op is. makes_arrays at c.requires.row c.requires.action at.instruction.now.dimensions arrays op (pops_sizes at c.requires.row c.requires.action (ap operands_view c.in-Pool2AndDimensions.is))
     (nested (ap operands_view c.in-Pool2AndDimensions.is) names refl) is)
 
-pub returns-in_ok-array-in_default : goal.returns-in_ok-array-in_default
-returns-in_ok-array-in_default c =
+pub returns-in_ok-array-in_default-clause-operation : goal.returns-in_ok-array-in_default-clause-operation
+returns-in_ok-array-in_default-clause-operation c =
     let at = c.args.at in
     let array = c.deref.result.now in
     let names : NamesClass at.class.now.pool at.instruction.now.operand = record { class = c.class_at-element.result.now; named = c.class_at-element.ensures } in
@@ -54,3 +55,22 @@ returns-in_ok-array-in_default c =
     if_ok c.one_array-in_default.result (IsArrayOperation at 1 (array ∷ [])) (IsOperation at) c.one_array-in_default.ensures
     (λ op told. makes_arrays at c.requires.row c.requires.action 1 (array ∷ []) op (pops_size at c.requires.row c.requires.action (ap is_nested is))
     (of_references is names (ap (λ (x : List ℕ). x ∷ []) (c.deref.ensures.value ∙ c.in_ok-array-in_default.ensures))) told)
+
+pub returns-in-TypeCode-clause-order : goal.returns-in-TypeCode-clause-order
+returns-in-TypeCode-clause-order c =
+    let at = c.args.at in
+    let arrays = c.primitive_array.result.now ∷ [] in
+    if_ok c.one_array.result (IsArrayOperation at 1 arrays) (IsOrdered at) c.one_array.ensures (λ op is. arrays_in_order at 1 arrays op is)
+
+pub returns-in-Pool2AndDimensions-clause-order : goal.returns-in-Pool2AndDimensions-clause-order
+returns-in-Pool2AndDimensions-clause-order c =
+    let at = c.args.at in
+    let count = at.instruction.now.dimensions in
+    let arrays = nested_arrays count c.class_at-array.result.now in
+    if_ok c.nested.result (IsArrayOperation at count arrays) (IsOrdered at) c.nested.ensures (λ op is. arrays_in_order at count arrays op is)
+
+pub returns-in_ok-array-in_default-clause-order : goal.returns-in_ok-array-in_default-clause-order
+returns-in_ok-array-in_default-clause-order c =
+    let at = c.args.at in
+    let arrays = c.deref.result.now ∷ [] in
+    if_ok c.one_array-in_default.result (IsArrayOperation at 1 arrays) (IsOrdered at) c.one_array-in_default.ensures (λ op is. arrays_in_order at 1 arrays op is)

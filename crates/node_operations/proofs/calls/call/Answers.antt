@@ -36,8 +36,8 @@ unit_slots-requires c =
     let same = ap length c.deref.ensures.value in
     omega (arith, few, top, len, same)
 
-pub returns : goal.returns
-returns c =
+pub returns-clause-operation : goal.returns-clause-operation
+returns-clause-operation c =
     let m = lent_reference c.named_method-named.result in
     let len : c.len.result ≡ length c.in_ok-popped.popped.items = search (rules, c.len.ensures) in
     let base : c.args.at.top - c.len.result ≡ c.args.at.top - length c.in_ok-popped.popped.items = ap (λ (n : ℕ). c.args.at.top - n) len in
@@ -48,3 +48,6 @@ returns c =
     c.result_slot.ensures ∙ ap (λ (z : ℕ). cond c.in_ok-units.units.gives_reference (Some z) None) base in
     is_call_operation c.args.at c.call_kind-kind.result m c.in_ok-units.units c.in_ok-popped.popped.items c.requires.action c.call_kind-kind.ensures c.named_method-named.ensures c.in_ok-units.ensures c.in_ok-popped.ensures
     c.callee_of-callee.result c.in_ok-copy_of.field-0 c.in_ok-copy_of-2.field-0 c.from_vec.result c.result_slot.result c.callee_of-callee.ensures c.in_ok-copy_of.ensures c.in_ok-copy_of-2.ensures arguments result
+
+pub returns-clause-order : goal.returns-clause-order
+returns-clause-order c = record { for_row = λ row of_row base lowest. tt }
