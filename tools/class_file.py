@@ -1,4 +1,4 @@
-"""Reads what the tools need of a class file: its version, names, members, and the entries of its constant pool that name others."""
+"""Reads what the tools need of a class file: its version, names, members, and what its constant pool names."""
 
 import struct
 from dataclasses import dataclass, field
@@ -37,6 +37,7 @@ class ClassFile:
     classes_named: set = field(default_factory=set)
     fields_named: set = field(default_factory=set)
     methods_named: set = field(default_factory=set)
+    path: str = ""
 
     def has(self, flag):
         return bool(self.flags & flag)

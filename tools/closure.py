@@ -26,7 +26,7 @@ class Closure:
         self.read = dict(folder)
         self.classes, self.made = set(), set()
         self.methods, self.fields = {}, {}
-        self.missing, self.missing_supers, self.missing_members, self.base_fields = set(), set(), set(), set()
+        self.missing, self.missing_members, self.base_fields = set(), set(), set()
         self.left_out = set()
         self.above, self.found = {}, {}
 
@@ -93,6 +93,8 @@ class Closure:
         for each in self.superclasses(name):
             if key in self.get(each).methods:
                 return each
+            if key[0] == "<init>":
+                return None
         candidates = [each for each in self.library_supers(name) if self.is_candidate(each, key)]
         lowest = [each for each in candidates if not any(each in self.library_supers(other) for other in candidates)]
         concrete = [each for each in lowest if not self.get(each).methods[key].has(ABSTRACT)]
@@ -174,7 +176,6 @@ class Closure:
     def collect(self):
         """Takes what the folder names, and then the overrides of it, until nothing is new."""
         for each in self.folder.values():
-            self.missing_supers.update((each.name, above) for above in each.supers() if not self.need(above))
             for name in filter(None, map(element_class, each.classes_named)):
                 self.need(name)
         for each in self.folder.values():
@@ -185,6 +186,11 @@ class Closure:
             self.natives(each)
         while self.overrides():
             pass
+
+    def without_supers(self):
+        """The classes of the folder that have a supertype which is nowhere, each with the first one."""
+        above = {name: [each for each in self.library_supers(name) if each in self.missing] for name in self.folder}
+        return {name: missing[0] for name, missing in above.items() if missing}
 
     def natives(self, found):
         """Describes the native methods of a class of the folder."""
@@ -201,6 +207,9 @@ class Closure:
         for name in sorted(self.classes) + list(self.base):
             if name not in self.folder:
                 self.overrides_in(name)
+        for name, found in self.folder.items():
+            if not found.has(INTERFACE):
+                self.overrides_for(name)
         for name in sorted(self.made):
             self.implement(name)
         return self.size() != before
@@ -218,8 +227,7 @@ class Closure:
         return name in self.base and self.base[name].methods.get(key, False)
 
     def overrides_in(self, name):
-        """Describes the methods of a class that override described ones, and those that it has in the library from a body
-        which the program lacks: that of a class which the base stubs leave out, or that they leave abstract."""
+        """Describes the methods of a class of the library that override described ones."""
         supers = self.program_supers(name)
         for key in self.keys_above(supers):
             own = self.get(name).methods.get(key)
@@ -227,17 +235,30 @@ class Closure:
                 if not own.has(STATIC) and not own.has(PRIVATE):
                     self.describe(name, key, own)
             elif not self.get(name).has(INTERFACE):
-                declaring = self.find_method(name, key)
-                if declaring and self.lacks_body(name, declaring, key):
-                    self.describe(name, key, self.get(declaring).methods[key])
+                self.body_above(name, key, supers)
 
-    def lacks_body(self, name, declaring, key):
-        """Whether a class has a body from above in the library, and none in the program."""
-        if self.get(declaring).methods[key].has(ABSTRACT):
-            return False
-        if declaring not in self.program_supers(name):
-            return True
-        return self.base_is_abstract(declaring, key) and not self.is_abstract(name)
+    def body_above(self, name, key, supers):
+        """Describes the body that a class has for a method from above: there, or in the class itself where the base stubs leave
+        the class of the body out, or leave it abstract."""
+        declaring = self.find_method(name, key)
+        if not declaring or declaring in self.folder or self.get(declaring).methods[key].has(ABSTRACT):
+            return
+        member = self.get(declaring).methods[key]
+        if declaring not in supers:
+            self.describe(self.place(name, declaring), key, member)
+        elif not self.base_is_abstract(declaring, key):
+            self.describe(declaring, key, member)
+        elif not self.is_abstract(name) and name not in self.folder:
+            self.describe(name, key, member)
+
+    def overrides_for(self, name):
+        """Describes the bodies in the library for methods that a class of the folder has from its interfaces."""
+        if all(each in self.folder or each == OBJECT for each in self.superclasses(name)):
+            return
+        supers = self.program_supers(name)
+        own = [key for each in supers if each in self.folder for key in self.get(each).methods if self.is_candidate(each, key)]
+        for key in dict.fromkeys(own + self.keys_above(supers)):
+            self.body_above(name, key, supers)
 
     def implement(self, name):
         """Describes, in the class that is made for an abstract one, what stays abstract there."""

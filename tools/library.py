@@ -24,6 +24,16 @@ def jdk_folder(named):
     return found
 
 
+def jdk_version(path):
+    """The version of a JDK, as its file `release` has it; without one its path."""
+    try:
+        with open(os.path.join(path, "release"), encoding="utf-8") as file:
+            found = re.search(r'^JAVA_VERSION="(.*)"', file.read(), re.MULTILINE)
+    except OSError:
+        found = None
+    return found.group(1) if found else path
+
+
 def open_jdk(path):
     """The classes of a JDK: those of its image, or up to version 8 those of its jars."""
     image = os.path.join(path, "lib", "modules")
@@ -79,7 +89,8 @@ class Image:
                 self.entries.setdefault(name.decode("utf-8", "surrogatepass"), place)
 
     def attributes(self, at):
-        """Kinds and numbers: 2 is the package, 3 the name, 4 its ending, 5 where the file is, 6 its size if packed, 7 its size."""
+        """Numbers by their kinds: 2 is the package, 3 the name, 4 its ending; 5 is where the file is, 6 its size if packed,
+        7 its size."""
         found = {}
         while self.bytes[at] >> 3:
             kind, size = self.bytes[at] >> 3, (self.bytes[at] & 7) + 1
@@ -112,6 +123,7 @@ def read_folder(folder):
                 read = parse(data)
             except BadClassFile as fault:
                 raise Unusable(f"{path} cannot be read: {fault}; take it out of the folder") from fault
+            read.path = path
             found[read.name] = read
     if not found:
         raise Unusable(f"{folder} has no class files: name a folder that has, as tools/unpack writes one")
