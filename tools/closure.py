@@ -21,8 +21,10 @@ class Closure:
     """What is described: `classes` are names of classes of the library, `methods` and `fields` stand by class and by
     name and descriptor, and `made` are the abstract types of which results and fields hold objects of a class of their own."""
 
-    def __init__(self, jdk, folder, base):
+    def __init__(self, jdk, folder, base, handed_out):
         self.jdk, self.folder, self.base = jdk, folder, base
+        named = set().union(*(each.classes_named for each in folder.values()))
+        self.handed_out = [name for name in sorted(handed_out) if name in named and name not in folder]
         self.read = dict(folder)
         self.classes, self.made = set(), set()
         self.methods, self.fields = {}, {}
@@ -184,6 +186,8 @@ class Closure:
             for name, *key in each.methods_named:
                 self.method_named(name, tuple(key))
             self.natives(each)
+        for name in self.handed_out:
+            self.need_object(name)
         while self.overrides():
             pass
 
