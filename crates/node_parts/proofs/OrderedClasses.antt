@@ -69,8 +69,8 @@ module _ (p : Program) (program : IsProgram p) (name : List ℕ) where
       let there = class_of_number p program c.0 within in
       let is_named : there.0.name ≡ name = sym there.1.name ∙ named in
       let first = first_is of_name p.classes c.0 there.0 there.1.stands ((bytes_eq-Decides there.0.name name).1 is_named)
-          (λ j y lt at_j. not_true (of_name y) (λ passes.
-          (let same = same_place p program j c.0 y there.0 at_j there.1.stands ((bytes_eq-Decides y.name name).0 passes ∙ sym is_named) in omega (arith, same, lt)))) in
+      (λ j y lt at_j. not_true (of_name y) (λ passes.
+      (let same = same_place p program j c.0 y there.0 at_j there.1.stands ((bytes_eq-Decides y.name name).0 passes ∙ sym is_named) in omega (arith, same, lt)))) in
       ap listed (position_is of_name p.classes c.0 first within)
 
   pub none_named : ((n : ℕ) → IsNumber p n → name_at p n ≡ name → ⊥) → number_named p name ≡ []
