@@ -41,5 +41,5 @@ loop-number-preserved c =
     let s = c.index-steps-number.result in
     let longer : take (i + 1) steps ≡ take i steps ++ s ∷ [] = subst (λ (q : GraphStep). take (i + 1) steps ≡ take i steps ++ q ∷ []) (sym c.index-steps-number.is) (take_more steps i s c.loop-number-test.true) in
     let more = all_zipped_more R (take i steps) c.loop-number.nodes.items s c.in_ok-node.field-0 c.loop-number.invariant c.in_ok-node.ensures in
-    subst (λ (ns : List Node). AllZip R (take (i + 1) steps) ns) (sym c.in_ok-push.ensures.items)
+    subst (λ (ns : List Node). AllZip R (take (i + 1) steps) ns) (sym {A = List Node} c.in_ok-push.ensures.items)
     (subst (λ (ss : List GraphStep). AllZip R ss (c.loop-number.nodes.items ++ c.in_ok-node.field-0 ∷ [])) (sym longer) more)
