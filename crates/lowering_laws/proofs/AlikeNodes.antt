@@ -59,7 +59,7 @@ one_list p pool handlers (n ∷ places) (a ∷ as_) (b ∷ bs) program x y = cc 
 
 -- ---- initialisation, and what is thrown
 
-one_trigger : (i : Placed) (a b : Option ClassNo) (c d : Option (List ℕ)) → IsProgram i.program → HasTrigger i a c → HasTrigger i b d → (a ≡ b) × (c ≡ d)
+pub one_trigger : (i : Placed) (a b : Option ClassNo) (c d : Option (List ℕ)) → IsProgram i.program → HasTrigger i a c → HasTrigger i b d → (a ≡ b) × (c ≡ d)
 one_trigger i a b c d program (no_trigger none is class) (no_trigger none2 is2 class2) = (is ∙ sym is2, class ∙ sym class2)
 one_trigger i a b c d program (no_trigger none is class) (for_class some name number concerns stands is2 class2) = absurd (false≢true (sym none ∙ some))
 one_trigger i a b c d program (for_class some name number concerns stands is class) (no_trigger none is2 class2) = absurd (false≢true (sym none ∙ some))
@@ -81,7 +81,7 @@ module _ (p : Program) (program : IsProgram p) (number : ℕ) (m : Method) (pool
   placed_with step placed opcode_row row base =
       record { program = p; method = number; current = m.class; pool = pool; instruction = with_row placed.instruction opcode_row; offset = step.offset; row = row; base = base }
 
-  one_instruction : (step : GraphStep) (i j : Placed) → IsPlacedAt p number m pool code step i → IsPlacedAt p number m pool code step j → i ≡ j
+  pub one_instruction : (step : GraphStep) (i j : Placed) → IsPlacedAt p number m pool code step i → IsPlacedAt p number m pool code step j → i ≡ j
   one_instruction step i j x y =
       let placed : x.placed ≡ y.placed = one_placed code.instructions ordered x.placed y.placed x.stands y.stands (x.offset ∙ sym y.offset) in
       let opcode_row : x.opcode_row ≡ y.opcode_row = same_Some x.opcode_row y.opcode_row (sym x.of_opcode ∙ ap (λ (q : PlacedInstruction). row_of q.instruction.opcode) placed ∙ y.of_opcode) in
@@ -99,10 +99,10 @@ module _ (p : Program) (program : IsProgram p) (number : ℕ) (m : Method) (pool
       ∙ ap (λ (b : ℕ). placed_with step y.placed y.opcode_row y.row b) base
       ∙ sym y.is
 
-  program_of : (step : GraphStep) (i : Placed) → IsPlacedAt p number m pool code step i → IsProgram i.program
+  pub program_of : (step : GraphStep) (i : Placed) → IsPlacedAt p number m pool code step i → IsProgram i.program
   program_of step i x = subst (λ (q : Program). IsProgram q) (sym (ap (λ (j : Placed). j.program) x.is)) program
 
-  one_node : (step : GraphStep) (a b : Node) → IsNodeOf p number m pool code step a → IsNodeOf p number m pool code step b → AlikeNodes a b
+  pub one_node : (step : GraphStep) (a b : Node) → IsNodeOf p number m pool code step a → IsNodeOf p number m pool code step b → AlikeNodes a b
   one_node step a b x y =
       let i = y.instruction in
       let same : x.instruction ≡ i = one_instruction step x.instruction i x.placed y.placed in

@@ -5,3 +5,4 @@ pub mod Named
 pub mod OneOperation
 pub mod Concerned
 pub mod AlikeNodes
+pub mod OrderedNodes
