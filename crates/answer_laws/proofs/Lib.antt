@@ -1,0 +1,5 @@
+pub mod Own
+pub mod FirstSteps
+pub mod FirstEntries
+pub mod Judged
+pub mod RowsShown
