@@ -9,3 +9,4 @@ pub mod Operations
 pub mod Handlers
 pub mod ThrownClasses
 pub mod Nodes
+pub mod Accepted
