@@ -1,12 +1,12 @@
 -- A method that is not refused has its nodes.
-use Rattle.std.proofs.Common.{◌≡◌, ◌⊎◌, inl, inr, ℕ, ◌+◌, if◌then◌else◌, List, [], ◌∷◌, length, None, refl}
+use Rattle.std.proofs.Common.{◌⊎◌, inl, inr, ℕ, ◌+◌, if◌then◌else◌, List, [], ◌∷◌, length, None, refl}
 use Rattle.std.specs.List.{AllZip, Contains, flat_map}
 use Rattle.std.proofs.lemmas.List.Elements.{All-contains}
 use Rattle.jvm_model.specs.declared.code.Code.{Code}
 use Rattle.jvm_model.specs.declared.reason.Refusal.{Refusal}
 use Rattle.jvm_model.specs.Instructions.{kinds_of}
 use Rattle.jvm_model.specs.LinkedPrograms.{IsProgram}
-use Rattle.jvm_model.specs.Programs.{Method, Program, is_static}
+use Rattle.jvm_model.specs.Programs.{Program, is_static}
 use Rattle.flow_graph.specs.declared.steps.Graph.{Graph}
 use Rattle.flow_graph.specs.declared.steps.GraphStep.{GraphStep}
 use Rattle.method_nodes.specs.LoweredMethods.{HasParameterUnits, IsNodeOf}

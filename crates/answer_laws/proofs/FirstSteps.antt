@@ -1,5 +1,5 @@
 -- The first step that has a reason, or that none has one.
-use Rattle.std.proofs.Common.{◌≡◌, ◌⊎◌, inl, inr, ℕ, List, [], ◌∷◌, Option, Some, None, refl, sym}
+use Rattle.std.proofs.Common.{◌⊎◌, inl, inr, ℕ, List, [], ◌∷◌, Option, Some, None, refl, sym}
 use Rattle.std.specs.List.{AllByRecursion, Contains}
 use Rattle.jvm_model.specs.declared.class_file.ClassFile.{ClassFile}
 use Rattle.jvm_model.specs.declared.code.Code.{Code}
@@ -9,7 +9,7 @@ use Rattle.jvm_model.specs.Programs.{Method, Program}
 use Rattle.code_reader.proofs.ToldCodes.{Contains-from_slice_get}
 use Rattle.flow_graph.specs.declared.steps.GraphStep.{GraphStep}
 use Rattle.graph_laws.specs.StepRows.{HasRow}
-use Rattle.instruction_reasons.specs.Reasons.{Judged, IsFirstReason}
+use Rattle.instruction_reasons.specs.Reasons.{Judged}
 use Rattle.reason_laws.proofs.FirstReasons.{first_reason}
 use Rattle.program_laws.proofs.Orders.{first_there, more_there}
 use Rattle.lowering.specs.Refusals.{HasFirstReason, IsRefusedAt, here, later}

@@ -1,14 +1,12 @@
 -- A method is refused, or none of its parts has a reason.
-use Rattle.std.proofs.Common.{◌≡◌, ◌⊎◌, inl, inr, ℕ, ◌+◌, List, Option, Some, None, refl}
-use Rattle.std.specs.List.{AllByRecursion, Contains}
+use Rattle.std.proofs.Common.{◌⊎◌, inl, inr, ℕ, ◌+◌, None, refl}
 use Rattle.std.proofs.lemmas.List.Elements.{All-from_recursion}
 use Rattle.jvm_model.specs.declared.code.Code.{Code}
 use Rattle.jvm_model.specs.declared.reason.Reason.{Reason}
 use Rattle.jvm_model.specs.declared.reason.Reason.TheVariants.{NoStub}
 use Rattle.jvm_model.specs.declared.reason.Refusal.{Refusal}
 use Rattle.jvm_model.specs.LinkedPrograms.{IsProgram}
-use Rattle.jvm_model.specs.Programs.{Class, Program}
-use Rattle.jvm_model.specs.Subtypes.{class_named}
+use Rattle.jvm_model.specs.Programs.{Program}
 use Rattle.code_reader.proofs.MachineBodies.{code_is_the_body}
 use Rattle.flow_graph.specs.declared.steps.Graph.{Graph}
 use Rattle.flow_graph.specs.declared.steps.GraphStep.{GraphStep}

@@ -1,11 +1,10 @@
 -- The member that an instruction without a reason names: a field, or the methods of a call.
-use Rattle.std.proofs.Common.{◌≡◌, ℕ, Bool, true, false, List, Option, Some, None, Result, Ok, Err, refl, ap, ◌∙◌}
-use Rattle.std.specs.Prelude.{IsTrue, option_map}
+use Rattle.std.proofs.Common.{◌≡◌, ℕ, Bool, true, false, Option, Some, None, Result, Ok, Err, refl, ap, ◌∙◌}
 use Rattle.jvm_model.specs.declared.number.MethodNo.{MethodNo}
 use Rattle.jvm_model.specs.declared.reason.Reason.{Reason}
 use Rattle.jvm_model.specs.LinkedPrograms.{IsProgram}
 use Rattle.jvm_model.specs.Lookups.{MemberReference}
-use Rattle.jvm_model.specs.Programs.{Class, Program}
+use Rattle.jvm_model.specs.Programs.{Class}
 use Rattle.jvm_model.specs.Subtypes.{class_named}
 use Rattle.jvm_model.specs.Table.{is_call, is_field_access}
 use Rattle.instruction_reasons.specs.declared.judgement.NamedMember.{NamedMember}

@@ -1,14 +1,12 @@
 -- Each step without a reason has a node, where no entry that covers it takes a class that is not in the program.
-use Rattle.std.proofs.Common.{◌≡◌, ◌⊎◌, inl, inr, ℕ, suc, ◌+◌, ◌<◌, ◌≤◌, Bool, true, false, List, [], ◌∷◌, length, map, Option, Some, None, refl, sym, ap, ◌∙◌, subst, arith}
-use Rattle.std.specs.List.{AllZip, Contains, slice_get}
+use Rattle.std.proofs.Common.{◌≡◌, ◌⊎◌, inl, inr, ℕ, suc, ◌+◌, ◌<◌, true, false, List, [], ◌∷◌, length, map, Option, Some, None, refl, sym, ap, ◌∙◌, subst, arith}
+use Rattle.std.specs.List.{Contains, slice_get}
 use Rattle.std.proofs.lemmas.List.Elements.{All-contains}
 use Rattle.std.proofs.lemmas.Option.{same_Some}
 use Rattle.jvm_model.specs.declared.code.Code.{Code}
 use Rattle.jvm_model.specs.declared.code.PlacedInstruction.{PlacedInstruction}
 use Rattle.jvm_model.specs.declared.number.ClassNo.{ClassNo}
 use Rattle.jvm_model.specs.declared.opcode.Row.{Row as CodeRow}
-use Rattle.jvm_model.specs.declared.reason.Reason.{Reason}
-use Rattle.jvm_model.specs.Instructions.{IsRowAt}
 use Rattle.jvm_model.specs.LinkedPrograms.{IsProgram, IsThere}
 use Rattle.jvm_model.specs.Lookups.{class_name_at}
 use Rattle.jvm_model.specs.Programs.{Class, Field, Method, Program}
@@ -19,7 +17,6 @@ use Rattle.code_reader.proofs.ToldCodes.{Contains-from_slice_get}
 use Rattle.linked_program.specs.Numbers.{name_at}
 use Rattle.flow_graph.specs.declared.steps.Graph.{Graph}
 use Rattle.flow_graph.specs.declared.steps.GraphStep.{GraphStep}
-use Rattle.flow_graph.specs.Effects.{with_row}
 use Rattle.flow_graph.specs.Graphing.{IsStep}
 use Rattle.graph_laws.specs.StepRows.{HasRow as HasStepRow, IsResolved}
 use Rattle.graph_laws.proofs.StepRows.{step_row}
@@ -44,7 +41,7 @@ use Rattle.lowering.specs.Bodies.{HasStepOperation, IsJudgedStep, IsMadeClass, I
 use Rattle.lowering.specs.Refusals.{HasFirstReason, IsOwnCode}
 use Rattle.lowering.proofs.CodeFacts.{sound_instruction}
 use Rattle.lowering.proofs.MadeClasses.{object_trigger}
-use Rattle.lowering.proofs.MemberOwners.{class_number, member_number}
+use Rattle.lowering.proofs.MemberOwners.{member_number}
 use Rattle.lowering.proofs.MethodParts.{LoweredCode, LoweredStep}
 use Rattle.lowering.proofs.NamedMembers.{names_member}
 use Rattle.lowering.proofs.NodesMade.{node_of}

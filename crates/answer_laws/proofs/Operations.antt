@@ -1,9 +1,8 @@
 -- Each instruction without a reason has an operation.
-use Rattle.std.proofs.Common.{◌≡◌, ℕ, ◌+◌, ◌-◌, ◌≤◌, Bool, true, false, ◌||◌, cond, eqb, List, [], ◌∷◌, length, map, Option, Some, None, Ok, MatchBool, if◌then◌else◌, refl, sym, ap, ◌∙◌, subst, arith}
+use Rattle.std.proofs.Common.{◌≡◌, ℕ, ◌+◌, ◌-◌, Bool, true, false, ◌||◌, cond, eqb, List, [], ◌∷◌, length, map, Option, Some, None, MatchBool, if◌then◌else◌, refl, sym, ap, ◌∙◌, subst, arith}
 use Rattle.std.specs.List.{list_all}
 use Rattle.std.proofs.lemmas.Bool.{false≢true, true≢false}
 use Rattle.std.proofs.lemmas.Option.{same_Some}
-use Rattle.jvm_model.specs.declared.number.FieldNo.{FieldNo}
 use Rattle.jvm_model.specs.declared.number.MethodNo.{MethodNo}
 use Rattle.jvm_model.specs.declared.opcode.Operands.{Operands as CodeOperands}
 use Rattle.jvm_model.specs.declared.opcode.Operands.TheVariants as operands
@@ -22,14 +21,13 @@ use Rattle.flow_graph.specs.Reading.{IsSoundInstruction}
 use Rattle.linked_program.specs.Numbers.{name_at}
 use Rattle.instruction_reasons.specs.declared.judgement.NamedMember.TheVariants as members
 use Rattle.instruction_reasons.specs.Named.{NamesMember}
-use Rattle.instruction_reasons.specs.Reasons.{Judged, IsFirstReason, wants_static}
+use Rattle.instruction_reasons.specs.Reasons.{IsFirstReason, wants_static}
 use Rattle.op_model.specs.declared.op.CallKind.{CallKind}
 use Rattle.op_model.specs.declared.op.CallKind.TheVariants as calls
 use Rattle.op_model.specs.declared.op.Op.{Op}
 use Rattle.op_model.specs.declared.op.Op.TheVariants.{Assign, Load, Store, LoadElement, StoreElement, LoadStatic, StoreStatic, New, NewArray, Constant, Call, Return, Throw, Cast, Probe}
-use Rattle.method_nodes.specs.Moves.{AreMovesOf}
-use Rattle.method_nodes.specs.Operations.{Placed, IsAssign, IsCallOp, IsChosen, IsFieldOp, IsOp, IsStaticOp, field_no, new_site, unit_slots, value_slot}
-use Rattle.node_operations.specs.ByAction.{HasRow, IsCallee, IsOperation, call_kind, names_class, resolved_method}
+use Rattle.method_nodes.specs.Operations.{Placed, IsAssign, IsCallOp, IsChosen, IsOp, field_no, new_site, unit_slots, value_slot}
+use Rattle.node_operations.specs.ByAction.{HasRow, call_kind, names_class, resolved_method}
 use Rattle.node_operations.specs.Constants.{constant_class}
 use Rattle.node_operations.specs.MoveLists.{cleared_from, moves_of}
 use Rattle.node_operations.specs.Placements.{judged_at, placed_at}

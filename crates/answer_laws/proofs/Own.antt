@@ -1,6 +1,6 @@
 -- What a program says of a method's own code: it is that of a member of a checked class file, and its graph is a flow.
-use Rattle.std.proofs.Common.{◌≡◌, ℕ, Some, Ok, subst}
-use Rattle.std.specs.List.{Contains, slice_get}
+use Rattle.std.proofs.Common.{ℕ, subst}
+use Rattle.std.specs.List.{Contains}
 use Rattle.std.proofs.lemmas.List.Elements.{All-contains}
 use Rattle.jvm_model.specs.declared.code.Code.{Code}
 use Rattle.jvm_model.specs.LinkedPrograms.{IsProgram, IsBodyOf, IsMemberOf}

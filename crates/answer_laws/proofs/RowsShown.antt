@@ -1,18 +1,11 @@
 -- Each row of the standard's table is shown by a row of the code's.
 use Rattle.std.proofs.Common.{◌≡◌, List, [], ◌∷◌, map, refl, ap}
-use Rattle.jvm_model.specs.declared.opcode.PoolTarget.{PoolTarget as CodePoolTarget}
 use Rattle.jvm_model.specs.declared.opcode.PoolTarget.TheVariants as targets
-use Rattle.jvm_model.specs.declared.opcode.Operands.{Operands as CodeOperands}
 use Rattle.jvm_model.specs.declared.opcode.Operands.TheVariants as operands
-use Rattle.jvm_model.specs.declared.opcode.UnitKind.{UnitKind as CodeUnitKind}
 use Rattle.jvm_model.specs.declared.opcode.UnitKind.TheVariants as kinds
-use Rattle.jvm_model.specs.declared.opcode.UnitSource.{UnitSource as CodeUnitSource}
 use Rattle.jvm_model.specs.declared.opcode.UnitSource.TheVariants as sources
-use Rattle.jvm_model.specs.declared.opcode.Flow.{Flow as CodeFlow}
 use Rattle.jvm_model.specs.declared.opcode.Flow.TheVariants as flows
-use Rattle.jvm_model.specs.declared.opcode.Action.{Action as CodeAction}
 use Rattle.jvm_model.specs.declared.opcode.Action.TheVariants as actions
-use Rattle.jvm_model.specs.declared.opcode.Raise.{Raise as CodeRaise}
 use Rattle.jvm_model.specs.declared.opcode.Raise.TheVariants as raises
 use Rattle.jvm_model.specs.declared.opcode.Row.{Row as CodeRow}
 use Rattle.jvm_model.specs.RowViews.{target_view, operands_view, kind_view, source_view, flow_view, action_view, raise_view, row_view}
