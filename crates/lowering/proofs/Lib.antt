@@ -10,3 +10,4 @@ pub mod StepPlaces
 pub mod NodesMade
 pub mod Answered
 pub mod OwnCode
+pub mod MethodParts

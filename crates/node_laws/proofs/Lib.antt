@@ -5,5 +5,5 @@ mod Calls
 mod Thrown
 mod Starts
 mod Running
-mod CodedInitialisers
+pub mod CodedInitialisers
 mod StartNodes

@@ -1,9 +1,9 @@
 mod ArrayOperations
 mod CallOperations
-mod ConstantOperations
-mod FieldOperations
-mod Lifting
-mod MovesMade
-mod Named
-mod RowFacts
+pub mod ConstantOperations
+pub mod FieldOperations
+pub mod Lifting
+pub mod MovesMade
+pub mod Named
+pub mod RowFacts
 mod UnitsMade

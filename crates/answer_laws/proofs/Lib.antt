@@ -1,0 +1,12 @@
+pub mod Own
+pub mod FirstSteps
+pub mod FirstEntries
+pub mod Judged
+pub mod RowsShown
+pub mod Members
+pub mod FieldsNamed
+pub mod Operations
+pub mod Handlers
+pub mod ThrownClasses
+pub mod Nodes
+pub mod Accepted
