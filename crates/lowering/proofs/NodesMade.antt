@@ -102,11 +102,11 @@ module _ (b : MethodCode) (known : IsMethodCode b) (step : GraphStep) (j : Judge
   triggered trigger (a_class some name number concerns number_of e) =
       record { class = Some name; triggers = for_class (row.trigger ∙ some) name number concerns number_of e refl; of = of_class number name number_of e refl }
 
-  abbrev node_of : (successors : List ℕ) (handlers : List NodeHandler) (trigger : Option ClassNo) (throws : List ClassNo) → successors ≡ step.successors
+  abbrev the_node : (successors : List ℕ) (handlers : List NodeHandler) (trigger : Option ClassNo) (throws : List ClassNo) → successors ≡ step.successors
       → AllZip (IsHandlerAt b.program.now b.class.now.pool b.code.now.handlers) step.handlers handlers → TriggersAt b j trigger
       → ((name : Option (List ℕ)) → IsTriggerOf b.program.now trigger name → AreThrownAt b.program.now (row_view j.row.now).raises name throws)
       → IsNodeAt b step (record { offset = step.offset; op = op; successors = successors; handlers = handlers; trigger = trigger; throws = throws })
-  node_of successors handlers trigger throws same handled triggers thrown = λ m stands. record {
+  the_node successors handlers trigger throws same handled triggers thrown = λ m stands. record {
     instruction = placed;
     placed = record {
       placed = j.placed.now;
@@ -147,6 +147,12 @@ module _ (b : MethodCode) (known : IsMethodCode b) (step : GraphStep) (j : Judge
       raises : (name : Option (List ℕ)) → AreThrownAt b.program.now (row_view j.row.now).raises name throws → AreThrownAt b.program.now has.row.raises name throws
       raises name h = subst (λ (all : _). AreThrownAt b.program.now all name throws) (sym row.raises) h
 
+  pub node_of : (successors : List ℕ) (handlers : List NodeHandler) (trigger : Option ClassNo) (throws : List ClassNo) → successors ≡ step.successors
+      → AllZip (IsHandlerAt b.program.now b.class.now.pool b.code.now.handlers) step.handlers handlers → TriggersAt b j trigger
+      → ((name : Option (List ℕ)) → IsTriggerOf b.program.now trigger name → AreThrownAt b.program.now (row_view j.row.now).raises name throws)
+      → IsNodeAt b step (record { offset = step.offset; op = op; successors = successors; handlers = handlers; trigger = trigger; throws = throws })
+  node_of successors handlers trigger throws same handled triggers thrown = the_node successors handlers trigger throws same handled triggers thrown
+
   -- and it is in order
   pub ordered_node : (successors : List ℕ) (handlers : List NodeHandler) (trigger : Option ClassNo) (throws : List ClassNo) → (same : successors ≡ step.successors)
       → (handled : AllZip (IsHandlerAt b.program.now b.class.now.pool b.code.now.handlers) step.handlers handlers) → (triggers : TriggersAt b j trigger)
@@ -154,7 +160,7 @@ module _ (b : MethodCode) (known : IsMethodCode b) (step : GraphStep) (j : Judge
       → HasStepOrder b step j op → ((name : Option (List ℕ)) → IsTriggerOf b.program.now trigger name → IsThrownList b.program.now (row_view j.row.now).raises name throws)
       → IsOrderedAt b step (record { offset = step.offset; op = op; successors = successors; handlers = handlers; trigger = trigger; throws = throws })
   ordered_node successors handlers trigger throws same handled triggers thrown order listed = λ m stands. record {
-    node = node_of successors handlers trigger throws same handled triggers thrown m stands;
+    node = the_node successors handlers trigger throws same handled triggers thrown m stands;
     op = order.for_row has.row has.of_row has.base has.lowest;
     successors = same;
     throws = subst (λ (all : _). IsThrownList b.program.now all (triggered trigger triggers).class throws) (sym row.raises) (listed (triggered trigger triggers).class (triggered trigger triggers).of);
