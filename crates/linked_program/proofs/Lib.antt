@@ -8,6 +8,7 @@ pub mod DeclaredMembers
 pub mod MembersTold
 pub mod MemberUses
 pub mod SoundMembers
+pub mod OneFile
 pub mod SoundBodies
 pub mod Assembled
 pub mod SearchOrders

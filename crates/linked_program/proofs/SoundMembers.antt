@@ -136,24 +136,51 @@ fields_apart (Stub c) sound =
 
 -- ---- those of a program
 
-module _ {M : Type 0} (members : Origin → List M) (signature : M → Signature) (class_of : M → List ℕ)
-    (classes : (o : Origin) → All (λ m. class_of m ≡ (class_from o).name) (members o)) (order : List Origin) where
+-- Two members stand in one origin.
+pub record InOneOrigin {M : Type 0} (members : Origin → List M) (order : List Origin) (i j : ℕ) (m n : M) : Type 0 where
+  pub piece : ℕ
+  pub of : Origin
+  pub there : slice_get order piece ≡ Some of
+  pub first : ℕ
+  pub second : ℕ
+  pub stands_first : slice_get (members of) first ≡ Some m
+  pub stands_second : slice_get (members of) second ≡ Some n
+  pub number_first : i ≡ length (flat_map members (take piece order)) + first
+  pub number_second : j ≡ length (flat_map members (take piece order)) + second
+
+module _ {M : Type 0} (members : Origin → List M) (class_of : M → List ℕ) (classes : (o : Origin) → All (λ m. class_of m ≡ (class_from o).name) (members o)) (order : List Origin) where
   named : (o : Origin) (k : ℕ) (m : M) → slice_get (members o) k ≡ Some m → class_of m ≡ (class_from o).name
   named o k m e = all_at (λ x. class_of x ≡ (class_from o).name) (members o) k m (classes o) e
 
-  same_number : ((o : Origin) → IsSoundOrigin o → AreApart signature (members o)) → All IsSoundOrigin order → AllPairs (λ x y. x ≢ y) (class_names (program_from order))
-      → (i j : ℕ) (m n : M) → slice_get (flat_map members order) i ≡ Some m → slice_get (flat_map members order) j ≡ Some n → class_of m ≡ class_of n → signature m ≡ signature n → i ≡ j
-  same_number apart sound differ i j m n at_i at_j class same =
+  -- those of one class do, since the names of classes differ
+  pub one_origin : AllPairs (λ x y. x ≢ y) (class_names (program_from order))
+      → (i j : ℕ) (m n : M) → slice_get (flat_map members order) i ≡ Some m → slice_get (flat_map members order) j ≡ Some n → class_of m ≡ class_of n → InOneOrigin members order i j m n
+  one_origin differ i j m n at_i at_j class =
       let a = in_piece members order i m at_i in
       let b = in_piece members order j n at_j in
       let names = sym (named a.of a.place m a.stands) ∙ class ∙ named b.of b.place n b.stands in
       let pieces = one_place (class_names (program_from order)) differ a.piece b.piece (class_from a.of).name (class_from b.of).name
       (named_at order a.piece a.of a.there) (named_at order b.piece b.of b.there) names in
       let origins = same_Some _ _ (sym b.there ∙ ap (slice_get order) (sym pieces) ∙ a.there) in
-      let in_a = subst (λ (o : Origin). slice_get (members o) b.place ≡ Some n) origins b.stands in
-      let is_sound = subst IsSoundOrigin (get_or_from_slice_get order a.piece a.of a.of a.there) (sound a.piece a.of (slice_get_within order a.piece a.of a.there)) in
-      let places = (apart a.of is_sound).apart a.place b.place m n a.stands in_a same in
-      a.number ∙ (λ k. length (flat_map members (take (pieces k) order)) + places k) ∙ sym b.number
+      record {
+        piece = a.piece;
+        of = a.of;
+        there = a.there;
+        first = a.place;
+        second = b.place;
+        stands_first = a.stands;
+        stands_second = subst (λ (o : Origin). slice_get (members o) b.place ≡ Some n) origins b.stands;
+        number_first = a.number;
+        number_second = subst (λ (k : ℕ). j ≡ length (flat_map members (take k order)) + b.place) (sym pieces) b.number;
+      }
+
+  same_number : (signature : M → Signature) → ((o : Origin) → IsSoundOrigin o → AreApart signature (members o)) → All IsSoundOrigin order → AllPairs (λ x y. x ≢ y) (class_names (program_from order))
+      → (i j : ℕ) (m n : M) → slice_get (flat_map members order) i ≡ Some m → slice_get (flat_map members order) j ≡ Some n → class_of m ≡ class_of n → signature m ≡ signature n → i ≡ j
+  same_number signature apart sound differ i j m n at_i at_j class same =
+      let both = one_origin differ i j m n at_i at_j class in
+      let is_sound = all_at IsSoundOrigin order both.piece both.of sound both.there in
+      let places = (apart both.of is_sound).apart both.first both.second m n both.stands_first both.stands_second same in
+      omega (arith, places, both.number_first, both.number_second)
 
   class_there : (m : M) → Contains (flat_map members order) m → IsThere (program_from order) (class_of m)
   class_there m among =
@@ -165,17 +192,17 @@ module _ {M : Type 0} (members : Origin → List M) (signature : M → Signature
 -- A member of a class has its name and descriptor alone.
 pub members_differ : (order : List Origin) → All IsSoundOrigin order → AllPairs (λ x y. x ≢ y) (class_names (program_from order)) → MembersDiffer (program_from order)
 members_differ order sound differ = record {
-  methods = same_number methods_from (λ (m : Method). m.signature) (λ (m : Method). m.class) method_classes order methods_apart sound differ;
-  fields = same_number fields_from (λ (f : Field). f.signature) (λ (f : Field). f.class) field_classes order fields_apart sound differ;
+  methods = same_number methods_from (λ (m : Method). m.class) method_classes order (λ (m : Method). m.signature) methods_apart sound differ;
+  fields = same_number fields_from (λ (f : Field). f.class) field_classes order (λ (f : Field). f.signature) fields_apart sound differ;
 }
 
 -- Each member belongs to a class of the program.
 pub methods_there : (order : List Origin) → All (λ (m : Method). IsThere (program_from order) m.class) (program_from order).methods
 methods_there order = λ k d lt.
     let methods = flat_map methods_from order in
-    class_there methods_from (λ (m : Method). m.signature) (λ (m : Method). m.class) method_classes order (get_or methods k d) (Contains-get_or methods k d lt)
+    class_there methods_from (λ (m : Method). m.class) method_classes order (get_or methods k d) (Contains-get_or methods k d lt)
 
 pub fields_there : (order : List Origin) → All (λ (f : Field). IsThere (program_from order) f.class) (program_from order).fields
 fields_there order = λ k d lt.
     let fields = flat_map fields_from order in
-    class_there fields_from (λ (f : Field). f.signature) (λ (f : Field). f.class) field_classes order (get_or fields k d) (Contains-get_or fields k d lt)
+    class_there fields_from (λ (f : Field). f.class) field_classes order (get_or fields k d) (Contains-get_or fields k d lt)

@@ -6,6 +6,7 @@ pub mod Declarations
 pub mod DeclaredClasses
 pub mod MemberLists
 pub mod Bodies
+pub mod Files
 pub mod Ranks
 pub mod Whole
 pub mod Indexes

@@ -8,6 +8,7 @@ ghost use Rattle.jvm_model.specs.Resolution.{Declares, DeclaresField, HasSignatu
 ghost use Rattle.jvm_model.specs.Subtypes.{IsSubtype};
 ghost use Rattle.linked_program.specs.Bodies.{IsBodyView};
 ghost use Rattle.linked_program.specs.FieldSearches.{IsSearchOrder};
+ghost use Rattle.linked_program.specs.Files.{HaveOneFile};
 ghost use Rattle.linked_program.specs.Numbers.{name_at, IsClassNumber, IsFieldNumber, IsMethodNumber, IsNumber};
 ghost use Rattle.linked_program.specs.Ranks.{IsRanked};
 ghost use Rattle.linked_program.specs.Assembling.{Assembles, IsCycleFailure};
@@ -91,10 +92,12 @@ impl Program {
     }
 
     /// What holds of each linked program: no class is above itself, all supertypes are there, and of the right kind; members
-    /// differ, and each method has a body that was checked. It does nothing.
+    /// differ, and each method has a body that was checked; the methods of one class are members of one class file. It does
+    /// nothing.
     pub fn well_formed(&self)
         ensures program { IsProgram self.now }
         ensures ranked { IsRanked self.now }
+        ensures files { HaveOneFile self.now }
     {
         let _classes = self.origins.len();
     }

@@ -1,7 +1,9 @@
 use Rattle.std.proofs.Common.{subst}
 use Rattle.jvm_model.specs.LinkedPrograms.{IsProgram}
+use Rattle.linked_program.specs.Files.{HaveOneFile}
 use Rattle.linked_program.specs.Ranks.{IsRanked}
 use Rattle.linked_program.proofs.Accessing.{differ, same_size}
+use Rattle.linked_program.proofs.OneFile.{one_file}
 use Rattle.linked_program.proofs.Ranking.{ranked}
 use Rattle.linked_program.proofs.program.Program.well_formed.Goals as goal
 
@@ -12,3 +14,6 @@ pub returns-clause-ranked : goal.returns-clause-ranked
 returns-clause-ranked c =
     subst IsRanked c.self.view_is
     (ranked c.self.inside.origins.items c.self.inside.parents.items (differ c.self.inside c.self.invariant) c.self.invariant.parents_are c.self.invariant.ordered (same_size c.self.inside c.self.invariant))
+
+pub returns-clause-files : goal.returns-clause-files
+returns-clause-files c = subst HaveOneFile c.self.view_is (one_file c.self.inside.origins.items c.self.invariant.program.differ)
