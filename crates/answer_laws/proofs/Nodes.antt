@@ -1,4 +1,4 @@
--- Each step without a reason has a node, where no entry that covers it takes a class that is not in the program.
+-- Each step without a reason has a node in order, where no entry that covers it takes a class that is not in the program.
 use Rattle.std.proofs.Common.{◌≡◌, ◌⊎◌, inl, inr, ℕ, suc, ◌+◌, ◌<◌, true, false, List, [], ◌∷◌, length, map, Option, Some, None, refl, sym, ap, ◌∙◌, subst, arith}
 use Rattle.std.specs.List.{Contains, slice_get}
 use Rattle.std.proofs.lemmas.List.Elements.{All-contains}
@@ -17,6 +17,7 @@ use Rattle.code_reader.proofs.ToldCodes.{Contains-from_slice_get}
 use Rattle.linked_program.specs.Numbers.{name_at}
 use Rattle.flow_graph.specs.declared.steps.Graph.{Graph}
 use Rattle.flow_graph.specs.declared.steps.GraphStep.{GraphStep}
+use Rattle.flow_graph.specs.Effects.{with_row}
 use Rattle.flow_graph.specs.Graphing.{IsStep}
 use Rattle.graph_laws.specs.StepRows.{HasRow as HasStepRow, IsResolved}
 use Rattle.graph_laws.proofs.StepRows.{step_row}
@@ -25,26 +26,28 @@ use Rattle.instruction_reasons.specs.declared.judgement.NamedMember.{NamedMember
 use Rattle.instruction_reasons.specs.declared.judgement.NamedMember.TheVariants as members
 use Rattle.instruction_reasons.specs.Judgements.{IsNamedMember}
 use Rattle.instruction_reasons.specs.Reasons.{Judged, IsFirstReason, wants_static}
-use Rattle.method_nodes.specs.LoweredMethods.{IsNodeOf}
 use Rattle.node_machine.specs.Nodes.{AreThrownAt, IsClassNumber}
 use Rattle.node_operations.specs.ByAction.{HasRow}
+use Rattle.node_operations.specs.Orders.{IsOrderedOp}
 use Rattle.node_operations.specs.declared.placement.Placement.{Placement}
 use Rattle.node_operations.proofs.Lifting.{not_refused}
 use Rattle.node_parts.specs.Entries.{AreKnown}
-use Rattle.node_parts.specs.Exceptions.{IsTriggerOf}
+use Rattle.node_parts.specs.Exceptions.{IsThrownList, IsTriggerOf}
 use Rattle.node_parts.proofs.AddedClasses.{no_trigger_name, trigger_name}
 use Rattle.op_model.specs.declared.node.Node.{Node}
 use Rattle.op_model.specs.declared.op.Op.{Op}
 use Rattle.program_laws.proofs.Orders.{none_there, where_there}
 use Rattle.lowering_laws.proofs.OneRefusal.{one_placed, own_order}
-use Rattle.lowering.specs.Bodies.{HasStepOperation, IsJudgedStep, IsMadeClass, IsMethodCode, NamesOwner, TriggersAt, judged_step, made, no_name, not_there, nothing}
+use Rattle.lowering_laws.proofs.OneRow.{row_once}
+use Rattle.lowering.specs.Bodies.{HasStepOperation, HasStepOrder, IsJudgedStep, IsMadeClass, IsMethodCode, NamesOwner, TriggersAt, judged_step, made, no_name, not_there, nothing}
+use Rattle.lowering.specs.Orders.{IsInOrder}
 use Rattle.lowering.specs.Refusals.{HasFirstReason, IsOwnCode}
 use Rattle.lowering.proofs.CodeFacts.{sound_instruction}
 use Rattle.lowering.proofs.MadeClasses.{object_trigger}
 use Rattle.lowering.proofs.MemberOwners.{member_number}
 use Rattle.lowering.proofs.MethodParts.{LoweredCode, LoweredStep}
 use Rattle.lowering.proofs.NamedMembers.{names_member}
-use Rattle.lowering.proofs.NodesMade.{node_of}
+use Rattle.lowering.proofs.NodesMade.{ordered_node}
 use Rattle.lowering.proofs.StaticOwners.{static_trigger}
 use Rattle.answer_laws.proofs.Handlers.{handlers_of, number_of}
 use Rattle.answer_laws.proofs.Members.{member_there}
@@ -118,14 +121,19 @@ module _ (b : LoweredCode) (known : IsMethodCode b) (program : IsProgram b.progr
 
   abbrev Thrown : Option ClassNo → Type 0
   Thrown trigger = (throws : List ClassNo) × ((name : Option (List ℕ)) → IsTriggerOf b.program.now trigger name → AreThrownAt b.program.now (row_view j.row.now).raises name throws)
+      × ((name : Option (List ℕ)) → IsTriggerOf b.program.now trigger name → IsThrownList b.program.now (row_view j.row.now).raises name throws)
+
+  thrown_for : (trigger : Option ClassNo) (class : Option (List ℕ)) → ((name : Option (List ℕ)) → IsTriggerOf b.program.now trigger name → name ≡ class) → Thrown trigger
+  thrown_for trigger class named =
+      let all = thrown b.program.now program (row_view j.row.now).raises class in (
+        all.0,
+        λ name of. subst (λ (o : Option (List ℕ)). AreThrownAt b.program.now (row_view j.row.now).raises o all.0) (sym (named name of)) all.1,
+        λ name of. subst (λ (o : Option (List ℕ)). IsThrownList b.program.now (row_view j.row.now).raises o all.0) (sym (named name of)) all.2,
+      )
 
   thrown_by : (trigger : Option ClassNo) → Thrown trigger
-  thrown_by None =
-      let all = thrown b.program.now program (row_view j.row.now).raises None in
-      (all.0, λ name of. subst (λ (o : Option (List ℕ)). AreThrownAt b.program.now (row_view j.row.now).raises o all.0) (sym (no_trigger_name b.program.now None name refl of)) all.1)
-  thrown_by (Some n) =
-      let all = thrown b.program.now program (row_view j.row.now).raises (Some (name_at b.program.now n.0)) in
-      (all.0, λ name of. subst (λ (o : Option (List ℕ)). AreThrownAt b.program.now (row_view j.row.now).raises o all.0) (sym (trigger_name b.program.now (Some n) n name refl of)) all.1)
+  thrown_by None = thrown_for None None (λ name of. no_trigger_name b.program.now None name refl of)
+  thrown_by (Some n) = thrown_for (Some n) (Some (name_at b.program.now n.0)) (λ name of. trigger_name b.program.now (Some n) n name refl of)
 
 -- ---- the node
 
@@ -227,13 +235,24 @@ module _ (p : Program) (program : IsProgram p) (number : ℕ) (code : Code) (gra
         by (inl e) = absurd (not_refused judged free e)
         by (inr r) = let enough = r.enough in record { row = r.resolved; of_row = r.is_row; enough = omega (arith, enough) }
 
-    operation : (op : Op) × HasStepOperation body step step_judged op
+    operation : (op : Op) × HasStepOperation body step step_judged op × HasStepOrder body step step_judged op
     operation =
         let sound = sound_instruction body known placed reason.at.stands in
         let o = operation_of at program sound of_opcode free has_row in
-        (o.0, record { row = has_row.row; of_row = has_row.of_row; base = lowest_slot at program sound of_opcode free has_row; lowest = lowest at program sound of_opcode free has_row; is = o.1 })
+        let base = lowest_slot at program sound of_opcode free has_row in
+        let low : base + length has_row.row.pops ≡ code.max_locals + step.height = lowest at program sound of_opcode free has_row in (
+          o.0,
+          record { row = has_row.row; of_row = has_row.of_row; base = base; lowest = low; is = o.1 },
+          record {
+            for_row = λ row of_row other lowest_other.
+                (let same : has_row.row ≡ row = row_once own.file.pool (with_row placed.instruction (row_view shown)) has_row.row row has_row.of_row of_row in
+                let pops : length has_row.row.pops ≡ length row.pops = ap (λ (r : Row). length r.pops) same in
+                let bases : base ≡ other = omega (arith, pops, low, lowest_other) in
+                subst (λ (r : Row). IsOrderedOp r placed.instruction.operand other o.0) same (subst (λ (z : ℕ). IsOrderedOp has_row.row placed.instruction.operand z o.0) bases o.2));
+          },
+        )
 
-    pub node : (n : Node) × IsNodeOf p number own.method own.file.pool code step n
+    pub node : (n : Node) × IsInOrder p number own.method own.file.pool code step n
     node =
         let is_step : IsStep own.file code graph.steps step = All-contains (IsStep own.file code graph.steps) graph.steps step (flow p program number code graph own).each there in
         let handlers = handlers_of p own.file code (member_of p program number code graph own).checked.sound (code_of p program number code graph own) step.offset step.handlers is_step.handlers_are
@@ -241,4 +260,4 @@ module _ (p : Program) (program : IsProgram p) (number : ℕ) (code : Code) (gra
         let trigger = trigger_of body known program step step_judged is_judged in
         let throws = thrown_by body known program step step_judged is_judged trigger.0 in
         let made_node : Node = record { offset = step.offset; op = operation.0; successors = step.successors; handlers = handlers.0; trigger = trigger.0; throws = throws.0 } in
-        (made_node, node_of body known step step_judged is_judged operation.0 operation.1 step.successors handlers.0 trigger.0 throws.0 refl handlers.1 trigger.1 throws.1 own.method own.stands)
+        (made_node, ordered_node body known step step_judged is_judged operation.0 operation.1 step.successors handlers.0 trigger.0 throws.0 refl handlers.1 trigger.1 throws.1 operation.2 throws.2 own.method own.stands)

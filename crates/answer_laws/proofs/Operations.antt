@@ -1,5 +1,5 @@
--- Each instruction without a reason has an operation.
-use Rattle.std.proofs.Common.{◌≡◌, ℕ, ◌+◌, ◌-◌, Bool, true, false, ◌||◌, cond, eqb, List, [], ◌∷◌, length, map, Option, Some, None, MatchBool, if◌then◌else◌, refl, sym, ap, ◌∙◌, subst, arith}
+-- Each instruction without a reason has an operation, whose moves are in order.
+use Rattle.std.proofs.Common.{◌≡◌, ℕ, ◌+◌, ◌-◌, Bool, true, false, ◌&&◌, ◌||◌, cond, eqb, List, [], ◌∷◌, length, map, Option, Some, None, MatchBool, if◌then◌else◌, refl, sym, ap, ◌∙◌, subst, arith}
 use Rattle.std.specs.List.{list_all}
 use Rattle.std.proofs.lemmas.Bool.{false≢true, true≢false}
 use Rattle.std.proofs.lemmas.Option.{same_Some}
@@ -12,7 +12,7 @@ use Rattle.jvm_model.specs.LinkedPrograms.{IsProgram}
 use Rattle.jvm_model.specs.Lookups.{MemberReference, Signature}
 use Rattle.jvm_model.specs.RowViews.{operands_view, row_view}
 use Rattle.jvm_model.specs.Subtypes.{array_of}
-use Rattle.jvm_model.specs.Table.{Row, row_of, UnitKind, primitive, reference, Operands, pool_2_and_dimensions, Action, plain, load_constant, load_element, store_element, probe_element, probe_array, probe_object, get_static, put_static, get_field, put_field, invoke_virtual, invoke_special, invoke_static, invoke_interface, make_object, make_array, throw_object, cast, leave_method, refused, is_call, is_field_access}
+use Rattle.jvm_model.specs.Table.{Row, row_of, UnitKind, UnitSource, primitive, reference, Operands, pool_2_and_dimensions, Action, plain, load_constant, load_element, store_element, probe_element, probe_array, probe_object, get_static, put_static, get_field, put_field, invoke_virtual, invoke_special, invoke_static, invoke_interface, make_object, make_array, throw_object, cast, leave_method, refused, is_call, is_field_access}
 use Rattle.bytecode_machine.specs.Machine.{NamesArrays, NamesClass, NamesField, NamesMethod, nested_arrays, primitive_array, nested, of_primitives, of_references}
 use Rattle.bytecode_machine.specs.Start.{boot_site}
 use Rattle.bytecode_machine.specs.States.{is_reference_kind, is_reference_type}
@@ -30,12 +30,13 @@ use Rattle.method_nodes.specs.Operations.{Placed, IsAssign, IsCallOp, IsChosen, 
 use Rattle.node_operations.specs.ByAction.{HasRow, call_kind, names_class, resolved_method}
 use Rattle.node_operations.specs.Constants.{constant_class}
 use Rattle.node_operations.specs.MoveLists.{cleared_from, moves_of}
+use Rattle.node_operations.specs.Orders.{IsOrderedOp}
 use Rattle.node_operations.specs.Placements.{judged_at, placed_at}
 use Rattle.node_operations.specs.declared.placement.Placement.{Placement}
-use Rattle.node_operations.proofs.ConstantOperations.{loads_number, loads_object}
-use Rattle.node_operations.proofs.FieldOperations.{is_primitive, pops_units, pushes_primitives}
+use Rattle.node_operations.proofs.ConstantOperations.{loads_number, loads_object, number_in_order}
+use Rattle.node_operations.proofs.FieldOperations.{is_primitive, pushed_moves, pushes_primitives}
 use Rattle.node_operations.proofs.Lifting.{no_method_constant, not_refused}
-use Rattle.node_operations.proofs.MovesMade.{are_moves_of, makes_nothing}
+use Rattle.node_operations.proofs.MovesMade.{are_moves_of, is_read, makes_nothing}
 use Rattle.node_operations.proofs.Named.{callee}
 use Rattle.node_operations.proofs.RowFacts.{array_of_references, class_named, class_operands, is_class_operands, no_stores, plain_makes_nothing}
 use Rattle.lowering.proofs.NamedMembers.{names_member}
@@ -115,21 +116,29 @@ module _ (at : Placement) (program : IsProgram at.program.now) (sound : IsSoundI
   abbrev pub placed : Placed
   placed = placed_at at has.row lowest_slot
 
+  -- its moves are those of the row, in their order
+  abbrev InOrder : Op → Type 0
+  InOrder op = IsOrderedOp has.row at.instruction.now.operand lowest_slot op
+
   -- an operation of the instruction
   abbrev pub Made : Type 0
-  Made = (op : Op) × IsOp has.row.action placed op
+  Made = (op : Op) × IsOp has.row.action placed op × InOrder op
 
   row_by : (a : Action) → listed.action ≡ a → RowBy a at.class.now.pool here has.row
   row_by a e = subst (λ (b : Action). RowBy b at.class.now.pool here has.row) e has.of_row
 
-  made : (a : Action) → has.row.action ≡ a → (op : Op) → IsOp a placed op → Made
-  made a e op is = (op, subst (λ (b : Action). IsOp b placed op) (sym e) is)
+  made : (a : Action) → has.row.action ≡ a → (op : Op) → IsOp a placed op → InOrder op → Made
+  made a e op is order = (op, subst (λ (b : Action). IsOp b placed op) (sym e) is, order)
 
   same_action : (r : Row) (a : Action) → has.row ≡ r → r.action ≡ listed.action → listed.action ≡ a → has.row.action ≡ a
   same_action r a is same e = ap (λ (s : Row). s.action) is ∙ same ∙ e
 
-  of_table : (a : Action) → has.row ≡ listed → listed.action ≡ a → (op : Op) → IsOp a placed op → Made
-  of_table a is e op h = made a (same_action listed a is refl e) op h
+  of_table : (a : Action) → has.row ≡ listed → listed.action ≡ a → (op : Op) → IsOp a placed op → InOrder op → Made
+  of_table a is e op h order = made a (same_action listed a is refl e) op h order
+
+  either : (b : Bool) (op other : Op) → InOrder op → InOrder other → InOrder (if b then op else other)
+  either true op other h k = h
+  either false op other h k = k
 
   -- ---- classes and arrays
 
@@ -219,54 +228,62 @@ module _ (at : Placement) (program : IsProgram at.program.now) (sound : IsSoundI
   call_made : (a : Action) (e : listed.action ≡ a) → is_call a ≡ true → ((op : Op) → IsCallOp placed (call_kind a) op → IsOp a placed op) → Made
   call_made a e call told =
       let c = called (ap is_call e ∙ call) in
-      made a (call_action a e call) c.0 (told c.0 (subst (λ (b : Action). IsCallOp placed (call_kind b) c.0) e c.1))
+      made a (call_action a e call) c.0 (told c.0 (subst (λ (b : Action). IsCallOp placed (call_kind b) c.0) e c.1)) (subst (λ (op : Op). InOrder op) (sym c.1.is) tt)
 
   -- ---- constants
 
   constant_by : listed.action ≡ load_constant → (o : Option (List ℕ)) → o ≡ constant_class at.class.now.pool at.instruction.now.operand → Made
   constant_by e (Some class) is =
       let op = Constant (boot_site class) at.top in
-      (op, (loads_object at e at.class.now.pool class op refl is refl).for_row has.row has.of_row lowest_slot lowest)
+      (op, (loads_object at e at.class.now.pool class op refl is refl).for_row has.row has.of_row lowest_slot lowest, tt)
   constant_by e None is =
       let moves = cleared_from 1 at.top in
-      (Assign moves, (loads_number at e at.class.now.pool moves refl (no_method_constant (judged_at at) free) is refl).for_row has.row has.of_row lowest_slot lowest)
+      let none = no_method_constant (judged_at at) free in (
+        Assign moves,
+        (loads_number at e at.class.now.pool moves refl none is refl).for_row has.row has.of_row lowest_slot lowest,
+        (number_in_order at e at.class.now.pool moves refl none is refl).for_row has.row has.of_row lowest_slot lowest,
+      )
 
   by_action : (a : Action) → listed.action ≡ a → Made
   by_action plain e =
       let same : has.row ≡ listed = row_by plain e in
       let reads : makes_nothing has.row ≡ true = ap makes_nothing same ∙ plain_makes_nothing at.instruction.now.opcode listed known e in
       let moves = moves_of has.row at.instruction.now.operand lowest_slot in
-      of_table plain same e (Assign moves) (record { moves = moves; is = refl; each = are_moves_of has.row at.instruction.now.operand lowest_slot reads })
+      of_table plain same e (Assign moves) (record { moves = moves; is = refl; each = are_moves_of has.row at.instruction.now.operand lowest_slot reads }) refl
   by_action load_constant e = constant_by e (constant_class at.class.now.pool at.instruction.now.operand) refl
-  by_action load_element e = of_table load_element (row_by load_element e) e (LoadElement lowest_slot lowest_slot) refl
-  by_action store_element e = of_table store_element (row_by store_element e) e (StoreElement lowest_slot (lowest_slot + 2)) refl
-  by_action probe_element e = of_table probe_element (row_by probe_element e) e (Probe lowest_slot) refl
-  by_action probe_array e = of_table probe_array (row_by probe_array e) e (Probe lowest_slot) refl
-  by_action probe_object e = of_table probe_object (row_by probe_object e) e (Probe lowest_slot) refl
+  by_action load_element e = of_table load_element (row_by load_element e) e (LoadElement lowest_slot lowest_slot) refl tt
+  by_action store_element e = of_table store_element (row_by store_element e) e (StoreElement lowest_slot (lowest_slot + 2)) refl tt
+  by_action probe_element e = of_table probe_element (row_by probe_element e) e (Probe lowest_slot) refl tt
+  by_action probe_array e = of_table probe_array (row_by probe_array e) e (Probe lowest_slot) refl tt
+  by_action probe_object e = of_table probe_object (row_by probe_object e) e (Probe lowest_slot) refl tt
   by_action invoke_virtual e = call_made invoke_virtual e refl (λ op is. is)
   by_action invoke_special e = call_made invoke_special e refl (λ op is. is)
   by_action invoke_static e = call_made invoke_static e refl (λ op is. is)
   by_action invoke_interface e = call_made invoke_interface e refl (λ op is. is)
   by_action make_object e =
       let names = class_there (ap names_class e) in
-      of_table make_object (row_by make_object e) e (New (new_site placed names.class) lowest_slot) (names, refl)
+      of_table make_object (row_by make_object e) e (New (new_site placed names.class) lowest_slot) (names, refl) tt
   by_action make_array e =
       let arrays = arrays_there e in
-      made make_array (same_action (array_row listed.operands here) make_array (row_by make_array e) (array_action listed.operands here) e) (NewArray (map (new_site placed) arrays.0) lowest_slot) (arrays.0, arrays.1, refl)
-  by_action throw_object e = of_table throw_object (row_by throw_object e) e (Throw lowest_slot) refl
+      made make_array (same_action (array_row listed.operands here) make_array (row_by make_array e) (array_action listed.operands here) e) (NewArray (map (new_site placed) arrays.0) lowest_slot) (arrays.0, arrays.1, refl) tt
+  by_action throw_object e = of_table throw_object (row_by throw_object e) e (Throw lowest_slot) refl tt
   by_action cast e =
       let names = class_there (ap names_class e) in
-      of_table cast (row_by cast e) e (Cast names.class lowest_slot) (names, refl)
-  by_action leave_method e = of_table leave_method (row_by leave_method e) e (Return (value_slot lowest_slot has.row.pops)) refl
+      of_table cast (row_by cast e) e (Cast names.class lowest_slot) (names, refl) tt
+  by_action leave_method e = of_table leave_method (row_by leave_method e) e (Return (value_slot lowest_slot has.row.pops)) refl tt
   by_action refused e = absurd (not_refused (judged_at at) free e)
   by_action get_field e =
       let x = row_by get_field e in
       let n = (field_of get_field e refl).names in
-      made get_field (ap (λ (s : Row). s.action) x.row_is ∙ e) (if is_reference_type n.field.signature.descriptor then Load lowest_slot (field_no n.number) lowest_slot else Probe lowest_slot) (record { names = n; is = refl })
+      let reads = Load lowest_slot (field_no n.number) lowest_slot in
+      let refers = is_reference_type n.field.signature.descriptor in
+      made get_field (ap (λ (s : Row). s.action) x.row_is ∙ e) (if refers then reads else Probe lowest_slot) (record { names = n; is = refl }) (either refers reads (Probe lowest_slot) tt tt)
   by_action put_field e =
       let x = row_by put_field e in
       let n = (field_of put_field e refl).names in
-      made put_field (ap (λ (s : Row). s.action) x.row_is ∙ e) (if is_reference_type n.field.signature.descriptor then Store lowest_slot (field_no n.number) (lowest_slot + 1) else Probe lowest_slot) (record { names = n; is = refl })
+      let writes = Store lowest_slot (field_no n.number) (lowest_slot + 1) in
+      let refers = is_reference_type n.field.signature.descriptor in
+      made put_field (ap (λ (s : Row). s.action) x.row_is ∙ e) (if refers then writes else Probe lowest_slot) (record { names = n; is = refl }) (either refers writes (Probe lowest_slot) tt tt)
   by_action get_static e = by (is_reference_type n.field.signature.descriptor) refl
     where
       x : IsFieldRow at.class.now.pool here (λ value. []) (map made_for) has.row
@@ -281,19 +298,22 @@ module _ (at : Placement) (program : IsProgram at.program.now) (sound : IsSoundI
       same : has.row.action ≡ get_static
       same = ap (λ (s : Row). s.action) x.row_is ∙ e
 
-      static_op : (op : Op) (b : Bool) → is_reference_type n.field.signature.descriptor ≡ b → MatchBool b (op ≡ LoadStatic (field_no n.number) lowest_slot) (IsAssign placed op) → Made
-      static_op op b is h =
-          made get_static same op (record { names = n; is = subst (λ (d : Bool). MatchBool d (op ≡ LoadStatic (field_no n.number) lowest_slot) (IsAssign placed op)) (sym is) h })
+      static_op : (op : Op) (b : Bool) → is_reference_type n.field.signature.descriptor ≡ b → MatchBool b (op ≡ LoadStatic (field_no n.number) lowest_slot) (IsAssign placed op) → InOrder op → Made
+      static_op op b is h order =
+          made get_static same op (record { names = n; is = subst (λ (d : Bool). MatchBool d (op ≡ LoadStatic (field_no n.number) lowest_slot) (IsAssign placed op)) (sym is) h }) order
 
       by : (b : Bool) → is_reference_type n.field.signature.descriptor ≡ b → Made
-      by true is = static_op (LoadStatic (field_no n.number) lowest_slot) true is refl
+      by true is = static_op (LoadStatic (field_no n.number) lowest_slot) true is refl tt
       by false is =
           let kinds = kinds_of n.field.signature.descriptor in
           let signatures : x.field.signature ≡ n.field.signature = ap (λ (m : MemberReference). m.signature) (same_Some x.field n.named (sym x.named ∙ n.is_named)) ∙ sym there.as_named in
           let moves = cleared_from (length kinds) lowest_slot in
-          let each = pushes_primitives has.row kinds at.instruction.now.operand lowest_slot (ap (λ (s : Row). s.stores) x.row_is ∙ no_local get_static e refl) (ap (λ (s : Row). s.pops) x.row_is)
-          (ap (λ (s : Row). s.pushes) x.row_is ∙ ap (λ (s : Signature). map made_for (kinds_of s.descriptor)) signatures) (all_primitive n.field.signature.descriptor is) in
-          static_op (Assign moves) false is (record { moves = moves; is = refl; each = each })
+          let stores : has.row.stores ≡ [] = ap (λ (s : Row). s.stores) x.row_is ∙ no_local get_static e refl in
+          let pops : has.row.pops ≡ [] = ap (λ (s : Row). s.pops) x.row_is in
+          let pushes : has.row.pushes ≡ map made_for kinds = ap (λ (s : Row). s.pushes) x.row_is ∙ ap (λ (s : Signature). map made_for (kinds_of s.descriptor)) signatures in
+          let primitives = all_primitive n.field.signature.descriptor is in
+          let each = pushes_primitives has.row kinds at.instruction.now.operand lowest_slot stores pops pushes primitives in
+          static_op (Assign moves) false is (record { moves = moves; is = refl; each = each }) (sym (pushed_moves has.row kinds at.instruction.now.operand lowest_slot stores pops pushes primitives))
   by_action put_static e = by (is_reference_type n.field.signature.descriptor) refl
     where
       x : IsFieldRow at.class.now.pool here (λ value. value) (λ value. []) has.row
@@ -305,16 +325,18 @@ module _ (at : Placement) (program : IsProgram at.program.now) (sound : IsSoundI
       same : has.row.action ≡ put_static
       same = ap (λ (s : Row). s.action) x.row_is ∙ e
 
-      static_op : (op : Op) (b : Bool) → is_reference_type n.field.signature.descriptor ≡ b → MatchBool b (op ≡ StoreStatic (field_no n.number) lowest_slot) (IsAssign placed op) → Made
-      static_op op b is h =
-          made put_static same op (record { names = n; is = subst (λ (d : Bool). MatchBool d (op ≡ StoreStatic (field_no n.number) lowest_slot) (IsAssign placed op)) (sym is) h })
+      static_op : (op : Op) (b : Bool) → is_reference_type n.field.signature.descriptor ≡ b → MatchBool b (op ≡ StoreStatic (field_no n.number) lowest_slot) (IsAssign placed op) → InOrder op → Made
+      static_op op b is h order =
+          made put_static same op (record { names = n; is = subst (λ (d : Bool). MatchBool d (op ≡ StoreStatic (field_no n.number) lowest_slot) (IsAssign placed op)) (sym is) h }) order
 
       by : (b : Bool) → is_reference_type n.field.signature.descriptor ≡ b → Made
-      by true is = static_op (StoreStatic (field_no n.number) lowest_slot) true is refl
+      by true is = static_op (StoreStatic (field_no n.number) lowest_slot) true is refl tt
       by false is =
-          let moves = cleared_from (length has.row.pops) lowest_slot in
-          let each = pops_units has.row (length has.row.pops) at.instruction.now.operand lowest_slot (ap (λ (s : Row). s.stores) x.row_is ∙ no_local put_static e refl) (ap (λ (s : Row). s.pushes) x.row_is) refl in
-          static_op (Assign moves) false is (record { moves = moves; is = refl; each = each })
+          let stores : has.row.stores ≡ [] = ap (λ (s : Row). s.stores) x.row_is ∙ no_local put_static e refl in
+          let pushes : has.row.pushes ≡ [] = ap (λ (s : Row). s.pushes) x.row_is in
+          let reads : makes_nothing has.row ≡ true = ap (λ (us : List UnitSource). list_all is_read us && list_all is_read has.row.pushes) stores ∙ ap (λ (us : List UnitSource). list_all is_read us) pushes in
+          let moves = moves_of has.row at.instruction.now.operand lowest_slot in
+          static_op (Assign moves) false is (record { moves = moves; is = refl; each = are_moves_of has.row at.instruction.now.operand lowest_slot reads }) refl
 
   pub operation_of : Made
   operation_of = by_action listed.action refl
