@@ -11,8 +11,6 @@ pub mod member_index;
 pub mod member_key;
 pub mod numbered_key;
 pub mod order;
-#[cfg(test)]
-mod order_tests;
 pub mod parents;
 pub mod text_index;
 pub mod texts;

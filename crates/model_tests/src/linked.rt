@@ -1,4 +1,5 @@
-//! Linked programs, and the failures of a link.
+//! Linked programs, the failures of a link, and the order of classes.
 
 mod link_failure;
+mod order;
 mod program;

@@ -2,7 +2,7 @@ use Rattle.std.proofs.Common.{ℕ, ◌<◌, length, take}
 use Rattle.std.specs.List.{All}
 use Rattle.class_index.specs.declared.parents.Parents.{Parents}
 use Rattle.class_index.specs.Supertypes.{direct_of}
-use Rattle.class_index.proofs.order_tests.are_in_range.Given as goal
+use Rattle.model_tests.proofs.linked.order.are_in_range.Given as goal
 
 -- the classes so far have their supertypes in range
 abbrev pub invariant-loop-direct : goal.invariant-loop-direct

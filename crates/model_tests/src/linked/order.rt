@@ -4,9 +4,9 @@ ghost use Rattle.std.specs.Prelude.{ℕ, ◌<◌, All, IsTrue, IfOk};
 ghost use Rattle.class_index.specs.Supertypes.{AreInRange, direct_of};
 ghost use Rattle.class_index.specs.UpwardOrder.{IsUpward};
 
-use crate::above::{above_lists, is_at_or_above, sorted_lists};
-use crate::order::upward_order;
-use crate::parents::Parents;
+use class_index::above::{above_lists, is_at_or_above, sorted_lists};
+use class_index::order::upward_order;
+use class_index::parents::Parents;
 use std::alloc::{AllocError, Global};
 use std::process::Abort;
 use std::test::Fail;

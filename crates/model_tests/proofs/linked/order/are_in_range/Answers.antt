@@ -4,7 +4,7 @@ use Rattle.std.proofs.lemmas.List.{take_all}
 use Rattle.std.proofs.lemmas.List.Elements.{All-more}
 use Rattle.class_index.specs.declared.parents.Parents.{Parents}
 use Rattle.class_index.specs.Supertypes.{direct_of}
-use Rattle.class_index.proofs.order_tests.are_in_range.Goals as goal
+use Rattle.model_tests.proofs.linked.order.are_in_range.Goals as goal
 
 pub loop-direct-preserved : goal.loop-direct-preserved
 loop-direct-preserved c =

@@ -1,6 +1,6 @@
 use Rattle.std.proofs.Common.{ℕ, ◌<◌, take}
 use Rattle.std.specs.List.{All}
-use Rattle.class_index.proofs.order_tests.is_in_range.Given as goal
+use Rattle.model_tests.proofs.linked.order.is_in_range.Given as goal
 
 -- the superinterfaces so far are in range
 abbrev pub invariant-loop-interface : goal.invariant-loop-interface

@@ -4,7 +4,7 @@ use Rattle.std.specs.List.{AllZip}
 use Rattle.class_index.specs.declared.parents.Parents.{Parents}
 use Rattle.class_index.specs.AboveLists.{IsSortedCopy, AreAboveLists, AreSortedAbove}
 use Rattle.class_index.proofs.Reaching.{sorted_above}
-use Rattle.class_index.proofs.order_tests.a_ladder_is_searched.Goals as goal
+use Rattle.model_tests.proofs.linked.order.a_ladder_is_searched.Goals as goal
 
 -- the copies are those of the lists, wherever both are lent
 copies_lent : (parents g g' : List Parents) (lists l sorted s : List (Vec ℕ Global)) → g ≡ parents → AreAboveLists g lists → l ≡ lists → AllZip IsSortedCopy l sorted

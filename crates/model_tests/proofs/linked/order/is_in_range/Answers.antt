@@ -6,7 +6,7 @@ use Rattle.std.proofs.lemmas.List.{take_all}
 use Rattle.std.proofs.lemmas.List.Elements.{All-append, All-cons, All-nil, All-more}
 use Rattle.class_index.specs.declared.parents.Parents.{Parents}
 use Rattle.class_index.specs.Supertypes.{direct_of}
-use Rattle.class_index.proofs.order_tests.is_in_range.Goals as goal
+use Rattle.model_tests.proofs.linked.order.is_in_range.Goals as goal
 
 all_direct : (count i : ℕ) (p : Parents) (xs : List ℕ) → xs ≡ p.interfaces.items → length xs ≤ i → All (λ (y : ℕ). y < count) (take i xs)
     → All (λ (y : ℕ). y < count) (option_to_list p.super_class) → All (λ (y : ℕ). y < count) (direct_of p)
