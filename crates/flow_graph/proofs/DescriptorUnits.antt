@@ -19,7 +19,7 @@ use Rattle.flow_graph.specs.Reading.{HasCounts, outcome_units, spelled_units}
 
 -- what holds at each letter of a primitive type
 module _ (P : ℕ → Type 0) (c : ℕ) where
-  by_letter : (a2 a3 a4 a5 a6 a7 a8 a9 : Bool) → P 66 → P 67 → P 68 → P 70 → P 73 → P 74 → P 83 → P 90
+  pub by_letter : (a2 a3 a4 a5 a6 a7 a8 a9 : Bool) → P 66 → P 67 → P 68 → P 70 → P 73 → P 74 → P 83 → P 90
       → eqb c 66 ≡ a2 → eqb c 67 ≡ a3 → eqb c 68 ≡ a4 → eqb c 70 ≡ a5 → eqb c 73 ≡ a6 → eqb c 74 ≡ a7 → eqb c 83 ≡ a8 → eqb c 90 ≡ a9
       → (a2 || a3 || a4 || a5 || a6 || a7 || a8 || a9) ≡ true → P c
   by_letter true a3 a4 a5 a6 a7 a8 a9 p2 p3 p4 p5 p6 p7 p8 p9 e2 e3 e4 e5 e6 e7 e8 e9 e = subst P (sym (eqb-true c 66 e2)) p2

@@ -15,11 +15,13 @@ pub mod Loops
 pub mod MemberUses
 pub mod Numbers
 pub mod OneGraph
+pub mod ReadHandlers
 pub mod ReadParts
 pub mod ReadPlaces
 pub mod ReadRows
 pub mod Rows
 pub mod Sets
+pub mod SpelledKinds
 pub mod Stepping
 pub mod Told
 pub mod UncaughtLevels

@@ -1,5 +1,5 @@
 -- What a sound class file says of the fields, the methods and the call sites that its instructions name.
-use Rattle.std.proofs.Common.{◌≡◌, ℕ, true, false, List, [], ◌∷◌, Option, Some, None, option_and_then, refl, ap, ◌∙◌}
+use Rattle.std.proofs.Common.{◌≡◌, ℕ, Bool, true, false, ◌||◌, List, [], ◌∷◌, Option, Some, None, option_and_then, refl, ap, ◌∙◌}
 use Rattle.std.specs.List.{list_any}
 use Rattle.std.specs.Option.{option_map_or}
 use Rattle.jvm_model.specs.declared.grammar.Grammar.{Grammar}
@@ -13,7 +13,7 @@ use Rattle.jvm_model.specs.Descriptors.{IsMethodDescriptor}
 use Rattle.jvm_model.specs.Instructions.{member_in, member_of, member_at}
 use Rattle.jvm_model.specs.Lookups.{Signature, MemberReference, entry_at, text_at, signature_in, signature_at}
 use Rattle.jvm_model.specs.Soundness.{IsIn, IsSoundClass, is_of_kind, leads_to}
-use Rattle.jvm_model.proofs.SoundUses.{NamesClass, class_there, entry_holds, of_signature, text_there}
+use Rattle.jvm_model.proofs.SoundUses.{NamesClass, class_there, entry_holds, of_method, of_signature, text_there}
 use Rattle.flow_graph.specs.Effects.{site_in, site_at}
 
 -- ---- the entry that an index leads to
@@ -81,40 +81,15 @@ of_any_method (Some (InvokeDynamic bootstrap signature)) h = absurd cc
 of_any_method (Some Taken) h = absurd cc
 
 of_class_method : (o : Option PoolEntry) → LeadsTo (kinds.Method ∷ []) o → IsMethodEntry o
-of_class_method None h = absurd cc
-of_class_method (Some (Utf8 bytes)) h = absurd cc
-of_class_method (Some (Integer bits)) h = absurd cc
-of_class_method (Some (Float bits)) h = absurd cc
-of_class_method (Some (Long bits)) h = absurd cc
-of_class_method (Some (Double bits)) h = absurd cc
-of_class_method (Some (Class name)) h = absurd cc
-of_class_method (Some (Str text)) h = absurd cc
-of_class_method (Some (Fieldref class signature)) h = absurd cc
-of_class_method (Some (Methodref class signature)) h = of_class class signature refl
-of_class_method (Some (InterfaceMethodref class signature)) h = absurd cc
-of_class_method (Some (NameAndType name descriptor)) h = absurd cc
-of_class_method (Some (MethodHandle kind reference)) h = absurd cc
-of_class_method (Some (MethodType descriptor)) h = absurd cc
-of_class_method (Some (InvokeDynamic bootstrap signature)) h = absurd cc
-of_class_method (Some Taken) h = absurd cc
+of_class_method o h = let e = of_method o h in of_class e.0 e.1 e.2
 
 of_interface_method : (o : Option PoolEntry) → LeadsTo (kinds.InterfaceMethod ∷ []) o → IsMethodEntry o
 of_interface_method None h = absurd cc
-of_interface_method (Some (Utf8 bytes)) h = absurd cc
-of_interface_method (Some (Integer bits)) h = absurd cc
-of_interface_method (Some (Float bits)) h = absurd cc
-of_interface_method (Some (Long bits)) h = absurd cc
-of_interface_method (Some (Double bits)) h = absurd cc
-of_interface_method (Some (Class name)) h = absurd cc
-of_interface_method (Some (Str text)) h = absurd cc
-of_interface_method (Some (Fieldref class signature)) h = absurd cc
-of_interface_method (Some (Methodref class signature)) h = absurd cc
-of_interface_method (Some (InterfaceMethodref class signature)) h = of_interface class signature refl
-of_interface_method (Some (NameAndType name descriptor)) h = absurd cc
-of_interface_method (Some (MethodHandle kind reference)) h = absurd cc
-of_interface_method (Some (MethodType descriptor)) h = absurd cc
-of_interface_method (Some (InvokeDynamic bootstrap signature)) h = absurd cc
-of_interface_method (Some Taken) h = absurd cc
+of_interface_method (Some e) h = of_any_method (Some e) (by (is_of_kind kinds.Method e) (is_of_kind kinds.InterfaceMethod e) h)
+  where
+    by : (a b : Bool) → (b || false) ≡ true → (a || (b || false)) ≡ true
+    by true b h = refl
+    by false b h = h
 
 -- ---- what it names
 

@@ -1,8 +1,7 @@
 -- The code of a method has one flow graph, or one first fault.
-use Rattle.std.proofs.Common.{◌≡◌, ◌⊎◌, inl, inr, ℕ, zero, suc, ◌+◌, ◌≤◌, List, [], ◌∷◌, ◌++◌, length, drop, replicate, sum_by, codes, Option, Some, None, Result, Ok, Err, refl, sym, ap, ◌∙◌, subst, arith, length-append}
-use Rattle.std.specs.List.{slice_get, AllZip, AllByRecursion, position}
+use Rattle.std.proofs.Common.{◌≡◌, ℕ, ◌+◌, List, [], ◌∷◌, length, sum_by, Option, Some, None, Result, Ok, Err, refl, sym, ap, ◌∙◌, subst, length-append}
+use Rattle.std.specs.List.{slice_get, position}
 use Rattle.std.proofs.lemmas.List.{length-map}
-use Rattle.std.proofs.lemmas.List.Elements.{recursion_from_All}
 use Rattle.std.proofs.lemmas.Option.{same_Some}
 use Rattle.jvm_model.specs.declared.class_file.ClassFile.{ClassFile}
 use Rattle.jvm_model.specs.declared.code.Code.{Code}
@@ -10,18 +9,16 @@ use Rattle.jvm_model.specs.declared.code.Instruction.{Instruction as Given}
 use Rattle.jvm_model.specs.declared.code.PlacedInstruction.{PlacedInstruction}
 use Rattle.jvm_model.specs.declared.descriptor.Descriptor.TheVariants.{Method}
 use Rattle.jvm_model.specs.declared.descriptor.Kind.{Kind as TypeKind}
-use Rattle.jvm_model.specs.declared.descriptor.Kind.TheVariants.{Prim, Class, Array}
+use Rattle.jvm_model.specs.declared.descriptor.Kind.TheVariants.{Prim}
 use Rattle.jvm_model.specs.declared.pool.PoolEntry.{PoolEntry}
 use Rattle.failure.specs.declared.Failure.{Failure}
 use Rattle.jvm_model.specs.declared.reason.Fault.{Fault}
 use Rattle.failure.specs.declared.Failure.TheVariants.{Cause, OutOfMemory}
 use Rattle.jvm_model.specs.declared.reason.Reason.{Reason}
-use Rattle.jvm_model.specs.Descriptors.{IsFieldType, IsFieldDescriptor}
-use Rattle.jvm_model.specs.DescriptorValues.{is_wide, IsKind, IsOutcome, IsMethodOf}
+use Rattle.jvm_model.specs.DescriptorValues.{IsMethodOf}
 use Rattle.jvm_model.specs.Instructions.{DecodedInstruction, HasDescriptorUnits, kinds_of, made_for, with_units, IsCallRow, IsFieldRow, RowBy}
 use Rattle.jvm_model.specs.Lookups.{MemberReference, Signature}
 use Rattle.jvm_model.specs.Table.{Row, UnitKind, UnitSource, Action, plain, load_constant, load_element, store_element, probe_element, probe_array, probe_object, get_static, put_static, get_field, put_field, invoke_virtual, invoke_special, invoke_static, invoke_interface, make_object, make_array, throw_object, cast, leave_method, refused}
-use Rattle.jvm_model.proofs.Fields.{field-component}
 use Rattle.jvm_model.proofs.MethodKinds.{one_value}
 use Rattle.jvm_model.specs.DescriptorValues.{kind_units}
 use Rattle.flow_graph.specs.declared.effect.Effect.{Effect}
@@ -33,42 +30,9 @@ use Rattle.flow_graph.specs.Graphs.{first_fault, steps_of, IsWalked, TellsGraph,
 use Rattle.flow_graph.specs.Reading.{outcome_units}
 use Rattle.flow_graph.specs.Walks.{is_waiting, Waits, after_walk, Walk, ends, goes_on, at_start}
 use Rattle.flow_graph.proofs.DescriptorUnits.{kinds_length, outcome_length}
+use Rattle.flow_graph.proofs.SpelledKinds.{has_kinds}
 
 -- ---- the units of a method descriptor
-
-bracketed : (d : ℕ) (text : List ℕ) → IsFieldType d text → text ≡ replicate d 91 ++ drop d text
-bracketed zero text is = refl
-bracketed (suc d) text is = subst (λ s. s ≡ replicate (suc d) 91 ++ drop (suc d) s) (sym is.1) (ap (λ s. 91 ∷ s) (bracketed d is.0 is.2))
-
-record HasKind (text : List ℕ) : Type 0 where
-  pub kind : TypeKind
-  pub is : IsKind text kind
-
-kind_by : (d : ℕ) (text : List ℕ) → d ≤ 255 → IsFieldType d text → HasKind text
-kind_by zero text most (inl base) = record { kind = Prim (is_wide text); is = (base, refl) }
-kind_by zero text most (inr object) = record { kind = Class object.0; is = (object.1, object.2) }
-kind_by (suc d) text most is = record { kind = Array (suc d) (drop (suc d) text); is = (omega arith, most, field-component (suc d) text is, bracketed (suc d) text is) }
-
-record HaveKinds (texts : List (List ℕ)) : Type 0 where
-  pub kinds : List TypeKind
-  pub are : AllZip IsKind texts kinds
-
-all_kinds : (texts : List (List ℕ)) → AllByRecursion IsFieldDescriptor texts → HaveKinds texts
-all_kinds [] all = record { kinds = []; are = tt }
-all_kinds (t ∷ texts) all =
-    let k = kind_by all.0.dimensions t all.0.limit all.0.type_is in
-    let more = all_kinds texts all.1 in
-    record { kinds = k.kind ∷ more.kinds; are = (k.is, more.are) }
-
-record HasOutcome (text : List ℕ) : Type 0 where
-  pub outcome : Option TypeKind
-  pub is : IsOutcome text outcome
-
-outcome_by : (text : List ℕ) → (text ≡ codes "V") ⊎ IsFieldDescriptor text → HasOutcome text
-outcome_by text (inl void) = record { outcome = None; is = void }
-outcome_by text (inr field) =
-    let k = kind_by field.dimensions text field.limit field.type_is in
-    record { outcome = Some k.kind; is = k.is }
 
 -- its parameters and its result by their kinds
 record Counted (text : List ℕ) (parameters results : ℕ) : Type 0 where
@@ -80,15 +44,13 @@ record Counted (text : List ℕ) (parameters results : ℕ) : Type 0 where
 
 counted : (text : List ℕ) (ps rs : List UnitKind) → HasDescriptorUnits text ps rs → Counted text (length ps) (length rs)
 counted text ps rs u =
-    let m = u.is in
-    let k = all_kinds m.parameters (recursion_from_All IsFieldDescriptor m.parameters m.each) in
-    let o = outcome_by m.outcome m.outcome_is in
+    let k = has_kinds text u.is in
     record {
       kinds = k.kinds;
-      outcome = o.outcome;
-      is = record { parameters = m.parameters; outcome = m.outcome; spelled = m.spelled; each = k.are; units = m.units; outcome_is = o.is };
-      parameters_are = ap (λ (ks : List UnitKind). length ks) u.parameters_are ∙ kinds_length m.parameters k.kinds k.are;
-      results_are = ap (λ (ks : List UnitKind). length ks) u.results_are ∙ outcome_length m.outcome o.outcome o.is;
+      outcome = k.outcome;
+      is = k.is;
+      parameters_are = ap (λ (ks : List UnitKind). length ks) u.parameters_are ∙ kinds_length u.is.parameters k.kinds k.each;
+      results_are = ap (λ (ks : List UnitKind). length ks) u.results_are ∙ outcome_length u.is.outcome k.outcome k.outcome_is;
     }
 
 same_counts : (text : List ℕ) (a b m n : ℕ) → Counted text a b → Counted text m n → (a ≡ m) × (b ≡ n)

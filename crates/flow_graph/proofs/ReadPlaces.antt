@@ -12,15 +12,15 @@ use Rattle.jvm_model.specs.declared.code.Handler.{Handler}
 use Rattle.jvm_model.specs.declared.code.PlacedInstruction.{PlacedInstruction}
 use Rattle.jvm_model.specs.declared.pool.PoolEntry.{PoolEntry}
 use Rattle.jvm_model.specs.declared.reason.Reason.{Reason}
-use Rattle.jvm_model.specs.declared.reason.Reason.TheVariants.{BadHandler, CodeCut, Truncated}
+use Rattle.jvm_model.specs.declared.reason.Reason.TheVariants.{CodeCut, Truncated}
 use Rattle.jvm_model.specs.declared.reason.Fault.{Fault}
-use Rattle.byte_reader.specs.Reading.{Place, ◌>>=◌, number_at, bytes_at, items_at, table_at}
-use Rattle.byte_reader.specs.Structures.{attribute_at}
-use Rattle.code_reader.specs.CodeReading.{Head, code_length_at, head_at, tail_at, handler_at, judged, known_targets, placed}
-use Rattle.code_reader.specs.Division.{Spot, Divides, at_end, stops, goes_on, Locals, starts, is_target, is_handler, first_or, first_fault, fault_of}
+use Rattle.byte_reader.specs.Reading.{Place, ◌>>=◌, number_at, bytes_at}
+use Rattle.code_reader.specs.CodeReading.{Head, code_length_at, head_at, known_targets, placed}
+use Rattle.code_reader.specs.Division.{Spot, Divides, at_end, stops, goes_on, Locals, starts, is_target, first_or, first_fault, fault_of}
 use Rattle.code_reader.proofs.Sizes.{inside}
 use Rattle.flow_graph.specs.Flows.{number_of}
 use Rattle.flow_graph.specs.Graphing.{IsCodeOf}
+use Rattle.flow_graph.proofs.ReadHandlers.{all_handlers}
 use Rattle.flow_graph.proofs.ReadParts.{parts, place_of, AreSpots, spots_of, read_as, bind_ok, ok_is, unless_ok}
 use Rattle.flow_graph.proofs.Stepping.{Ascend}
 
@@ -153,78 +153,6 @@ all_targets pool code locals all stop (s ∷ spots) none h = (
   all_targets pool code locals all stop spots none h.1,
 )
 
--- ---- the handlers
-
-items_all : {X : Type 0} (P : X → Type 0) (read : Place → Result (X × Place) Fault) → ((p : Place) (x : X × Place) → read p ≡ read_as x → P x.0) → (n : ℕ) (p : Place) (xs : List X × Place) → items_at read n p ≡ read_as xs → AllByRecursion P xs.0
-unfolding items_at
-items_all P read each zero p xs e = subst (λ (y : List _ × Place). AllByRecursion P y.0) (ok_is _ _ e) tt
-items_all {X} P read each (suc n) p xs e =
-    let a = bind_ok (read p) (λ (y : X × Place). items_at read n y.1 >>= (λ others. Ok (y.0 ∷ others.0, others.1))) xs e in
-    let b = bind_ok (items_at read n a.0.1) (λ (others : List X × Place). Ok (a.0.0 ∷ others.0, others.1)) xs a.2 in
-    subst (λ (y : List X × Place). AllByRecursion P y.0) (ok_is _ _ b.2) (each p a.0 a.1, items_all P read each n a.0.1 b.0 b.1)
-
-table_all : {X : Type 0} (P : X → Type 0) (read : Place → Result (X × Place) Fault) → ((p : Place) (x : X × Place) → read p ≡ read_as x → P x.0) → (p : Place) (xs : List X × Place) → table_at read p ≡ read_as xs → AllByRecursion P xs.0
-unfolding table_at
-table_all P read each p xs e =
-    let count = bind_ok {A = ℕ × Place} (number_at w16 p) (λ (n : ℕ × Place). items_at read n.0 n.1) xs e in
-    items_all P read each count.0.0 count.0.1 xs count.2
-
-taken : {A : Type 0} (t : Bool) (r : Result A Fault) (f : Fault) (x : A) → cond t r (Err f) ≡ read_as x → (t ≡ true) × (r ≡ read_as x)
-taken true r f x e = (refl, e)
-taken false r f x e = absurd cc
-
-module _ (pool : List PoolEntry) (long : ℕ) (spots : List Spot) (p : Place) where
-  abbrev Read : Type 0
-  Read = ℕ × Place
-
-  abbrev handler_of : Read → Read → Read → Read → Handler
-  handler_of start finish target kind = record { start = start.0; finish = finish.0; target = target.0; catch_type = kind.0 }
-
-  abbrev on_kind : Read → Read → Read → Read → Result (Handler × Place) Fault
-  on_kind start finish target kind = judged pool long spots p (handler_of start finish target kind, kind.1)
-
-  abbrev on_target : Read → Read → Read → Result (Handler × Place) Fault
-  on_target start finish target = number_at w16 target.1 >>= on_kind start finish target
-
-  abbrev on_finish : Read → Read → Result (Handler × Place) Fault
-  on_finish start finish = number_at w16 finish.1 >>= on_target start finish
-
-  abbrev on_start : Read → Result (Handler × Place) Fault
-  on_start start = number_at w16 start.1 >>= on_finish start
-
-  handler_judged : (x : Handler × Place) → handler_at pool long spots p ≡ read_as x → starts spots x.0.target ≡ true
-  unfolding handler_at
-  handler_judged x e =
-      let start = bind_ok (number_at w16 p) on_start x e in
-      let finish = bind_ok (number_at w16 start.0.1) (on_finish start.0) x start.2 in
-      let target = bind_ok (number_at w16 finish.0.1) (on_target start.0 finish.0) x finish.2 in
-      let kind = bind_ok (number_at w16 target.0.1) (on_kind start.0 finish.0 target.0) x target.2 in
-      let h = handler_of start.0 finish.0 target.0 kind.0 in
-      by h kind.0.1 (is_handler pool long spots h) refl kind.2
-    where
-      fourth : (a b d f g : Bool) → (a && b && d && f && g) ≡ true → f ≡ true
-      fourth true true true true g h = refl
-      fourth true true true false g h = absurd cc
-      fourth true true false f g h = absurd cc
-      fourth true false d f g h = absurd cc
-      fourth false b d f g h = absurd cc
-
-      by : (h : Handler) (after : Place) (b : Bool) → is_handler pool long spots h ≡ b → cond b (read_as (h, after)) (Err (record { offset = p.offset; reason = BadHandler })) ≡ read_as x → starts spots x.0.target ≡ true
-      by h after true is r =
-          let same = ok_is (h, after) x r in
-          subst (λ (y : Handler × Place). starts spots y.0.target ≡ true) same
-          (fourth (ltb h.start h.finish) (starts spots h.start) (starts spots h.finish || eqb h.finish long) (starts spots h.target) _ is)
-      by h after false is r = absurd cc
-
-tail_handlers : (pool : List PoolEntry) (long : ℕ) (spots : List Spot) (p : Place) (handlers : List Handler) → tail_at pool long spots p ≡ Ok handlers → AllByRecursion (λ (h : Handler). HasNumber (map placed spots) h.target) handlers
-unfolding tail_at
-tail_handlers pool long spots p handlers e =
-    let a = bind_ok {A = List Handler × Place} _ _ handlers e in
-    let b = bind_ok (table_at attribute_at a.0.1) _ handlers a.2 in
-    let same : a.0.0 ≡ handlers = ok_is _ _ (taken (eqb (length b.0.1.rest) 0) (read_as a.0.0) _ handlers b.2).1 in
-    subst (λ (hs : List Handler). AllByRecursion (λ (h : Handler). HasNumber (map placed spots) h.target) hs) same
-    (table_all (λ (h : Handler). HasNumber (map placed spots) h.target) (handler_at pool long spots) (λ q x r. started spots x.0.target (handler_judged pool long spots q x r)) p a.0 a.1)
-
 -- ---- the whole
 
 positive : (n : ℕ) (b : Bool) → (eqb n 0 || b) ≡ false → 1 ≤ n
@@ -286,5 +214,6 @@ in_place c code is =
       ascends = (ordered c.pool h.head.bytes h.stop 0 h.spots h.divided).ascend;
       first = has_first c.pool h.head.bytes h.stop h.spots (some_bytes (place_of c code is) (h.head, h.after) h.begins) none h.divided;
       targets = all_targets c.pool h.head.bytes locals h.spots h.stop h.spots none (spots_of c code (place_of c code is) h);
-      handlers = tail_handlers c.pool (length h.head.bytes) h.spots h.after h.handlers h.ends;
+      handlers = all_handlers (λ (x : Handler). HasNumber (map placed h.spots) x.target) c.pool (length h.head.bytes) h.spots h.after h.handlers
+          (λ x read. started h.spots x.target read.target) h.ends;
     })

@@ -1,8 +1,8 @@
 -- An instruction that is read has the row of its opcode, which is not that of the prefix wide.
-use Rattle.std.proofs.Common.{◌≡◌, ℕ, false, List, Option, Some, Ok, refl}
+use Rattle.std.proofs.Common.{◌≡◌, ℕ, false, List, Some, Ok, refl}
 use Rattle.jvm_model.specs.declared.pool.PoolEntry.{PoolEntry}
 use Rattle.jvm_model.specs.Instructions.{DecodedInstruction}
-use Rattle.jvm_model.specs.Table.{Row, row_of, Operands, nothing, implied, value_1, value_2, type_code, local_1, pool_1, pool_2, offset_2, offset_4, local_and_value, pool_2_and_count, pool_2_and_zeros, pool_2_and_dimensions, table_of_offsets, pairs_with_offsets, widened}
+use Rattle.jvm_model.specs.Table.{row_of, Operands, nothing, implied, value_1, value_2, type_code, local_1, pool_1, pool_2, offset_2, offset_4, local_and_value, pool_2_and_count, pool_2_and_zeros, pool_2_and_dimensions, table_of_offsets, pairs_with_offsets, widened}
 use Rattle.code_reader.proofs.KnownInstructions.{HasSize, known_at, read_in}
 use Rattle.code_reader.specs.Division.{instruction_in}
 use Rattle.flow_graph.specs.Reading.{is_widened}

@@ -11,8 +11,9 @@ use jvm_model::opcode::{Flow, row_of_opcode};
 use std::alloc::{AllocError, Global};
 use std::collections::BTreeSet;
 
-/// The number of the instruction at an offset: its place among the instructions of the code.
-pub(crate) fn number_of(instructions: &[PlacedInstruction], offset: u32) -> Option<usize>
+/// The number of the instruction at an offset: its place among the instructions of the code, which stand in the order of their
+/// offsets. No number where no instruction begins at the offset (JVMS 4.9.1).
+pub fn number_of(instructions: &[PlacedInstruction], offset: u32) -> Option<usize>
     requires { AreInOrder instructions.now }
     ensures { result ≡ number_of instructions.now offset }
 {

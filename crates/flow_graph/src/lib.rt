@@ -16,5 +16,6 @@ mod walk;
 
 pub use build::graph;
 pub use effect::Effect;
+pub use flow::number_of;
 pub use mark::Mark;
 pub use steps::{Graph, GraphStep};
