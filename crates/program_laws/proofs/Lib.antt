@@ -13,4 +13,5 @@ pub mod NameClaims
 pub mod Orders
 pub mod Outcomes
 pub mod Paths
+pub mod Signed
 pub mod SpecialCalls

@@ -14,7 +14,8 @@ use Rattle.program_laws.proofs.Defaults.{one_selected}
 use Rattle.program_laws.proofs.Members.{alone_instance, one_found_in}
 use Rattle.program_laws.proofs.Outcomes.{given}
 
-one_start : (p : Program) (current : List ℕ) (m : MemberReference) (x y : List ℕ) → StartsSearch p current m x → StartsSearch p current m y → x ≡ y
+-- the search begins at one class
+pub one_start : (p : Program) (current : List ℕ) (m : MemberReference) (x y : List ℕ) → StartsSearch p current m x → StartsSearch p current m y → x ≡ y
 one_start p current m x y (at_super c call named super) (at_super d call2 named2 super2) =
     let same : c ≡ d = one_class p current c d named named2 in
     same_Some x y (sym super ∙ ap (λ (e : Class). e.super_class) same ∙ super2)
@@ -26,7 +27,8 @@ one_start p current m x y (at_named none e) (at_named none2 e2) = e ∙ sym e2
 abbrev Searched : Program → MemberReference → ℕ → List ℕ → Class → Type 0
 Searched p m target start class = SelectsFrom p start m.signature (IsFoundIn p (IsInstanceWith m.signature) m.signature class) target
 
-one_special : (p : Program) (current : List ℕ) (m : MemberReference) (i j : ℕ) → IsProgram p → SelectsSpecial p current m i → SelectsSpecial p current m j → i ≡ j
+-- so it finds one target
+pub one_special : (p : Program) (current : List ℕ) (m : MemberReference) (i j : ℕ) → IsProgram p → SelectsSpecial p current m i → SelectsSpecial p current m j → i ≡ j
 one_special p current m i j program x y =
     let start : y.start ≡ x.start = one_start p current m y.start x.start y.begins x.begins in
     let class : y.class ≡ x.class = same_Some y.class x.class (sym y.named ∙ ap (class_named p) start ∙ x.named) in
