@@ -1,5 +1,5 @@
 -- The classes of a program by number and by name.
-use Rattle.std.proofs.Common.{◌≡◌, ◌≢◌, ℕ, zero, suc, ◌<◌, Bool, true, false, cond, List, [], ◌∷◌, length, Option, Some, refl, sym, ◌∙◌, ap, subst, arith, inl, inr, eqb}
+use Rattle.std.proofs.Common.{◌≡◌, ◌≢◌, ℕ, zero, suc, ◌<◌, Bool, true, false, cond, List, [], ◌∷◌, length, Option, Some, None, refl, sym, ◌∙◌, ap, subst, arith, inl, inr, eqb}
 use Rattle.std.specs.List.{slice_get, find, Contains}
 use Rattle.std.specs.Option.{option_map, unwrap_or}
 use Rattle.std.specs.Str.{bytes_eq}
@@ -104,6 +104,23 @@ class_of_number p program n within =
 
 pub class_within : (p : Program) (n : ℕ) (c : Class) → slice_get p.classes n ≡ Some c → IsClassNumber p n
 class_within p n c e = slice_get_within p.classes n c e
+
+-- No class of the program has the name.
+abbrev pub IsNowhere : Program → List ℕ → Type 0
+IsNowhere p name = (n : ℕ) → IsClassNumber p n → name_at p n ≡ name → ⊥
+
+-- what has a name is not nowhere
+pub somewhere : (p : Program) (name : List ℕ) (c : Class) → class_named p name ≡ Some c → IsNowhere p name → ⊥
+somewhere p name c named nowhere =
+    let at = number_named p name c named in
+    nowhere at.0 (class_within p at.0 c at.1) (name_at-at p at.0 c at.1 ∙ at.2)
+
+pub not_named : (p : Program) (name : List ℕ) → IsNowhere p name → class_named p name ≡ None
+not_named p name nowhere = by (class_named p name) refl
+  where
+    by : (o : Option Class) → class_named p name ≡ o → o ≡ None
+    by None e = refl
+    by (Some c) e = absurd (somewhere p name c e nowhere)
 
 -- two numbers of one name are the same
 same_number : (p : Program) → IsProgram p → (i j : ℕ) → IsClassNumber p i → IsClassNumber p j → name_at p i ≡ name_at p j → i ≡ j
