@@ -1,80 +1,35 @@
 -- The target of a special or a static call is one, and a number of a method.
-use Rattle.std.proofs.Common.{◌≡◌, inl, inr, ℕ, Bool, true, false, List, [], ◌∷◌, Option, Some, None, Result, Ok, Err, sym, ◌∙◌, ap, subst}
-use Rattle.std.specs.Prelude.{◌↔◌, IsTrue, MatchBool, option_map, slice_get}
+use Rattle.std.proofs.Common.{◌≡◌, ℕ, Bool, List, Option, Some, None, Result, Ok, Err, sym, ◌∙◌, ap, subst}
+use Rattle.std.specs.Prelude.{◌↔◌, IsTrue, option_map, slice_get}
 use Rattle.std.proofs.lemmas.Bool.{false≢true}
 use Rattle.std.proofs.lemmas.Option.{same_Some}
 use Rattle.jvm_model.specs.declared.number.MethodNo.{MethodNo}
 use Rattle.jvm_model.specs.declared.reason.Reason.{Reason}
 use Rattle.jvm_model.specs.LinkedPrograms.{IsProgram}
 use Rattle.jvm_model.specs.Lookups.{MemberReference, Signature}
-use Rattle.jvm_model.specs.Programs.{Class, Method, Program, is_abstract}
-use Rattle.jvm_model.specs.Resolution.{HasSignature, IsFirst, IsFound, IsFoundIn, IsFoundInInterface, declared_there, of_object, IsInstanceWith, ResolvesFrom, itself, by_default, by_name}
-use Rattle.jvm_model.specs.Selection.{SelectsFrom, SelectsSpecial}
-use Rattle.jvm_model.specs.Subtypes.{class_named}
+use Rattle.jvm_model.specs.Programs.{Method, Program, is_abstract}
+use Rattle.jvm_model.specs.Selection.{SelectsSpecial}
 use Rattle.jvm_model.specs.Table.{Action, invoke_special, invoke_static}
 use Rattle.linked_program.specs.Numbers.{IsMethodNumber}
 use Rattle.hierarchy.specs.Searches.{Finds}
-use Rattle.hierarchy.proofs.ClassPlaces.{method_there}
-use Rattle.hierarchy.proofs.Hiding.{starts_same}
+use Rattle.hierarchy.proofs.ClassPlaces.{IsNowhere, method_there, somewhere}
 use Rattle.hierarchy.proofs.Resolving.{instance_within}
-use Rattle.program_laws.proofs.Defaults.{one_selected}
-use Rattle.program_laws.proofs.Members.{alone_instance, one_found_in}
+use Rattle.program_laws.proofs.Signed.{resolved_signed}
+use Rattle.program_laws.proofs.SpecialCalls.{one_special}
 use Rattle.instruction_reasons.specs.Looked.{IsOnly, SelectsCalled, WantsTarget}
 use Rattle.instruction_reasons.specs.Reasons.{Judged, Calls, HasTarget, special, static, IsMismatched, LacksTarget, finds_none, finds_abstract, LooksUpMethod, wants_static}
 use Rattle.instruction_reasons.proofs.Only.{none_such, only_here, only_iff, only_none, only_one, only_same}
 use Rattle.instruction_reasons.proofs.OtherKinds.{method_within, ok_or_err, resolution_found, same_ok}
-use Rattle.instruction_reasons.proofs.Supertypes.{IsNowhere, somewhere}
 
 -- ---- the resolved method has the name and descriptor that are named
-
--- The method of the number has the signature.
-record IsSigned (p : Program) (s : Signature) (number : ℕ) : Type 0 where
-  method : Method
-  stands : slice_get p.methods number ≡ Some method
-  same_call : method.signature ≡ s
-
-signed_first : (p : Program) (s : Signature) (chain : List Class) (n : ℕ) → IsFirst p (HasSignature s) chain n → IsSigned p s n
-signed_first p s [] n first = absurd first
-signed_first p s (c ∷ chain) n (inl d) = record { method = d.method; stands = d.stands; same_call = d.is }
-signed_first p s (c ∷ chain) n (inr later) = signed_first p s chain n later.1
-
-signed_interface : (p : Program) (s : Signature) (name : List ℕ) (n : ℕ) → IsFoundInInterface p (HasSignature s) s name n → IsSigned p s n
-signed_interface p s name n (declared_there d) = record { method = d.method; stands = d.stands; same_call = d.is }
-signed_interface p s name n (of_object none d) = record { method = d.method; stands = d.stands; same_call = d.is.0 }
-
-signed_by_kind : (p : Program) (s : Signature) (name : List ℕ) (n : ℕ) (b : Bool)
-    → MatchBool b (IsFoundInInterface p (HasSignature s) s name n) (IsFound p name (HasSignature s) n) → IsSigned p s n
-signed_by_kind p s name n true h = signed_interface p s name n h
-signed_by_kind p s name n false h = signed_first p s h.chain n h.first
-
-signed_from : (p : Program) (name : List ℕ) (s : Signature) (c : Class) (n : ℕ) → ResolvesFrom p name s (IsFoundIn p (HasSignature s) s c) n → IsSigned p s n
-signed_from p name s c n (itself own) = signed_by_kind p s c.name n c.is_interface own
-signed_from p name s c n (by_default none only) =
-    let i = only.default.specific.inherited in
-    record { method = i.method; stands = i.stands; same_call = i.same_call }
-signed_from p name s c n (by_name none no_default least) =
-    let i = least.inherited in
-    record { method = i.method; stands = i.stands; same_call = i.same_call }
 
 pub looked_signature : (j : Judged) (n : ℕ) (l : LooksUpMethod j (Ok n)) (m : Method) → slice_get j.program.methods n ≡ Some m → m.signature ≡ l.method.signature
 looked_signature j n l m stands =
     let resolves = resolution_found j.program l.class l.by_interface l.method.signature n l.is in
-    let signed = signed_from j.program l.class.name l.method.signature resolves.class n resolves.search in
-    ap (λ (x : Method). x.signature) (same_Some m signed.method (sym stands ∙ signed.stands)) ∙ signed.same_call
+    let signed = resolved_signed j.program l.class.name l.method.signature resolves.class n resolves.search in
+    ap (λ (x : Method). x.signature) (same_Some m signed.method (sym stands ∙ signed.stands)) ∙ signed.is
 
 -- ---- the target of a special call
-
-abbrev Searched : Program → MemberReference → ℕ → List ℕ → Class → Type 0
-Searched p m target start class = SelectsFrom p start m.signature (IsFoundIn p (IsInstanceWith m.signature) m.signature class) target
-
-one_target : (p : Program) (current : List ℕ) (m : MemberReference) (i k : ℕ) → IsProgram p → SelectsSpecial p current m i → SelectsSpecial p current m k → i ≡ k
-one_target p current m i k program x y =
-    let start : y.start ≡ x.start = starts_same p current m y.start x.start y.begins x.begins in
-    let class : y.class ≡ x.class = same_Some y.class x.class (sym y.named ∙ ap (class_named p) start ∙ x.named) in
-    let other : Searched p m k x.start x.class =
-    subst (λ (c : Class). Searched p m k x.start c) class (subst (λ (name : List ℕ). Searched p m k name y.class) start y.chosen) in
-    one_selected p x.start m.signature (IsFoundIn p (IsInstanceWith m.signature) m.signature x.class) i k
-    (record { one = λ a b. one_found_in p (IsInstanceWith m.signature) m.signature x.class a b program (alone_instance p m.signature program) }) x.chosen other
 
 special_within : (p : Program) (current : List ℕ) (m : MemberReference) (n : ℕ) → SelectsSpecial p current m n → IsMethodNumber p n
 special_within p current m n s = instance_within p s.start m.signature n (record { class = s.class; named = s.named; chosen = s.chosen })
@@ -99,7 +54,7 @@ selects_called j m t only h = subst (λ (x : MemberReference). Selects j x t) (s
 
 found_selects : (j : Judged) (m : MemberReference) (o : Option MethodNo) → IsProgram j.program → Finds (Selects j m) o → IsOnly (Selects j m) (option_map (λ (k : MethodNo). k.0) o)
 found_selects j m None program finds = only_none (Selects j m) finds
-found_selects j m (Some k) program finds = only_one (Selects j m) k.0 finds (λ t h. one_target j.program j.current m k.0 t program finds h)
+found_selects j m (Some k) program finds = only_one (Selects j m) k.0 finds (λ t h. one_special j.program j.current m k.0 t program finds h)
 
 pub special_found : (j : Judged) (m : MemberReference) (n : ℕ) (o : Option MethodNo) (class : List ℕ) (s : Signature) → IsProgram j.program → IsOnly (Calls j) (Some m)
     → LooksUpMethod j (Ok n) → class ≡ m.class → s ≡ m.signature → Finds (Selects j (record { class = class; signature = s })) o

@@ -11,13 +11,12 @@ use Rattle.jvm_model.specs.Resolution.{Declares, HasSignature}
 use Rattle.jvm_model.specs.Subtypes.{class_named, IsChain}
 use Rattle.linked_program.specs.Numbers.{name_at, IsClassNumber}
 use Rattle.linked_program.specs.Ranks.{IsRanked}
-use Rattle.hierarchy.proofs.ClassPlaces.{class_of_number}
+use Rattle.hierarchy.proofs.ClassPlaces.{IsNowhere, class_of_number, somewhere}
 use Rattle.hierarchy.proofs.Chains.{IsStep, IsTop, chain_above}
 use Rattle.program_laws.proofs.Orders.{none_there, first_there, more_there, where_there}
 use Rattle.instruction_reasons.specs.Looked.{DeclaresFinalizer, DeclaresOne, HasFolderFinalizer, IsFolderFinalizer}
 use Rattle.instruction_reasons.specs.Reasons.{finalizers, IsFinalizer, HasFinalizer}
 use Rattle.instruction_reasons.proofs.Only.{IsEither}
-use Rattle.instruction_reasons.proofs.Supertypes.{IsNowhere, somewhere}
 
 -- ---- methods of a class
 

@@ -14,7 +14,7 @@ use Rattle.program_laws.proofs.Outcomes.{one_field_outcome, one_method_outcome}
 use Rattle.instruction_reasons.specs.Looked.{AccessesNone, CallsNone, IsOnly, reference_kind}
 use Rattle.instruction_reasons.specs.Reasons.{Judged, Accesses, Calls, IsByInterface, of_class, of_interface, LooksUpField, LooksUpMethod, wants_static}
 use Rattle.instruction_reasons.proofs.Only.{only_none, only_one, only_same}
-use Rattle.instruction_reasons.proofs.Supertypes.{IsNowhere, somewhere}
+use Rattle.hierarchy.proofs.ClassPlaces.{IsNowhere, somewhere}
 
 -- ---- fields
 

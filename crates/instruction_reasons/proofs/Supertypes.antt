@@ -1,5 +1,5 @@
 -- Subtypes of classes that are in the program, or are not.
-use Rattle.std.proofs.Common.{◌≡◌, ◌≢◌, inl, inr, ℕ, Bool, not, List, Some, None, Option, refl, sym, ◌∙◌, subst}
+use Rattle.std.proofs.Common.{◌≡◌, ◌≢◌, inl, inr, ℕ, Bool, not, List, Some, None, Option, sym, ◌∙◌, subst}
 use Rattle.std.specs.Prelude.{◌↔◌, IsTrue, IfSome, IfNone, is_some, slice_get}
 use Rattle.std.proofs.lemmas.Bool.{both_ways, not-true, not-false}
 use Rattle.std.proofs.lemmas.Option.{none-some}
@@ -8,24 +8,7 @@ use Rattle.jvm_model.specs.LinkedPrograms.{IsProgram}
 use Rattle.jvm_model.specs.Programs.{Class, Program}
 use Rattle.jvm_model.specs.Subtypes.{class_named, IsDirectSuper, IsSubtype, same, below}
 use Rattle.linked_program.specs.Numbers.{name_at, IsClassNumber}
-use Rattle.hierarchy.proofs.ClassPlaces.{class_of_number, class_within, name_at-at, number_named, supers_of}
-
--- No class of the program has the name.
-abbrev pub IsNowhere : Program → List ℕ → Type 0
-IsNowhere p name = (n : ℕ) → IsClassNumber p n → name_at p n ≡ name → ⊥
-
--- what has a name is not nowhere
-pub somewhere : (p : Program) (name : List ℕ) (c : Class) → class_named p name ≡ Some c → IsNowhere p name → ⊥
-somewhere p name c named nowhere =
-    let at = number_named p name c named in
-    nowhere at.0 (class_within p at.0 c at.1) (name_at-at p at.0 c at.1 ∙ at.2)
-
-pub not_named : (p : Program) (name : List ℕ) → IsNowhere p name → class_named p name ≡ None
-not_named p name nowhere = by (class_named p name) refl
-  where
-    by : (o : Option Class) → class_named p name ≡ o → o ≡ None
-    by None e = refl
-    by (Some c) e = absurd (somewhere p name c e nowhere)
+use Rattle.hierarchy.proofs.ClassPlaces.{IsNowhere, class_of_number, not_named, somewhere, supers_of}
 
 -- the class of a name that a number has
 pub named_by : (p : Program) → IsProgram p → (name : List ℕ) (n : ℕ) → IsClassNumber p n → name_at p n ≡ name → (c : Class) × (class_named p name ≡ Some c)

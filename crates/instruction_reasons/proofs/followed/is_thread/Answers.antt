@@ -4,7 +4,8 @@ use Rattle.std.proofs.lemmas.Bool.{false≢true}
 use Rattle.jvm_model.specs.Programs.{Program}
 use Rattle.jvm_model.specs.Subtypes.{IsSubtype, same}
 use Rattle.linked_program.specs.Numbers.{name_at}
-use Rattle.instruction_reasons.proofs.Supertypes.{alone, above_there, named_by, somewhere}
+use Rattle.hierarchy.proofs.ClassPlaces.{somewhere}
+use Rattle.instruction_reasons.proofs.Supertypes.{alone, above_there, named_by}
 use Rattle.instruction_reasons.proofs.followed.is_thread.Goals as goal
 
 pub returns-then-is_text : goal.returns-then-is_text
