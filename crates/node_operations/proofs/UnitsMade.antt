@@ -1,43 +1,27 @@
 -- The units of a method descriptor are those of the value that it spells.
-use Rattle.std.proofs.Common.{◌≡◌, ◌⊎◌, inl, inr, ℕ, zero, suc, ◌+◌, ◌<◌, ◌≤◌, Bool, true, false, ◌||◌, eqb, cond, List, [], ◌∷◌, ◌++◌, length, map, take, drop, replicate, get_or, codes, Option, Some, None, IfSome, IfNone, refl, sym, ap, ◌∙◌, subst, arith}
-use Rattle.std.specs.List.{AllZip, AllByRecursion, flat_map}
-use Rattle.std.proofs.lemmas.Bool.{eqb-true}
+use Rattle.std.proofs.Common.{◌≡◌, ℕ, zero, suc, ◌+◌, ◌<◌, Bool, true, false, cond, List, [], ◌∷◌, ◌++◌, length, map, take, get_or, Option, Some, None, IfSome, IfNone, refl, sym, ap, ◌∙◌, arith}
+use Rattle.std.specs.List.{AllZip, flat_map}
 use Rattle.std.proofs.lemmas.List.{take_more, length-take, length-map, append-nil, map-append}
-use Rattle.std.proofs.lemmas.List.Elements.{recursion_from_All}
 use Rattle.std.proofs.lemmas.Grind.{flat_map-append}
 use Rattle.jvm_model.specs.declared.descriptor.Descriptor.{Descriptor}
 use Rattle.jvm_model.specs.declared.descriptor.Descriptor.TheVariants.{Field, Method}
 use Rattle.jvm_model.specs.declared.descriptor.Kind.{Kind as TypeKind}
 use Rattle.jvm_model.specs.declared.descriptor.Kind.TheVariants.{Prim, Class, Array}
 use Rattle.jvm_model.specs.declared.opcode.UnitKind.{UnitKind as CodeUnitKind}
-use Rattle.jvm_model.specs.Descriptors.{is_base_letter, IsFieldType, IsFieldDescriptor, IsMethodDescriptor}
-use Rattle.jvm_model.specs.DescriptorValues.{is_wide, IsKind, IsOutcome, IsMethodOf, IsDescriptorOf}
+use Rattle.jvm_model.specs.Descriptors.{is_base_letter, IsFieldDescriptor, IsMethodDescriptor}
+use Rattle.jvm_model.specs.DescriptorValues.{is_wide, IsKind, IsOutcome, IsDescriptorOf}
 use Rattle.jvm_model.specs.Instructions.{kinds_of, kinds_by, HasDescriptorUnits}
 use Rattle.jvm_model.specs.RowViews.{kind_view}
 use Rattle.jvm_model.specs.Table.{UnitKind, any_kind, primitive, reference}
 use Rattle.jvm_model.proofs.FieldKinds.{field_of_kind, no_field}
-use Rattle.jvm_model.proofs.Fields.{field-component}
 use Rattle.jvm_model.proofs.MethodKinds.{one_value}
+use Rattle.flow_graph.proofs.DescriptorUnits.{by_letter}
+use Rattle.flow_graph.proofs.SpelledKinds.{has_kinds}
 use Rattle.bytecode_machine.specs.States.{is_reference_kind}
 use Rattle.method_nodes.specs.Operations.{unit_slots, value_slot}
 use Rattle.node_operations.specs.UnitLists.{unit_kinds, parameter_units, is_reference_outcome, gives_reference}
 
 -- ---- kinds
-
--- what holds at each letter of a primitive type
-module _ (P : ℕ → Type 0) (c : ℕ) where
-  by_letter : (a2 a3 a4 a5 a6 a7 a8 a9 : Bool) → P 66 → P 67 → P 68 → P 70 → P 73 → P 74 → P 83 → P 90
-      → eqb c 66 ≡ a2 → eqb c 67 ≡ a3 → eqb c 68 ≡ a4 → eqb c 70 ≡ a5 → eqb c 73 ≡ a6 → eqb c 74 ≡ a7 → eqb c 83 ≡ a8 → eqb c 90 ≡ a9
-      → (a2 || a3 || a4 || a5 || a6 || a7 || a8 || a9) ≡ true → P c
-  by_letter true a3 a4 a5 a6 a7 a8 a9 p2 p3 p4 p5 p6 p7 p8 p9 e2 e3 e4 e5 e6 e7 e8 e9 e = subst P (sym (eqb-true c 66 e2)) p2
-  by_letter false true a4 a5 a6 a7 a8 a9 p2 p3 p4 p5 p6 p7 p8 p9 e2 e3 e4 e5 e6 e7 e8 e9 e = subst P (sym (eqb-true c 67 e3)) p3
-  by_letter false false true a5 a6 a7 a8 a9 p2 p3 p4 p5 p6 p7 p8 p9 e2 e3 e4 e5 e6 e7 e8 e9 e = subst P (sym (eqb-true c 68 e4)) p4
-  by_letter false false false true a6 a7 a8 a9 p2 p3 p4 p5 p6 p7 p8 p9 e2 e3 e4 e5 e6 e7 e8 e9 e = subst P (sym (eqb-true c 70 e5)) p5
-  by_letter false false false false true a7 a8 a9 p2 p3 p4 p5 p6 p7 p8 p9 e2 e3 e4 e5 e6 e7 e8 e9 e = subst P (sym (eqb-true c 73 e6)) p6
-  by_letter false false false false false true a8 a9 p2 p3 p4 p5 p6 p7 p8 p9 e2 e3 e4 e5 e6 e7 e8 e9 e = subst P (sym (eqb-true c 74 e7)) p7
-  by_letter false false false false false false true a9 p2 p3 p4 p5 p6 p7 p8 p9 e2 e3 e4 e5 e6 e7 e8 e9 e = subst P (sym (eqb-true c 83 e8)) p8
-  by_letter false false false false false false false true p2 p3 p4 p5 p6 p7 p8 p9 e2 e3 e4 e5 e6 e7 e8 e9 e = subst P (sym (eqb-true c 90 e9)) p9
-  by_letter false false false false false false false false p2 p3 p4 p5 p6 p7 p8 p9 e2 e3 e4 e5 e6 e7 e8 e9 e = absurd cc
 
 abbrev viewed : TypeKind → List UnitKind
 viewed k = map kind_view (unit_kinds k)
@@ -78,42 +62,6 @@ outcome_refers : (text : List ℕ) (o : Option TypeKind) → IsOutcome text o �
 outcome_refers text None is = sym (ap (λ (t : List ℕ). is_reference_kind (kinds_of t)) is)
 outcome_refers text (Some k) is = kind_refers k ∙ sym (ap is_reference_kind (kind_viewed text k is))
 
--- ---- each descriptor has a value
-
-bracketed : (d : ℕ) (text : List ℕ) → IsFieldType d text → text ≡ replicate d 91 ++ drop d text
-bracketed zero text is = refl
-bracketed (suc d) text is = subst (λ s. s ≡ replicate (suc d) 91 ++ drop (suc d) s) (sym is.1) (ap (λ s. 91 ∷ s) (bracketed d is.0 is.2))
-
-record HasKind (text : List ℕ) : Type 0 where
-  pub kind : TypeKind
-  pub is : IsKind text kind
-
-kind_from : (d : ℕ) (text : List ℕ) → d ≤ 255 → IsFieldType d text → HasKind text
-kind_from zero text most (inl base) = record { kind = Prim (is_wide text); is = (base, refl) }
-kind_from zero text most (inr object) = record { kind = Class object.0; is = (object.1, object.2) }
-kind_from (suc d) text most is = record { kind = Array (suc d) (drop (suc d) text); is = (omega arith, most, field-component (suc d) text is, bracketed (suc d) text is) }
-
-record HaveKinds (texts : List (List ℕ)) : Type 0 where
-  pub kinds : List TypeKind
-  pub are : AllZip IsKind texts kinds
-
-all_kinds : (texts : List (List ℕ)) → AllByRecursion IsFieldDescriptor texts → HaveKinds texts
-all_kinds [] all = record { kinds = []; are = tt }
-all_kinds (t ∷ texts) all =
-    let k = kind_from all.0.dimensions t all.0.limit all.0.type_is in
-    let more = all_kinds texts all.1 in
-    record { kinds = k.kind ∷ more.kinds; are = (k.is, more.are) }
-
-record HasOutcome (text : List ℕ) : Type 0 where
-  pub outcome : Option TypeKind
-  pub is : IsOutcome text outcome
-
-outcome_by : (text : List ℕ) → (text ≡ codes "V") ⊎ IsFieldDescriptor text → HasOutcome text
-outcome_by text (inl void) = record { outcome = None; is = void }
-outcome_by text (inr field) =
-    let k = kind_from field.dimensions text field.limit field.type_is in
-    record { outcome = Some k.kind; is = k.is }
-
 -- ---- the units of a descriptor
 
 pub units_are : (text : List ℕ) (o : Option Descriptor) (ps rs : List UnitKind) → IfSome o (IsDescriptorOf text) → IfNone o ((IsFieldDescriptor text → ⊥) × (IsMethodDescriptor text → ⊥)) → HasDescriptorUnits text ps rs
@@ -121,15 +69,12 @@ pub units_are : (text : List ℕ) (o : Option Descriptor) (ps rs : List UnitKind
 units_are text None ps rs found none u = absurd (none.1 u.is)
 units_are text (Some (Field kind)) ps rs found none u = absurd (no_field 40 text (flat_map (λ p. p) u.is.parameters ++ 41 ∷ u.is.outcome) refl u.is.spelled (field_of_kind text kind found))
 units_are text (Some (Method kinds outcome)) ps rs found none u =
-    let m = u.is in
-    let k = all_kinds m.parameters (recursion_from_All IsFieldDescriptor m.parameters m.each) in
-    let o = outcome_by m.outcome m.outcome_is in
-    let by : IsMethodOf text k.kinds o.outcome = record { parameters = m.parameters; outcome = m.outcome; spelled = m.spelled; each = k.are; units = m.units; outcome_is = o.is } in
-    let same = one_value text (Method k.kinds o.outcome) (Method kinds outcome) by found in
+    let k = has_kinds text u.is in
+    let same = one_value text (Method k.kinds k.outcome) (Method kinds outcome) k.is found in
     let same_kinds : k.kinds ≡ kinds = cc same in
-    let same_outcome : o.outcome ≡ outcome = cc same in (
-      sym (u.parameters_are ∙ kinds_viewed m.parameters k.kinds k.are ∙ ap (λ (ks : List TypeKind). map kind_view (flat_map unit_kinds ks)) same_kinds),
-      sym (ap is_reference_outcome same_outcome) ∙ outcome_refers m.outcome o.outcome o.is ∙ sym (ap is_reference_kind u.results_are),
+    let same_outcome : k.outcome ≡ outcome = cc same in (
+      sym (u.parameters_are ∙ kinds_viewed u.is.parameters k.kinds k.each ∙ ap (λ (ks : List TypeKind). map kind_view (flat_map unit_kinds ks)) same_kinds),
+      sym (ap is_reference_outcome same_outcome) ∙ outcome_refers u.is.outcome k.outcome k.outcome_is ∙ sym (ap is_reference_kind u.results_are),
     )
 
 -- one more kind
