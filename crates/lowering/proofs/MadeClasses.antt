@@ -15,7 +15,6 @@ use Rattle.jvm_model.specs.declared.reason.Reason.{Reason}
 use Rattle.jvm_model.specs.declared.reason.Reason.TheVariants as reasons
 use Rattle.jvm_model.specs.InstructionUses.{has_shape, leads_there, leads_right, pool_target}
 use Rattle.jvm_model.specs.Lookups.{class_index_in, class_name_at, entry_at, text_at}
-use Rattle.jvm_model.specs.Programs.{Class as ProgramClass, Program}
 use Rattle.jvm_model.specs.RowViews.{row_view}
 use Rattle.jvm_model.specs.Soundness.{is_array, leads_to}
 use Rattle.jvm_model.specs.Subtypes.{class_named}
@@ -25,7 +24,7 @@ use Rattle.flow_graph.specs.declared.steps.GraphStep.{GraphStep}
 use Rattle.flow_graph.specs.Effects.{with_row}
 use Rattle.flow_graph.specs.Reading.{IsSoundInstruction}
 use Rattle.linked_program.specs.Numbers.{name_at, IsClassNumber}
-use Rattle.hierarchy.proofs.ClassPlaces.{class_within, name_at-at, number_named}
+use Rattle.hierarchy.proofs.ClassPlaces.{not_named}
 use Rattle.bytecode_machine.specs.Machine.{of_class}
 use Rattle.instruction_reasons.specs.Reasons.{Judged, class_in, HasReason, no_stub, IsFirstOf, reason_order, Names, of_class as lacks_class, a_class as no_class}
 use Rattle.lowering.specs.Bodies.{IsJudgedStep, IsMadeClass, made, no_name, not_there, IsMethodCode, judged_step, TriggersAt, a_class}
@@ -36,19 +35,10 @@ use Rattle.lowering.proofs.MemberOwners.{class_number}
 
 -- ---- the class that an instruction names, by its number
 
-absent : (p : Program) (name : List ℕ) → ((n : ℕ) → IsClassNumber p n → name_at p n ≡ name → ⊥) → class_named p name ≡ None
-absent p name none = by (class_named p name) refl
-  where
-    by : (o : Option ProgramClass) → class_named p name ≡ o → class_named p name ≡ None
-    by None e = e
-    by (Some c) e =
-        let n = number_named p name c e in
-        absurd (none n.0 (class_within p n.0 c n.1) (name_at-at p n.0 c n.1 ∙ n.2))
-
 pub made_class : (b : MethodCode) (j : JudgedStep) (name : List ℕ) (class : Option ClassNo) → class_name_at b.class.now.pool j.placed.now.instruction.operand ≡ Some name
     → IfSome class (λ (c : ClassNo). IsClassNumber b.program.now c.0 × (name_at b.program.now c.0 ≡ name)) → IfNone class ((n : ℕ) → IsClassNumber b.program.now n → name_at b.program.now n ≡ name → ⊥) → IsMadeClass b j class
 made_class b j name (Some c) named some none = made name c named (class_number b.program.now c name some.0 some.1) refl
-made_class b j name None named some none = not_there name named (absent b.program.now name none) refl
+made_class b j name None named some none = not_there name named (not_named b.program.now name none) refl
 
 -- ---- the table: what makes an object names a class that is no array
 

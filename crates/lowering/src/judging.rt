@@ -3,13 +3,11 @@
 ghost use Rattle.std.specs.Prelude.{◌≡◌, ◌+◌, All, Contains, IfOk, IfErr, Some};
 ghost use Rattle.std.specs.List.{AllZip};
 ghost use Rattle.jvm_model.specs.declared.code.PlacedInstruction.{PlacedInstruction};
-ghost use Rattle.flow_graph.specs.Flows.{number_of};
-ghost use Rattle.flow_graph.specs.Reading.{AreInOrder};
 ghost use Rattle.lowering.specs.Bodies.{HasFirst, IsJudgedStep, IsMethodCode, IsRefusalIn, IsStepOf, IsStepsRefusal};
 
 use crate::body::{JudgedStep, MethodCode};
 use crate::refusal::refused;
-use flow_graph::GraphStep;
+use flow_graph::{GraphStep, number_of};
 use instruction_reasons::{JudgedInstruction, judge};
 use jvm_model::opcode::row_of_opcode;
 use jvm_model::{PlacedInstruction, Reason};
@@ -90,14 +88,4 @@ fn instruction_of<'a>(body: MethodCode<'a>, step: &GraphStep) -> &'a PlacedInstr
         unreachable!()
     };
     &instructions[number]
-}
-
-/// The number of the instruction at an offset: its place among the instructions of the code.
-fn number_of(instructions: &[PlacedInstruction], offset: u32) -> Option<usize>
-    requires { AreInOrder instructions.now }
-    ensures { result ≡ number_of instructions.now offset }
-{
-    instructions
-        .binary_search_by_key(&offset, |placed| placed.offset)
-        .ok()
 }
