@@ -1,6 +1,5 @@
 -- The class that an instruction concerns, and the number of a class, are one.
-use Rattle.std.proofs.Common.{◌≡◌, ℕ, Bool, true, false, List, [], ◌∷◌, ◌++◌, Option, Some, None, refl, sym, ap, ◌∙◌, subst, inl, inr}
-use Rattle.std.specs.Bool.{MatchBool}
+use Rattle.std.proofs.Common.{◌≡◌, ℕ, Bool, true, List, [], ◌∷◌, ◌++◌, Option, Some, None, refl, sym, ap, ◌∙◌, subst}
 use Rattle.std.specs.List.{slice_get}
 use Rattle.std.specs.Option.{option_and_then, option_map, option_to_list}
 use Rattle.std.specs.Prelude.{unwrap_or}
@@ -14,10 +13,10 @@ use Rattle.jvm_model.specs.Instructions.{member_at, member_of}
 use Rattle.jvm_model.specs.LinkedPrograms.{IsProgram, IsSoundEntry, class_names}
 use Rattle.jvm_model.specs.Lookups.{MemberReference, Signature, class_index_in, entry_at, text_at}
 use Rattle.jvm_model.specs.Programs.{Class, Field, Method, Program}
-use Rattle.jvm_model.specs.Resolution.{FindsAmong, FindsField, HasSignature, IsFirst, IsFound, IsFoundIn, IsFoundInInterface, ResolvesFrom, above, by_default, by_name, declared_there, first, itself as in_class, later, nowhere, of_object}
-use Rattle.jvm_model.specs.Resolution.{itself as by_itself}
+use Rattle.jvm_model.specs.Resolution.{FindsAmong, FindsField, above, first, itself as in_class, later, nowhere}
 use Rattle.jvm_model.proofs.FieldKinds.{field_of_kind, no_field}
 use Rattle.jvm_model.proofs.Parameters.{joined}
+use Rattle.program_laws.proofs.Signed.{IsSigned, resolved_signed}
 use Rattle.linked_program.proofs.Bridges.{one_name}
 use Rattle.hierarchy.proofs.ClassPlaces.{contained}
 use Rattle.node_parts.proofs.ParameterCounts.{method_descriptor}
@@ -25,7 +24,7 @@ use Rattle.bytecode_machine.specs.Machine.{Concerns, NamesClass, NamesField, Nam
 use Rattle.node_machine.specs.Nodes.{IsClassNumber}
 use Rattle.lowering_laws.proofs.Named.{one_class, same_field, same_method}
 
--- ---- a field, and a method, has the name and the descriptor by which it is found
+-- ---- a field has the name and the descriptor by which it is found
 
 record FieldSigned (p : Program) (s : Signature) (number : ℕ) : Type 0 where
   field : Field
@@ -42,33 +41,6 @@ mutual
   among_signed p s classes o n e (first class others i x) = found_signed p s class (Some i) n e x
   among_signed p s classes o n e (later class others _ none x) = among_signed p s others o n e x
 
-record MethodSigned (p : Program) (s : Signature) (number : ℕ) : Type 0 where
-  method : Method
-  stands : slice_get p.methods number ≡ Some method
-  is : method.signature ≡ s
-
-first_signed : (p : Program) (s : Signature) (chain : List Class) (n : ℕ) → IsFirst p (HasSignature s) chain n → MethodSigned p s n
-first_signed p s [] n x = absurd x
-first_signed p s (c ∷ chain) n (inl x) = record { method = x.method; stands = x.stands; is = x.is }
-first_signed p s (c ∷ chain) n (inr x) = first_signed p s chain n x.1
-
-interface_signed : (p : Program) (s : Signature) (name : List ℕ) (n : ℕ) → IsFoundInInterface p (HasSignature s) s name n → MethodSigned p s n
-interface_signed p s name n (declared_there x) = record { method = x.method; stands = x.stands; is = x.is }
-interface_signed p s name n (of_object none x) = record { method = x.method; stands = x.stands; is = x.is.0 }
-
-own_signed : (p : Program) (s : Signature) (name : List ℕ) (is_interface : Bool) (n : ℕ) → MatchBool is_interface (IsFoundInInterface p (HasSignature s) s name n) (IsFound p name (HasSignature s) n) → MethodSigned p s n
-own_signed p s name true n x = interface_signed p s name n x
-own_signed p s name false n x = first_signed p s x.chain n x.first
-
-resolved_signed : (p : Program) (class : List ℕ) (s : Signature) (c : Class) (n : ℕ) → ResolvesFrom p class s (IsFoundIn p (HasSignature s) s c) n → MethodSigned p s n
-resolved_signed p class s c n (by_itself x) = own_signed p s c.name c.is_interface n x
-resolved_signed p class s c n (by_default none x) =
-    let m = x.default.specific.inherited in
-    record { method = m.method; stands = m.stands; is = m.same_call }
-resolved_signed p class s c n (by_name none no_default x) =
-    let m = x.inherited in
-    record { method = m.method; stands = m.stands; is = m.same_call }
-
 -- ---- no name and descriptor is that of a field and of a method
 
 field_descriptor : (p : Program) → IsProgram p → (s : Signature) (n : ℕ) → FieldSigned p s n → IsFieldDescriptor s.descriptor
@@ -76,7 +48,7 @@ field_descriptor p program s n x =
     let sound = All-contains IsSoundEntry p.fields x.field program.entries (contained p.fields n x.field x.stands) in
     subst (λ (t : Signature). IsFieldDescriptor t.descriptor) x.is (field_of_kind x.field.signature.descriptor sound.kind sound.descriptor)
 
-descriptor_of_method : (p : Program) → IsProgram p → (s : Signature) (n : ℕ) → MethodSigned p s n → IsMethodDescriptor s.descriptor
+descriptor_of_method : (p : Program) → IsProgram p → (s : Signature) (n : ℕ) → IsSigned p s n → IsMethodDescriptor s.descriptor
 descriptor_of_method p program s n x = subst (λ (t : Signature). IsMethodDescriptor t.descriptor) x.is (method_descriptor p program n x.method x.stands)
 
 never_both : (text : List ℕ) → IsFieldDescriptor text → IsMethodDescriptor text → ⊥

@@ -7,15 +7,11 @@ use Rattle.jvm_model.specs.Instructions.{DecodedInstruction}
 use Rattle.jvm_model.specs.LinkedPrograms.{IsProgram}
 use Rattle.jvm_model.specs.Lookups.{MemberReference}
 use Rattle.jvm_model.specs.Programs.{Class, Program}
-use Rattle.jvm_model.specs.Resolution.{FindsField, IsFoundIn, IsInstanceWith, Resolves, found}
-use Rattle.jvm_model.specs.Selection.{SelectsFrom, SelectsSpecial, StartsSearch, at_named, at_super}
-use Rattle.jvm_model.specs.Subtypes.{array_of, class_named}
+use Rattle.jvm_model.specs.Resolution.{FindsField, Resolves, found}
+use Rattle.jvm_model.specs.Subtypes.{array_of}
 use Rattle.bytecode_machine.specs.Machine.{NamesArrays, NamesClass, NamesField, NamesMethod, nested, nested_arrays, of_primitives, of_references}
 use Rattle.method_nodes.specs.Operations.{LoadsConstantOf, Placed, of_class, of_string}
-use Rattle.program_laws.proofs.Chains.{one_class as same_class}
-use Rattle.program_laws.proofs.Defaults.{one_selected}
 use Rattle.program_laws.proofs.FieldSearch.{one_search}
-use Rattle.program_laws.proofs.Members.{alone_instance, one_found_in}
 use Rattle.program_laws.proofs.Outcomes.{one_method_outcome}
 
 -- ---- members
@@ -57,28 +53,6 @@ same_method p pool operand program x y =
       resolved = resolved;
       method = same_Some x.method y.method (sym x.stands ∙ ap (slice_get p.methods) resolved ∙ y.stands);
     }
-
--- ---- the target of a special call
-
-one_start : (p : Program) (current : List ℕ) (m : MemberReference) (x y : List ℕ) → StartsSearch p current m x → StartsSearch p current m y → x ≡ y
-one_start p current m x y (at_super c call named super) (at_super d call2 named2 super2) =
-    let same : c ≡ d = same_class p current c d named named2 in
-    same_Some x y (sym super ∙ ap (λ (e : Class). e.super_class) same ∙ super2)
-one_start p current m x y (at_super c call named super) (at_named none e) = absurd (none call)
-one_start p current m x y (at_named none e) (at_super c call named super) = absurd (none call)
-one_start p current m x y (at_named none e) (at_named none2 e2) = e ∙ sym e2
-
-abbrev Searched : Program → MemberReference → ℕ → List ℕ → Class → Type 0
-Searched p m target start class = SelectsFrom p start m.signature (IsFoundIn p (IsInstanceWith m.signature) m.signature class) target
-
-pub one_target : (p : Program) (current : List ℕ) (m : MemberReference) (i j : ℕ) → IsProgram p → SelectsSpecial p current m i → SelectsSpecial p current m j → i ≡ j
-one_target p current m i j program x y =
-    let start : y.start ≡ x.start = one_start p current m y.start x.start y.begins x.begins in
-    let class : y.class ≡ x.class = same_Some y.class x.class (sym y.named ∙ ap (class_named p) start ∙ x.named) in
-    let other : Searched p m j x.start x.class =
-    subst (λ (c : Class). Searched p m j x.start c) class (subst (λ (name : List ℕ). Searched p m j name y.class) start y.chosen) in
-    one_selected p x.start m.signature (IsFoundIn p (IsInstanceWith m.signature) m.signature x.class) i j
-    (record { one = λ k l. one_found_in p (IsInstanceWith m.signature) m.signature x.class k l program (alone_instance p m.signature program) }) x.chosen other
 
 -- ---- classes
 

@@ -17,7 +17,8 @@ use Rattle.bytecode_machine.specs.Start.{boot_site}
 use Rattle.bytecode_machine.specs.States.{is_reference_type}
 use Rattle.method_nodes.specs.Operations.{Placed, IsAssign, IsCallOp, IsChosen, IsFieldOp, IsOp, IsStaticOp, field_no, new_site, unit_slots, value_slot}
 use Rattle.lowering_laws.specs.Alike.{AlikeOps, equal, by_moves}
-use Rattle.lowering_laws.proofs.Named.{one_arrays, one_class, one_constant, one_target, same_field, same_method}
+use Rattle.program_laws.proofs.SpecialCalls.{one_special}
+use Rattle.lowering_laws.proofs.Named.{one_arrays, one_class, one_constant, same_field, same_method}
 use Rattle.lowering_laws.proofs.OneRow.{units_agree}
 
 same_moves : (i : Placed) (a b : Op) → IsAssign i a → IsAssign i b → AlikeOps a b
@@ -52,7 +53,7 @@ one_chosen : (kind : CallKind) (i : Placed) → IsProgram i.program → (m n : N
 one_chosen Virtual i program m n a b called resolved x y = x ∙ sym y
 one_chosen Special i program m n a b called resolved x y =
     let of_other = subst (λ (r : MemberReference). SelectsSpecial i.program i.current r x.0) called x.1 in
-    x.2 ∙ ap (λ (t : ℕ). Some (record { 0 = t })) (one_target i.program i.current n.called x.0 y.0 program of_other y.1) ∙ sym y.2
+    x.2 ∙ ap (λ (t : ℕ). Some (record { 0 = t })) (one_special i.program i.current n.called x.0 y.0 program of_other y.1) ∙ sym y.2
 one_chosen Static i program m n a b called resolved x y = x ∙ ap (λ (t : ℕ). Some (record { 0 = t })) resolved ∙ sym y
 one_chosen Interface i program m n a b called resolved x y = x ∙ sym y
 
