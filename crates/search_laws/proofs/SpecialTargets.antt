@@ -11,8 +11,7 @@ use Rattle.jvm_model.specs.Resolution.{IsInstanceWith, IsFoundIn}
 use Rattle.jvm_model.specs.Selection.{IsSuperCall, StartsSearch, at_super, at_named, SelectsFrom, SelectsSpecial, SpecialSelection, selected, no_code, nothing}
 use Rattle.jvm_model.specs.Subtypes.{class_named, IsChain}
 use Rattle.program_laws.proofs.Chains.{one_class, one_chain}
-use Rattle.program_laws.proofs.Defaults.{one_selected}
-use Rattle.program_laws.proofs.Members.{alone_instance, one_found_in}
+use Rattle.program_laws.proofs.SpecialCalls.{one_start}
 use Rattle.program_laws.proofs.Choices.{OrNot, carried_over, both_or_not, same_or_not, some_or_not}
 use Rattle.search_laws.proofs.Bounded.{SomeOrNone, not_or_not}
 use Rattle.search_laws.proofs.Declaring.{instance_or_not, found_in_or_none}
@@ -82,13 +81,6 @@ start_or_none p program current m = by (super_call_or_not p program current m)
     by (inl call) = super_start p current m call
     by (inr not_so) = inl (m.class, at_named not_so refl)
 
-one_start : (p : Program) (current : List ℕ) (m : MemberReference) (x y : List ℕ) → StartsSearch p current m x → StartsSearch p current m y → x ≡ y
-one_start p current m x y (at_super c call named super) (at_super d call2 named2 super2) =
-    same_Some x y (sym super ∙ ap (λ (e : Class). e.super_class) (one_class p current c d named named2) ∙ super2)
-one_start p current m x y (at_super c call named super) (at_named none e) = absurd (none call)
-one_start p current m x y (at_named none e) (at_super c call named super) = absurd (none call)
-one_start p current m x y (at_named none e) (at_named none2 e2) = e ∙ sym e2
-
 -- ---- the target
 
 -- how the target is searched for from a class of a name
@@ -125,13 +117,6 @@ special_or_none p program current m = by (start_or_none p program current m)
     by : Start p current m → SomeOrNone (SelectsSpecial p current m)
     by (inl h) = at h.0 h.1 (class_named p h.0) refl
     by (inr none) = inr (λ target t. none t.start t.begins)
-
--- a special call has one target
-pub one_special : (p : Program) → IsProgram p → (current : List ℕ) (m : MemberReference) (i j : ℕ) → SelectsSpecial p current m i → SelectsSpecial p current m j → i ≡ j
-one_special p program current m i j x y =
-    one_selected p x.start m.signature (IsFoundIn p (IsInstanceWith m.signature) m.signature x.class) i j
-    (record { one = λ k l. one_found_in p (IsInstanceWith m.signature) m.signature x.class k l program (alone_instance p m.signature program) }) x.chosen
-    (searched_for p current m x.start x.class j x.begins x.named y)
 
 -- ---- what the call gives
 
