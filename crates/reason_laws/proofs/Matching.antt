@@ -16,7 +16,8 @@ use Rattle.instruction_reasons.proofs.OtherKinds.{mismatch}
 use Rattle.program_laws.proofs.Choices.{OrNot, carried_over, either_or_not, both_or_not, same_or_not, true_or_not, held_or_not}
 use Rattle.search_laws.proofs.Bounded.{SomeOrNone, not_or_not}
 use Rattle.search_laws.proofs.Resolving.{same_kind_or_not}
-use Rattle.search_laws.proofs.SpecialTargets.{one_special, special_or_none}
+use Rattle.program_laws.proofs.SpecialCalls.{one_special}
+use Rattle.search_laws.proofs.SpecialTargets.{special_or_none}
 use Rattle.reason_laws.proofs.Equality.{outcome_or_not, action_or_not, special_or_static}
 use Rattle.reason_laws.proofs.Looking.{called, field_looked_up, method_looked_up, resolved}
 use Rattle.reason_laws.proofs.Only.{Known, such_or_not, this_or_not, some_known, either_part}
@@ -89,7 +90,7 @@ special_target j program matched n l e = by (special_or_none j.program program j
   where
     same : (t : ℕ) → SelectsSpecial j.program j.current l.method t → (k : ℕ) → HasTarget j k → t ≡ k
     same t h k (special i f l2 matched2 h2) =
-        one_special j.program program j.current l.method t k h
+        one_special j.program j.current l.method t k program h
         (subst (λ (m : MemberReference). SelectsSpecial j.program j.current m k) (one_method j l2.method l.method l2.calls l.calls) h2)
     same t h k (static f l2 matched2) = absurd (special_or_static (sym e ∙ f))
 
