@@ -147,12 +147,6 @@ module _ (b : MethodCode) (known : IsMethodCode b) (step : GraphStep) (j : Judge
       raises : (name : Option (List ℕ)) → AreThrownAt b.program.now (row_view j.row.now).raises name throws → AreThrownAt b.program.now has.row.raises name throws
       raises name h = subst (λ (all : _). AreThrownAt b.program.now all name throws) (sym row.raises) h
 
-  pub node_of : (successors : List ℕ) (handlers : List NodeHandler) (trigger : Option ClassNo) (throws : List ClassNo) → successors ≡ step.successors
-      → AllZip (IsHandlerAt b.program.now b.class.now.pool b.code.now.handlers) step.handlers handlers → TriggersAt b j trigger
-      → ((name : Option (List ℕ)) → IsTriggerOf b.program.now trigger name → AreThrownAt b.program.now (row_view j.row.now).raises name throws)
-      → IsNodeAt b step (record { offset = step.offset; op = op; successors = successors; handlers = handlers; trigger = trigger; throws = throws })
-  node_of successors handlers trigger throws same handled triggers thrown = the_node successors handlers trigger throws same handled triggers thrown
-
   -- and it is in order
   pub ordered_node : (successors : List ℕ) (handlers : List NodeHandler) (trigger : Option ClassNo) (throws : List ClassNo) → (same : successors ≡ step.successors)
       → (handled : AllZip (IsHandlerAt b.program.now b.class.now.pool b.code.now.handlers) step.handlers handlers) → (triggers : TriggersAt b j trigger)

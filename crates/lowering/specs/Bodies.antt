@@ -10,7 +10,7 @@ use Rattle.jvm_model.specs.declared.reason.Refusal.{Refusal}
 use Rattle.jvm_model.specs.Instructions.{IsRowAt}
 use Rattle.jvm_model.specs.LinkedPrograms.{IsProgram}
 use Rattle.jvm_model.specs.Lookups.{class_name_at}
-use Rattle.jvm_model.specs.Programs.{Class as ProgramClass, Field as ProgramField, Method as ProgramMethod, Program, in_file}
+use Rattle.jvm_model.specs.Programs.{Field as ProgramField, Method as ProgramMethod, Program, in_file}
 use Rattle.jvm_model.specs.RowViews.{row_view}
 use Rattle.jvm_model.specs.Soundness.{IsChecked}
 use Rattle.jvm_model.specs.Subtypes.{class_named}
@@ -34,7 +34,7 @@ use Rattle.instruction_reasons.specs.declared.judgement.NamedMember.TheVariants.
 use Rattle.instruction_reasons.specs.Judgements.{IsNamedMember}
 use Rattle.instruction_reasons.specs.Reasons.{Judged, IsFirstReason}
 use Rattle.lowering.specs.Orders.{IsInOrder}
-use Rattle.lowering.specs.Refusals.{HasFirstReason, IsRefusedAt}
+use Rattle.lowering.specs.Refusals.{HasFirstReason, IsClassRefusal, IsRefusedAt}
 use Rattle.lowering.specs.declared.body.MethodCode.{MethodCode}
 use Rattle.lowering.specs.declared.body.JudgedStep.{JudgedStep}
 
@@ -146,8 +146,7 @@ IsOrderedAt b step n = (m : ProgramMethod) → slice_get b.program.now.methods b
 
 -- The failure is the refusal with the file of the method's class; or out of memory.
 abbrev pub IsRefusalIn : MethodCode → ℕ → Reason → Failure Refusal → Type 0
-IsRefusalIn b offset reason (Cause r) = (r.offset ≡ offset) × (r.reason ≡ reason) × ((c : ProgramClass) → slice_get b.program.now.classes b.current.0 ≡ Some c → r.file ≡ c.file)
-IsRefusalIn b offset reason OutOfMemory = Unit {0}
+IsRefusalIn b offset reason failure = IsClassRefusal b.program.now b.current.0 offset reason failure
 
 -- The refusal is for the first reason among the steps; or memory ran out.
 abbrev pub IsStepsRefusal : MethodCode → List GraphStep → Failure Refusal → Type 0

@@ -92,3 +92,10 @@ abbrev pub IsLoweringAnswer : Program → ℕ → Code → Graph → Result Lowe
 IsLoweringAnswer p number code graph (Ok l) = IsAccepted p number code graph l
 IsLoweringAnswer p number code graph (Err (Cause refusal)) = IsRefused p number code graph refusal
 IsLoweringAnswer p number code graph (Err OutOfMemory) = Unit {0}
+
+-- ---- the file
+
+-- The failure is a refusal at this offset of the file that has the class of the number; or out of memory.
+abbrev pub IsClassRefusal : Program → (class offset : ℕ) → Reason → Failure Refusal → Type 0
+IsClassRefusal p class offset reason (Cause r) = (r.offset ≡ offset) × (r.reason ≡ reason) × ((c : Class) → slice_get p.classes class ≡ Some c → r.file ≡ c.file)
+IsClassRefusal p class offset reason OutOfMemory = Unit {0}

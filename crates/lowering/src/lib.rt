@@ -9,3 +9,4 @@ mod node;
 mod refusal;
 
 pub use lower::lower_method;
+pub use refusal::class_refusal;

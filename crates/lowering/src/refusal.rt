@@ -1,12 +1,35 @@
 //! The refusal of a method.
 
+ghost use Rattle.linked_program.specs.Numbers.{IsClassNumber};
 ghost use Rattle.lowering.specs.Bodies.{IsMethodCode, IsRefusalIn};
+ghost use Rattle.lowering.specs.Refusals.{IsClassRefusal};
 
 use crate::body::MethodCode;
 use failure::Failure;
-use jvm_model::{Name, Reason, Refusal};
+use jvm_model::{ClassNo, Fault, Name, Reason, Refusal};
+use linked_program::program::Program;
 use op_model::SupplyFailure;
 use std::alloc::Global;
+
+/// The refusal of what is wrong with the file that has the class; or out of memory.
+pub fn class_refusal(
+    alloc: Global,
+    program: &Program,
+    class: ClassNo,
+    fault: Fault,
+) -> SupplyFailure
+    requires { IsClassNumber program.now class.0 }
+    ensures { IsClassRefusal program.now class.0 fault.offset fault.reason result }
+{
+    match String::from_str(alloc, program.file_name(class).as_str()) {
+        Ok(file) => Failure::Cause(Refusal {
+            file: Name::from_string(file),
+            offset: fault.offset,
+            reason: fault.reason,
+        }),
+        Err(_) => Failure::OutOfMemory,
+    }
+}
 
 /// The refusal of the method, in the file of its class; or out of memory.
 pub(crate) fn refused(
@@ -18,12 +41,5 @@ pub(crate) fn refused(
     requires { IsMethodCode body }
     ensures { IsRefusalIn body.entry offset reason result }
 {
-    match String::from_str(alloc, body.program.file_name(body.current).as_str()) {
-        Ok(file) => Failure::Cause(Refusal {
-            file: Name::from_string(file),
-            offset,
-            reason,
-        }),
-        Err(_) => Failure::OutOfMemory,
-    }
+    class_refusal(alloc, body.program, body.current, Fault { offset, reason })
 }

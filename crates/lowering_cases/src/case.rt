@@ -1,5 +1,6 @@
 //! A case: a folder of class files, with or without a stub file.
 
+ghost use Rattle.std.specs.Prelude.{◌≡◌};
 ghost use Rattle.linked_program.specs.Numbers.{IsClassNumber, IsMethodNumber};
 
 use crate::code::lowered;
@@ -9,6 +10,7 @@ use crate::nodes::node_text;
 use anyhow::Result;
 use case_files::{CaseFailure, is_refusal, link_case, read_all_stubs, read_files};
 use failure::Failure;
+use folder_supply::FolderSupply;
 use jvm_model::{ClassNo, MethodNo, reason_word};
 use linked_program::program::Program;
 use op_model::LoweredMethod;
@@ -53,9 +55,11 @@ fn tell_classes<R: Print>(
     methods: &[MemberName],
     names: &Names,
 ) -> Result<()> {
+    let mut supply = FolderSupply::new(alloc, program);
     for number in 0..program.class_count() {
         if let Ok(number) = u32::try_from(number) {
-            tell_class(rt, alloc, program, ClassNo(number), methods, names)?;
+            let class = ClassNo(number);
+            tell_class(rt, alloc, program, &mut supply, class, methods, names)?;
         }
     }
     Ok(())
@@ -66,18 +70,20 @@ fn tell_class<R: Print>(
     rt: &R,
     alloc: Global,
     program: &Program,
+    supply: &mut FolderSupply<'_>,
     class: ClassNo,
     methods: &[MemberName],
     names: &Names,
 ) -> Result<()>
-    requires { IsClassNumber program.now class.0 }
+    requires class { IsClassNumber program.now class.0 }
+    requires supply { supply.old ≡ program.now }
+    ensures { supply.new ≡ supply.old }
 {
-    let file = program.file_name(class).as_str();
     for member in methods {
         if member.class.as_bytes() == program.class_name(class)
             && let Some(method) = program.declared_method(class, signature_of(member))
         {
-            tell_method(rt, alloc, program, method, file, names)?;
+            tell_method(rt, alloc, supply, method, names)?;
         }
     }
     Ok(())
@@ -87,15 +93,15 @@ fn tell_class<R: Print>(
 fn tell_method<R: Print>(
     rt: &R,
     alloc: Global,
-    program: &Program,
+    supply: &mut FolderSupply<'_>,
     method: MethodNo,
-    file: &str,
     names: &Names,
 ) -> Result<()>
-    requires { IsMethodNumber program.now method.0 }
+    requires { IsMethodNumber supply.old method.0 }
+    ensures { supply.new ≡ supply.old }
 {
     let name = names.method(method);
-    match lowered(alloc, program, method, file) {
+    match lowered(alloc, supply, method) {
         Ok(Some(lowered)) => {
             println!(rt; "{name}")?;
             tell_nodes(rt, alloc, &lowered, names)

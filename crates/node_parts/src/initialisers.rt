@@ -1,6 +1,6 @@
 //! Initialisers of classes (JVMS 2.9, 5.5).
 
-ghost use Rattle.std.specs.Prelude.{◌≡◌, ◌↔◌, ℕ, All, Contains, IsTrue, slice_get};
+ghost use Rattle.std.specs.Prelude.{◌≡◌, ◌↔◌, ℕ, false, All, Contains, IsTrue, None, slice_get};
 ghost use Rattle.std.specs.List.{list_any};
 ghost use Rattle.jvm_model.specs.declared.class_file.Member.{Member};
 ghost use Rattle.jvm_model.specs.Soundness.{is_code};
@@ -77,9 +77,10 @@ fn declares_initialiser(program: &Program, class: ClassNo) -> bool
     }
 }
 
-/// Whether the method of a number has an attribute named `Code` (JVMS 4.7.3).
-fn has_code(file: &ClassFile, number: usize) -> bool
-    ensures { (m : Member) → slice_get file.now.methods number ≡ Some m → result ≡ list_any (is_code file.now.pool) m.attributes }
+/// Whether the method of a number among those of the class file has an attribute named `Code` (JVMS 4.7.3).
+pub fn has_code(file: &ClassFile, number: usize) -> bool
+    ensures of_member { (m : Member) → slice_get file.now.methods number ≡ Some m → result ≡ list_any (is_code file.now.pool) m.attributes }
+    ensures outside { slice_get file.now.methods number ≡ None → result ≡ false }
 {
     match file.methods.as_slice().get(number) {
         Some(method) => is_coded(file.pool.as_slice(), method),

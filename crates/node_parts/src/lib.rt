@@ -13,5 +13,5 @@ pub use catches::{Catch, catches_of};
 pub use entries::{entry_offset, first_unknown};
 pub use exceptions::thrown_classes;
 pub use handlers::node_handlers;
-pub use initialisers::has_initialiser;
+pub use initialisers::{has_code, has_initialiser};
 pub use parameters::parameter_units;

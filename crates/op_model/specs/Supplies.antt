@@ -1,6 +1,6 @@
 -- Public contracts rest on this module.
 -- What a supplier of methods as nodes gives.
-use Rattle.std.specs.Prelude.{◌≡◌, ℕ, Option, Some, Result, Err}
+use Rattle.std.specs.Prelude.{◌≡◌, ◌↔◌, ℕ, Option, Some, Result, Err}
 use Rattle.failure.specs.declared.Failure.{Failure}
 use Rattle.failure.specs.declared.Failure.TheVariants.{Cause, OutOfMemory}
 use Rattle.jvm_model.specs.declared.reason.Refusal.{Refusal}
@@ -10,7 +10,23 @@ use Rattle.op_model.specs.declared.lowered.LoweredMethod.{LoweredMethod}
 abbrev pub Given : Type 0
 Given = ℕ → Option (Result LoweredMethod Refusal)
 
--- The failure is the refusal that stands there. That memory runs out is left open.
-abbrev pub IsRefusalOf : Option (Result LoweredMethod Refusal) → Failure Refusal → Type 0
-IsRefusalOf given (Cause refusal) = given ≡ Some (Err refusal)
-IsRefusalOf given OutOfMemory = Unit {0}
+-- What the method of a number is given as.
+abbrev pub GivenAs : Type 1
+GivenAs = ℕ → Result LoweredMethod Refusal → Type 0
+
+-- The method of the number is served: it is given as something.
+abbrev pub IsServed : GivenAs → ℕ → Type 0
+IsServed gives method = (answer : Result LoweredMethod Refusal) × gives method answer
+
+-- The map has each method that is served, and what it is given as.
+pub record IsMapOf (given : Given) (gives : GivenAs) : Type 0 where
+  pub entries : (method : ℕ) (answer : Result LoweredMethod Refusal) → (given method ≡ Some answer) ↔ gives method answer
+
+-- Each method is given as before.
+pub record IsSameSupply (old new : GivenAs) : Type 0 where
+  pub entries : (method : ℕ) (answer : Result LoweredMethod Refusal) → new method answer ↔ old method answer
+
+-- The failure is the method's refusal. That memory runs out is left open.
+abbrev pub IsRefusalOf : (Result LoweredMethod Refusal → Type 0) → Failure Refusal → Type 0
+IsRefusalOf gives (Cause refusal) = gives (Err refusal)
+IsRefusalOf gives OutOfMemory = Unit {0}

@@ -14,7 +14,7 @@ returns-in-InFile c =
     let p = c.args.program.now in
     let found = c.in-Some.ensures.found in
     declared_in_file p c.well_formed-2.ensures.program (name_at p c.args.class.0) c.in-Some.method.0 found c.in-InFile.file c.in-InFile.number c.has_code.result
-    (c.in-InFile.ensures found.method found.stands) c.has_code.ensures
+    (c.in-InFile.ensures found.method found.stands) c.has_code.ensures.of_member
 
 pub returns-in-Described : goal.returns-in-Described
 returns-in-Described c =

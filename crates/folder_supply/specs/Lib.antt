@@ -1,0 +1,4 @@
+pub mod Supplied
+pub mod Offsets
+pub mod Methods
+pub mod OneAnswer
