@@ -1,6 +1,8 @@
 //! A method of a class file, and its flow graph.
 
 ghost use Rattle.std.specs.Prelude.{◌≡◌};
+ghost use Rattle.jvm_model.specs.Layout.{HasCodeAttribute};
+ghost use Rattle.jvm_model.specs.Soundness.{IsChecked};
 ghost use Rattle.code_reader.specs.Places.{method_offset};
 ghost use Rattle.folder_supply.specs.Methods.{IsShown, TellsFlow, TellsSupplied};
 ghost use Rattle.folder_supply.specs.Supplied.{IsCodedMethod};
@@ -55,13 +57,9 @@ pub(crate) fn coded_method(program: &Program, number: MethodNo) -> CodedMethod<'
 }
 
 /// The code of the method and its flow graph, where the file offset of its first byte is known.
-fn flow_of(
-    alloc: Global,
-    program: &Program,
-    method: CodedMethod<'_>,
-    offset: u32,
-) -> Result<Flow, ReadFailure>
-    requires shown { IsShown program.now method }
+fn flow_of(alloc: Global, method: CodedMethod<'_>, offset: u32) -> Result<Flow, ReadFailure>
+    requires checked { IsChecked method.file.now }
+    requires code { HasCodeAttribute method.file.now method.place }
     requires offset { offset ≡ method_offset method.file.now method.place }
     ensures { TellsFlow method.entry.file.now method.entry.place result }
 {
@@ -81,7 +79,7 @@ pub(crate) fn lower_at(
     requires offset { offset ≡ method_offset method.file.now method.place }
     ensures { TellsSupplied program.now method.entry.number.0 result }
 {
-    match flow_of(alloc, program, method, offset) {
+    match flow_of(alloc, method, offset) {
         Ok(flow) => lower_method(alloc, program, method.number, &flow.code, &flow.graph),
         Err(Failure::Cause(fault)) => Err(class_refusal(alloc, program, method.class, fault)),
         Err(Failure::OutOfMemory) => Err(Failure::OutOfMemory),
