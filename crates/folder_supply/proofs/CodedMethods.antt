@@ -14,7 +14,7 @@ use Rattle.linked_program.specs.Bodies.{IsBodyView}
 use Rattle.linked_program.specs.declared.method_body.MethodBody.{MethodBody}
 use Rattle.linked_program.specs.declared.method_body.MethodBody.TheVariants.{Described, InFile}
 use Rattle.folder_supply.specs.OneAnswer.{file_of, place_of}
-use Rattle.folder_supply.specs.Supplied.{IsCodedMethod}
+use Rattle.op_model.specs.Supplies.{IsCodedMethod}
 use Rattle.folder_supply.proofs.Members.{member_in}
 
 never : false ≡ true → ⊥

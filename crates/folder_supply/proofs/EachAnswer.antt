@@ -20,7 +20,8 @@ use Rattle.lowering.specs.Orders.{AreInOrder}
 use Rattle.lowering.specs.Refusals.{IsAccepted, IsOwnCode, IsRefused}
 use Rattle.answer_laws.proofs.Accepted.{lowers}
 use Rattle.folder_supply.proofs.Members.{member_in}
-use Rattle.folder_supply.specs.Supplied.{IsCodedMethod, IsSupplyOutcome, IsRefusalFor, IsSupplied, bad_code, bad_flow, not_lowered, lowered}
+use Rattle.folder_supply.specs.Supplied.{IsSupplyOutcome, IsRefusalFor, IsSupplied, bad_code, bad_flow, not_lowered, lowered}
+use Rattle.op_model.specs.Supplies.{IsCodedMethod}
 
 module _ (p : Program) (number : ℕ) (program : IsProgram p) (m : IsCodedMethod p number) where
   pub member : IsMemberOf m.method m.file m.place m.member

@@ -28,7 +28,8 @@ use Rattle.lowering.specs.Refusals.{IsClassRefusal, IsLoweringAnswer, IsOwnCode}
 use Rattle.lowering.specs.Orders.{AreInOrder}
 use Rattle.folder_supply.specs.Methods.{IsFirstFault, IsShown, TellsSupplied}
 use Rattle.folder_supply.specs.Offsets.{IsClassFileOf}
-use Rattle.folder_supply.specs.Supplied.{IsCodedMethod, IsRefusalFor, IsSupplied, bad_code, bad_flow, not_lowered, lowered}
+use Rattle.folder_supply.specs.Supplied.{IsRefusalFor, IsSupplied, bad_code, bad_flow, not_lowered, lowered}
+use Rattle.op_model.specs.Supplies.{IsCodedMethod}
 use Rattle.folder_supply.specs.declared.coded.CodedMethod.{CodedMethod}
 use Rattle.folder_supply.proofs.Members.{member_in}
 

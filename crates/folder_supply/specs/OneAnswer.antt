@@ -21,7 +21,8 @@ use Rattle.lowering.specs.Orders.{AreInOrder}
 use Rattle.lowering_laws.proofs.OneRefusal.{refused_once, refused_alone}
 use Rattle.lowering_laws.proofs.OrderedNodes.{ordered_once}
 use Rattle.jvm_model.specs.LinkedPrograms.{IsProgram}
-use Rattle.folder_supply.specs.Supplied.{IsCodedMethod, IsSupplyOutcome, IsRefusalFor, IsSupplied, bad_code, bad_flow, not_lowered, lowered}
+use Rattle.folder_supply.specs.Supplied.{IsSupplyOutcome, IsRefusalFor, IsSupplied, bad_code, bad_flow, not_lowered, lowered}
+use Rattle.op_model.specs.Supplies.{IsCodedMethod}
 
 -- ---- the method
 

@@ -1,32 +1,21 @@
 -- Public contracts rest on this module.
 -- What a method of a class file is given as: its nodes; or the first refusal of its code, of the flow graph of that, or of its lowering.
-use Rattle.std.specs.Prelude.{◌≡◌, ℕ, Result, Ok, Err, Some, slice_get}
+use Rattle.std.specs.Prelude.{◌≡◌, ℕ, Result, Ok, Err}
 use Rattle.jvm_model.specs.declared.class_file.ClassFile.{ClassFile}
-use Rattle.jvm_model.specs.declared.class_file.Member.{Member}
 use Rattle.jvm_model.specs.declared.code.Code.{Code}
 use Rattle.jvm_model.specs.declared.reason.Fault.{Fault}
 use Rattle.jvm_model.specs.declared.reason.Reason.{Reason}
 use Rattle.jvm_model.specs.declared.reason.Refusal.{Refusal}
-use Rattle.jvm_model.specs.Layout.{HasCodeAttribute}
 use Rattle.jvm_model.specs.LinkedPrograms.{IsProgram}
-use Rattle.jvm_model.specs.Programs.{Class, Method, Program, in_file}
+use Rattle.jvm_model.specs.Programs.{Class, Method, Program}
 use Rattle.jvm_model.specs.Subtypes.{class_named}
 use Rattle.code_reader.specs.CodeReading.{ReadsCode}
 use Rattle.flow_graph.specs.declared.steps.Graph.{Graph}
 use Rattle.flow_graph.specs.Graphs.{IsFault, IsGraph}
 use Rattle.op_model.specs.declared.lowered.LoweredMethod.{LoweredMethod}
+use Rattle.op_model.specs.Supplies.{IsCodedMethod}
 use Rattle.lowering.specs.Orders.{AreInOrder}
 use Rattle.lowering.specs.Refusals.{IsAccepted, IsRefused}
-
--- The method of the number is that of a class file, and has an attribute named Code there (JVMS 4.7.3).
-pub record IsCodedMethod (p : Program) (number : ℕ) : Type 0 where
-  pub method : Method
-  pub stands : slice_get p.methods number ≡ Some method
-  pub file : ClassFile
-  pub place : ℕ
-  pub member : Member
-  pub of_file : method.body ≡ in_file file place member
-  pub code : HasCodeAttribute file place
 
 -- The refusal has the file of the method's class, this offset and this reason.
 pub record IsRefusalFor (p : Program) (m : Method) (offset : ℕ) (reason : Reason) (r : Refusal) : Type 0 where

@@ -5,7 +5,7 @@ ghost use Rattle.jvm_model.specs.Layout.{HasCodeAttribute};
 ghost use Rattle.jvm_model.specs.Soundness.{IsChecked};
 ghost use Rattle.code_reader.specs.Places.{method_offset};
 ghost use Rattle.folder_supply.specs.Methods.{IsShown, TellsFlow, TellsSupplied};
-ghost use Rattle.folder_supply.specs.Supplied.{IsCodedMethod};
+ghost use Rattle.op_model.specs.Supplies.{IsCodedMethod};
 
 use code_reader::read_code_at;
 use failure::Failure;

@@ -6,7 +6,8 @@ ghost use Rattle.jvm_model.specs.LinkedPrograms.{IsProgram};
 ghost use Rattle.jvm_model.specs.Programs.{Program};
 ghost use Rattle.op_model.specs.declared.lowered.LoweredMethod.{LoweredMethod};
 ghost use Rattle.op_model.specs.Supplies.{Given, IsMapOf};
-ghost use Rattle.folder_supply.specs.Supplied.{IsCodedMethod, IsSupplied};
+ghost use Rattle.folder_supply.specs.Supplied.{IsSupplied};
+ghost use Rattle.op_model.specs.Supplies.{IsCodedMethod};
 
 /// A method is given as one thing.
 pub fn one_answer()

@@ -4,7 +4,7 @@ ghost use Rattle.std.specs.Prelude.{◌≡◌, ◌↔◌, IfOk, IsTrue};
 ghost use Rattle.code_reader.specs.Places.{method_offset};
 ghost use Rattle.linked_program.specs.Numbers.{IsMethodNumber};
 ghost use Rattle.folder_supply.specs.Methods.{IsShown};
-ghost use Rattle.folder_supply.specs.Supplied.{IsCodedMethod};
+ghost use Rattle.op_model.specs.Supplies.{IsCodedMethod};
 
 use crate::coded::{CodedMethod, coded_method, lower_at};
 use crate::offsets::method_offsets;

@@ -1,7 +1,7 @@
 //! Methods as nodes.
 
 use crate::node::Node;
-use jvm_model::{MethodNo, Sequence, Site};
+use jvm_model::{MethodNo, Sequence};
 
 /// A method as nodes, in the order of their offsets. `slots` are those of the local variables, and `stack` those of the operand
 /// stack at most, so that the lowest unit of the stack has the number `slots`; `params` are the units of the parameters, the
@@ -13,11 +13,4 @@ pub struct LoweredMethod {
     pub stack: u32,
     pub params: u32,
     pub nodes: Sequence<Node>,
-}
-
-/// The methods that are reached, and the allocation sites of their nodes. A site's number is its place.
-#[derive(Debug, Drop)]
-pub struct Lowered {
-    pub methods: Sequence<LoweredMethod>,
-    pub sites: Sequence<Site>,
 }

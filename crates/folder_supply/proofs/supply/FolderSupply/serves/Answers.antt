@@ -1,6 +1,6 @@
 use Rattle.std.proofs.Common.{◌↔◌, ◌<◌, IsTrue, length, sym, subst}
 use Rattle.jvm_model.specs.Programs.{Program}
-use Rattle.folder_supply.specs.Supplied.{IsCodedMethod}
+use Rattle.op_model.specs.Supplies.{IsCodedMethod}
 use Rattle.folder_supply.proofs.CodedMethods.{shown_code, shown_description}
 use Rattle.folder_supply.proofs.supply.FolderSupply.serves.Goals as goal
 
