@@ -3,5 +3,4 @@
 mod descriptor;
 mod grammar;
 mod layout;
-mod opcode;
 mod sound;
