@@ -1,6 +1,6 @@
 -- Public contracts rest on this module.
 -- What a method of a class file is given as: its nodes; or the first refusal of its code, of the flow graph of that, or of its lowering.
-use Rattle.std.specs.Prelude.{◌≡◌, ℕ, Result, Ok, Err}
+use Rattle.std.specs.Prelude.{◌≡◌, ℕ, Some, Result, Ok, Err}
 use Rattle.jvm_model.specs.declared.class_file.ClassFile.{ClassFile}
 use Rattle.jvm_model.specs.declared.code.Code.{Code}
 use Rattle.jvm_model.specs.declared.reason.Fault.{Fault}
