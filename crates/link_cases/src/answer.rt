@@ -12,6 +12,7 @@ use linked_program::method_body::MethodBody;
 use linked_program::program::Program;
 use std::alloc::{AllocError, Global};
 use std::str;
+use type_fit::fits;
 
 /// The answer of a program: `yes` or `no`; of a resolution of a method the method; of a body what stands for the method; of another
 /// search the class that declares what is found; or why nothing is found.
@@ -32,6 +33,9 @@ fn found<'a>(
     match search {
         Search::Find(name) => yes_or_no(alloc, class_of(program, name).is_ok()),
         Search::Subtype(lower, upper) => yes_or_no(alloc, is_below(program, lower, upper)?),
+        Search::Cast(upper, lower) => {
+            yes_or_no(alloc, fits(program, upper.as_bytes(), lower.as_bytes()))
+        }
         Search::Method(reference) => {
             let method = resolved(program, reference)?;
             full_name(alloc, program, method)

@@ -36,6 +36,8 @@ pub enum Search<'a> {
     Find(&'a str),
     /// Whether the first class is a subtype of the second one (JVMS 4.10.1.2).
     Subtype(&'a str, &'a str),
+    /// Whether an object of the second class or array may be cast to the first one (5.5, 6.5.checkcast).
+    Cast(&'a str, &'a str),
     /// The method that a reference resolves to (5.4.3.3, 5.4.3.4).
     Method(MethodReference<'a>),
     /// What stands for the method that a reference resolves to.
@@ -75,6 +77,7 @@ fn search_in<'a>(words: &[&'a str]) -> Option<Search<'a>> {
     match words {
         ["find", name] => Some(Search::Find(name)),
         ["subtype", lower, upper] => Some(Search::Subtype(lower, upper)),
+        ["cast", upper, lower] => Some(Search::Cast(upper, lower)),
         ["method", class, kind, name, descriptor] => {
             let reference = method_reference(class, kind, name, descriptor)?;
             Some(Search::Method(reference))

@@ -1,0 +1,12 @@
+pub mod Meanings
+mod RunningNodes
+mod MeantCalls
+mod MeantNodes
+pub mod MeantItems
+mod Holders
+mod CallSites
+mod Closing
+mod ClosedNodes
+mod CalledNodes
+mod ClosedCalls
+pub mod ClosedFacts

@@ -1,0 +1,5 @@
+pub mod Items
+pub mod NodeItems
+pub mod CallItems
+pub mod ItemRules
+pub mod MethodNumbers

@@ -1,0 +1,5 @@
+pub mod Facts
+pub mod Calls
+pub mod Rules
+pub mod Writes
+pub mod Refusals

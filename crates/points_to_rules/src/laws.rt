@@ -1,0 +1,1 @@
+//! Laws of the rules: they call nothing, and hold of each program.

@@ -1,0 +1,11 @@
+pub mod Standing
+pub mod Growing
+pub mod AddedKeys
+pub mod KeptKeys
+pub mod ExactKeys
+pub mod Taking
+pub mod NewNumbers
+pub mod Reading
+pub mod Apart
+pub mod Adding
+pub mod AddedItems

@@ -1,0 +1,31 @@
+//! The entries of what is numbered and has lists of its own: landings and calls.
+
+use crate::keys::{LandingNo, PlaceNo};
+use jvm_model::{MethodNo, Sequence};
+use op_model::{CallKind, NodeHandler, NodeRef};
+
+/// A handler, and the place of what it takes.
+#[derive(Clone, Copy, Debug, PartialEq, Eq)]
+pub struct Arm {
+    pub handler: NodeHandler,
+    pub to: PlaceNo,
+}
+
+/// Where exceptions of a node go: to the first handler that takes them, or else on to the callers.
+#[derive(Debug, Drop)]
+pub struct Landing {
+    pub arms: Sequence<Arm>,
+    pub outside: PlaceNo,
+}
+
+/// A call: its node, how it chooses its target, the place of each unit of its arguments, those of its result, and where what its targets throw
+/// goes.
+#[derive(Debug, Drop)]
+pub struct CallSite {
+    pub at: NodeRef,
+    pub kind: CallKind,
+    pub resolved: MethodNo,
+    pub arguments: Sequence<Option<PlaceNo>>,
+    pub results: Sequence<PlaceNo>,
+    pub landing: LandingNo,
+}

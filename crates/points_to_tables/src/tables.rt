@@ -1,0 +1,194 @@
+//! The tables of what is numbered.
+
+ghost use Rattle.std.specs.Prelude.{◌≡◌, ◌+◌, true, length, Some, slice_get, IfOk, OnOk, OnErr};
+ghost use Rattle.indexmap.specs.IndexSet.{insert_key};
+ghost use Rattle.jvm_model.specs.declared.site.Site.{Site};
+ghost use Rattle.points_to_rules.specs.Facts.{Holder};
+ghost use Rattle.points_to_items.specs.Items.{Landing as ItemLanding, CallSite as ItemCallSite, User as ItemUser};
+ghost use Rattle.points_to_tables.specs.Numbered.{Grows, IsNumbered, IsSiteAt, IsHolderAt, IsUserAt, IsLandingAt, IsCallAt, AreApart, none_numbered};
+
+use crate::entries::{CallSite, Landing};
+use crate::keys::{CallNo, ClassNameNo, LandingNo, Place, PlaceNo, SiteKey, User, UserNo};
+use class_index::index_failure::IndexFailure;
+use class_index::text_index::{TextIndex, next_number};
+use indexmap::IndexSet;
+use jvm_model::SiteNo;
+use std::alloc::Global;
+use std::hash::Hash;
+use std::marker::Model;
+
+/// Names of classes, sites, places, users, landings and calls, each of which has a number. Each name, site, place and user has one. Contracts see
+/// what they stand for.
+#[derive(Drop)]
+pub struct Tables {
+    classes: TextIndex,
+    sites: IndexSet<SiteKey>,
+    places: IndexSet<Place>,
+    users: IndexSet<User>,
+    landings: Vec<Landing>,
+    calls: Vec<CallSite>,
+}
+
+impl Model for Tables {
+    ghost use Rattle.points_to_tables.specs.Numbered.{Numbered};
+
+    ghost Value = { Numbered };
+
+    ghost use Rattle.points_to_tables.specs.Kept.{kept, numbered, IsSound};
+
+    ghost view = { λ t. numbered (kept t) };
+
+    ghost invariant = { λ t. IsSound (kept t) };
+}
+
+impl Tables {
+    /// Tables of nothing. It takes no memory.
+    pub fn new(alloc: Global) -> Tables
+        ensures { result ≡ none_numbered }
+    {
+        Tables {
+            classes: TextIndex::new(alloc),
+            sites: IndexSet::new(alloc),
+            places: IndexSet::new(alloc),
+            users: IndexSet::new(alloc),
+            landings: Vec::new(alloc),
+            calls: Vec::new(alloc),
+        }
+    }
+
+    /// The number of the name of a class or of an array.
+    ///
+    /// The failure is `TooMany` where there are 2^32 - 1 of them, as with each number here.
+    pub fn class_name(&mut self, name: &[u8]) -> Result<ClassNameNo, IndexFailure>
+        ensures grows { OnOk result (Grows self.old self.new) }
+        ensures calls { OnOk result (length self.new.calls ≡ length self.old.calls) }
+        ensures stands { IfOk result (λ number. slice_get self.new.classes number.0 ≡ Some name.now) }
+    {
+        let number = self.classes.intern(name)?;
+        Ok(ClassNameNo(number))
+    }
+
+    /// The number of a site.
+    pub fn site(&mut self, key: SiteKey) -> Result<SiteNo, IndexFailure>
+        requires { IsNumbered self.old.classes key.class.0 }
+        ensures grows { OnOk result (Grows self.old self.new) }
+        ensures calls { OnOk result (length self.new.calls ≡ length self.old.calls) }
+        ensures stands { IfOk result (λ number. (s : Site) → IsSiteAt self.old key s → slice_get self.new.sites number.0 ≡ Some s) }
+    {
+        let number = number_of(&mut self.sites, key)?;
+        Ok(SiteNo(number))
+    }
+
+    /// The number of a place.
+    pub fn place(&mut self, place: Place) -> Result<PlaceNo, IndexFailure>
+        requires { (h : Holder) × IsHolderAt self.old place h }
+        ensures grows { OnOk result (Grows self.old self.new) }
+        ensures calls { OnOk result (length self.new.calls ≡ length self.old.calls) }
+        ensures stands { IfOk result (λ number. (h : Holder) → IsHolderAt self.old place h → slice_get self.new.holders number.0 ≡ Some h) }
+    {
+        let number = number_of(&mut self.places, place)?;
+        Ok(PlaceNo(number))
+    }
+
+    /// The number of a user.
+    pub fn user(&mut self, user: User) -> Result<UserNo, IndexFailure>
+        requires { (u : ItemUser) × IsUserAt self.old user u }
+        ensures grows { OnOk result (Grows self.old self.new) }
+        ensures calls { OnOk result (length self.new.calls ≡ length self.old.calls) }
+        ensures stands { IfOk result (λ number. (u : ItemUser) → IsUserAt self.old user u → slice_get self.new.users number.0 ≡ Some u) }
+    {
+        let number = number_of(&mut self.users, user)?;
+        Ok(UserNo(number))
+    }
+
+    /// The number of a new landing.
+    pub fn landing(&mut self, landing: Landing) -> Result<LandingNo, IndexFailure>
+        requires { (l : ItemLanding) × IsLandingAt self.old landing l }
+        ensures grows { OnOk result (Grows self.old self.new) }
+        ensures calls { OnOk result (length self.new.calls ≡ length self.old.calls) }
+        ensures stands { IfOk result (λ number. (l : ItemLanding) → IsLandingAt self.old landing l → slice_get self.new.landings number.0 ≡ Some l) }
+    {
+        let number = next_number(self.landings.len())?;
+        self.landings.push(landing)?;
+        Ok(LandingNo(number))
+    }
+
+    /// The number of a new call.
+    pub fn call(&mut self, call: CallSite) -> Result<CallNo, IndexFailure>
+        requires { (c : ItemCallSite) × IsCallAt self.old call c }
+        ensures grows { OnOk result (Grows self.old self.new) }
+        ensures added { IfOk result (λ number. number.0 ≡ length self.old.calls) }
+        ensures one { OnOk result (length self.new.calls ≡ length self.old.calls + 1) }
+        ensures stands { IfOk result (λ number. (c : ItemCallSite) → IsCallAt self.old call c → slice_get self.new.calls number.0 ≡ Some c) }
+    {
+        let number = next_number(self.calls.len())?;
+        self.calls.push(call)?;
+        Ok(CallNo(number))
+    }
+
+    /// The name of a class or of an array.
+    pub fn name_of(&self, class: ClassNameNo) -> &[u8]
+        requires { IsNumbered self.now.classes class.0 }
+        ensures { slice_get self.now.classes class.0 ≡ Some result.now }
+    {
+        self.classes.text(class.0).unwrap()
+    }
+
+    /// The site of a number.
+    pub fn site_of(&self, site: SiteNo) -> SiteKey
+        requires { IsNumbered self.now.sites site.0 }
+        ensures { (s : Site) → slice_get self.now.sites site.0 ≡ Some s → IsSiteAt self.now result s }
+    {
+        *self.sites.get_index(site.0 as usize).unwrap()
+    }
+
+    /// The place of a number.
+    pub fn place_of(&self, place: PlaceNo) -> Place
+        requires { IsNumbered self.now.holders place.0 }
+        ensures { (h : Holder) → slice_get self.now.holders place.0 ≡ Some h → IsHolderAt self.now result h }
+    {
+        *self.places.get_index(place.0 as usize).unwrap()
+    }
+
+    /// The user of a number.
+    pub fn user_of(&self, user: UserNo) -> User
+        requires { IsNumbered self.now.users user.0 }
+        ensures { (u : ItemUser) → slice_get self.now.users user.0 ≡ Some u → IsUserAt self.now result u }
+    {
+        *self.users.get_index(user.0 as usize).unwrap()
+    }
+
+    /// The landing of a number.
+    pub fn landing_of(&self, landing: LandingNo) -> &Landing
+        requires { IsNumbered self.now.landings landing.0 }
+        ensures { (l : ItemLanding) → slice_get self.now.landings landing.0 ≡ Some l → IsLandingAt self.now result.now l }
+    {
+        &self.landings[landing.0 as usize]
+    }
+
+    /// The call of a number.
+    pub fn call_of(&self, call: CallNo) -> &CallSite
+        requires { IsNumbered self.now.calls call.0 }
+        ensures { (c : ItemCallSite) → slice_get self.now.calls call.0 ≡ Some c → IsCallAt self.now result.now c }
+    {
+        &self.calls[call.0 as usize]
+    }
+
+    /// Names, sites and places are numbered once. It does nothing.
+    pub fn apart(&self)
+        ensures { AreApart self.now }
+    {
+        let _ = self.classes.len();
+    }
+}
+
+/// The number of a key, which goes last if it is not there yet.
+fn number_of<K: Eq + Hash + Drop>(keys: &mut IndexSet<K>, key: K) -> Result<u32, IndexFailure>
+    ensures keys { OnOk result (keys.new.keys ≡ insert_key K.eq keys.old.keys key) }
+    ensures stored { IfOk result (λ number. (k : K) × (slice_get keys.new.keys number ≡ Some k) × (K.eq key k ≡ true)) }
+    ensures err { OnErr result (keys.new.keys ≡ keys.old.keys) }
+{
+    next_number(keys.len())?;
+    let (number, _) = keys.insert_full(key)?;
+    Ok(number as u32)
+}

@@ -1,0 +1,11 @@
+pub mod ListPlaces
+pub mod RowValues
+pub mod PlacedRows
+pub mod SetRows
+pub mod FoundPlaces
+pub mod NotedArrivals
+pub mod MovedVariables
+pub mod EnteredNodes
+pub mod ReachedNodes
+pub mod NamedTables
+pub mod TwoWays

@@ -1,0 +1,11 @@
+pub mod Variables
+pub mod Tables
+pub mod Branches
+pub mod Rows
+pub mod Entries
+pub mod KeptNames
+pub mod OperationMoves
+pub mod MovedRows
+pub mod NodePlaces
+pub mod Arriving
+pub mod NamedNodes

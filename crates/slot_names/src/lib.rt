@@ -1,0 +1,20 @@
+//! The variables of slots. Two slots of one variable have one value, so the layers above ask what a variable may refer to, and not each
+//! slot at each node.
+#![tactic(auto)]
+
+mod arrivals;
+mod branch;
+mod entry;
+mod moved;
+mod moves;
+mod names;
+mod naming;
+mod places;
+mod rows;
+#[cfg(test)]
+mod tests;
+mod variable;
+
+pub use names::{Names, names_of};
+pub use places::place_of;
+pub use variable::Variable;

@@ -1,0 +1,2 @@
+pub mod ClassNames
+pub mod FitSteps
