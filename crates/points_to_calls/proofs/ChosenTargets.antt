@@ -1,0 +1,131 @@
+-- What an object leads to that selects the target of a call: what it selects is one thing, and what is added by it.
+use Rattle.std.proofs.Common.{◌≡◌, ◌↔◌, ℕ, Bool, true, false, List, Some, None, Result, Ok, Err, refl, sym, ap, ◌∙◌, subst, inl, inr, ◌⊎◌}
+use Rattle.std.specs.Prelude.{if◌then◌else◌}
+use Rattle.std.specs.List.{slice_get, Contains}
+use Rattle.std.proofs.lemmas.Bool.{false≢true}
+use Rattle.std.proofs.lemmas.Option.{same_Some}
+use Rattle.jvm_model.specs.declared.number.MethodNo.{MethodNo}
+use Rattle.jvm_model.specs.declared.reason.Reason.{Reason}
+use Rattle.jvm_model.specs.declared.reason.Reason.TheVariants.{NoStub}
+use Rattle.jvm_model.specs.declared.site.Site.{Site}
+use Rattle.jvm_model.specs.declared.stub.StubMethod.{StubMethod}
+use Rattle.jvm_model.specs.declared.stub.StubResult.{StubResult}
+use Rattle.jvm_model.specs.declared.stub.StubResult.TheVariants.{Primitive, Void, Null, Given, New, Kept}
+use Rattle.jvm_model.specs.Programs.{Class, Program, Method, described, object_name}
+use Rattle.jvm_model.specs.Soundness.{is_array}
+use Rattle.jvm_model.specs.Subtypes.{class_named, Fits, by_class, by_array, by_itself, by_elements}
+use Rattle.bytecode_machine.specs.Machine.{selecting_class}
+use Rattle.instruction_reasons.specs.Reasons.{IsUndescribed}
+use Rattle.jvm_model.specs.Selection.{Selection, selected, no_code, nothing, several, hidden}
+use Rattle.linked_program.specs.Numbers.{IsMethodNumber}
+use Rattle.op_model.specs.declared.op.CallKind.{CallKind}
+use Rattle.op_model.specs.declared.op.CallKind.TheVariants.{Virtual, Special, Static, Interface}
+use Rattle.points_to_rules.specs.Calls.{IsDescribedBy, SelectsFor}
+use Rattle.points_to_rules.specs.Facts.{kept_objects}
+use Rattle.points_to_rules.specs.Refusals.{not_selected, not_described}
+use Rattle.points_to_items.specs.CallItems.{SelectItem, called, received, kept, given}
+use Rattle.points_to_items.specs.Items.{CallSite, Item as RuleItem}
+use Rattle.points_to_calls.specs.Describing.{ReceiverItem}
+use Rattle.points_to_calls.specs.Lacks.{CallLacks}
+use Rattle.points_to_calls.specs.Parts.{RuleGift, made, Gets, ResultsGet, ResultGives, KeptItem, GotItem}
+use Rattle.points_to_calls.specs.Selecting.{DescribedItem, TargetItem}
+use Rattle.std.proofs.lemmas.Option.{slice_get_within}
+
+-- ---- the class that selects
+
+pub plain_there : (p : Program) (upper lower : List ℕ) → Fits p upper lower → is_array lower ≡ false → (c : Class) × (class_named p lower ≡ Some c)
+plain_there p u l (by_class upper lower c named under) plain = (c, named)
+plain_there p u l (by_array upper lower array above) plain = absurd (false≢true (sym plain ∙ array))
+plain_there p u l (by_itself upper lower array e) plain = absurd (false≢true (sym plain ∙ array))
+plain_there p u l (by_elements upper lower over under e is fit) plain = absurd (false≢true (sym plain ∙ ap is_array is))
+
+-- the class of an object that fits one is there, if java/lang/Object is
+pub selecting_there : (p : Program) (upper lower : List ℕ) → Fits p upper lower → (object : Class) × (class_named p object_name ≡ Some object)
+    → (c : Class) × (class_named p (selecting_class lower) ≡ Some c)
+selecting_there p upper lower fit object = by (is_array lower) refl
+  where
+    by : (b : Bool) → is_array lower ≡ b → (c : Class) × (class_named p (selecting_class lower) ≡ Some c)
+    by true e = subst (λ (name : List ℕ). (c : Class) × (class_named p name ≡ Some c)) (sym (ap (λ (b : Bool). if b then object_name else lower) e)) object
+    by false e = subst (λ (name : List ℕ). (c : Class) × (class_named p name ≡ Some c)) (sym (ap (λ (b : Bool). if b then object_name else lower) e)) (plain_there p upper lower fit e)
+
+-- ---- what is selected
+
+-- a target is a method of the program
+target_within : (p : Program) (by_interface : Bool) (class : List ℕ) (resolved target : ℕ) → Selection p by_interface class resolved (Ok target) → IsMethodNumber p target
+target_within p v class r t (selected i m x at kind plain is) =
+    let same : t ≡ i = cc is in subst (λ (k : ℕ). IsMethodNumber p k) (sym same) (slice_get_within p.methods i m at)
+target_within p v class r t (no_code i m x at kind is) = (let e : Ok t ≡ Err _ = is in cc e)
+target_within p v class r t (nothing none no_clash is) = (let e : Ok t ≡ Err _ = is in cc e)
+target_within p v class r t (several clash is) = (let e : Ok t ≡ Err _ = is in cc e)
+target_within p v class r t (hidden i m x at kind over is) = (let e : Ok t ≡ Err _ = is in cc e)
+
+pub selected_within : (kind : CallKind) (p : Program) (resolved : MethodNo) (s : Site) (target : ℕ) → SelectsFor kind p resolved s (Ok target) → IsMethodNumber p target
+selected_within Virtual p resolved s target selects = target_within p false (selecting_class s.class) resolved.0 target selects.1
+selected_within Special p resolved s target selects = absurd selects
+selected_within Static p resolved s target selects = absurd selects
+selected_within Interface p resolved s target selects = target_within p true (selecting_class s.class) resolved.0 target selects.1
+
+-- ---- what a described target keeps and gives
+
+pub receiver_described : (p : Program) (site : CallSite) (s : Site) (target : MethodNo) (stub : StubMethod) (m : Method) → slice_get p.methods target.0 ≡ Some m → m.body ≡ described stub
+    → (x : RuleItem) → ReceiverItem p site stub s x ↔ DescribedItem p site s target x
+receiver_described p site s target stub m stands body x = (
+  λ (concrete, part). (stub, record { method = m; stands = stands; of_stub = body; concrete = concrete }, part),
+  λ (other, by, part).
+      let e : described other ≡ described stub = sym by.of_stub ∙ ap (λ (k : Method). k.body) (same_Some by.method m (sym by.stands ∙ stands)) ∙ body in
+      let same : other ≡ stub = cc e in
+      (subst (λ (k : StubMethod). k.is_abstract ≡ false) same by.concrete, subst (λ (k : StubMethod). KeptItem p site k (Some s) x ⊎ GotItem p site k (Some s) x) same part),
+)
+
+-- ---- what the object leads to
+
+module _ (p : Program) (site : CallSite) (s : Site) (target : MethodNo) (selects : SelectsFor site.kind p site.resolved s (Ok target.0))
+    (only : (outcome : Result ℕ Reason) → SelectsFor site.kind p site.resolved s outcome → outcome ≡ Ok target.0) where
+  of_result : (x : RuleItem) (stub : StubMethod) (result : StubResult) (g : RuleGift) → IsDescribedBy p target stub → Contains stub.returns result → ResultGives result stub site (Some s) g
+      → ResultsGet p site g x → SelectItem p site s x
+  of_result x stub Primitive g by there gives gets = absurd gives
+  of_result x stub Void g by there gives gets = absurd gives
+  of_result x stub Null g by there gives gets = absurd gives
+  of_result x stub (Given argument) g by there (is, e) gets =
+      let (to, among, got) = subst (λ (k : RuleGift). ResultsGet p site k x) e gets in given target stub argument to selects by there is among got
+  of_result x stub (New class) g by there (alone, e) gets = cc alone
+  of_result x stub Kept g by there (class, alone, is, e) gets = cc alone
+
+  of_target : (x : RuleItem) → TargetItem p site s target x → SelectItem p site s x
+  of_target x (inl (inl e)) = called target selects e
+  of_target x (inl (inr e)) = received target selects e
+  of_target x (inr (stub, by, inl (argument, there, (g, (is, e), gets)))) = kept target stub argument selects by there is (subst (λ (k : RuleGift). Gets p site k kept_objects x) e gets)
+  of_target x (inr (stub, by, inr (result, there, (g, gives, gets)))) = of_result x stub result g by there gives gets
+
+  same_target : (t : MethodNo) → SelectsFor site.kind p site.resolved s (Ok t.0) → t ≡ target
+  same_target t is = (let e : Ok t.0 ≡ Ok target.0 = only (Ok t.0) is in let same : t.0 ≡ target.0 = cc e in ap (λ (k : ℕ). record { 0 = k }) same)
+
+  in_target : (x : RuleItem) → SelectItem p site s x → TargetItem p site s target x
+  in_target x (called t is e) = subst (λ (k : MethodNo). TargetItem p site s k x) (same_target t is) (inl (inl e))
+  in_target x (received t is e) = subst (λ (k : MethodNo). TargetItem p site s k x) (same_target t is) (inl (inr e))
+  in_target x (kept t stub argument is by there unit e) =
+      subst (λ (k : MethodNo). TargetItem p site s k x) (same_target t is) (inr (stub, by, inl (argument, there, (made s, (unit, refl), e))))
+  in_target x (given t stub argument to is by there unit among e) =
+      subst (λ (k : MethodNo). TargetItem p site s k x) (same_target t is) (inr (stub, by, inr (Given argument, there, (made s, (unit, refl), (to, among, e)))))
+
+  pub by_target : (x : RuleItem) → TargetItem p site s target x ↔ SelectItem p site s x
+  by_target x = (of_target x, in_target x)
+
+  -- what it lacks
+  pub lacks_none : (IsUndescribed p target.0 → ⊥) → CallLacks p site s None
+  lacks_none well reason (not_selected is) = (let e : Err reason ≡ Ok target.0 = only (Err reason) is in cc e)
+  lacks_none well reason (not_described t is native e) = (let same : Ok t ≡ Ok target.0 = only (Ok t) is in let one : t ≡ target.0 = cc same in well (subst (λ (k : ℕ). IsUndescribed p k) one native))
+
+  pub lacks_stub : IsUndescribed p target.0 → CallLacks p site s (Some NoStub)
+  lacks_stub native = not_described target.0 selects native refl
+
+-- ---- a reason is selected
+selects_target : (p : Program) (site : CallSite) (s : Site) (x : RuleItem) → SelectItem p site s x → (t : MethodNo) × SelectsFor site.kind p site.resolved s (Ok t.0)
+selects_target p site s x (called t is e) = (t, is)
+selects_target p site s x (received t is e) = (t, is)
+selects_target p site s x (kept t stub argument is by there unit e) = (t, is)
+selects_target p site s x (given t stub argument to is by there unit among e) = (t, is)
+
+module _ (p : Program) (site : CallSite) (s : Site) where
+  pub reason_selected : (r : Reason) → ((outcome : Result ℕ Reason) → SelectsFor site.kind p site.resolved s outcome → outcome ≡ Err r) → (x : RuleItem) → SelectItem p site s x → ⊥
+  reason_selected r only x item = (let (t, is) = selects_target p site s x item in let e : Ok t.0 ≡ Err r = only (Ok t.0) is in cc e)

@@ -1,0 +1,86 @@
+-- Where exceptions go, by the entry of a landing.
+use Rattle.std.proofs.Common.{◌≡◌, ℕ, ◌+◌, ◌<◌, get_or, drop, List, [], ◌∷◌, Some, length, refl, sym, ap, ◌∙◌, subst, inl, inr}
+use Rattle.std.specs.List.{slice_get, AllZip}
+use Rattle.std.proofs.lemmas.List.{drop_more}
+use Rattle.std.proofs.lemmas.Option.{none-some, same_Some, slice_get_within}
+use Rattle.jvm_model.specs.declared.number.ClassNo.{ClassNo}
+use Rattle.jvm_model.specs.Programs.{Program}
+use Rattle.jvm_model.specs.Subtypes.{Fits}
+use Rattle.op_model.specs.declared.node.NodeHandler.{NodeHandler}
+use Rattle.node_machine.specs.NodeSteps.{Takes, all, fitting}
+use Rattle.linked_program.specs.Numbers.{name_at}
+use Rattle.hierarchy.proofs.ClassPlaces.{name_at-at, class_there}
+use Rattle.points_to_rules.specs.Facts.{Holder}
+use Rattle.points_to_items.specs.CallItems.{LandsIn}
+use Rattle.points_to_items.specs.Items.{Arm as ItemArm, Landing as ItemLanding}
+use Rattle.points_to_tables.specs.declared.entries.Arm.{Arm}
+use Rattle.points_to_tables.specs.declared.entries.Landing.{Landing}
+use Rattle.points_to_tables.specs.declared.keys.PlaceNo.{PlaceNo}
+use Rattle.points_to_tables.specs.Numbered.{Numbered, IsArmAt, IsLandingAt}
+use Rattle.points_to_calls.specs.Parts.{GoesTo, IsLandingPlace}
+
+-- ---- what a handler takes
+
+-- a handler of a class takes what fits it
+pub takes_fitting : (p : Program) (h : NodeHandler) (c : ClassNo) (class : List ℕ) → h.catch ≡ Some c → c.0 < length p.classes → Fits p (name_at p c.0) class → Takes p h class
+takes_fitting p h c class caught within fits =
+    let (k, stands) = class_there p c.0 within in
+    fitting c (name_at p c.0) caught (record { class = k; stands = stands; named = sym (name_at-at p c.0 k stands) }) fits
+
+pub fits_taken : (p : Program) (h : NodeHandler) (c : ClassNo) (class : List ℕ) → h.catch ≡ Some c → Takes p h class → Fits p (name_at p c.0) class
+fits_taken p h c class caught (all none) = absurd (none-some c (sym none ∙ caught))
+fits_taken p h c class caught (fitting d name is number fits) =
+    let same = same_Some d c (sym is ∙ caught) in
+    subst (λ (n : List ℕ). Fits p n class) (sym number.named ∙ sym (name_at-at p d.0 number.class number.stands) ∙ ap (λ (e : ClassNo). name_at p e.0) same) fits
+
+-- the class that a handler takes is one of the program
+pub taken_within : (p : Program) (h : NodeHandler) (c : ClassNo) (class : List ℕ) → h.catch ≡ Some c → Takes p h class → c.0 < length p.classes
+taken_within p h c class caught (all none) = absurd (none-some c (sym none ∙ caught))
+taken_within p h c class caught (fitting d name is number fits) =
+    let same = same_Some d c (sym is ∙ caught) in
+    subst (λ (e : ClassNo). e.0 < length p.classes) same (slice_get_within p.classes d.0 number.class number.stands)
+
+-- ---- where an exception goes
+
+pub goes_by : (p : Program) (n : Numbered) (class : List ℕ) (entries : List Arm) (arms : List ItemArm) (outside to : PlaceNo) (o : Holder) → AllZip (IsArmAt n) entries arms
+    → slice_get n.holders outside.0 ≡ Some o → GoesTo p class entries outside to → (h : Holder) × (slice_get n.holders to.0 ≡ Some h) × LandsIn p class arms o h
+goes_by p n class [] [] outside to o each held goes = (o, subst (λ (place : PlaceNo). slice_get n.holders place.0 ≡ Some o) (sym goes) held, refl)
+goes_by p n class [] (b ∷ arms) outside to o each held goes = absurd each
+goes_by p n class (a ∷ entries) [] outside to o each held goes = absurd each
+goes_by p n class (a ∷ entries) (b ∷ arms) outside to o each held (inl (takes, is)) =
+    (b.to, subst (λ (place : PlaceNo). slice_get n.holders place.0 ≡ Some b.to) (sym is) each.0.to, inl (subst (λ (h : NodeHandler). Takes p h class) (sym each.0.handler) takes, refl))
+goes_by p n class (a ∷ entries) (b ∷ arms) outside to o each held (inr (passes, later)) =
+    let (h, at, lands) = goes_by p n class entries arms outside to o each.1 held later in
+    (h, at, inr (λ takes. passes (subst (λ (k : NodeHandler). Takes p k class) each.0.handler takes), lands))
+
+pub landing_place : (p : Program) (n : Numbered) (class : List ℕ) (entry : Landing) (l : ItemLanding) (to : PlaceNo) → IsLandingAt n entry l → GoesTo p class entry.arms entry.outside to
+    → IsLandingPlace p n class l to
+landing_place p n class entry l to is goes =
+    let (h, at, lands) = goes_by p n class entry.arms l.arms entry.outside to l.outside is.arms is.outside goes in
+    record { to = h; held = at; lands = lands }
+
+-- there is one such holder
+pub one_landing : (p : Program) (class : List ℕ) (arms : List ItemArm) (outside a b : Holder) → LandsIn p class arms outside a → LandsIn p class arms outside b → a ≡ b
+one_landing p class [] outside a b first second = first ∙ sym second
+one_landing p class (arm ∷ arms) outside a b (inl x) (inl y) = x.1 ∙ sym y.1
+one_landing p class (arm ∷ arms) outside a b (inl x) (inr y) = absurd (y.0 x.0)
+one_landing p class (arm ∷ arms) outside a b (inr x) (inl y) = absurd (x.0 y.0)
+one_landing p class (arm ∷ arms) outside a b (inr x) (inr y) = one_landing p class arms outside a b x.1 y.1
+
+-- ---- the walk over the arms
+
+-- the next arm takes it
+pub goes_here : (p : Program) (class : List ℕ) (arms xs : List Arm) (i : ℕ) (d : Arm) (outside : PlaceNo) → xs ≡ arms → i < length arms → Takes p (get_or xs i d).handler class
+    → GoesTo p class (drop i arms) outside (get_or xs i d).to
+goes_here p class arms xs i d outside same within takes =
+    let a = get_or xs i d in
+    let next : drop i arms ≡ a ∷ drop (i + 1) arms = drop_more arms i d within ∙ ap (λ (ys : List Arm). get_or ys i d ∷ drop (i + 1) arms) (sym same) in
+    subst (λ (ys : List Arm). GoesTo p class ys outside a.to) (sym next) (inl (takes, refl))
+
+-- it does not, and a later one may
+pub goes_later : (p : Program) (class : List ℕ) (arms xs : List Arm) (i : ℕ) (d : Arm) (outside to : PlaceNo) → xs ≡ arms → i < length arms
+    → (Takes p (get_or xs i d).handler class → ⊥) → GoesTo p class (drop (i + 1) arms) outside to → GoesTo p class (drop i arms) outside to
+goes_later p class arms xs i d outside to same within passes later =
+    let a = get_or xs i d in
+    let next : drop i arms ≡ a ∷ drop (i + 1) arms = drop_more arms i d within ∙ ap (λ (ys : List Arm). get_or ys i d ∷ drop (i + 1) arms) (sym same) in
+    subst (λ (ys : List Arm). GoesTo p class ys outside to) (sym next) (inr (passes, later))

@@ -1,0 +1,10 @@
+pub mod CallParts
+pub mod Landing
+pub mod Making
+pub mod Gifts
+pub mod ArgumentUnits
+pub mod PassedUnits
+pub mod Stubs
+pub mod CallParted
+pub mod ChosenTargets
+pub mod PlainUsers

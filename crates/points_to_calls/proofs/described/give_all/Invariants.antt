@@ -1,0 +1,13 @@
+use Rattle.std.proofs.Common.{◌≡◌, Option, Some, take}
+use Rattle.std.specs.List.{slice_get}
+use Rattle.jvm_model.specs.declared.site.Site.{Site}
+use Rattle.points_to_items.specs.Items.{CallSite}
+use Rattle.points_to_tables.proofs.Adding.{OfOne}
+use Rattle.points_to_calls.specs.Describing.{IsReceiverAt}
+use Rattle.points_to_calls.specs.Parts.{Makes, ResultGot}
+use Rattle.points_to_calls.proofs.described.give_all.Given as goal
+
+abbrev pub invariant-loop-outcome : goal.invariant-loop-outcome
+invariant-loop-outcome l =
+    (site : CallSite) (r : Option Site) → slice_get l.fn.tables.calls l.call.0 ≡ Some site → IsReceiverAt l.fn.tables l.description.receiver r
+    → Makes l.fn.tables l.tables (OfOne (ResultGot l.program site l.description.stub.now r) (take l.outcome-index l.description.stub.now.returns)) l.fn.steps.items l.steps.items

@@ -1,0 +1,13 @@
+use Rattle.std.proofs.Common.{◌≡◌, Option, Some, take}
+use Rattle.std.specs.List.{slice_get}
+use Rattle.jvm_model.specs.declared.site.Site.{Site}
+use Rattle.points_to_items.specs.Items.{CallSite}
+use Rattle.points_to_tables.proofs.Adding.{OfOne}
+use Rattle.points_to_calls.specs.Describing.{IsReceiverAt}
+use Rattle.points_to_calls.specs.Parts.{Makes, ArgumentKept}
+use Rattle.points_to_calls.proofs.described.keep_arguments.Given as goal
+
+abbrev pub invariant-loop-argument : goal.invariant-loop-argument
+invariant-loop-argument l =
+    (site : CallSite) (r : Option Site) → slice_get l.fn.tables.calls l.call.0 ≡ Some site → IsReceiverAt l.fn.tables l.description.receiver r
+    → Makes l.fn.tables l.tables (OfOne (ArgumentKept l.program site l.description.stub.now r) (take l.argument-index l.description.stub.now.keeps)) l.fn.steps.items l.steps.items

@@ -1,0 +1,11 @@
+use Rattle.std.proofs.Common.{◌≡◌, Some, take}
+use Rattle.std.specs.List.{slice_get}
+use Rattle.points_to_items.specs.Items.{CallSite}
+use Rattle.points_to_tables.proofs.Adding.{OfOne}
+use Rattle.points_to_calls.specs.Parts.{Makes, ClassThrown}
+use Rattle.points_to_calls.proofs.described.throw_all.Given as goal
+
+abbrev pub invariant-loop-class : goal.invariant-loop-class
+invariant-loop-class l =
+    (site : CallSite) → slice_get l.fn.tables.calls l.call.0 ≡ Some site
+    → Makes l.fn.tables l.tables (OfOne (ClassThrown l.program site) (take l.class-index l.stub.throws)) l.fn.steps.items l.steps.items

@@ -1,0 +1,12 @@
+use Rattle.std.proofs.Common.{◌≡◌, refl}
+use Rattle.points_to_tables.specs.declared.item.Item.TheVariants.{Uses}
+use Rattle.points_to_items.specs.Items.{Item as RuleItem, used}
+use Rattle.points_to_calls.proofs.Making.{makes_grown, makes_one}
+use Rattle.points_to_calls.proofs.giving.add_use_at.Goals as goal
+
+pub returns : goal.returns
+returns c = λ h u held is.
+    let e = c.in_ok-user.ensures in
+    makes_grown c.args.tables.now c.user.new.self c.user.new.self (λ (x : RuleItem). x ≡ used h u) c.args.steps.now.items c.push.new.self.items e.grows e.calls
+    (makes_one c.user.new.self (λ (x : RuleItem). x ≡ used h u) c.args.steps.now.items c.push.new.self.items (Uses c.args.place c.in_ok-user.user) (used h u) c.in_ok-push.ensures.items
+    (h, u, e.grows.holders c.args.place.0 h held, e.stands u is, refl) refl (λ y q. q))

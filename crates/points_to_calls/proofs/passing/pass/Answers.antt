@@ -1,0 +1,52 @@
+use Rattle.std.proofs.Common.{sym, subst}
+use Rattle.std.proofs.lemmas.Result.{IfOk-weaker}
+use Rattle.points_to_items.specs.ItemRules.{Passed}
+use Rattle.points_to_items.specs.Items.{User as ItemUser}
+use Rattle.points_to_tables.specs.declared.keys.User.{User}
+use Rattle.points_to_tables.specs.Numbered.{IsUserAt}
+use Rattle.points_to_tables.specs.Steps.{Adds}
+use Rattle.points_to_calls.specs.Users.{PlainPassed}
+use Rattle.points_to_calls.proofs.Making.{makes_same}
+use Rattle.points_to_calls.proofs.PlainUsers.{no_selection, plain_passed, plain_lacks}
+use Rattle.points_to_calls.proofs.passing.pass.Goals as goal
+
+pub returns-in_default : goal.returns-in_default
+returns-in_default c =
+    let p = c.args.program.now in let n = c.args.tables.now in let m = c.pass_plain.new.tables in
+    let (u, named) = c.requires.user in let (s, there) = c.requires.site in
+    let made = c.in_ok-pass_plain.ensures u s (c.user_of-entry.ensures u named) there in
+    record {
+      grows = made.grows;
+      calls = made.calls;
+      adds = λ v t stands at.
+          let is = c.user_of-entry.ensures v stands in
+          (makes_same n m (PlainPassed p v t) (Passed p v t) c.args.steps.now.items c.pass_plain.new.steps.items
+          (plain_passed p v t (no_selection n c.user_of-entry.result v c.in_default.not-Select is)) (c.in_ok-pass_plain.ensures v t is at)).adds;
+      lacks = λ v t stands at. plain_lacks p v t (no_selection n c.user_of-entry.result v c.in_default.not-Select (c.user_of-entry.ensures v stands));
+    }
+
+pub returns-clause-grows : goal.returns-clause-grows
+returns-clause-grows c =
+    IfOk-weaker c.select_items.result _ _
+    (λ lacks made.
+    let (u, stands) = c.requires.user in let (s, there) = c.requires.site in
+    let (call, at, e) = subst (λ (w : User). IsUserAt c.args.tables.now w u) c.in-Select.is (c.user_of-entry.ensures u stands) in
+    (made call s at there).grows)
+    c.select_items.ensures.adds
+
+pub returns-clause-calls : goal.returns-clause-calls
+returns-clause-calls c =
+    IfOk-weaker c.select_items.result _ _
+    (λ lacks made.
+    let (u, stands) = c.requires.user in let (s, there) = c.requires.site in
+    let (call, at, e) = subst (λ (w : User). IsUserAt c.args.tables.now w u) c.in-Select.is (c.user_of-entry.ensures u stands) in
+    (made call s at there).calls)
+    c.select_items.ensures.adds
+
+pub returns-clause-adds : goal.returns-clause-adds
+returns-clause-adds c =
+    IfOk-weaker c.select_items.result _ _
+    (λ lacks made u s stands there.
+    let (call, at, e) = subst (λ (w : User). IsUserAt c.args.tables.now w u) c.in-Select.is (c.user_of-entry.ensures u stands) in
+    subst (λ (v : ItemUser). Adds c.select_items.new.tables (Passed c.args.program.now v s) c.args.steps.now.items c.select_items.new.steps.items) (sym e) (made call s at there).adds)
+    c.select_items.ensures.adds

@@ -1,0 +1,11 @@
+use Rattle.std.proofs.Common.{◌≡◌, Some}
+use Rattle.std.specs.List.{slice_get}
+use Rattle.points_to_items.specs.Items.{CallSite}
+use Rattle.points_to_tables.proofs.Adding.{OfOneBelow}
+use Rattle.points_to_calls.specs.Parts.{Makes, PassesUnit}
+use Rattle.points_to_calls.proofs.targets.pass_units.Given as goal
+
+abbrev pub invariant-loop-unit : goal.invariant-loop-unit
+invariant-loop-unit l =
+    (site : CallSite) → slice_get l.fn.tables.calls l.call.0 ≡ Some site
+    → Makes l.fn.tables l.tables (OfOneBelow (PassesUnit site l.target) l.unit) l.fn.steps.items l.steps.items

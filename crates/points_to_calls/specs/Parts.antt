@@ -1,0 +1,151 @@
+-- This crate's own proofs alone rest on this module.
+-- The parts of what a call leads to, and what one step adds to the tables and to the items.
+use Rattle.std.specs.Prelude.{◌≡◌, ℕ, zero, suc, List, [], ◌∷◌, ◌⊎◌, length, Option, Some, None, slice_get, Contains, IsTrue}
+use Rattle.jvm_model.specs.declared.number.MethodNo.{MethodNo}
+use Rattle.jvm_model.specs.declared.site.Site.{Site}
+use Rattle.jvm_model.specs.declared.site.SiteKind.TheVariants as kinds
+use Rattle.jvm_model.specs.declared.stub.StubArgument.{StubArgument}
+use Rattle.jvm_model.specs.declared.stub.StubMethod.{StubMethod}
+use Rattle.jvm_model.specs.declared.stub.StubResult.{StubResult}
+use Rattle.jvm_model.specs.declared.stub.StubResult.TheVariants.{Primitive, Void, Null, Given, New, Kept}
+use Rattle.jvm_model.specs.Programs.{Program}
+use Rattle.jvm_model.specs.Stubs.{result_class}
+use Rattle.node_machine.specs.NodeSteps.{Takes}
+use Rattle.slot_names.specs.declared.variable.Variable.TheVariants.{Parameter}
+use Rattle.points_to_rules.specs.Calls.{IsUnitOf}
+use Rattle.points_to_rules.specs.Facts.{Holder, variable, kept_objects, returned_by, thrown_by, may_hold}
+use Rattle.points_to_items.specs.CallItems.{LandsIn, call_allocates, is_passed, GivesUnit}
+use Rattle.points_to_items.specs.Items.{Landing, CallSite, User, pass_to, pass_fitting, land_at, Item as RuleItem, known, used}
+use Rattle.points_to_tables.specs.declared.entries.Arm.{Arm}
+use Rattle.points_to_tables.specs.declared.item.Item.{Item}
+use Rattle.points_to_tables.specs.declared.keys.PlaceNo.{PlaceNo}
+use Rattle.points_to_tables.specs.Numbered.{Numbered, Grows}
+use Rattle.points_to_tables.specs.Steps.{Adds}
+use Rattle.points_to_calls.specs.declared.gift.Gift.{Gift}
+use Rattle.points_to_calls.specs.declared.gift.Gift.TheVariants as gifts
+
+-- The tables grow by no call, and items are added: each stands for something that has the property, and all that has it is among them.
+pub record Makes (n m : Numbered) (P : RuleItem → Type 0) (old new : List Item) : Type 0 where
+  pub grows : Grows n m
+  pub calls : length m.calls ≡ length n.calls
+  pub adds : Adds m P old new
+
+-- ---- landings
+
+-- Where an exception of a class goes, by the entry of a landing: to the place of the first arm that takes it, or else outside.
+abbrev pub GoesTo : Program → List ℕ → List Arm → (outside to : PlaceNo) → Type 0
+GoesTo p class [] outside to = to ≡ outside
+GoesTo p class (a ∷ arms) outside to = (Takes p a.handler class × (to ≡ a.to)) ⊎ ((Takes p a.handler class → ⊥) × GoesTo p class arms outside to)
+
+-- What the place stands for is where an exception of a class goes.
+pub record IsLandingPlace (p : Program) (n : Numbered) (class : List ℕ) (landing : Landing) (place : PlaceNo) : Type 0 where
+  pub to : Holder
+  pub held : slice_get n.holders place.0 ≡ Some to
+  pub lands : LandsIn p class landing.arms landing.outside to
+
+-- ---- units and results
+
+-- What stands for a unit of the arguments, if it is a reference.
+abbrev pub unit_in : {X : Type 0} → List (Option X) → ℕ → Option X
+unit_in [] unit = None
+unit_in (u ∷ units) zero = u
+unit_in (u ∷ units) (suc unit) = unit_in units unit
+
+-- The parameter of the target holds what the unit of the arguments holds.
+pub record PassesUnit (site : CallSite) (target : MethodNo) (unit : ℕ) (x : RuleItem) : Type 0 where
+  pub from : Holder
+  pub stands : slice_get site.arguments unit ≡ Some (Some from)
+  pub passed : IsTrue (is_passed site.kind unit)
+  pub is : x ≡ used from (pass_to (variable (Parameter target unit)))
+
+-- ---- gifts
+
+-- What a holder gets by a call: the objects of a unit of the arguments; those of a site; those that the library keeps and that fit a class; or
+-- those that a method returns.
+pub data RuleGift : Type 0 where
+  unit : ℕ → RuleGift
+  made : Site → RuleGift
+  fitting : (class : List ℕ) → RuleGift
+  returned : MethodNo → RuleGift
+
+-- What a gift stands for.
+abbrev pub IsGiftAt : Numbered → Gift → RuleGift → Type 0
+IsGiftAt n (gifts.Unit u) g = g ≡ unit u
+IsGiftAt n (gifts.Made site) g = (s : Site) × (slice_get n.sites site.0 ≡ Some s) × (g ≡ made s)
+IsGiftAt n (gifts.Fitting class) g = (name : List ℕ) × (slice_get n.classes class.0 ≡ Some name) × (g ≡ fitting name)
+IsGiftAt n (gifts.Returned method) g = g ≡ returned method
+
+-- The user of a unit of the arguments that goes to a holder.
+pub record GetsUnit (p : Program) (site : CallSite) (u : ℕ) (to : Holder) (x : RuleItem) : Type 0 where
+  pub from : Holder
+  pub user : User
+  pub stands : slice_get site.arguments u ≡ Some (Some from)
+  pub gives : GivesUnit site.kind p site.resolved u to user
+  pub is : x ≡ used from user
+
+-- The holder gets the gift.
+abbrev pub Gets : Program → CallSite → RuleGift → (to : Holder) → RuleItem → Type 0
+Gets p site (unit u) to x = GetsUnit p site u to x
+Gets p site (made s) to x = x ≡ known (may_hold to s)
+Gets p site (fitting class) to x = x ≡ used kept_objects (pass_fitting class to)
+Gets p site (returned method) to x = x ≡ used (returned_by method) (pass_to to)
+
+-- The result of the call at a place gets the gift.
+pub record GetsAt (p : Program) (site : CallSite) (g : RuleGift) (place : ℕ) (x : RuleItem) : Type 0 where
+  pub to : Holder
+  pub stands : slice_get site.results place ≡ Some to
+  pub gets : Gets p site g to x
+
+-- Each holder of the result gets it.
+abbrev pub ResultsGet : Program → CallSite → RuleGift → RuleItem → Type 0
+ResultsGet p site g x = (to : Holder) × Contains site.results to × Gets p site g to x
+
+-- ---- described methods
+
+-- What an argument that a stub names gives: its unit of the arguments; or, of an object that selects the target, the object, where the argument
+-- is the first unit.
+abbrev pub ArgumentGives : StubMethod → Option Site → StubArgument → RuleGift → Type 0
+ArgumentGives stub None argument g = (u : ℕ) × IsUnitOf stub argument u × (g ≡ unit u)
+ArgumentGives stub (Some s) argument g = IsUnitOf stub argument 0 × (g ≡ made s)
+
+-- What the library keeps of an argument.
+abbrev pub ArgumentKept : Program → CallSite → StubMethod → Option Site → StubArgument → RuleItem → Type 0
+ArgumentKept p site stub receiver argument x = (g : RuleGift) × ArgumentGives stub receiver argument g × Gets p site g kept_objects x
+
+-- What a listed result gives. A new object, and one that was kept, are given by the call, whatever object selects its target.
+abbrev pub ResultGives : StubResult → StubMethod → CallSite → Option Site → RuleGift → Type 0
+ResultGives Primitive stub site receiver g = ⊥
+ResultGives Void stub site receiver g = ⊥
+ResultGives Null stub site receiver g = ⊥
+ResultGives (Given argument) stub site receiver g = ArgumentGives stub receiver argument g
+ResultGives (New class) stub site receiver g = (receiver ≡ None) × (g ≡ made (call_allocates kinds.Result site class))
+ResultGives Kept stub site receiver g = (class : List ℕ) × (receiver ≡ None) × (result_class stub.descriptor ≡ Some class) × (g ≡ fitting class)
+
+-- What the holders of the result get by a listed result.
+abbrev pub ResultGot : Program → CallSite → StubMethod → Option Site → StubResult → RuleItem → Type 0
+ResultGot p site stub receiver result x = (g : RuleGift) × ResultGives result stub site receiver g × ResultsGet p site g x
+
+-- An exception of a listed class is thrown.
+pub record ClassThrown (p : Program) (site : CallSite) (class : List ℕ) (x : RuleItem) : Type 0 where
+  pub to : Holder
+  pub lands : LandsIn p class site.landing.arms site.landing.outside to
+  pub is : x ≡ known (may_hold to (call_allocates kinds.Thrown site class))
+
+-- What a method of a class file gives and throws.
+abbrev pub FileItem : CallSite → MethodNo → RuleItem → Type 0
+FileItem site target x =
+    ((to : Holder) × Contains site.results to × (x ≡ used (returned_by target) (pass_to to))) ⊎ (x ≡ used (thrown_by target) (land_at site.landing))
+
+-- What a described method keeps and gives, and what it throws.
+abbrev pub KeptItem : Program → CallSite → StubMethod → Option Site → RuleItem → Type 0
+KeptItem p site stub receiver x = (argument : StubArgument) × Contains stub.keeps argument × ArgumentKept p site stub receiver argument x
+
+abbrev pub GotItem : Program → CallSite → StubMethod → Option Site → RuleItem → Type 0
+GotItem p site stub receiver x = (result : StubResult) × Contains stub.returns result × ResultGot p site stub receiver result x
+
+abbrev pub ThrownItem : Program → CallSite → StubMethod → RuleItem → Type 0
+ThrownItem p site stub x = (class : List ℕ) × Contains stub.throws class × ClassThrown p site class x
+
+-- The parameters of the target hold what the units of the arguments hold.
+abbrev pub UnitPassed : CallSite → MethodNo → RuleItem → Type 0
+UnitPassed site target x = (u : ℕ) × PassesUnit site target u x

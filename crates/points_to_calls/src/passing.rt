@@ -1,0 +1,48 @@
+//! What users make of objects.
+
+ghost use Rattle.std.specs.Prelude.{◌≡◌, length, Some, slice_get, IfOk, OnOk};
+ghost use Rattle.jvm_model.specs.declared.site.Site.{Site};
+ghost use Rattle.jvm_model.specs.Programs.{Class, object_name};
+ghost use Rattle.jvm_model.specs.Subtypes.{class_named};
+ghost use Rattle.linked_program.specs.Numbers.{IsMethodNumber};
+ghost use Rattle.points_to_calls.specs.Lacks.{UserLacks};
+ghost use Rattle.points_to_items.specs.ItemRules.{Passed};
+ghost use Rattle.points_to_items.specs.Items.{CallSite, User as ItemUser, select};
+ghost use Rattle.points_to_tables.specs.Numbered.{Grows, IsNumbered};
+ghost use Rattle.points_to_tables.specs.Steps.{Adds};
+
+use crate::plain::pass_plain;
+use crate::selecting::select_items;
+use class_index::index_failure::IndexFailure;
+use jvm_model::{Reason, SiteNo};
+use linked_program::program::Program;
+use points_to_tables::{Item, Tables, User, UserNo};
+use std::alloc::Global;
+
+/// Adds what a user makes of an object of its place; and why it lacks the target of its call, if it does.
+pub fn pass(
+    alloc: Global,
+    program: &Program,
+    tables: &mut Tables,
+    user: UserNo,
+    site: SiteNo,
+    steps: &mut Vec<Item>,
+) -> Result<Option<Reason>, IndexFailure>
+    requires user { IsNumbered tables.old.users user.0 }
+    requires site { IsNumbered tables.old.sites site.0 }
+    requires resolved { (c : CallSite) → slice_get tables.old.users user.0 ≡ Some (select c) → IsMethodNumber program.now c.resolved.0 }
+    requires object { (object : Class) × (class_named program.now object_name ≡ Some object) }
+    ensures grows { OnOk result (Grows tables.old tables.new) }
+    ensures calls { OnOk result (length tables.new.calls ≡ length tables.old.calls) }
+    ensures adds { OnOk result ((u : ItemUser) (s : Site) → slice_get tables.old.users user.0 ≡ Some u → slice_get tables.old.sites site.0 ≡ Some s
+        → Adds tables.new (Passed program.now u s) steps.old.items steps.new.items) }
+    ensures lacks { IfOk result (λ lacks. (u : ItemUser) (s : Site) → slice_get tables.old.users user.0 ≡ Some u → slice_get tables.old.sites site.0 ≡ Some s
+        → UserLacks program.now u s lacks) }
+{
+    let entry = tables.user_of(user);
+    let User::Select(call) = entry else {
+        pass_plain(program, tables, entry, site, steps)?;
+        return Ok(None);
+    };
+    select_items(alloc, program, tables, call, site, steps)
+}

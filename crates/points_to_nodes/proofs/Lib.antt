@@ -1,0 +1,9 @@
+pub mod FoundMoves
+pub mod AddingSteps
+pub mod NamedSlots
+pub mod EnteredSlots
+pub mod AccessedSlots
+pub mod MadeArrays
+pub mod OperationItems
+pub mod LandedNodes
+pub mod RaisedObjects

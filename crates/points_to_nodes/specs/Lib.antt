@@ -1,0 +1,9 @@
+pub mod NewCalls
+pub mod Known
+pub mod AddedTo
+pub mod Fixed
+pub mod Slots
+pub mod Arrays
+pub mod Operations
+pub mod Landings
+pub mod Raises

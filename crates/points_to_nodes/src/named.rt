@@ -1,0 +1,71 @@
+//! A method whose slots have names, and the names at its nodes. A node is named by its place among those of the method.
+
+ghost use Rattle.std.specs.Prelude.{◌≡◌, ◌+◌, ◌<◌, length, IfOk, IfSome};
+ghost use Rattle.points_to_nodes.specs.Fixed.{holder_of};
+ghost use Rattle.points_to_nodes.specs.Known.{HasNode, IsNamed, names_at};
+ghost use Rattle.points_to_nodes.specs.Slots.{slot_holder};
+ghost use Rattle.slot_names.specs.NodePlaces.{AreInOrder, IsPlaceOf};
+
+use crate::adding::FixedPlace;
+use class_index::index_failure::{IndexFailure, TooMany};
+use failure::Failure;
+use linked_program::program::Program;
+use op_model::LoweredMethod;
+use slot_names::{Names, place_of};
+
+/// A method of a program, and the variables of its slots.
+#[derive(Clone, Copy)]
+pub struct NamedMethod<'a> {
+    pub program: &'a Program,
+    pub method: &'a LoweredMethod,
+    pub names: &'a Names,
+}
+
+/// The place of a node, in 32 bits: no node stands after as many nodes as there are offsets.
+fn place_number(method: &LoweredMethod, node: usize) -> u32
+    requires order { AreInOrder method.now }
+    requires there { node < length method.now.nodes }
+    ensures { result ≡ node }
+{
+    let _offset = method.nodes.as_slice()[node].offset;
+    node as u32
+}
+
+/// The place of what a slot holds at a node.
+pub(crate) fn slot_place(at: &NamedMethod<'_>, node: usize, slot: u32) -> FixedPlace
+    requires known { IsNamed at.now }
+    requires there { HasNode at.now node }
+    ensures { holder_of result ≡ slot_holder (names_at at.now) node slot }
+{
+    let node = place_number(at.method, node);
+    FixedPlace::Variable(at.names.variable(node, slot))
+}
+
+/// How many slots a method has. The failure is `TooMany` where there are 2^32 of them.
+pub(crate) fn slot_count(method: &LoweredMethod) -> Result<u32, IndexFailure>
+    ensures { IfOk result (λ count. count ≡ method.now.slots + method.now.stack) }
+{
+    match method.slots.checked_add(method.stack) {
+        Some(count) => Ok(count),
+        None => Err(Failure::Cause(TooMany)),
+    }
+}
+
+/// Whether a node is a merge point.
+pub(crate) fn is_merge(at: &NamedMethod<'_>, node: usize) -> bool
+    requires known { IsNamed at.now }
+    requires there { HasNode at.now node }
+    ensures { result ≡ (names_at at.now).merges node }
+{
+    let node = place_number(at.method, node);
+    at.names.is_merge(node)
+}
+
+/// The place of the node at an offset, if there is one.
+pub(crate) fn node_at(at: &NamedMethod<'_>, offset: u32) -> Option<usize>
+    requires { IsNamed at.now }
+    ensures place { IsPlaceOf at.now.method.now offset result }
+    ensures within { IfSome result (λ node. HasNode at.now node) }
+{
+    place_of(at.method, offset)
+}
