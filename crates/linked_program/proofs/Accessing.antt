@@ -1,6 +1,6 @@
 -- What the indexes of a linked program say, in the words of the program.
 use Rattle.std.proofs.Common.{◌≡◌, ◌≢◌, ◌↔◌, ℕ, ◌<◌, List, [], length, Vec, Contains, All, AllPairs, Option, Some, None, option_map, unwrap_or, refl, sym, ap, ◌∙◌, subst, arith, get_or}
-use Rattle.std.specs.List.{slice_get, flat_map}
+use Rattle.std.specs.List.{slice_get}
 use Rattle.std.specs.Option.{option_to_list}
 use Rattle.std.specs.declared.alloc.Global.{Global}
 use Rattle.std.proofs.lemmas.List.{length-map}
@@ -8,30 +8,27 @@ use Rattle.std.proofs.lemmas.List.Elements.{All-contains, Contains-append_left, 
 use Rattle.std.proofs.lemmas.Option.{same_Some, none-some, slice_get_within}
 use Rattle.jvm_model.specs.declared.number.ClassNo.{ClassNo}
 use Rattle.jvm_model.specs.declared.program.Origin.{Origin}
-use Rattle.jvm_model.specs.Linking.{class_from, names, program_from, methods_from}
-use Rattle.jvm_model.specs.LinkedPrograms.{class_names}
-use Rattle.jvm_model.specs.Programs.{Class, Program, Method}
+use Rattle.jvm_model.specs.Linking.{class_from, names, program_from, methods_from, fields_from}
+use Rattle.jvm_model.specs.LinkedPrograms.{IsProgram, class_names}
+use Rattle.jvm_model.specs.Programs.{Class, Program}
 use Rattle.jvm_model.specs.Subtypes.{IsSubtype}
 use Rattle.class_index.specs.declared.parents.Parents.{Parents}
 use Rattle.linked_program.specs.declared.program.Program.TheInside.{Inside}
 use Rattle.class_index.specs.AboveLists.{IsListed}
 use Rattle.linked_program.specs.FieldSearches.{IsSearchOrder}
 use Rattle.linked_program.specs.Numbering.{name_in, IsParents}
-use Rattle.linked_program.specs.Numbers.{name_at, IsClassNumber, IsNumber, IsMethodNumber}
+use Rattle.linked_program.specs.Numbers.{name_at, IsClassNumber, IsNumber, IsMethodNumber, IsFieldNumber}
 use Rattle.class_index.specs.Supertypes.{direct_of, IsAtOrAbove}
 use Rattle.linked_program.specs.Indexes.{IsWhole}
 use Rattle.linked_program.specs.Whole.{IsThroughInterface}
+use Rattle.linked_program.specs.Declarations.{method_declaration, field_declaration}
+use Rattle.linked_program.specs.declared.member_table.MemberPlace.{MemberPlace}
+use Rattle.linked_program.proofs.MemberPlaces.{HasMemberAt, below_places, member_at}
 use Rattle.linked_program.proofs.Bridges.{names_are, zip_length, map_from, map_to, name_at_in, at_number, numbered, to_numbers, to_names, IsNumbered}
 use Rattle.class_index.proofs.Gathering.{listed_in_range}
 use Rattle.class_index.proofs.OrderPlaces.{stands_below, contains_first}
 use Rattle.linked_program.proofs.SearchOrders.{search_order}
 use Rattle.class_index.proofs.Searching.{listed_from_interface, interface_is_listed}
-use Rattle.linked_program.specs.Declarations.{Declaration, method_declaration, method_declarations}
-use Rattle.linked_program.specs.MemberLists.{IsPlaceOf}
-use Rattle.linked_program.specs.declared.member_table.MemberPlace.{MemberPlace}
-use Rattle.linked_program.proofs.DeclaredMembers.{all_methods, member_below, method_at_place, methods_are}
-use Rattle.linked_program.proofs.MembersTold.{place_read}
-use Rattle.class_index.proofs.ListPlaces.{at_map}
 
 abbrev pub class_no : ℕ → ClassNo
 class_no n = record { 0 = n }
@@ -203,33 +200,23 @@ module _ (inside : Inside) (w : IsWhole inside) where
     through_order_in =
         subst (λ (r : Program). (k : ℕ) (list : Vec ℕ Global) → IsClassNumber r k → slice_get lists k ≡ Some list → (c : Class) → slice_get r.classes k ≡ Some c → IsSearchOrder r c list.items) view through_order
 
-    -- ---- the body of a method
+    -- ---- where members stand
 
-    pub below_places : (n : ℕ) → IsMethodNumber q n → n < length inside.methods.places.items
-    below_places n h =
-        let below = member_below all_methods method_declaration method_declarations methods_are order order q refl view n h in
-        omega (arith, below, w.methods_are.told_by_places.as_many)
+    program_in : IsProgram q
+    program_in = subst IsProgram view w.program
 
-    pub record HasMethodAt (n : ℕ) (place : MemberPlace) : Type 0 where
-      pub origin : Origin
-      pub class : slice_get order place.class.0 ≡ Some origin
-      pub within : place.place < length (methods_from origin)
-      pub stands : (m : Method) → slice_get q.methods n ≡ Some m → slice_get (methods_from origin) place.place ≡ Some m
+    pub below_methods : (n : ℕ) → IsMethodNumber q n → n < length inside.methods.places.items
+    below_methods =
+        below_places method_declaration methods_from order q.methods (ap (λ (r : Program). r.methods) view) program_in.members.methods inside.methods.places.items w.methods_are.told_by_places
 
-    -- the place that is listed for a method is its place
-    pub method_at : (n : ℕ) (place : MemberPlace) → IsMethodNumber q n → place ≡ get_or inside.methods.places.items n place → HasMethodAt n place
-    method_at n place h is =
-        let first = stands_below q.methods n h in
-        let there : (m : Method) → slice_get q.methods n ≡ Some m → slice_get p.methods n ≡ Some m = λ m e. subst (λ (r : Program). slice_get r.methods n ≡ Some m) (sym view) e in
-        let declared : (m : Method) → slice_get p.methods n ≡ Some m → slice_get (flat_map method_declarations order) n ≡ Some (method_declaration m) =
-        λ m e. ap (λ (ds : List Declaration). slice_get ds n) (methods_are order) ∙ at_map method_declaration p.methods n m e in
-        let place_of : (m : Method) → slice_get p.methods n ≡ Some m → IsPlaceOf method_declarations order (method_declaration m) place =
-        λ m e. place_read method_declarations order inside.methods.places.items w.methods_are.told_by_places n (method_declaration m) place (declared m e) is in
-        let at = place_of first.0 (there first.0 first.1) in
-        let stands = method_at_place order w.program.members n first.0 place (there first.0 first.1) at in
-        record {
-          origin = at.origin;
-          class = at.class;
-          within = slice_get_within (methods_from at.origin) place.place first.0 stands;
-          stands = λ m e. stands ∙ sym first.1 ∙ e;
-        }
+    pub method_at : (n : ℕ) (place : MemberPlace) → IsMethodNumber q n → place ≡ get_or inside.methods.places.items n place → HasMemberAt methods_from order q.methods n place
+    method_at =
+        member_at method_declaration methods_from order q.methods (ap (λ (r : Program). r.methods) view) program_in.members.methods inside.methods.places.items w.methods_are.told_by_places
+
+    pub below_fields : (n : ℕ) → IsFieldNumber q n → n < length inside.fields.places.items
+    below_fields =
+        below_places field_declaration fields_from order q.fields (ap (λ (r : Program). r.fields) view) program_in.members.fields inside.fields.places.items w.fields_are.told_by_places
+
+    pub field_at : (n : ℕ) (place : MemberPlace) → IsFieldNumber q n → place ≡ get_or inside.fields.places.items n place → HasMemberAt fields_from order q.fields n place
+    field_at =
+        member_at field_declaration fields_from order q.fields (ap (λ (r : Program). r.fields) view) program_in.members.fields inside.fields.places.items w.fields_are.told_by_places

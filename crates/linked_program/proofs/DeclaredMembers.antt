@@ -1,23 +1,18 @@
 -- The methods and the fields of a program, as its classes declare them.
-use Rattle.std.proofs.Common.{◌≡◌, ℕ, ◌<◌, ◌++◌, List, [], ◌∷◌, length, map, Some, refl, sym, ap, ◌∙◌, subst, arith, ◌+◌, take}
+use Rattle.std.proofs.Common.{◌≡◌, ℕ, ◌<◌, ◌++◌, List, [], ◌∷◌, length, map, Some, refl, sym, ap, ◌∙◌, subst, arith}
 use Rattle.std.specs.List.{flat_map, slice_get}
 use Rattle.std.proofs.lemmas.List.{length-map, map-append}
-use Rattle.std.proofs.lemmas.Option.{same_Some}
 use Rattle.jvm_model.specs.declared.program.Origin.{Origin}
-use Rattle.jvm_model.specs.LinkedPrograms.{MembersDiffer}
 use Rattle.jvm_model.specs.Linking.{methods_from, fields_from, program_from}
 use Rattle.jvm_model.specs.Lookups.{Signature}
 use Rattle.jvm_model.specs.Programs.{Method, Field, Program}
 use Rattle.jvm_model.specs.Resolution.{Declares, DeclaresField, HasSignature}
 use Rattle.class_index.proofs.ListPlaces.{at_map, map_at}
-use Rattle.linked_program.specs.declared.member_table.MemberPlace.{MemberPlace}
 use Rattle.linked_program.specs.declared.member_view.MemberView.{MemberView}
 use Rattle.linked_program.specs.Declarations.{Declaration, IsDeclared, IsMemberView, field_declaration, field_declarations, method_declaration, method_declarations}
-use Rattle.linked_program.specs.MemberLists.{IsPlaceOf}
 use Rattle.linked_program.specs.Numbers.{name_at}
-use Rattle.linked_program.proofs.Pieces.{from_piece}
 
-map_pieces : {X Y Z : Type 0} (g : Y → Z) (f : X → List Y) (xs : List X) → flat_map (λ x. map g (f x)) xs ≡ map g (flat_map f xs)
+pub map_pieces : {X Y Z : Type 0} (g : Y → Z) (f : X → List Y) (xs : List X) → flat_map (λ x. map g (f x)) xs ≡ map g (flat_map f xs)
 map_pieces g f [] = refl
 map_pieces g f (x ∷ xs) = ap (λ zs. map g (f x) ++ zs) (map_pieces g f xs) ∙ sym (map-append g (f x) (flat_map f xs))
 
@@ -83,17 +78,6 @@ module _ (order os : List Origin) (q : Program) (same : os ≡ order) (view : pr
   declared_method class s n d =
       declared_there all_methods method_declaration method_declarations methods_are order os q same view class s n
       (record { member = d.method; stands = d.stands; of_class = d.of_class; is = d.is })
-
--- the method of a number stands at its place
-pub method_at_place : (order : List Origin) → MembersDiffer (program_from order) → (n : ℕ) (m : Method) (place : MemberPlace) → slice_get (program_from order).methods n ≡ Some m
-    → (at : IsPlaceOf method_declarations order (method_declaration m) place) → slice_get (methods_from at.origin) place.place ≡ Some m
-method_at_place order differ n m place e at =
-    let found = map_at method_declaration (methods_from at.origin) place.place (method_declaration m) at.stands in
-    let number = length (flat_map methods_from (take place.class.0 order)) + place.place in
-    let stands = from_piece methods_from order place.class.0 place.place at.origin found.0 at.class found.1 in
-    let same = differ.methods number n found.0 m stands e (ap (λ (d : Declaration). d.class) found.2) (ap (λ (d : Declaration). d.signature) found.2) in
-    let is = same_Some found.0 m (sym stands ∙ ap (slice_get (flat_map methods_from order)) same ∙ e) in
-    found.1 ∙ ap (λ (x : Method). Some x) is
 
 -- ---- fields
 

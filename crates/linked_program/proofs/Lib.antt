@@ -1,11 +1,12 @@
 pub mod Ordered
 pub mod Bridges
-pub mod Accessing
 pub mod Ranking
 pub mod Pieces
 pub mod Declared
 pub mod DeclaredMembers
 pub mod MembersTold
+pub mod MemberPlaces
+pub mod Accessing
 pub mod MemberUses
 pub mod SoundMembers
 pub mod OneFile

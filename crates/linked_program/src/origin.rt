@@ -1,11 +1,12 @@
 //! What linking reads of a class, whether a class file or a stub says it.
 
-ghost use Rattle.std.specs.Prelude.{◌≡◌, ◌<◌, length, option_map, slice_index_or, []};
-ghost use Rattle.jvm_model.specs.Linking.{class_from};
+ghost use Rattle.std.specs.Prelude.{◌≡◌, ◌<◌, length, option_map, slice_get, slice_index_or, Some, []};
+ghost use Rattle.jvm_model.specs.Linking.{class_from, fields_from};
+ghost use Rattle.jvm_model.specs.Programs.{Field};
 
 use class_index::texts::class_text;
 use jvm_model::lookup::class_name_at;
-use jvm_model::{AccessFlag, Name, Origin};
+use jvm_model::{AccessFlag, Name, Origin, StubField};
 
 /// The name of the class (JVMS 4.1).
 pub fn name(origin: &Origin) -> &[u8]
@@ -83,5 +84,26 @@ pub fn interface_name(origin: &Origin, place: usize) -> &[u8]
             class_text(file.class.pool.as_slice(), index)
         }
         Origin::Stub(stub) => stub.interfaces.as_slice()[place].as_slice(),
+    }
+}
+
+/// The class of the object that the field at a place of the class holds from the start, if its stub names one.
+pub fn held_in(origin: &Origin, place: usize) -> Option<&[u8]>
+    requires { place < length (fields_from origin.now) }
+    ensures { (f : Field) → slice_get (fields_from origin.now) place ≡ Some f → option_map (λ class. class.now) result ≡ f.holds }
+{
+    match origin {
+        Origin::Folder { .. } => None,
+        Origin::Stub(stub) => held_by(&stub.fields.as_slice()[place]),
+    }
+}
+
+/// The class that the description of a field names as that of its first object.
+fn held_by(field: &StubField) -> Option<&[u8]>
+    ensures { option_map (λ class. class.now) result ≡ field.now.holds }
+{
+    match &field.holds {
+        Some(class) => Some(class.as_slice()),
+        None => None,
     }
 }

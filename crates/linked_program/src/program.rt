@@ -1,6 +1,6 @@
 //! The linked program, and what the searches read of it.
 
-ghost use Rattle.std.specs.Prelude.{◌≡◌, ◌↔◌, ℕ, ◌<◌, length, Some, slice_get, All, Contains, IsTrue, IfSome, IfNone};
+ghost use Rattle.std.specs.Prelude.{◌≡◌, ◌↔◌, ℕ, ◌<◌, length, option_map, Some, slice_get, All, Contains, IsTrue, IfSome, IfNone};
 ghost use Rattle.jvm_model.specs.LinkedPrograms.{IsProgram};
 ghost use Rattle.jvm_model.specs.Lookups.{lent_signature};
 ghost use Rattle.jvm_model.specs.Programs.{Class, Method, Field};
@@ -21,7 +21,7 @@ use crate::member_table::MemberTable;
 use crate::member_view::MemberView;
 use crate::method_body::{MethodBody, body_in};
 use crate::numbering::{names_of, parents_of_all};
-use crate::origin::{file_name, is_folder, is_interface};
+use crate::origin::{file_name, held_in, is_folder, is_interface};
 use crate::sorted::find_in_order;
 use class_index::above::{above_lists, is_at_or_above, sorted_lists};
 use class_index::order::upward_order;
@@ -235,6 +235,15 @@ impl Program {
         ensures { (f : Field) → slice_get self.now.fields number.0 ≡ Some f → IsFieldView self.now f result }
     {
         self.fields.view::<Fields>(&self.origins, number.0)
+    }
+
+    /// The class of the object that a field holds from the start, if its stub names one.
+    pub fn held_class(&self, number: FieldNo) -> Option<&[u8]>
+        requires { IsFieldNumber self.now number.0 }
+        ensures { (f : Field) → slice_get self.now.fields number.0 ≡ Some f → option_map (λ class. class.now) result ≡ f.holds }
+    {
+        let at = self.fields.places[number.0 as usize];
+        held_in(&self.origins[at.class.0 as usize], at.place as usize)
     }
 }
 

@@ -4,11 +4,10 @@ ghost use Rattle.std.specs.Prelude.{◌≡◌};
 ghost use Rattle.linked_program.specs.Numbers.{IsClassNumber, IsMethodNumber};
 
 use crate::code::lowered;
-use crate::members::{MemberName, Members, members_of};
-use crate::names::{Names, signature_of};
 use crate::nodes::node_text;
 use anyhow::Result;
 use case_files::{CaseFailure, is_refusal, link_case, read_all_stubs, read_files};
+use case_names::{MemberName, Members, Names, members_of, signature_of};
 use failure::Failure;
 use folder_supply::FolderSupply;
 use jvm_model::{ClassNo, MethodNo, reason_word};

@@ -44,8 +44,6 @@
 
 mod case;
 mod code;
-mod members;
-mod names;
 mod nodes;
 mod operations;
 

@@ -1,7 +1,7 @@
 //! Nodes as text, one line each.
 
-use crate::names::Names;
 use crate::operations::write_operation;
+use case_names::Names;
 use jvm_model::ClassNo;
 use op_model::{Node, NodeHandler};
 use std::alloc::{AllocError, Global};

@@ -1,8 +1,7 @@
 //! Operations as text.
 
-use crate::members::shown;
-use crate::names::Names;
-use jvm_model::{Site, SiteKind};
+use case_names::{Names, shown, write_site as write_place};
+use jvm_model::Site;
 use op_model::{Call, CallKind, Move, Op, Source};
 use std::alloc::AllocError;
 
@@ -101,21 +100,11 @@ fn write_sites(text: &mut String, names: &Names, sites: &[Site]) -> Result<(), A
     Ok(())
 }
 
-/// An allocation site: its kind, its method, its offset and its class.
+/// An allocation site, behind a space.
 fn write_site(text: &mut String, names: &Names, site: &Site) -> Result<(), AllocError> {
-    let kind = match site.kind {
-        SiteKind::Boot => "Boot",
-        SiteKind::New => "New",
-        SiteKind::Result => "Result",
-        SiteKind::Thrown => "Thrown",
-    };
-    let method = match site.method {
-        Some(method) => names.method(method),
-        None => "-",
-    };
-    let offset = site.offset;
     let class = shown(Some(site.class.as_slice()));
-    write!(text, " [{kind} {method} {offset} {class}]")
+    text.push_str(" ")?;
+    write_place(text, names, site.kind, site.method, site.offset, class)
 }
 
 /// A call: its kind, its methods, what the instruction names, its arguments and its result.

@@ -20,9 +20,10 @@ use Rattle.points_to_tables.proofs.Growing.{grows_same}
 use Rattle.points_to_calls.specs.declared.gift.Gift.{Gift}
 use Rattle.points_to_calls.specs.declared.gift.Gift.TheVariants as gifts
 use Rattle.points_to_calls.specs.Giving.{ResolvesIn, MakesUser}
-use Rattle.points_to_calls.specs.Parts.{Makes, unit_in, RuleGift, made, fitting, IsGiftAt, GetsUnit, Gets, GetsAt, ResultsGet}
+use Rattle.points_to_calls.specs.Parts.{unit_in, RuleGift, made, fitting, IsGiftAt, GetsUnit, Gets, GetsAt, ResultsGet}
+use Rattle.points_to_tables.specs.Steps.{Makes}
 use Rattle.points_to_calls.proofs.CallParts.{unit_there, there_from_unit}
-use Rattle.points_to_calls.proofs.Making.{makes_none, makes_same, makes_grown}
+use Rattle.points_to_tables.proofs.Making.{makes_none, makes_same, makes_grown}
 use Rattle.points_to_tables.proofs.Adding.{OfOneBelow}
 
 -- ---- while the tables grow

@@ -1,6 +1,5 @@
 pub mod CallParts
 pub mod Landing
-pub mod Making
 pub mod Gifts
 pub mod ArgumentUnits
 pub mod PassedUnits

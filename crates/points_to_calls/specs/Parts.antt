@@ -1,6 +1,6 @@
 -- This crate's own proofs alone rest on this module.
 -- The parts of what a call leads to, and what one step adds to the tables and to the items.
-use Rattle.std.specs.Prelude.{◌≡◌, ℕ, zero, suc, List, [], ◌∷◌, ◌⊎◌, length, Option, Some, None, slice_get, Contains, IsTrue}
+use Rattle.std.specs.Prelude.{◌≡◌, ℕ, zero, suc, List, [], ◌∷◌, ◌⊎◌, Option, Some, None, slice_get, Contains, IsTrue}
 use Rattle.jvm_model.specs.declared.number.MethodNo.{MethodNo}
 use Rattle.jvm_model.specs.declared.site.Site.{Site}
 use Rattle.jvm_model.specs.declared.site.SiteKind.TheVariants as kinds
@@ -17,18 +17,10 @@ use Rattle.points_to_rules.specs.Facts.{Holder, variable, kept_objects, returned
 use Rattle.points_to_items.specs.CallItems.{LandsIn, call_allocates, is_passed, GivesUnit}
 use Rattle.points_to_items.specs.Items.{Landing, CallSite, User, pass_to, pass_fitting, land_at, Item as RuleItem, known, used}
 use Rattle.points_to_tables.specs.declared.entries.Arm.{Arm}
-use Rattle.points_to_tables.specs.declared.item.Item.{Item}
 use Rattle.points_to_tables.specs.declared.keys.PlaceNo.{PlaceNo}
-use Rattle.points_to_tables.specs.Numbered.{Numbered, Grows}
-use Rattle.points_to_tables.specs.Steps.{Adds}
+use Rattle.points_to_tables.specs.Numbered.{Numbered}
 use Rattle.points_to_calls.specs.declared.gift.Gift.{Gift}
 use Rattle.points_to_calls.specs.declared.gift.Gift.TheVariants as gifts
-
--- The tables grow by no call, and items are added: each stands for something that has the property, and all that has it is among them.
-pub record Makes (n m : Numbered) (P : RuleItem → Type 0) (old new : List Item) : Type 0 where
-  pub grows : Grows n m
-  pub calls : length m.calls ≡ length n.calls
-  pub adds : Adds m P old new
 
 -- ---- landings
 

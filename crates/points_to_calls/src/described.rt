@@ -4,7 +4,8 @@ ghost use Rattle.std.specs.Prelude.{◌≡◌, List, ℕ, Option, Some, slice_ge
 ghost use Rattle.jvm_model.specs.declared.site.Site.{Site};
 ghost use Rattle.points_to_calls.specs.Describing.{gift_of_unit, IsGiftFor, IsReceiverAt, MakesGift, MakesSite, ReceiverItem, StubItem};
 ghost use Rattle.points_to_calls.specs.Giving.{ResolvesIn};
-ghost use Rattle.points_to_calls.specs.Parts.{ArgumentGives, ArgumentKept, ClassThrown, GotItem, KeptItem, Makes, ResultGives, ResultGot, ThrownItem};
+ghost use Rattle.points_to_calls.specs.Parts.{ArgumentGives, ArgumentKept, ClassThrown, GotItem, KeptItem, ResultGives, ResultGot, ThrownItem};
+ghost use Rattle.points_to_tables.specs.Steps.{Makes};
 ghost use Rattle.points_to_calls.specs.Units.{IsReadOf};
 ghost use Rattle.points_to_items.specs.CallItems.{call_allocates};
 ghost use Rattle.points_to_items.specs.Items.{CallSite};

@@ -3,7 +3,8 @@
 ghost use Rattle.std.specs.Prelude.{◌≡◌, Some, slice_get, IfOk, OnOk};
 ghost use Rattle.linked_program.specs.Numbers.{IsMethodNumber};
 ghost use Rattle.points_to_calls.specs.Giving.{MakesUser, ResolvesIn};
-ghost use Rattle.points_to_calls.specs.Parts.{RuleGift, Gets, GetsAt, GetsUnit, IsGiftAt, Makes, ResultsGet};
+ghost use Rattle.points_to_calls.specs.Parts.{RuleGift, Gets, GetsAt, GetsUnit, IsGiftAt, ResultsGet};
+ghost use Rattle.points_to_tables.specs.Steps.{Makes};
 ghost use Rattle.points_to_items.specs.Items.{CallSite as ItemCallSite, User as ItemUser, used};
 ghost use Rattle.points_to_rules.specs.Facts.{Holder};
 ghost use Rattle.points_to_tables.specs.Numbered.{IsNumbered, IsUserAt};

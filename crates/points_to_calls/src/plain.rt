@@ -2,7 +2,7 @@
 
 ghost use Rattle.std.specs.Prelude.{◌≡◌, Some, slice_get, codes, OnOk};
 ghost use Rattle.jvm_model.specs.declared.site.Site.{Site};
-ghost use Rattle.points_to_calls.specs.Parts.{Makes};
+ghost use Rattle.points_to_tables.specs.Steps.{Makes};
 ghost use Rattle.points_to_calls.specs.Users.{PlainPassed};
 ghost use Rattle.points_to_items.specs.ItemRules.{LandsAs};
 ghost use Rattle.points_to_items.specs.Items.{Landing as ItemLanding, User as ItemUser};

@@ -9,7 +9,7 @@ ghost use Rattle.jvm_model.specs.Subtypes.{class_named};
 ghost use Rattle.linked_program.specs.Numbers.{IsMethodNumber};
 ghost use Rattle.points_to_calls.specs.Giving.{ResolvesIn};
 ghost use Rattle.points_to_calls.specs.Lacks.{CallLacks};
-ghost use Rattle.points_to_calls.specs.Parts.{Makes};
+ghost use Rattle.points_to_tables.specs.Steps.{Makes};
 ghost use Rattle.points_to_calls.specs.Selecting.{DescribedItem, IsOnlyAnswer, TargetItem};
 ghost use Rattle.points_to_items.specs.CallItems.{SelectItem};
 ghost use Rattle.points_to_items.specs.Items.{CallSite};

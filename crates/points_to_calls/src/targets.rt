@@ -4,11 +4,11 @@ ghost use Rattle.std.specs.Prelude.{◌≡◌, length, Some, slice_get, OnOk};
 ghost use Rattle.linked_program.specs.Numbers.{IsMethodNumber};
 ghost use Rattle.points_to_calls.specs.Describing.{BodyItem};
 ghost use Rattle.points_to_calls.specs.Giving.{ResolvesIn};
-ghost use Rattle.points_to_calls.specs.Parts.{FileItem, Makes, PassesUnit, UnitPassed};
+ghost use Rattle.points_to_calls.specs.Parts.{FileItem, PassesUnit, UnitPassed};
 ghost use Rattle.points_to_items.specs.CallItems.{CallItem, is_passed};
 ghost use Rattle.points_to_items.specs.Items.{CallSite};
 ghost use Rattle.points_to_tables.specs.Numbered.{Grows, IsNumbered};
-ghost use Rattle.points_to_tables.specs.Steps.{Adds};
+ghost use Rattle.points_to_tables.specs.Steps.{Adds, Makes};
 
 use crate::described::stub_items;
 use crate::gift::Gift;

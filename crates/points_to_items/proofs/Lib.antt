@@ -3,8 +3,8 @@ mod RunningNodes
 mod MeantCalls
 mod MeantNodes
 pub mod MeantItems
-mod Holders
-mod CallSites
+pub mod Holders
+pub mod CallSites
 mod Closing
 mod ClosedNodes
 mod CalledNodes

@@ -1,5 +1,4 @@
 pub mod FoundMoves
-pub mod AddingSteps
 pub mod NamedSlots
 pub mod EnteredSlots
 pub mod AccessedSlots

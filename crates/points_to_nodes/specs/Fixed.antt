@@ -1,4 +1,4 @@
--- This crate's own proofs alone rest on this module.
+-- Public contracts rest on this module.
 -- Places that stand for one thing whatever is numbered, and what is done with their objects.
 use Rattle.points_to_items.specs.Items.{User, pass_fitting, pass_to, read_elements, read_field, write_elements, write_field}
 use Rattle.points_to_nodes.specs.declared.adding.FixedPlace.{FixedPlace}

@@ -1,4 +1,4 @@
--- This crate's own proofs alone rest on this module.
+-- Public contracts rest on this module.
 -- What entries and numbers of landings stand for in a method.
 use Rattle.std.specs.Prelude.{◌≡◌, ℕ, Some, slice_get}
 use Rattle.op_model.specs.declared.lowered.LoweredMethod.{LoweredMethod}

@@ -1,6 +1,4 @@
-pub mod NewCalls
 pub mod Known
-pub mod AddedTo
 pub mod Fixed
 pub mod Slots
 pub mod Arrays

@@ -1,4 +1,4 @@
--- This crate's own proofs alone rest on this module.
+-- Public contracts rest on this module.
 -- What flows from slot to slot, by the names at nodes, which stand for their places.
 use Rattle.std.specs.Prelude.{◌≡◌, ℕ, ◌+◌, ◌<◌, List, IsTrue, nat_eq, if◌then◌else◌}
 use Rattle.std.specs.List.{list_any}

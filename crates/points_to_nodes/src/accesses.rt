@@ -5,7 +5,7 @@ ghost use Rattle.jvm_model.specs.declared.site.Site.{Site};
 ghost use Rattle.op_model.specs.declared.node.Node.{Node};
 ghost use Rattle.points_to_items.specs.Items.{known, pass_to, used};
 ghost use Rattle.points_to_items.specs.NodeItems.{MakesItem, ReadsItem, WritesItem};
-ghost use Rattle.points_to_nodes.specs.AddedTo.{AddsTo};
+ghost use Rattle.points_to_tables.specs.Steps.{Makes};
 ghost use Rattle.points_to_nodes.specs.Fixed.{holder_of, user_by};
 ghost use Rattle.points_to_nodes.specs.Known.{HasNode, IsNamed, names_at};
 ghost use Rattle.points_to_nodes.specs.Slots.{MadeAt};
@@ -20,7 +20,7 @@ use jvm_model::SiteNo;
 use points_to_tables::{Item, Tables};
 
 /// Adds what is done with the objects of a place for the target at each successor of a node.
-pub(crate) fn pass_after(
+pub fn pass_after(
     at: &NamedMethod<'_>,
     node: usize,
     from: FixedPlace,
@@ -32,7 +32,7 @@ pub(crate) fn pass_after(
     requires known { IsNamed at.now }
     requires there { HasNode at.now node }
     ensures { (n : Node) → slice_get at.now.method.now.nodes node ≡ Some n
-        → OnOk result (AddsTo at.now.method.now tables.old tables.new
+        → OnOk result (Makes tables.old tables.new
         (λ x. (to : Holder) × IsSlotAfter at.now.method.now n target to × (x ≡ used (holder_of from) (user_by passing.entry to))) steps.old.items steps.new.items) }
 {
     let successors = &at.method.nodes.as_slice()[node].successors;
@@ -53,7 +53,7 @@ fn pass_at(
     steps: &mut Vec<Item>,
 ) -> Result<(), IndexFailure>
     requires { IsNamed at.now }
-    ensures { OnOk result (AddsTo at.now.method.now tables.old tables.new
+    ensures { OnOk result (Makes tables.old tables.new
         (MadeAt at.now.method.now (names_at at.now) (λ to. used (holder_of from) (user_by passing.entry to)) target offset) steps.old.items steps.new.items) }
 {
     let Some(next) = node_at(at, offset) else {
@@ -77,7 +77,7 @@ pub(crate) fn hold_after(
     requires there { HasNode at.now node }
     requires site { IsNumbered tables.old.sites site.0 }
     ensures { (n : Node) (s : Site) → slice_get at.now.method.now.nodes node ≡ Some n → slice_get tables.old.sites site.0 ≡ Some s
-        → OnOk result (AddsTo at.now.method.now tables.old tables.new (MakesItem at.now.method.now n target s) steps.old.items steps.new.items) }
+        → OnOk result (Makes tables.old tables.new (MakesItem at.now.method.now n target s) steps.old.items steps.new.items) }
 {
     let successors = &at.method.nodes.as_slice()[node].successors;
     for offset in successors.as_slice() {
@@ -98,7 +98,7 @@ fn hold_at(
     requires known { IsNamed at.now }
     requires site { IsNumbered tables.old.sites site.0 }
     ensures { (s : Site) → slice_get tables.old.sites site.0 ≡ Some s
-        → OnOk result (AddsTo at.now.method.now tables.old tables.new (MadeAt at.now.method.now (names_at at.now) (λ to. known (may_hold to s)) target offset) steps.old.items steps.new.items) }
+        → OnOk result (Makes tables.old tables.new (MadeAt at.now.method.now (names_at at.now) (λ to. known (may_hold to s)) target offset) steps.old.items steps.new.items) }
 {
     let Some(next) = node_at(at, offset) else {
         return Ok(());
@@ -121,7 +121,7 @@ pub(crate) fn read_slot(
     requires known { IsNamed at.now }
     requires there { HasNode at.now node }
     ensures { (n : Node) → slice_get at.now.method.now.nodes node ≡ Some n
-        → OnOk result (AddsTo at.now.method.now tables.old tables.new (ReadsItem at.now.method.now n slot target (user_by passing.entry)) steps.old.items steps.new.items) }
+        → OnOk result (Makes tables.old tables.new (ReadsItem at.now.method.now n slot target (user_by passing.entry)) steps.old.items steps.new.items) }
 {
     let from = slot_place(at, node, slot);
     pass_after(at, node, from, passing, target, tables, steps)?;
@@ -141,7 +141,7 @@ pub(crate) fn write_slot(
     requires known { IsNamed at.now }
     requires there { HasNode at.now node }
     ensures { (n : Node) → slice_get at.now.method.now.nodes node ≡ Some n
-        → OnOk result (AddsTo at.now.method.now tables.old tables.new (WritesItem at.now.method.now n slot value (user_by passing.entry)) steps.old.items steps.new.items) }
+        → OnOk result (Makes tables.old tables.new (WritesItem at.now.method.now n slot value (user_by passing.entry)) steps.old.items steps.new.items) }
 {
     let into = slot_place(at, node, slot);
     let from = slot_place(at, node, value);
@@ -161,7 +161,7 @@ pub(crate) fn leave_slot(
     requires known { IsNamed at.now }
     requires there { HasNode at.now node }
     ensures { (n : Node) → slice_get at.now.method.now.nodes node ≡ Some n
-        → OnOk result (AddsTo at.now.method.now tables.old tables.new
+        → OnOk result (Makes tables.old tables.new
         (λ x. (from : Holder) × IsSlot at.now.method.now n slot from × (x ≡ used from (pass_to (holder_of to)))) steps.old.items steps.new.items) }
 {
     let from = slot_place(at, node, slot);

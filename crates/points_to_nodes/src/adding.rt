@@ -2,9 +2,8 @@
 
 ghost use Rattle.std.specs.Prelude.{◌≡◌, length, Some, slice_get, IfOk, OnOk};
 ghost use Rattle.jvm_model.specs.declared.site.Site.{Site};
-ghost use Rattle.op_model.specs.declared.lowered.LoweredMethod.{LoweredMethod};
 ghost use Rattle.points_to_items.specs.Items.{known, used};
-ghost use Rattle.points_to_nodes.specs.AddedTo.{AddsTo};
+ghost use Rattle.points_to_tables.specs.Steps.{Makes};
 ghost use Rattle.points_to_nodes.specs.Fixed.{holder_of, user_by};
 ghost use Rattle.points_to_rules.specs.Facts.{Holder, may_hold};
 ghost use Rattle.points_to_tables.specs.Numbered.{Grows, IsHolderAt, IsNumbered, IsUserAt, Numbered};
@@ -16,7 +15,7 @@ use slot_names::Variable;
 
 /// A place that stands for one thing whatever is numbered: it is not one of the objects of a site.
 #[derive(Clone, Copy)]
-pub(crate) enum FixedPlace {
+pub enum FixedPlace {
     Variable(Variable),
     Static(FieldNo),
     Kept,
@@ -26,7 +25,7 @@ pub(crate) enum FixedPlace {
 
 /// What is done with the objects of a place for another one.
 #[derive(Clone, Copy)]
-pub(crate) enum Passing<'a> {
+pub enum Passing<'a> {
     /// The other place holds them too.
     To,
     /// The other place holds them too, where they fit the class.
@@ -42,7 +41,7 @@ pub(crate) enum Passing<'a> {
 }
 
 /// The key of a place.
-pub(crate) fn key_of(place: FixedPlace) -> Place
+pub fn key_of(place: FixedPlace) -> Place
     ensures { (n : Numbered) → IsHolderAt n result (holder_of place) }
 {
     match place {
@@ -72,14 +71,14 @@ fn user_of(tables: &mut Tables, passing: Passing<'_>, to: PlaceNo) -> Result<Use
 }
 
 /// Adds what is done with the objects of a place for another one.
-pub(crate) fn pass(
+pub fn pass(
     tables: &mut Tables,
     steps: &mut Vec<Item>,
     from: FixedPlace,
     passing: Passing<'_>,
     to: FixedPlace,
 ) -> Result<(), IndexFailure>
-    ensures { (l : LoweredMethod) → OnOk result (AddsTo l tables.old tables.new (λ x. x ≡ used (holder_of from) (user_by passing.entry (holder_of to))) steps.old.items steps.new.items) }
+    ensures { OnOk result (Makes tables.old tables.new (λ x. x ≡ used (holder_of from) (user_by passing.entry (holder_of to))) steps.old.items steps.new.items) }
 {
     let to = tables.place(key_of(to))?;
     let user = user_of(tables, passing, to)?;
@@ -88,15 +87,15 @@ pub(crate) fn pass(
 }
 
 /// Adds that a place may refer to the objects of a site.
-pub(crate) fn hold(
+pub fn hold(
     tables: &mut Tables,
     steps: &mut Vec<Item>,
     place: FixedPlace,
     site: SiteNo,
 ) -> Result<(), IndexFailure>
     requires { IsNumbered tables.old.sites site.0 }
-    ensures { (l : LoweredMethod) (s : Site) → slice_get tables.old.sites site.0 ≡ Some s
-        → OnOk result (AddsTo l tables.old tables.new (λ x. x ≡ known (may_hold (holder_of place) s)) steps.old.items steps.new.items) }
+    ensures { (s : Site) → slice_get tables.old.sites site.0 ≡ Some s
+        → OnOk result (Makes tables.old tables.new (λ x. x ≡ known (may_hold (holder_of place) s)) steps.old.items steps.new.items) }
 {
     add_holding(tables, steps, key_of(place), site)?;
     Ok(())

@@ -3,7 +3,7 @@
 ghost use Rattle.std.specs.Prelude.{◌≡◌, ℕ, ◌+◌, ◌<◌, Some, slice_get, OnOk};
 ghost use Rattle.op_model.specs.declared.node.Node.{Node};
 ghost use Rattle.points_to_items.specs.NodeItems.{EnterItem};
-ghost use Rattle.points_to_nodes.specs.AddedTo.{AddsTo};
+ghost use Rattle.points_to_tables.specs.Steps.{Makes};
 ghost use Rattle.points_to_nodes.specs.Known.{HasNode, IsNamed, names_at};
 ghost use Rattle.points_to_nodes.specs.Slots.{EntersSlot};
 
@@ -23,7 +23,7 @@ pub fn enter_items(
     requires known { IsNamed at.now }
     requires there { HasNode at.now node }
     ensures { (n : Node) → slice_get at.now.method.now.nodes node ≡ Some n
-        → OnOk result (AddsTo at.now.method.now tables.old tables.new (EnterItem at.now.method.now.method at.now.method.now n) steps.old.items steps.new.items) }
+        → OnOk result (Makes tables.old tables.new (EnterItem at.now.method.now.method at.now.method.now n) steps.old.items steps.new.items) }
 {
     if node != 0 {
         return Ok(());
@@ -43,7 +43,7 @@ fn enter_slots(
 ) -> Result<(), IndexFailure>
     requires known { IsNamed at.now }
     requires there { HasNode at.now 0 }
-    ensures { OnOk result (AddsTo at.now.method.now tables.old tables.new (λ x. (z : ℕ) × (z < at.now.method.now.slots + at.now.method.now.stack)
+    ensures { OnOk result (Makes tables.old tables.new (λ x. (z : ℕ) × (z < at.now.method.now.slots + at.now.method.now.stack)
         × EntersSlot (names_at at.now) at.now.method.now.method z x) steps.old.items steps.new.items) }
 {
     for slot in 0..slot_count(at.method)? {

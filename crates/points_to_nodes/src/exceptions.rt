@@ -8,7 +8,7 @@ ghost use Rattle.node_machine.specs.NodeSteps.{Takes};
 ghost use Rattle.op_model.specs.declared.node.Node.{Node};
 ghost use Rattle.op_model.specs.declared.op.Op.TheVariants as operations;
 ghost use Rattle.points_to_items.specs.NodeItems.{OpItem, RaiseItem};
-ghost use Rattle.points_to_nodes.specs.AddedTo.{AddsTo};
+ghost use Rattle.points_to_tables.specs.Steps.{Makes};
 ghost use Rattle.points_to_nodes.specs.Fixed.{holder_of};
 ghost use Rattle.points_to_nodes.specs.Known.{HasNode, IsNamed};
 ghost use Rattle.points_to_nodes.specs.Raises.{RaisesOf};
@@ -38,7 +38,7 @@ pub(crate) fn throw_slot(
     requires known { IsNamed at.now }
     requires there { HasNode at.now node }
     ensures { (n : Node) → slice_get at.now.method.now.nodes node ≡ Some n
-        → OnOk result (AddsTo at.now.method.now tables.old tables.new (OpItem (operations.Throw value) at.now.program.now at.now.method.now.method at.now.method.now n) steps.old.items steps.new.items) }
+        → OnOk result (Makes tables.old tables.new (OpItem (operations.Throw value) at.now.program.now at.now.method.now.method at.now.method.now n) steps.old.items steps.new.items) }
 {
     let landing = landing_of(alloc, at, node, tables)?;
     let from = slot_place(at, node, value);
@@ -56,7 +56,7 @@ pub fn raise_items(
     requires known { IsNamed at.now }
     requires there { HasNode at.now node }
     ensures { (n : Node) → slice_get at.now.method.now.nodes node ≡ Some n
-        → OnOk result (AddsTo at.now.method.now tables.old tables.new (RaiseItem at.now.program.now at.now.method.now.method at.now.method.now n) steps.old.items steps.new.items) }
+        → OnOk result (Makes tables.old tables.new (RaiseItem at.now.program.now at.now.method.now.method at.now.method.now n) steps.old.items steps.new.items) }
 {
     let throws = &at.method.nodes.as_slice()[node].throws;
     for class in throws.as_slice() {
@@ -77,7 +77,7 @@ fn raise_class(
     requires there { HasNode at.now node }
     requires class { IsClassNumber at.now.program.now class.0 }
     ensures { (n : Node) → slice_get at.now.method.now.nodes node ≡ Some n
-        → OnOk result (AddsTo at.now.method.now tables.old tables.new (RaisesOf at.now.program.now at.now.method.now n class) steps.old.items steps.new.items) }
+        → OnOk result (Makes tables.old tables.new (RaisesOf at.now.program.now at.now.method.now n class) steps.old.items steps.new.items) }
 {
     let name = at.program.class_name(class);
     let site = raised_site(at, node, name, tables)?;

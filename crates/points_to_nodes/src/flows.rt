@@ -3,7 +3,7 @@
 ghost use Rattle.std.specs.Prelude.{◌≡◌, ℕ, ◌+◌, ◌<◌, Some, slice_get, OnOk};
 ghost use Rattle.op_model.specs.declared.node.Node.{Node};
 ghost use Rattle.points_to_items.specs.NodeItems.{FlowItem};
-ghost use Rattle.points_to_nodes.specs.AddedTo.{AddsTo};
+ghost use Rattle.points_to_tables.specs.Steps.{Makes};
 ghost use Rattle.points_to_nodes.specs.Known.{HasNode, IsNamed, names_at};
 ghost use Rattle.points_to_nodes.specs.Slots.{FlowsTo, PassesBy, effect_of};
 ghost use Rattle.slot_names.specs.Variables.{effect_on};
@@ -25,7 +25,7 @@ pub fn flow_items(
     requires known { IsNamed at.now }
     requires there { HasNode at.now node }
     ensures { (n : Node) → slice_get at.now.method.now.nodes node ≡ Some n
-        → OnOk result (AddsTo at.now.method.now tables.old tables.new (FlowItem at.now.method.now n) steps.old.items steps.new.items) }
+        → OnOk result (Makes tables.old tables.new (FlowItem at.now.method.now n) steps.old.items steps.new.items) }
 {
     let from = &at.method.nodes.as_slice()[node];
     for offset in from.successors.as_slice() {
@@ -45,7 +45,7 @@ fn flow_to(
 ) -> Result<(), IndexFailure>
     requires known { IsNamed at.now }
     requires there { HasNode at.now node }
-    ensures { OnOk result (AddsTo at.now.method.now tables.old tables.new (FlowsTo at.now.method.now (names_at at.now) op.now node offset) steps.old.items steps.new.items) }
+    ensures { OnOk result (Makes tables.old tables.new (FlowsTo at.now.method.now (names_at at.now) op.now node offset) steps.old.items steps.new.items) }
 {
     let Some(next) = node_at(at, offset) else {
         return Ok(());
@@ -69,7 +69,7 @@ fn flow_slots(
     requires known { IsNamed at.now }
     requires there { HasNode at.now node }
     requires next { HasNode at.now next }
-    ensures { OnOk result (AddsTo at.now.method.now tables.old tables.new
+    ensures { OnOk result (Makes tables.old tables.new
         (λ x. (z : ℕ) × (z < at.now.method.now.slots + at.now.method.now.stack) × PassesBy (names_at at.now) node next z (effect_on z op.now) x) steps.old.items steps.new.items) }
 {
     for slot in 0..slot_count(at.method)? {
@@ -91,7 +91,7 @@ fn flow_slot(
     requires known { IsNamed at.now }
     requires there { HasNode at.now node }
     requires next { HasNode at.now next }
-    ensures { OnOk result (AddsTo at.now.method.now tables.old tables.new (PassesBy (names_at at.now) node next slot (effect_of effect)) steps.old.items steps.new.items) }
+    ensures { OnOk result (Makes tables.old tables.new (PassesBy (names_at at.now) node next slot (effect_of effect)) steps.old.items steps.new.items) }
 {
     let to = SlotAt { node: next, slot };
     match effect {

@@ -3,7 +3,7 @@
 ghost use Rattle.std.specs.Prelude.{◌≡◌, Some, slice_get, OnOk};
 ghost use Rattle.op_model.specs.declared.node.Node.{Node};
 ghost use Rattle.points_to_items.specs.NodeItems.{HandleItem};
-ghost use Rattle.points_to_nodes.specs.AddedTo.{AddsTo};
+ghost use Rattle.points_to_tables.specs.Steps.{Makes};
 ghost use Rattle.points_to_nodes.specs.Known.{HasNode, IsNamed, names_at};
 ghost use Rattle.points_to_nodes.specs.Slots.{HandsTo};
 
@@ -22,7 +22,7 @@ pub fn handle_items(
     requires known { IsNamed at.now }
     requires there { HasNode at.now node }
     ensures { (n : Node) → slice_get at.now.method.now.nodes node ≡ Some n
-        → OnOk result (AddsTo at.now.method.now tables.old tables.new (HandleItem at.now.method.now n) steps.old.items steps.new.items) }
+        → OnOk result (Makes tables.old tables.new (HandleItem at.now.method.now n) steps.old.items steps.new.items) }
 {
     let handlers = &at.method.nodes.as_slice()[node].handlers;
     for handler in handlers.as_slice() {
@@ -41,7 +41,7 @@ fn handle_at(
 ) -> Result<(), IndexFailure>
     requires known { IsNamed at.now }
     requires there { HasNode at.now node }
-    ensures { OnOk result (AddsTo at.now.method.now tables.old tables.new (HandsTo at.now.method.now (names_at at.now) node offset) steps.old.items steps.new.items) }
+    ensures { OnOk result (Makes tables.old tables.new (HandsTo at.now.method.now (names_at at.now) node offset) steps.old.items steps.new.items) }
 {
     let Some(next) = node_at(at, offset) else {
         return Ok(());

@@ -20,7 +20,7 @@ use points_to_tables::{Arm, Landing, LandingNo, PlaceNo, Tables};
 use std::alloc::Global;
 
 /// The number of where the exceptions of a node go.
-pub(crate) fn landing_of(
+pub fn landing_of(
     alloc: Global,
     at: &NamedMethod<'_>,
     node: usize,

@@ -1,5 +1,5 @@
 //! The items of the points-to solver to which the nodes of a method lead: what flows from slot to slot, what each operation makes, reads, writes
-//! and throws, and the exceptions that a node may throw itself. Calls, loads of static fields and initialisers are not yet among them.
+//! and throws, and the exceptions that a node may throw itself. Calls, loads of static fields and initialisers stand in the crate above.
 #![tactic(auto)]
 
 mod accesses;
@@ -15,9 +15,12 @@ mod named;
 mod operations;
 mod slots;
 
+pub use accesses::pass_after;
+pub use adding::{FixedPlace, Passing, hold, key_of, pass};
 pub use enters::enter_items;
 pub use exceptions::raise_items;
 pub use flows::flow_items;
 pub use handlers::handle_items;
-pub use named::NamedMethod;
+pub use landings::landing_of;
+pub use named::{NamedMethod, node_at, slot_place};
 pub use operations::op_items;

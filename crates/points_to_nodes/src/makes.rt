@@ -1,11 +1,10 @@
 //! What operations make: objects of a site, and arrays that hold one another.
 
 ghost use Rattle.std.specs.Prelude.{◌≡◌, ℕ, ◌+◌, ◌<◌, length, Some, slice_get, IfOk, OnOk};
-ghost use Rattle.op_model.specs.declared.lowered.LoweredMethod.{LoweredMethod};
 ghost use Rattle.op_model.specs.declared.node.Node.{Node};
 ghost use Rattle.points_to_items.specs.Items.{known};
 ghost use Rattle.points_to_items.specs.NodeItems.{MakesItem, NewArrayItem};
-ghost use Rattle.points_to_nodes.specs.AddedTo.{AddsTo};
+ghost use Rattle.points_to_tables.specs.Steps.{Makes};
 ghost use Rattle.points_to_nodes.specs.Arrays.{NestsAt};
 ghost use Rattle.points_to_nodes.specs.Known.{HasNode, IsNamed};
 ghost use Rattle.points_to_rules.specs.Facts.{elements_of, may_hold};
@@ -45,7 +44,7 @@ pub(crate) fn make_site(
     requires known { IsNamed at.now }
     requires there { HasNode at.now node }
     ensures { (n : Node) → slice_get at.now.method.now.nodes node ≡ Some n
-        → OnOk result (AddsTo at.now.method.now tables.old tables.new (MakesItem at.now.method.now n target site.now) steps.old.items steps.new.items) }
+        → OnOk result (Makes tables.old tables.new (MakesItem at.now.method.now n target site.now) steps.old.items steps.new.items) }
 {
     let number = number_site(tables, site)?;
     hold_after(at, node, target, number, tables, steps)?;
@@ -59,7 +58,7 @@ fn nest_site(
     tables: &mut Tables,
     steps: &mut Vec<Item>,
 ) -> Result<(), IndexFailure>
-    ensures { (l : LoweredMethod) → OnOk result (AddsTo l tables.old tables.new (λ x. x ≡ known (may_hold (elements_of outer.now) inner.now)) steps.old.items steps.new.items) }
+    ensures { OnOk result (Makes tables.old tables.new (λ x. x ≡ known (may_hold (elements_of outer.now) inner.now)) steps.old.items steps.new.items) }
 {
     let array = number_site(tables, outer)?;
     let element = number_site(tables, inner)?;
@@ -75,7 +74,7 @@ fn nest_at(
     steps: &mut Vec<Item>,
 ) -> Result<(), IndexFailure>
     requires { place < length sites.now }
-    ensures { (l : LoweredMethod) → OnOk result (AddsTo l tables.old tables.new (NestsAt sites.now place) steps.old.items steps.new.items) }
+    ensures { OnOk result (Makes tables.old tables.new (NestsAt sites.now place) steps.old.items steps.new.items) }
 {
     if place + 1 == sites.len() {
         return Ok(());
@@ -90,7 +89,7 @@ fn nest_sites(
     tables: &mut Tables,
     steps: &mut Vec<Item>,
 ) -> Result<(), IndexFailure>
-    ensures { (l : LoweredMethod) → OnOk result (AddsTo l tables.old tables.new (λ x. (i : ℕ) × (i < length sites.now) × NestsAt sites.now i x) steps.old.items steps.new.items) }
+    ensures { OnOk result (Makes tables.old tables.new (λ x. (i : ℕ) × (i < length sites.now) × NestsAt sites.now i x) steps.old.items steps.new.items) }
 {
     for place in 0..sites.len() {
         nest_at(sites, place, tables, steps)?;
@@ -111,7 +110,7 @@ pub(crate) fn make_arrays(
     requires known { IsNamed at.now }
     requires there { HasNode at.now node }
     ensures { (n : Node) → slice_get at.now.method.now.nodes node ≡ Some n
-        → OnOk result (AddsTo at.now.method.now tables.old tables.new (NewArrayItem at.now.method.now n sites.now target) steps.old.items steps.new.items) }
+        → OnOk result (Makes tables.old tables.new (NewArrayItem at.now.method.now n sites.now target) steps.old.items steps.new.items) }
 {
     if sites.is_empty() {
         return Ok(());

@@ -32,7 +32,7 @@ fn place_number(method: &LoweredMethod, node: usize) -> u32
 }
 
 /// The place of what a slot holds at a node.
-pub(crate) fn slot_place(at: &NamedMethod<'_>, node: usize, slot: u32) -> FixedPlace
+pub fn slot_place(at: &NamedMethod<'_>, node: usize, slot: u32) -> FixedPlace
     requires known { IsNamed at.now }
     requires there { HasNode at.now node }
     ensures { holder_of result ≡ slot_holder (names_at at.now) node slot }
@@ -62,7 +62,7 @@ pub(crate) fn is_merge(at: &NamedMethod<'_>, node: usize) -> bool
 }
 
 /// The place of the node at an offset, if there is one.
-pub(crate) fn node_at(at: &NamedMethod<'_>, offset: u32) -> Option<usize>
+pub fn node_at(at: &NamedMethod<'_>, offset: u32) -> Option<usize>
     requires { IsNamed at.now }
     ensures place { IsPlaceOf at.now.method.now offset result }
     ensures within { IfSome result (λ node. HasNode at.now node) }

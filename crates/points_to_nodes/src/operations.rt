@@ -4,7 +4,7 @@ ghost use Rattle.std.specs.Prelude.{◌≡◌, Some, slice_get, OnOk};
 ghost use Rattle.op_model.specs.declared.node.Node.{Node};
 ghost use Rattle.op_model.specs.declared.op.Op.TheVariants as operations;
 ghost use Rattle.points_to_items.specs.NodeItems.{OpItem};
-ghost use Rattle.points_to_nodes.specs.AddedTo.{AddsTo};
+ghost use Rattle.points_to_tables.specs.Steps.{Makes};
 ghost use Rattle.points_to_nodes.specs.Known.{HasNode, IsNamed};
 ghost use Rattle.points_to_nodes.specs.Operations.{IsSimple};
 
@@ -31,7 +31,7 @@ pub fn op_items(
     requires there { HasNode at.now node }
     requires simple { IsSimple op.now }
     ensures { (n : Node) → slice_get at.now.method.now.nodes node ≡ Some n
-        → OnOk result (AddsTo at.now.method.now tables.old tables.new (OpItem op.now at.now.program.now at.now.method.now.method at.now.method.now n) steps.old.items steps.new.items) }
+        → OnOk result (Makes tables.old tables.new (OpItem op.now at.now.program.now at.now.method.now.method at.now.method.now n) steps.old.items steps.new.items) }
 {
     match op {
         Op::Load {
@@ -128,7 +128,7 @@ fn return_slot(
     requires known { IsNamed at.now }
     requires there { HasNode at.now node }
     ensures { (n : Node) → slice_get at.now.method.now.nodes node ≡ Some n
-        → OnOk result (AddsTo at.now.method.now tables.old tables.new (OpItem (operations.Return value) at.now.program.now at.now.method.now.method at.now.method.now n) steps.old.items steps.new.items) }
+        → OnOk result (Makes tables.old tables.new (OpItem (operations.Return value) at.now.program.now at.now.method.now.method at.now.method.now n) steps.old.items steps.new.items) }
 {
     let Some(slot) = value else {
         return Ok(());

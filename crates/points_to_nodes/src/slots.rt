@@ -1,7 +1,7 @@
 //! What one slot holds that another one holds at another node.
 
 ghost use Rattle.std.specs.Prelude.{OnOk};
-ghost use Rattle.points_to_nodes.specs.AddedTo.{AddsTo};
+ghost use Rattle.points_to_tables.specs.Steps.{Makes};
 ghost use Rattle.points_to_nodes.specs.Known.{HasNode, IsNamed, names_at};
 ghost use Rattle.points_to_nodes.specs.Slots.{PassesSlot};
 
@@ -28,7 +28,7 @@ pub(crate) fn pass_slot(
     requires known { IsNamed at.now }
     requires from { HasNode at.now from.node }
     requires to { HasNode at.now to.node }
-    ensures { OnOk result (AddsTo at.now.method.now tables.old tables.new (PassesSlot (names_at at.now) from.node from.slot to.node to.slot) steps.old.items steps.new.items) }
+    ensures { OnOk result (Makes tables.old tables.new (PassesSlot (names_at at.now) from.node from.slot to.node to.slot) steps.old.items steps.new.items) }
 {
     let source = slot_place(at, from.node, from.slot);
     let target = slot_place(at, to.node, to.slot);

@@ -38,7 +38,7 @@ one_by_kind n apart (places.Returned m) (places.Returned o) h e first second = c
 one_by_kind n apart (places.Thrown m) (places.Thrown o) h e first second = cc
 one_by_kind _ _ _ _ _ e _ _ = absurd (cc e)
 
-one_place : (n : Numbered) → IsWithoutDoubles n.sites → (p q : Place) (h : Holder) → IsHolderAt n p h → IsHolderAt n q h → p ≡ q
+pub one_place : (n : Numbered) → IsWithoutDoubles n.sites → (p q : Place) (h : Holder) → IsHolderAt n p h → IsHolderAt n q h → p ≡ q
 one_place n apart p q h first second = one_by_kind n apart p q h (holder_stands n p h first ∙ sym (holder_stands n q h second)) first second
 
 are_apart : (k : Kept) → IsSound k → IsWithoutDoubles k.classes → AreApart (numbered k)

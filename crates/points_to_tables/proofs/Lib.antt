@@ -9,3 +9,5 @@ pub mod Reading
 pub mod Apart
 pub mod Adding
 pub mod AddedItems
+pub mod Making
+pub mod KnownPlaces

@@ -1,6 +1,6 @@
 -- Public contracts rest on this module.
 -- The items that the solver keeps, by numbers, and what is added to a list of them.
-use Rattle.std.specs.Prelude.{◌≡◌, ◌++◌, List, Some, slice_get, All, Contains}
+use Rattle.std.specs.Prelude.{◌≡◌, ◌++◌, List, length, Some, slice_get, All, Contains}
 use Rattle.jvm_model.specs.declared.site.Site.{Site}
 use Rattle.points_to_rules.specs.Facts.{Holder, may_hold, may_run, may_call}
 use Rattle.points_to_items.specs.Items.{CallSite, User as ItemUser, Item as RuleItem, known, used}
@@ -8,7 +8,7 @@ use Rattle.points_to_tables.specs.declared.item.Item.{Item}
 use Rattle.points_to_tables.specs.declared.item.Item.TheVariants.{Holds, Runs, Calls, Uses}
 use Rattle.points_to_tables.specs.declared.keys.Place.{Place}
 use Rattle.points_to_tables.specs.declared.keys.User.{User}
-use Rattle.points_to_tables.specs.Numbered.{Numbered, IsHolderAt, IsUserAt}
+use Rattle.points_to_tables.specs.Numbered.{Numbered, Grows, IsHolderAt, IsUserAt}
 
 -- What an item stands for.
 abbrev pub IsItemAt : Numbered → Item → RuleItem → Type 0
@@ -23,6 +23,12 @@ pub record Adds (n : Numbered) (P : RuleItem → Type 0) (old new : List Item) :
   pub is : new ≡ old ++ more
   pub sound : All (λ (i : Item). (x : RuleItem) × IsItemAt n i x × P x) more
   pub complete : (x : RuleItem) → P x → (i : Item) × Contains more i × IsItemAt n i x
+
+-- What was numbered stays, no call is numbered, and items are added.
+pub record Makes (n m : Numbered) (P : RuleItem → Type 0) (old new : List Item) : Type 0 where
+  pub grows : Grows n m
+  pub calls : length m.calls ≡ length n.calls
+  pub adds : Adds m P old new
 
 -- It is the user of what the place stands for.
 abbrev pub IsUseOf : Numbered → Place → User → RuleItem → Type 0

@@ -1,6 +1,7 @@
-//! Items are added to a list of steps.
+//! Items are added to a list of steps; and the sites of what is there from the start.
 
-ghost use Rattle.std.specs.Prelude.{◌≡◌, length, Some, slice_get, OnOk};
+ghost use Rattle.std.specs.Prelude.{◌≡◌, length, Some, slice_get, IfOk, OnOk};
+ghost use Rattle.bytecode_machine.specs.Start.{boot_site};
 ghost use Rattle.jvm_model.specs.declared.site.Site.{Site};
 ghost use Rattle.points_to_rules.specs.Facts.{Holder};
 ghost use Rattle.points_to_items.specs.Items.{User as ItemUser};
@@ -8,10 +9,10 @@ ghost use Rattle.points_to_tables.specs.Numbered.{Grows, IsNumbered, IsHolderAt,
 ghost use Rattle.points_to_tables.specs.Steps.{Adds, IsUseOf, IsHoldingOf};
 
 use crate::item::Item;
-use crate::keys::{Place, User};
+use crate::keys::{Place, SiteKey, User};
 use crate::tables::Tables;
 use class_index::index_failure::IndexFailure;
-use jvm_model::SiteNo;
+use jvm_model::{SiteKind, SiteNo};
 
 /// Adds that each object of a place goes to a user.
 pub fn add_use(
@@ -48,4 +49,20 @@ pub fn add_holding(
     let place = tables.place(place)?;
     steps.push(Item::Holds(place, site))?;
     Ok(())
+}
+
+/// The number of the site of what is there from the start, of a class.
+pub fn boot_site(tables: &mut Tables, class: &[u8]) -> Result<SiteNo, IndexFailure>
+    ensures grows { OnOk result (Grows tables.old tables.new) }
+    ensures calls { OnOk result (length tables.new.calls ≡ length tables.old.calls) }
+    ensures stands { IfOk result (λ number. slice_get tables.new.sites number.0 ≡ Some (boot_site class.now)) }
+{
+    let class = tables.class_name(class)?;
+    let site = tables.site(SiteKey {
+        kind: SiteKind::Boot,
+        method: None,
+        offset: 0,
+        class,
+    })?;
+    Ok(site)
 }

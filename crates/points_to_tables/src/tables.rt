@@ -1,6 +1,6 @@
 //! The tables of what is numbered.
 
-ghost use Rattle.std.specs.Prelude.{◌≡◌, ◌+◌, true, length, Some, slice_get, IfOk, OnOk, OnErr};
+ghost use Rattle.std.specs.Prelude.{◌≡◌, ◌+◌, true, length, Some, slice_get, Contains, IfNone, IfOk, IfSome, OnOk, OnErr};
 ghost use Rattle.indexmap.specs.IndexSet.{insert_key};
 ghost use Rattle.jvm_model.specs.declared.site.Site.{Site};
 ghost use Rattle.points_to_rules.specs.Facts.{Holder};
@@ -172,6 +172,29 @@ impl Tables {
         ensures { (c : ItemCallSite) → slice_get self.now.calls call.0 ≡ Some c → IsCallAt self.now result.now c }
     {
         &self.calls[call.0 as usize]
+    }
+
+    /// The number of a place, if it has one.
+    pub fn known_place(&self, place: Place) -> Option<usize>
+        ensures found { IfSome result (λ number. (h : Holder) → IsHolderAt self.now place h → slice_get self.now.holders number ≡ Some h) }
+        ensures none { IfNone result ((h : Holder) → IsHolderAt self.now place h → Contains self.now.holders h → ⊥) }
+    {
+        self.apart();
+        self.places.get_index_of(&place)
+    }
+
+    /// How many sites are numbered.
+    pub fn site_count(&self) -> usize
+        ensures { result ≡ length self.now.sites }
+    {
+        self.sites.len()
+    }
+
+    /// How many places are numbered.
+    pub fn place_count(&self) -> usize
+        ensures { result ≡ length self.now.holders }
+    {
+        self.places.len()
     }
 
     /// Names, sites and places are numbered once. It does nothing.

@@ -4,7 +4,8 @@ use Rattle.jvm_model.specs.declared.site.Site.{Site}
 use Rattle.points_to_items.specs.Items.{CallSite}
 use Rattle.points_to_tables.proofs.Adding.{OfOne}
 use Rattle.points_to_calls.specs.Describing.{IsReceiverAt}
-use Rattle.points_to_calls.specs.Parts.{Makes, ResultGot}
+use Rattle.points_to_calls.specs.Parts.{ResultGot}
+use Rattle.points_to_tables.specs.Steps.{Makes}
 use Rattle.points_to_calls.proofs.described.give_all.Given as goal
 
 abbrev pub invariant-loop-outcome : goal.invariant-loop-outcome

@@ -4,7 +4,7 @@ use Rattle.points_to_rules.specs.Facts.{kept_objects}
 use Rattle.points_to_items.specs.Items.{Item as RuleItem}
 use Rattle.points_to_calls.specs.Parts.{RuleGift, ArgumentGives, ArgumentKept, Gets}
 use Rattle.points_to_calls.proofs.Gifts.{gift_on}
-use Rattle.points_to_calls.proofs.Making.{makes_grown}
+use Rattle.points_to_tables.proofs.Making.{makes_grown}
 use Rattle.points_to_calls.proofs.Stubs.{only_gift}
 use Rattle.points_to_calls.proofs.described.keep_argument.Goals as goal
 

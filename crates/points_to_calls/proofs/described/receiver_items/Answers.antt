@@ -4,7 +4,7 @@ use Rattle.points_to_items.specs.Items.{Item as RuleItem}
 use Rattle.points_to_calls.specs.Describing.{ReceiverItem}
 use Rattle.points_to_calls.specs.Parts.{KeptItem, GotItem}
 use Rattle.points_to_calls.proofs.Gifts.{resolves_on}
-use Rattle.points_to_calls.proofs.Making.{makes_both, makes_same}
+use Rattle.points_to_tables.proofs.Making.{makes_both, makes_same}
 use Rattle.points_to_calls.proofs.described.receiver_items.Goals as goal
 
 pub keep_arguments-requires-clause-receiver : goal.keep_arguments-requires-clause-receiver

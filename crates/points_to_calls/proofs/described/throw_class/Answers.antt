@@ -6,7 +6,7 @@ use Rattle.points_to_items.specs.Items.{known}
 use Rattle.points_to_tables.specs.declared.item.Item.TheVariants.{Holds}
 use Rattle.points_to_calls.specs.Parts.{ClassThrown}
 use Rattle.points_to_calls.proofs.Landing.{one_landing}
-use Rattle.points_to_calls.proofs.Making.{makes_grown, makes_one}
+use Rattle.points_to_tables.proofs.Making.{makes_grown, makes_one}
 use Rattle.points_to_calls.proofs.described.throw_class.Goals as goal
 use Rattle.std.proofs.Common.{◌∙◌}
 

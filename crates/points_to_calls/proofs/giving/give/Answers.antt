@@ -6,8 +6,9 @@ use Rattle.points_to_tables.specs.declared.item.Item.TheVariants.{Holds}
 use Rattle.points_to_tables.specs.declared.keys.Place.TheVariants as places
 use Rattle.points_to_tables.specs.declared.keys.User.TheVariants as users
 use Rattle.points_to_calls.specs.declared.gift.Gift.{Gift}
-use Rattle.points_to_calls.specs.Parts.{RuleGift, Gets, IsGiftAt, Makes}
-use Rattle.points_to_calls.proofs.Making.{makes_one, makes_used, on_ok_three}
+use Rattle.points_to_calls.specs.Parts.{RuleGift, Gets, IsGiftAt}
+use Rattle.points_to_tables.specs.Steps.{Makes}
+use Rattle.points_to_tables.proofs.Making.{makes_one, makes_used, on_ok_three}
 use Rattle.points_to_calls.proofs.giving.give.Goals as goal
 
 pub add_use-requires-clause-user : goal.add_use-requires-clause-user

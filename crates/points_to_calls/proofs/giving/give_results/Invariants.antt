@@ -2,7 +2,8 @@ use Rattle.std.proofs.Common.{◌≡◌, Some}
 use Rattle.std.specs.List.{slice_get}
 use Rattle.points_to_items.specs.Items.{CallSite as ItemCallSite}
 use Rattle.points_to_tables.proofs.Adding.{OfOneBelow}
-use Rattle.points_to_calls.specs.Parts.{RuleGift, IsGiftAt, GetsAt, Makes}
+use Rattle.points_to_calls.specs.Parts.{RuleGift, IsGiftAt, GetsAt}
+use Rattle.points_to_tables.specs.Steps.{Makes}
 use Rattle.points_to_calls.proofs.giving.give_results.Given as goal
 
 abbrev pub invariant-loop-number : goal.invariant-loop-number

@@ -6,7 +6,7 @@ use Rattle.points_to_tables.specs.declared.keys.User.{User}
 use Rattle.points_to_tables.specs.Numbered.{IsUserAt}
 use Rattle.points_to_tables.specs.Steps.{Adds}
 use Rattle.points_to_calls.specs.Users.{PlainPassed}
-use Rattle.points_to_calls.proofs.Making.{makes_same}
+use Rattle.points_to_tables.proofs.Making.{makes_same}
 use Rattle.points_to_calls.proofs.PlainUsers.{no_selection, plain_passed, plain_lacks}
 use Rattle.points_to_calls.proofs.passing.pass.Goals as goal
 

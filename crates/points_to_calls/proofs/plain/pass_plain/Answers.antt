@@ -12,9 +12,9 @@ use Rattle.points_to_tables.specs.declared.keys.Place.TheVariants as places
 use Rattle.points_to_tables.specs.declared.keys.User.{User}
 use Rattle.points_to_tables.specs.declared.keys.User.TheVariants as users
 use Rattle.points_to_tables.specs.Numbered.{IsUserAt}
-use Rattle.points_to_calls.specs.Parts.{Makes}
+use Rattle.points_to_tables.specs.Steps.{Makes}
 use Rattle.points_to_calls.specs.Users.{PlainPassed}
-use Rattle.points_to_calls.proofs.Making.{makes_none, makes_one, makes_same, makes_grown, makes_used, on_ok_three}
+use Rattle.points_to_tables.proofs.Making.{makes_none, makes_one, makes_same, makes_grown, makes_used, on_ok_three}
 use Rattle.points_to_calls.proofs.plain.pass_plain.Goals as goal
 
 pub add_use-requires-clause-place : goal.add_use-requires-clause-place

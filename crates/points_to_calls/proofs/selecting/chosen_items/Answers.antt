@@ -7,7 +7,7 @@ use Rattle.points_to_tables.specs.declared.item.Item.TheVariants.{Calls}
 use Rattle.points_to_tables.specs.declared.keys.Place.TheVariants as places
 use Rattle.points_to_calls.specs.Selecting.{DescribedItem}
 use Rattle.points_to_calls.proofs.Gifts.{resolves_on}
-use Rattle.points_to_calls.proofs.Making.{makes_one, makes_both, makes_held}
+use Rattle.points_to_tables.proofs.Making.{makes_one, makes_both, makes_held}
 use Rattle.points_to_calls.proofs.selecting.chosen_items.Goals as goal
 
 pub add_holding-requires-clause-place : goal.add_holding-requires-clause-place

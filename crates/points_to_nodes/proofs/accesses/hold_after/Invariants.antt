@@ -4,7 +4,7 @@ use Rattle.jvm_model.specs.declared.site.Site.{Site}
 use Rattle.points_to_items.specs.Items.{known}
 use Rattle.points_to_rules.specs.Facts.{may_hold}
 use Rattle.points_to_tables.proofs.Adding.{OfOne}
-use Rattle.points_to_nodes.specs.AddedTo.{AddsTo}
+use Rattle.points_to_tables.specs.Steps.{Makes}
 use Rattle.points_to_nodes.specs.Known.{names_at}
 use Rattle.points_to_nodes.specs.Slots.{MadeAt}
 use Rattle.points_to_nodes.proofs.accesses.hold_after.Given as goal
@@ -12,4 +12,4 @@ use Rattle.points_to_nodes.proofs.accesses.hold_after.Given as goal
 abbrev pub invariant-loop-offset : goal.invariant-loop-offset
 invariant-loop-offset l =
     (s : Site) → slice_get l.fn.tables.sites l.site.0 ≡ Some s
-    → AddsTo l.at.method.now l.fn.tables l.tables (OfOne (MadeAt l.at.method.now (names_at l.at) (λ to. known (may_hold to s)) l.target) (take l.offset-index l.offset-items)) l.fn.steps.items l.steps.items
+    → Makes l.fn.tables l.tables (OfOne (MadeAt l.at.method.now (names_at l.at) (λ to. known (may_hold to s)) l.target) (take l.offset-index l.offset-items)) l.fn.steps.items l.steps.items

@@ -1,7 +1,7 @@
 use Rattle.std.proofs.Common.{take}
 use Rattle.points_to_items.specs.Items.{used}
 use Rattle.points_to_tables.proofs.Adding.{OfOne}
-use Rattle.points_to_nodes.specs.AddedTo.{AddsTo}
+use Rattle.points_to_tables.specs.Steps.{Makes}
 use Rattle.points_to_nodes.specs.Fixed.{holder_of, user_by}
 use Rattle.points_to_nodes.specs.Known.{names_at}
 use Rattle.points_to_nodes.specs.Slots.{MadeAt}
@@ -9,4 +9,4 @@ use Rattle.points_to_nodes.proofs.accesses.pass_after.Given as goal
 
 abbrev pub invariant-loop-offset : goal.invariant-loop-offset
 invariant-loop-offset l =
-    AddsTo l.at.method.now l.fn.tables l.tables (OfOne (MadeAt l.at.method.now (names_at l.at) (λ to. used (holder_of l.from) (user_by l.passing to)) l.target) (take l.offset-index l.offset-items)) l.fn.steps.items l.steps.items
+    Makes l.fn.tables l.tables (OfOne (MadeAt l.at.method.now (names_at l.at) (λ to. used (holder_of l.from) (user_by l.passing to)) l.target) (take l.offset-index l.offset-items)) l.fn.steps.items l.steps.items

@@ -1,6 +1,6 @@
 use Rattle.points_to_tables.proofs.AddedItems.{adds_used}
 use Rattle.points_to_nodes.specs.Fixed.{holder_of, user_by}
-use Rattle.points_to_nodes.proofs.AddingSteps.{to_added, to_after}
+use Rattle.points_to_tables.proofs.Making.{makes_added, makes_grown}
 use Rattle.points_to_nodes.proofs.adding.pass.Goals as goal
 
 pub place-requires : goal.place-requires
@@ -17,7 +17,7 @@ add_use-requires-clause-user c =
     (user_by c.args.passing (holder_of c.args.to), c.in_ok-user.ensures.stands (holder_of c.args.to) (c.in_ok-to.ensures.stands (holder_of c.args.to) (c.key_of.ensures c.args.tables.now)))
 
 pub returns : goal.returns
-returns c = λ l.
+returns c =
     let to = holder_of c.args.to in
     let user = user_by c.args.passing to in
     let one = c.args.tables.now in
@@ -28,7 +28,7 @@ returns c = λ l.
     let after = c.add_use.new.steps.items in
     let facts = c.in_ok-add_use.ensures in
     let is_user = c.in_ok-user.ensures.stands to (c.in_ok-to.ensures.stands to (c.key_of.ensures one)) in
-    to_after l one two four _ before after c.in_ok-to.ensures.grows c.in_ok-to.ensures.calls
-    (to_after l two three four _ before after c.in_ok-user.ensures.grows c.in_ok-user.ensures.calls
-    (to_added l three four _ before after facts.grows facts.calls
+    makes_grown one two four _ before after c.in_ok-to.ensures.grows c.in_ok-to.ensures.calls
+    (makes_grown two three four _ before after c.in_ok-user.ensures.grows c.in_ok-user.ensures.calls
+    (makes_added three four _ before after facts.grows facts.calls
     (adds_used three four c.key_of-2.result c.in_ok-user.user (holder_of c.args.from) user before after (c.key_of-2.ensures three) is_user facts.adds)))

@@ -3,7 +3,7 @@ use Rattle.points_to_rules.specs.Rules.{site_of}
 use Rattle.points_to_nodes.specs.Fixed.{holder_of}
 use Rattle.points_to_nodes.specs.Known.{names_at}
 use Rattle.points_to_nodes.specs.Raises.{RaisesOf}
-use Rattle.points_to_nodes.proofs.AddingSteps.{to_after, to_same}
+use Rattle.points_to_tables.proofs.Making.{makes_grown, makes_same}
 use Rattle.points_to_nodes.proofs.NamedSlots.{stands_below}
 use Rattle.points_to_nodes.proofs.RaisedObjects.{class_numbered, raised}
 use Rattle.points_to_nodes.proofs.exceptions.raise_class.Goals as goal
@@ -26,6 +26,6 @@ returns c = λ n at.
     let after = c.hold.new.steps.items in
     let to = holder_of c.raised_place.result in
     let site = site_of kinds.Thrown l.method n name in
-    to_same l one three _ (RaisesOf p l n c.args.class) before after
+    makes_same one three _ (RaisesOf p l n c.args.class) before after
     (raised p l (names_at c.args.at.now) c.requires.known n c.args.class name to (class_numbered p c.args.class name c.requires.class c.class_name-name.ensures) (c.raised_place.ensures n at))
-    (to_after l one two three _ before after c.in_ok-site.ensures.grows c.in_ok-site.ensures.calls (c.in_ok-hold.ensures l site (c.in_ok-site.ensures.stands n at)))
+    (makes_grown one two three _ before after c.in_ok-site.ensures.grows c.in_ok-site.ensures.calls (c.in_ok-hold.ensures site (c.in_ok-site.ensures.stands n at)))

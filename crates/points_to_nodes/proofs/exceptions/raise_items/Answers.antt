@@ -3,9 +3,9 @@ use Rattle.jvm_model.specs.declared.number.ClassNo.{ClassNo}
 use Rattle.op_model.specs.declared.node.Node.{Node}
 use Rattle.points_to_items.specs.NodeItems.{RaiseItem}
 use Rattle.points_to_tables.proofs.Adding.{OfOne}
-use Rattle.points_to_nodes.specs.AddedTo.{AddsTo}
+use Rattle.points_to_tables.specs.Steps.{Makes}
 use Rattle.points_to_nodes.specs.Raises.{RaisesOf}
-use Rattle.points_to_nodes.proofs.AddingSteps.{to_start, to_next, to_all, to_same}
+use Rattle.points_to_tables.proofs.Making.{makes_start, makes_next_read, makes_all, makes_same}
 use Rattle.points_to_nodes.proofs.NamedSlots.{read_node, stands_below}
 use Rattle.points_to_nodes.proofs.RaisedObjects.{raises, throws_numbered}
 use Rattle.points_to_nodes.proofs.exceptions.raise_items.Goals as goal
@@ -13,7 +13,7 @@ use Rattle.points_to_nodes.proofs.exceptions.raise_items.Goals as goal
 pub loop-class-init : goal.loop-class-init
 loop-class-init c = λ n at.
     let l = c.args.at.now.method.now in
-    to_start l (RaisesOf c.args.at.now.program.now l n) c.args.tables.now c.as_slice-class-items.result.now c.args.steps.now.items
+    makes_start (RaisesOf c.args.at.now.program.now l n) c.args.tables.now c.as_slice-class-items.result.now c.args.steps.now.items
 
 pub raise_class-requires-clause-class : goal.raise_class-requires-clause-class
 raise_class-requires-clause-class c =
@@ -27,7 +27,7 @@ raise_class-requires-clause-class c =
 pub loop-class-preserved : goal.loop-class-preserved
 loop-class-preserved c = λ n at.
     let l = c.args.at.now.method.now in
-    to_next l (RaisesOf c.args.at.now.program.now l n) c.args.tables.now c.loop-class.tables c.raise_class.new.tables c.as_slice-class-items.result.now c.loop-class.class-index _
+    makes_next_read (RaisesOf c.args.at.now.program.now l n) c.args.tables.now c.loop-class.tables c.raise_class.new.tables c.as_slice-class-items.result.now c.loop-class.class-index _
     c.args.steps.now.items c.loop-class.steps.items c.raise_class.new.steps.items c.loop-class-test.true (c.loop-class.invariant n at) (c.in_ok-raise_class.ensures n at)
 
 pub returns : goal.returns
@@ -37,7 +37,7 @@ returns c = λ n at.
     let read = c.index-as_slice-node.result in
     let items = c.as_slice-class-items.result.now in
     let same : read ≡ n = read_node l.nodes c.as_slice.result.now c.args.node n read c.as_slice.ensures c.requires.there c.index-as_slice-node.is at in
-    let all = to_all l (RaisesOf p l n) c.args.tables.now c.loop-class.tables items c.loop-class.class-index c.args.steps.now.items c.loop-class.steps.items (omega arith) (c.loop-class.invariant n at) in
-    let of_node = subst (λ (cs : List ClassNo). AddsTo l c.args.tables.now c.loop-class.tables (OfOne (RaisesOf p l n) cs) c.args.steps.now.items c.loop-class.steps.items)
+    let all = makes_all (RaisesOf p l n) c.args.tables.now c.loop-class.tables items c.loop-class.class-index c.args.steps.now.items c.loop-class.steps.items (omega arith) (c.loop-class.invariant n at) in
+    let of_node = subst (λ (cs : List ClassNo). Makes c.args.tables.now c.loop-class.tables (OfOne (RaisesOf p l n) cs) c.args.steps.now.items c.loop-class.steps.items)
     (c.as_slice-class-items.ensures ∙ ap (λ (m : Node). m.throws) (sym c.index-as_slice-node.is ∙ same)) all in
-    to_same l c.args.tables.now c.loop-class.tables _ (RaiseItem p l.method l n) c.args.steps.now.items c.loop-class.steps.items (raises p l n) of_node
+    makes_same c.args.tables.now c.loop-class.tables _ (RaiseItem p l.method l n) c.args.steps.now.items c.loop-class.steps.items (raises p l n) of_node

@@ -2,11 +2,11 @@ use Rattle.std.proofs.Common.{◌≡◌, Some, take}
 use Rattle.std.specs.List.{slice_get}
 use Rattle.op_model.specs.declared.node.Node.{Node}
 use Rattle.points_to_tables.proofs.Adding.{OfOne}
-use Rattle.points_to_nodes.specs.AddedTo.{AddsTo}
+use Rattle.points_to_tables.specs.Steps.{Makes}
 use Rattle.points_to_nodes.specs.Raises.{RaisesOf}
 use Rattle.points_to_nodes.proofs.exceptions.raise_items.Given as goal
 
 abbrev pub invariant-loop-class : goal.invariant-loop-class
 invariant-loop-class l =
     (n : Node) → slice_get l.at.method.now.nodes l.node ≡ Some n
-    → AddsTo l.at.method.now l.fn.tables l.tables (OfOne (RaisesOf l.at.program.now l.at.method.now n) (take l.class-index l.class-items)) l.fn.steps.items l.steps.items
+    → Makes l.fn.tables l.tables (OfOne (RaisesOf l.at.program.now l.at.method.now n) (take l.class-index l.class-items)) l.fn.steps.items l.steps.items

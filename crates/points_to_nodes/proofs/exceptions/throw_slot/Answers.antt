@@ -7,7 +7,7 @@ use Rattle.points_to_tables.specs.Numbered.{IsUserAt}
 use Rattle.points_to_tables.proofs.AddedItems.{adds_used}
 use Rattle.points_to_nodes.specs.Fixed.{holder_of}
 use Rattle.points_to_nodes.specs.Known.{names_at}
-use Rattle.points_to_nodes.proofs.AddingSteps.{to_added, to_after, to_same}
+use Rattle.points_to_tables.proofs.Making.{makes_added, makes_grown, makes_same}
 use Rattle.points_to_nodes.proofs.LandedNodes.{thrown_from}
 use Rattle.points_to_nodes.proofs.NamedSlots.{stands_below}
 use Rattle.points_to_nodes.proofs.exceptions.throw_slot.Goals as goal
@@ -35,8 +35,8 @@ returns c = λ n at.
     let (landing, is_landing, stands) = c.in_ok-landing.ensures.stands n at in
     let user = users.ThrowAt c.in_ok-landing.landing in
     let is_user : IsUserAt two user (throw_at landing) = (landing, stands, refl) in
-    to_same l one three _ (OpItem (Throw c.args.value) p l.method l n) before after
+    makes_same one three _ (OpItem (Throw c.args.value) p l.method l n) before after
     (thrown_from p l (names_at c.args.at.now) c.requires.known c.args.node n at landing is_landing c.args.value from c.slot_place-from.ensures)
-    (to_after l one two three _ before after c.in_ok-landing.ensures.grows c.in_ok-landing.ensures.calls
-    (to_added l two three _ before after facts.grows facts.calls
+    (makes_grown one two three _ before after c.in_ok-landing.ensures.grows c.in_ok-landing.ensures.calls
+    (makes_added two three _ before after facts.grows facts.calls
     (adds_used two three c.key_of.result user from (throw_at landing) before after (c.key_of.ensures two) is_user facts.adds)))

@@ -1,5 +1,5 @@
 use Rattle.points_to_tables.proofs.Adding.{OfOneBelow}
-use Rattle.points_to_nodes.specs.AddedTo.{AddsTo}
+use Rattle.points_to_tables.specs.Steps.{Makes}
 use Rattle.points_to_nodes.specs.Known.{names_at}
 use Rattle.points_to_nodes.specs.Slots.{PassesBy}
 use Rattle.slot_names.specs.Variables.{effect_on}
@@ -7,4 +7,4 @@ use Rattle.points_to_nodes.proofs.flows.flow_slots.Given as goal
 
 abbrev pub invariant-loop-slot : goal.invariant-loop-slot
 invariant-loop-slot l =
-    AddsTo l.at.method.now l.fn.tables l.tables (OfOneBelow (λ z. PassesBy (names_at l.at) l.node l.next z (effect_on z l.op)) l.slot) l.fn.steps.items l.steps.items
+    Makes l.fn.tables l.tables (OfOneBelow (λ z. PassesBy (names_at l.at) l.node l.next z (effect_on z l.op)) l.slot) l.fn.steps.items l.steps.items

@@ -4,10 +4,10 @@ use Rattle.op_model.specs.declared.node.NodeHandler.{NodeHandler}
 use Rattle.points_to_items.specs.Items.{Item}
 use Rattle.points_to_items.specs.NodeItems.{HandleItem}
 use Rattle.points_to_tables.proofs.Adding.{OfOne}
-use Rattle.points_to_nodes.specs.AddedTo.{AddsTo}
+use Rattle.points_to_tables.specs.Steps.{Makes}
 use Rattle.points_to_nodes.specs.Known.{names_at}
 use Rattle.points_to_nodes.specs.Slots.{HandsTo}
-use Rattle.points_to_nodes.proofs.AddingSteps.{to_start, to_next, to_all, to_same}
+use Rattle.points_to_tables.proofs.Making.{makes_start, makes_next_read, makes_all, makes_same}
 use Rattle.points_to_nodes.proofs.NamedSlots.{read_node}
 use Rattle.points_to_nodes.proofs.EnteredSlots.{handled}
 use Rattle.points_to_nodes.proofs.handlers.handle_items.Goals as goal
@@ -15,13 +15,13 @@ use Rattle.points_to_nodes.proofs.handlers.handle_items.Goals as goal
 pub loop-handler-init : goal.loop-handler-init
 loop-handler-init c =
     let l = c.args.at.now.method.now in
-    to_start l (λ (h : NodeHandler). HandsTo l (names_at c.args.at.now) c.args.node h.target) c.args.tables.now c.as_slice-handler-items.result.now c.args.steps.now.items
+    makes_start (λ (h : NodeHandler). HandsTo l (names_at c.args.at.now) c.args.node h.target) c.args.tables.now c.as_slice-handler-items.result.now c.args.steps.now.items
 
 pub loop-handler-preserved : goal.loop-handler-preserved
 loop-handler-preserved c =
     let l = c.args.at.now.method.now in
     let P : NodeHandler → Item → Type 0 = λ h. HandsTo l (names_at c.args.at.now) c.args.node h.target in
-    to_next l P c.args.tables.now c.loop-handler.tables c.handle_at.new.tables c.as_slice-handler-items.result.now c.loop-handler.handler-index _
+    makes_next_read P c.args.tables.now c.loop-handler.tables c.handle_at.new.tables c.as_slice-handler-items.result.now c.loop-handler.handler-index _
     c.args.steps.now.items c.loop-handler.steps.items c.handle_at.new.steps.items c.loop-handler-test.true c.loop-handler.invariant c.in_ok-handle_at.ensures
 
 pub returns : goal.returns
@@ -32,9 +32,9 @@ returns c = λ n at.
     let items = c.as_slice-handler-items.result.now in
     let same : read ≡ n = read_node l.nodes c.as_slice.result.now c.args.node n read c.as_slice.ensures c.requires.there c.index-as_slice-node.is at in
     let P : NodeHandler → Item → Type 0 = λ h. HandsTo l names c.args.node h.target in
-    let all = to_all l P c.args.tables.now c.loop-handler.tables items c.loop-handler.handler-index c.args.steps.now.items c.loop-handler.steps.items
+    let all = makes_all P c.args.tables.now c.loop-handler.tables items c.loop-handler.handler-index c.args.steps.now.items c.loop-handler.steps.items
     (omega arith) c.loop-handler.invariant in
-    let of_node = subst (λ (xs : List NodeHandler). AddsTo l c.args.tables.now c.loop-handler.tables (OfOne P xs) c.args.steps.now.items c.loop-handler.steps.items)
+    let of_node = subst (λ (xs : List NodeHandler). Makes c.args.tables.now c.loop-handler.tables (OfOne P xs) c.args.steps.now.items c.loop-handler.steps.items)
     (c.as_slice-handler-items.ensures ∙ ap (λ (m : Node). m.handlers) (sym c.index-as_slice-node.is ∙ same)) all in
-    to_same l c.args.tables.now c.loop-handler.tables _ (HandleItem l n) c.args.steps.now.items c.loop-handler.steps.items
+    makes_same c.args.tables.now c.loop-handler.tables _ (HandleItem l n) c.args.steps.now.items c.loop-handler.steps.items
     (handled c.args.at.now.program.now l names c.requires.known c.args.node n at) of_node

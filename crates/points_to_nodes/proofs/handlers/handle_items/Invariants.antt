@@ -1,11 +1,11 @@
 use Rattle.std.proofs.Common.{take}
 use Rattle.op_model.specs.declared.node.NodeHandler.{NodeHandler}
 use Rattle.points_to_tables.proofs.Adding.{OfOne}
-use Rattle.points_to_nodes.specs.AddedTo.{AddsTo}
+use Rattle.points_to_tables.specs.Steps.{Makes}
 use Rattle.points_to_nodes.specs.Known.{names_at}
 use Rattle.points_to_nodes.specs.Slots.{HandsTo}
 use Rattle.points_to_nodes.proofs.handlers.handle_items.Given as goal
 
 abbrev pub invariant-loop-handler : goal.invariant-loop-handler
 invariant-loop-handler l =
-    AddsTo l.at.method.now l.fn.tables l.tables (OfOne (λ (h : NodeHandler). HandsTo l.at.method.now (names_at l.at) l.node h.target) (take l.handler-index l.handler-items)) l.fn.steps.items l.steps.items
+    Makes l.fn.tables l.tables (OfOne (λ (h : NodeHandler). HandsTo l.at.method.now (names_at l.at) l.node h.target) (take l.handler-index l.handler-items)) l.fn.steps.items l.steps.items

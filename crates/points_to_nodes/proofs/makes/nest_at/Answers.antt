@@ -2,21 +2,21 @@ use Rattle.std.proofs.Common.{◌+◌, ◌<◌, length, refl, arith}
 use Rattle.std.proofs.lemmas.Option.{slice_get_read}
 use Rattle.points_to_nodes.specs.Arrays.{NestsAt}
 use Rattle.points_to_nodes.proofs.MadeArrays.{nested_at, nested_last}
-use Rattle.points_to_nodes.proofs.AddingSteps.{to_none, to_same}
+use Rattle.points_to_tables.proofs.Making.{makes_none, makes_same}
 use Rattle.points_to_nodes.proofs.makes.nest_at.Goals as goal
 
 pub returns-then-place-sites : goal.returns-then-place-sites
-returns-then-place-sites c = λ m.
-    to_none m c.args.tables.now (NestsAt c.args.sites.now c.args.place) c.args.steps.now.items
+returns-then-place-sites c =
+    makes_none c.args.tables.now (NestsAt c.args.sites.now c.args.place) c.args.steps.now.items
     (nested_last c.args.sites.now c.args.place c.if-place-sites.true)
 
 pub returns : goal.returns
-returns c = λ m.
+returns c =
     let sites = c.args.sites.now in
     let i = c.args.place in
     let more : i + 1 < length sites = omega arith in
-    to_same m c.args.tables.now c.nest_site.new.tables _ (NestsAt sites i) c.args.steps.now.items c.nest_site.new.steps.items
+    makes_same c.args.tables.now c.nest_site.new.tables _ (NestsAt sites i) c.args.steps.now.items c.nest_site.new.steps.items
     (nested_at sites i c.index-sites-place.result c.index-sites-place-2.result
     (slice_get_read sites (length sites) i c.index-sites-place.result refl c.requires c.index-sites-place.is)
     (slice_get_read sites (length sites) (i + 1) c.index-sites-place-2.result refl more c.index-sites-place-2.is))
-    (c.in_ok-nest_site.ensures m)
+    c.in_ok-nest_site.ensures

@@ -3,7 +3,7 @@ use Rattle.points_to_items.specs.Items.{pass_to, used}
 use Rattle.points_to_nodes.specs.Fixed.{holder_of}
 use Rattle.points_to_nodes.specs.Known.{names_at}
 use Rattle.points_to_nodes.specs.Slots.{slot_holder}
-use Rattle.points_to_nodes.proofs.AddingSteps.{to_item}
+use Rattle.points_to_tables.proofs.Making.{makes_item}
 use Rattle.points_to_nodes.proofs.slots.pass_slot.Goals as goal
 
 pub returns : goal.returns
@@ -13,4 +13,4 @@ returns c =
     let from = c.args.from in
     let to = c.args.to in
     let same : used (holder_of c.slot_place-source.result) (pass_to (holder_of c.slot_place-target.result)) ≡ used (slot_holder names from.node from.slot) (pass_to (slot_holder names to.node to.slot)) = cc in
-    to_item l c.args.tables.now c.pass.new.tables _ _ c.args.steps.now.items c.pass.new.steps.items same (c.in_ok-pass.ensures l)
+    makes_item c.args.tables.now c.pass.new.tables _ _ c.args.steps.now.items c.pass.new.steps.items same c.in_ok-pass.ensures

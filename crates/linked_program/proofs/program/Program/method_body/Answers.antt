@@ -3,12 +3,12 @@ use Rattle.std.specs.List.{slice_get}
 use Rattle.std.proofs.lemmas.Option.{slice_get_within, get_or_from_slice_get}
 use Rattle.jvm_model.specs.declared.program.Origin.{Origin}
 use Rattle.jvm_model.specs.Linking.{methods_from}
-use Rattle.linked_program.proofs.Accessing.{below_places, method_at}
+use Rattle.linked_program.proofs.Accessing.{below_methods, method_at}
 use Rattle.linked_program.proofs.program.Program.method_body.Goals as goal
 
 pub index-at-requires : goal.index-at-requires
 index-at-requires c =
-    let below = below_places c.self.inside c.self.invariant c.args.self.now c.self.view_is c.args.number.0 c.requires in
+    let below = below_methods c.self.inside c.self.invariant c.args.self.now c.self.view_is c.args.number.0 c.requires in
     let kept = c.self.inside.methods.places.ok in
     omega (arith, below, kept)
 

@@ -1,0 +1,21 @@
+use Rattle.std.proofs.Common.{List, subst}
+use Rattle.std.proofs.lemmas.Result.{on_ok_weaker}
+use Rattle.op_model.specs.declared.node.Node.{Node}
+use Rattle.call_graph.specs.Added.{AreAdded, OfOne}
+use Rattle.call_graph.specs.Edges.{IsEdgeOf}
+use Rattle.call_graph.proofs.ExactKeys.{same_methods, tells_methods}
+use Rattle.call_graph.proofs.KeySets.{is_there}
+use Rattle.call_graph.proofs.NodeEdges.{of_running}
+use Rattle.call_graph.proofs.edges.add_running.Goals as goal
+
+pub returns : goal.returns
+returns c =
+    let s = c.args.sets.now in
+    let l = c.args.method.now in
+    let of_node = IsEdgeOf c.args.program.now s in
+    let a = c.args.edges.now.keys in
+    let b = c.add_nodes.new.edges.keys in
+    let runs = (is_there same_methods tells_methods s.running.keys l.method c.contains.result c.contains.ensures).0 c.if-not-contains.false in
+    on_ok_weaker c.add_nodes.result
+    (λ added. of_running s.running.keys of_node l runs a b (subst (λ (nodes : List Node). AreAdded (OfOne (of_node l.method) nodes) a b) c.as_slice.ensures added))
+    c.add_nodes.ensures

@@ -1,0 +1,10 @@
+use Rattle.std.proofs.Common.{[], take}
+use Rattle.points_to.specs.declared.solution.RunningMethod.{RunningMethod}
+use Rattle.call_graph.specs.Added.{AreAdded, OfOne}
+use Rattle.call_graph.specs.Edges.{IsEdgeOf, OfRunning}
+use Rattle.call_graph.proofs.edges.edges_of.Given as goal
+
+abbrev pub invariant-loop-method : goal.invariant-loop-method
+invariant-loop-method l = record {
+  added : AreAdded (OfOne (λ (r : RunningMethod). OfRunning l.sets.running.keys (IsEdgeOf l.program l.sets) r.method) (take l.method-index l.methods)) [] l.edges.keys;
+}

@@ -1,0 +1,52 @@
+//! A ground is made of a solution.
+
+ghost use Rattle.std.specs.Prelude.{◌≡◌, List, Contains, IfOk};
+ghost use Rattle.points_to_items.specs.MethodNumbers.{IsMethodIn};
+ghost use Rattle.points_to_rules.specs.Facts.{Fact};
+ghost use Rattle.points_to.specs.declared.solution.RunningMethod.{RunningMethod};
+ghost use Rattle.points_to.specs.Solutions.{AreFactsOf};
+ghost use Rattle.call_graph.specs.Grounds.{IsGround};
+
+use crate::edges::edges_of;
+use crate::ground::Ground;
+use crate::sets::{Sets, sets_of};
+use crate::stores::stores_of;
+use crate::writes::close_writes;
+use linked_program::program::Program;
+use points_to::Solution;
+use std::alloc::{AllocError, Global};
+
+/// The ground of a solution: its sets, with the instance fields that each method may write, by itself, its targets, and the initialisers that it may
+/// start.
+pub fn ground_of(alloc: Global, program: &Program, solution: Solution) -> Result<Ground, AllocError>
+    requires facts { (found : List Fact) × AreFactsOf solution.tables solution.items.items.keys found }
+    requires methods { (m : RunningMethod) → Contains solution.methods.items m → IsMethodIn program.now m.method.method.0 m.method }
+    ensures methods { IfOk result (λ g. g.methods.items ≡ solution.methods.items) }
+    ensures tables { IfOk result (λ g. g.tables ≡ solution.tables) }
+    ensures ground { IfOk result (λ g. (found : List Fact) → AreFactsOf solution.tables solution.items.items.keys found → IsGround program.now found g) }
+{
+    let Solution {
+        tables,
+        items,
+        methods,
+    } = solution;
+    let sets = sets_of(alloc, &tables, items.items.as_slice())?;
+    let stores = stores_of(alloc, &methods, &sets.running)?;
+    let edges = edges_of(alloc, program, &methods, &sets)?;
+    let writes = close_writes(alloc, stores, &edges)?;
+    let Sets {
+        sites,
+        running,
+        calls,
+        targets,
+    } = sets;
+    Ok(Ground {
+        tables,
+        methods,
+        sites,
+        running,
+        calls,
+        targets,
+        writes,
+    })
+}

@@ -1,0 +1,65 @@
+//! The sets of items: the sites of each place, the methods that may run, and the targets of each call.
+
+ghost use Rattle.std.specs.Prelude.{Contains, IfOk, OnOk};
+ghost use Rattle.points_to_items.specs.Items.{Item as RuleItem};
+ghost use Rattle.points_to_tables.specs.declared.item.Item.{Item};
+ghost use Rattle.points_to_tables.specs.Steps.{IsItemAt};
+ghost use Rattle.call_graph.specs.Sets.{AddsTarget, AreSetsOf, TakesItem};
+
+use crate::calls::call_at;
+use crate::ground::CallKey;
+use grouped_lists::Groups;
+use indexmap::IndexSet;
+use jvm_model::{MethodNo, SiteNo};
+use points_to_tables::{Item, Tables};
+use std::alloc::{AllocError, Global};
+
+/// The sites of each place by its number, the methods that may run, the calls, and the targets of each call by its number.
+#[derive(Drop)]
+pub(crate) struct Sets {
+    pub(crate) sites: Groups<SiteNo>,
+    pub(crate) running: IndexSet<MethodNo>,
+    pub(crate) calls: IndexSet<CallKey>,
+    pub(crate) targets: Groups<MethodNo>,
+}
+
+/// The sets of items.
+pub(crate) fn sets_of(alloc: Global, tables: &Tables, items: &[Item]) -> Result<Sets, AllocError>
+    requires { (item : Item) → Contains items.now item → (x : RuleItem) × IsItemAt tables.now item x }
+    ensures { IfOk result (AreSetsOf tables.now items.now) }
+{
+    let mut sets = Sets {
+        sites: Groups::new(alloc),
+        running: IndexSet::new(alloc),
+        calls: IndexSet::new(alloc),
+        targets: Groups::new(alloc),
+    };
+    for item in items {
+        add_item(tables, &mut sets, *item)?;
+    }
+    Ok(sets)
+}
+
+/// Adds an item to the sets.
+fn add_item(tables: &Tables, sets: &mut Sets, item: Item) -> Result<(), AllocError>
+    requires { (x : RuleItem) × IsItemAt tables.now item x }
+    ensures { OnOk result (TakesItem tables.now item sets.old sets.new) }
+{
+    match item {
+        Item::Holds(place, site) => sets.sites.add(place.0, site),
+        Item::Runs(method) => {
+            sets.running.insert(method)?;
+            Ok(())
+        }
+        Item::Calls(call, target) => add_target(sets, call_at(tables.call_of(call).at), target),
+        Item::Uses(_, _) => Ok(()),
+    }
+}
+
+/// Adds a target of a call.
+fn add_target(sets: &mut Sets, call: CallKey, target: MethodNo) -> Result<(), AllocError>
+    ensures { OnOk result (AddsTarget call target sets.old sets.new) }
+{
+    let (number, _) = sets.calls.insert_full(call)?;
+    sets.targets.add_at(number, target)
+}

@@ -1,0 +1,3 @@
+pub mod CodedMethods
+pub mod AddedMethods
+pub mod UpwardInitialisers

@@ -1,0 +1,93 @@
+//! The initialisers that the initialisation of a class runs: its own, and those of its supertypes (JVMS 5.5).
+
+ghost use Rattle.std.specs.Prelude.{◌↔◌, ℕ, All, Contains, IfNone, IfOk, IfSome, OnOk};
+ghost use Rattle.jvm_model.specs.declared.number.MethodNo.{MethodNo};
+ghost use Rattle.linked_program.specs.Numbers.{name_at, IsClassNumber};
+ghost use Rattle.node_machine.specs.Nodes.{IsCodedInitialiser};
+ghost use Rattle.class_initialisers.specs.Declaring.{AddsMethods, DeclaresCoded, IsDeclaredAt, OneDeclares};
+
+use crate::coded::is_coded;
+use jvm_model::lookup::Signature;
+use jvm_model::{ClassNo, MethodNo};
+use linked_program::program::Program;
+use std::alloc::{AllocError, Global};
+
+/// The initialisers of a class and of its supertypes for which class files have code. One of a supertype that is reached in several
+/// ways may stand there several times. It walks up the superclasses.
+pub fn coded_initialisers(
+    alloc: Global,
+    program: &Program,
+    class: ClassNo,
+) -> Result<Vec<MethodNo>, AllocError>
+    requires { IsClassNumber program.now class.0 }
+    ensures { IfOk result (λ found. (i : MethodNo) → Contains found.items i ↔ IsCodedInitialiser program.now (name_at program.now class.0) i.0) }
+{
+    program.well_formed();
+    let mut found = Vec::new(alloc);
+    let mut current = class;
+    'upward: for _passed in 0..program.class_count() {
+        add_at(program, current, &mut found)?;
+        let Some(above) = program.super_class(current) else {
+            return Ok(found);
+        };
+        current = above;
+    }
+    unreachable!()
+}
+
+/// Adds the initialisers of a class and of its supertypes through its own superinterfaces.
+fn add_at(program: &Program, class: ClassNo, found: &mut Vec<MethodNo>) -> Result<(), AllocError>
+    requires { IsClassNumber program.now class.0 }
+    ensures { OnOk result (AddsMethods (IsDeclaredAt program.now class.0) found.old.items found.new.items) }
+{
+    add_declared(program, class, found)?;
+    add_each(program, program.through_interfaces(class), found)
+}
+
+/// Adds the initialisers that these classes themselves declare.
+fn add_each(program: &Program, classes: &[u32], found: &mut Vec<MethodNo>) -> Result<(), AllocError>
+    requires { All (IsClassNumber program.now) classes.now }
+    ensures { OnOk result (AddsMethods (OneDeclares program.now classes.now) found.old.items found.new.items) }
+{
+    for number in classes {
+        add_declared(program, ClassNo(*number), found)?;
+    }
+    Ok(())
+}
+
+/// Adds the initialiser that a class itself declares, if there is one.
+fn add_declared(
+    program: &Program,
+    class: ClassNo,
+    found: &mut Vec<MethodNo>,
+) -> Result<(), AllocError>
+    requires { IsClassNumber program.now class.0 }
+    ensures { OnOk result (AddsMethods (DeclaresCoded program.now (name_at program.now class.0)) found.old.items found.new.items) }
+{
+    program.well_formed();
+    if let Some(initialiser) = initialiser_of(program, class) {
+        found.push(initialiser)?;
+    }
+    Ok(())
+}
+
+/// The initialiser that a class itself declares, where its class file has code for it.
+fn initialiser_of(program: &Program, class: ClassNo) -> Option<MethodNo>
+    requires { IsClassNumber program.now class.0 }
+    ensures found { IfSome result (λ number. DeclaresCoded program.now (name_at program.now class.0) number.0) }
+    ensures none { IfNone result ((number : ℕ) → DeclaresCoded program.now (name_at program.now class.0) number → ⊥) }
+{
+    program.well_formed();
+    let signature = Signature {
+        name: b"<clinit>",
+        descriptor: b"()V",
+    };
+    let Some(method) = program.declared_method(class, signature) else {
+        return None;
+    };
+    if is_coded(program, method) {
+        Some(method)
+    } else {
+        None
+    }
+}

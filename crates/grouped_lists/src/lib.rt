@@ -1,0 +1,6 @@
+//! Lists of values by number.
+#![tactic(auto)]
+
+mod groups;
+
+pub use groups::Groups;

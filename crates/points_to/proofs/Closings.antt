@@ -1,0 +1,162 @@
+-- What the loop rests on: the supply gives what it gave, items name what is there, and how the loop ends.
+use Rattle.std.proofs.Common.{◌≡◌, ◌↔◌, ℕ, inl, inr, List, [], Ok, Err, Option, Some, take, sym, ◌∙◌, subst}
+use Rattle.std.specs.List.{slice_get, Contains}
+use Rattle.std.proofs.lemmas.Option.{same_Some}
+use Rattle.failure.specs.declared.Failure.{Failure}
+use Rattle.failure.specs.declared.Failure.TheVariants.{Cause, OutOfMemory}
+use Rattle.jvm_model.specs.declared.number.MethodNo.{MethodNo}
+use Rattle.jvm_model.specs.Programs.{Program}
+use Rattle.linked_program.specs.Numbers.{IsMethodNumber}
+use Rattle.op_model.specs.Supplies.{GivenAs, IsSameSupply}
+use Rattle.least_sets.specs.Rules.{IsWithoutDoubles}
+use Rattle.least_sets.proofs.Derivations.{derivation_in_closed}
+use Rattle.least_sets.proofs.Places.{contains_at}
+use Rattle.points_to_rules.specs.Facts.{Holder}
+use Rattle.points_to_items.specs.Items.{User as ItemUser, select, Item as RuleItem, used}
+use Rattle.points_to_items.specs.ItemRules.{ItemInstance}
+use Rattle.points_to_items.proofs.Holders.{zip_place}
+use Rattle.points_to_tables.specs.declared.item.Item.{Item}
+use Rattle.points_to_tables.specs.declared.item.Item.TheVariants.{Holds, Runs, Calls, Uses}
+use Rattle.points_to_tables.specs.declared.keys.UserNo.{UserNo}
+use Rattle.points_to_tables.specs.Numbered.{Numbered, Grows, AreApart}
+use Rattle.points_to_tables.specs.Steps.{IsItemAt, Adds}
+use Rattle.points_to_tables.proofs.Adding.{adds_same}
+use Rattle.points_to.specs.declared.refusals.RefusedCall.{RefusedCall}
+use Rattle.points_to.specs.declared.refusals.RefusedMethod.{RefusedMethod}
+use Rattle.points_to.specs.declared.solution.RunningMethod.{RunningMethod}
+use Rattle.points_to.specs.declared.solve_failure.SolveFault.{SolveFault}
+use Rattle.points_to.specs.declared.solve_failure.SolveFault.TheVariants.{PairLimit, Refused}
+use Rattle.points_to.specs.Closing.{IsClosingEnd}
+use Rattle.points_to.specs.Concluding.{SitesBy, UsersBy, IsKnownIndex, IsKnownItem, ResolvesIn, FollowsFrom, LacksBy, RefusedBy, AddsCallsBy, AddsMethodsBy}
+use Rattle.grouped_lists.specs.Groups.{values_at}
+use Rattle.points_to.specs.Indexed.{SiteGroups, UserGroups, IsIndexed}
+use Rattle.points_to.specs.Passing.{IsKnownUser, NotesCalls, NotesMethods}
+use Rattle.points_to.specs.Queues.{IsQueueEnd}
+use Rattle.points_to.specs.Solutions.{IsSupplyOf}
+use Rattle.points_to.proofs.ItemPlaces.{front_rule}
+use Rattle.points_to.proofs.Noting.{those_same}
+use Rattle.points_to.proofs.NumberedCalls.{resolved_in}
+use Rattle.points_to.proofs.NumberRanges.{IsInRange, IsUserInRange, in_range_is_closed}
+use Rattle.points_to.proofs.PairedFacts.{many_derivable}
+use Rattle.points_to.proofs.SoFar.{IsSoFar, IsDerivedList, IsConcluded, in_whole}
+
+-- ---- the supply
+
+pub same_itself : (gives : GivenAs) → IsSameSupply gives gives
+same_itself gives = record { entries = λ m a. ((λ g. g), (λ g. g)) }
+
+pub same_on : (one other third : GivenAs) → IsSameSupply one other → IsSameSupply other third → IsSameSupply one third
+same_on one other third first second = record { entries = λ m a. ((λ g. (first.entries m a).0 ((second.entries m a).0 g)), (λ g. (second.entries m a).1 ((first.entries m a).1 g))) }
+
+pub supply_same : (p : Program) (old new : GivenAs) → IsSameSupply old new → IsSupplyOf p old → IsSupplyOf p new
+supply_same p old new same h = record {
+  serves = λ number coded. (let served = h.serves number coded in (served.0, (same.entries number served.0).1 served.1));
+  coded = λ number answer g. h.coded number answer ((same.entries number answer).0 g);
+  methods = λ number l g. h.methods number l ((same.entries number (Ok l)).0 g);
+}
+
+module _ (p : Program) (old new : GivenAs) (same : IsSameSupply old new) (n : Numbered) (sites : SitesBy) (users : UsersBy) where
+  follows_same : (item : Item) (x : RuleItem) → FollowsFrom p new n sites users item x ↔ FollowsFrom p old n sites users item x
+  follows_same (Holds place site) x = ((λ f. f), (λ f. f))
+  follows_same (Runs m) x = (
+    (λ f. record { method = f.method; given = (same.entries m.0 (Ok f.method)).0 f.given; item = f.item }),
+    (λ f. record { method = f.method; given = (same.entries m.0 (Ok f.method)).1 f.given; item = f.item }),
+  )
+  follows_same (Calls call target) x = ((λ f. f), (λ f. f))
+  follows_same (Uses place user) x = ((λ f. f), (λ f. f))
+
+  adds_as_before : (item : Item) (m : Numbered) (a b : List Item) → Adds m (FollowsFrom p new n sites users item) a b → Adds m (FollowsFrom p old n sites users item) a b
+  adds_as_before item m a b h = adds_same m (FollowsFrom p new n sites users item) (FollowsFrom p old n sites users item) a b (follows_same item) h
+
+module _ (old new : GivenAs) (same : IsSameSupply old new) where
+  refused_same : (item : Item) (r : RefusedMethod) → RefusedBy new item r ↔ RefusedBy old item r
+  refused_same (Holds place site) r = ((λ f. f), (λ f. f))
+  refused_same (Runs m) r = (
+    (λ f. record { is = f.is; refused = (same.entries m.0 (Err r.refusal)).0 f.refused }),
+    (λ f. record { is = f.is; refused = (same.entries m.0 (Err r.refusal)).1 f.refused }),
+  )
+  refused_same (Calls call target) r = ((λ f. f), (λ f. f))
+  refused_same (Uses place user) r = ((λ f. f), (λ f. f))
+
+  refused_as_before : (item : Item) (a b : Option RefusedMethod) → NotesMethods (RefusedBy new item) a b → NotesMethods (RefusedBy old item) a b
+  refused_as_before item a b h = record { noted = h.noted; those = those_same (RefusedBy new item) (RefusedBy old item) h.noted (refused_same item) h.those; first = h.first }
+
+  calls_as_before : (item : Item) (a b : List _) → AddsCallsBy new item a b → AddsCallsBy old item a b
+  calls_as_before (Holds place site) a b h = h
+  calls_as_before (Runs m) a b h = elim h [
+    | inl given ↦ inl (record { method = given.method; given = (same.entries m.0 (Ok given.method)).0 given.given; adds = given.adds })
+    | inr stay ↦ inr stay
+  ]
+  calls_as_before (Calls call target) a b h = h
+  calls_as_before (Uses place user) a b h = h
+
+  methods_as_before : (item : Item) (a b : List RunningMethod) → AddsMethodsBy new item a b → AddsMethodsBy old item a b
+  methods_as_before (Holds place site) a b h = h
+  methods_as_before (Runs k) a b h = elim h [
+    | inl (m, is, e) ↦ inl (m, record { given = (same.entries k.0 (Ok m.method)).0 is.given; named = is.named }, e)
+    | inr (none, e) ↦ inr ((λ l given. none l ((same.entries k.0 (Ok l)).1 given)), e)
+  ]
+  methods_as_before (Calls call target) a b h = h
+  methods_as_before (Uses place user) a b h = h
+
+-- what is told of an item by what the supply gives now
+pub concluded : (p : Program) (old now : GivenAs) → IsSameSupply old now → (n m : Numbered) (old_sites new_sites : SiteGroups) (old_users new_users : UserGroups) (old_call new_call : Option RefusedCall)
+    → (old_method new_method : Option RefusedMethod) (old_listed new_listed : List RunningMethod) (item : Item) (made steps : List Item) → Grows n m → AreApart m → IsIndexed old_sites new_sites old_users new_users item
+    → Adds m (FollowsFrom p now n (values_at new_sites) (values_at new_users) item) [] made → AddsCallsBy now item n.calls m.calls
+    → NotesCalls (LacksBy p n (values_at new_sites) (values_at new_users) item) old_call new_call → NotesMethods (RefusedBy now item) old_method new_method
+    → AddsMethodsBy now item old_listed new_listed → steps ≡ made
+    → IsConcluded p old n m old_sites new_sites old_users new_users old_call new_call old_method new_method old_listed new_listed item steps
+concluded p old now same n m old_sites new_sites old_users new_users old_call new_call old_method new_method old_listed new_listed item made steps grows apart indexed adds calls lacks refused methods is = record {
+  grows = grows;
+  apart = apart;
+  indexed = indexed;
+  adds = subst (λ (xs : List Item). Adds m (FollowsFrom p old n (values_at new_sites) (values_at new_users) item) [] xs) (sym is)
+      (adds_as_before p old now same n (values_at new_sites) (values_at new_users) item m [] made adds);
+  calls = calls_as_before old now same item n.calls m.calls calls;
+  lacks = lacks;
+  refused = refused_as_before old now same item old_method new_method refused;
+  methods = methods_as_before old now same item old_listed new_listed methods;
+}
+
+-- ---- what items name
+
+user_known : (p : Program) (n : Numbered) (user : UserNo) (h : Holder) (u : ItemUser) (x : RuleItem) → slice_get n.users user.0 ≡ Some u → x ≡ used h u → IsInRange p x → IsKnownUser p n user
+user_known p n user h u x there e range = record {
+  numbered = (u, there);
+  resolved = λ call selects. subst (IsUserInRange p) (same_Some u (select call) (sym there ∙ selects)) (subst (IsInRange p) e range);
+}
+
+known_by : (p : Program) (n : Numbered) → ((number : ℕ) → ResolvesIn p n number) → (item : Item) (x : RuleItem) → IsItemAt n item x → IsInRange p x → IsKnownItem p n item
+known_by p n resolved (Holds place site) x (h, s, holder, there, e) range = (s, there)
+known_by p n resolved (Runs m) x e range = subst (IsInRange p) e range
+known_by p n resolved (Calls call target) x (c, at, e) range = record { numbered = (c, at); target_is = subst (IsInRange p) e range; resolved = resolved call.0 }
+known_by p n resolved (Uses place user) x (h, u, holder, there, e) range = user_known p n user h u x there e range
+
+module _ {p : Program} {gives : GivenAs} {entry : MethodNo} {n : Numbered} {items : List Item} {sites : SitesBy} {users : UsersBy} {call : _} {method : _} {listed : List RunningMethod} {done : ℕ}
+    (h : IsSoFar p gives entry n items sites users call method listed done) (supply : IsSupplyOf p gives) (within : IsMethodNumber p entry.0) where
+  in_range : (x : RuleItem) → Contains h.xs x → IsInRange p x
+  in_range x c = derivation_in_closed (ItemInstance p gives entry) (IsInRange p) h.xs h.derived (in_range_is_closed p gives entry supply within) x c
+
+  pub known_item : (item : Item) (k : ℕ) → slice_get items k ≡ Some item → IsKnownItem p n item
+  known_item item k e =
+      let (x, at, stands) = zip_place (IsItemAt n) items h.xs h.stand k item e in
+      known_by p n (resolved_in p gives (Contains (take done h.xs)) n supply h.calls.each) item x stands (in_range x (contains_at h.xs k x at))
+
+  pub known_index : IsKnownIndex p n sites users
+  known_index = record {
+    sites_known = λ place site c. (let (x, there, (holder, s, held, at, e)) = front_rule n items h.xs h.stand done (Holds (record { 0 = place }) site) ((h.index.sites_are (record { 0 = place }) site).0 c) in (s, at));
+    users_known = λ place user c. (
+        let (x, there, (holder, u, held, at, e)) = front_rule n items h.xs h.stand done (Uses (record { 0 = place }) user) ((h.index.users_are (record { 0 = place }) user).0 c) in
+        user_known p n user holder u x at e (in_range x (in_whole h.xs done x there)));
+  }
+
+-- ---- the end
+
+pub closing_end : (p : Program) (gives : GivenAs) (entry : MethodNo) (limit : ℕ) (n : Numbered) (items : List Item) (failure : Failure SolveFault) → AreApart n → IsDerivedList p gives entry n items
+    → IsWithoutDoubles items → IsQueueEnd items limit failure → IsClosingEnd p gives entry limit failure
+closing_end p gives entry limit n items (Cause (PairLimit k)) apart h items_apart end = (end.0, many_derivable p gives entry n items h.xs limit apart h.calls h.stand items_apart h.derived end.1)
+closing_end p gives entry limit n items (Cause (Refused r)) apart h items_apart end = absurd end
+closing_end p gives entry limit n items OutOfMemory apart h items_apart end = tt
+
+pub memory_end : (p : Program) (gives : GivenAs) (entry : MethodNo) (limit : ℕ) (failure : Failure SolveFault) → failure ≡ OutOfMemory → IsClosingEnd p gives entry limit failure
+memory_end p gives entry limit failure e = subst (λ (f : Failure SolveFault). IsClosingEnd p gives entry limit f) (sym e) tt

@@ -1,0 +1,49 @@
+-- How the solver ends: with the limit, with a refusal, or with the least sets.
+use Rattle.std.proofs.Common.{◌≡◌, ℕ, List, Option, Some, None, refl, sym, subst}
+use Rattle.std.specs.List.{Contains}
+use Rattle.failure.specs.declared.Failure.{Failure}
+use Rattle.failure.specs.declared.Failure.TheVariants.{OutOfMemory}
+use Rattle.jvm_model.specs.declared.number.MethodNo.{MethodNo}
+use Rattle.jvm_model.specs.declared.reason.Refusal.{Refusal}
+use Rattle.jvm_model.specs.Programs.{Program}
+use Rattle.op_model.specs.Supplies.{GivenAs}
+use Rattle.points_to_items.specs.Items.{facts_of}
+use Rattle.points_to_tables.specs.declared.item.Item.{Item}
+use Rattle.points_to_tables.specs.Numbered.{Numbered}
+use Rattle.points_to.specs.declared.refusals.RefusedCall.{RefusedCall}
+use Rattle.points_to.specs.declared.refusals.RefusedMethod.{RefusedMethod}
+use Rattle.points_to.specs.declared.solution.RunningMethod.{RunningMethod}
+use Rattle.points_to.specs.declared.solution.Solution.{Solution}
+use Rattle.points_to.specs.declared.solve_failure.SolveFault.{SolveFault}
+use Rattle.points_to.specs.Closing.{KnownIn, IsClosed}
+use Rattle.points_to.specs.Refusing.{IsNamed}
+use Rattle.points_to.specs.Solutions.{IsSupplyOf, IsSolveEnd, IsSolved, EndsRefused}
+use Rattle.points_to.proofs.GivenMethods.{GivesOne}
+use Rattle.points_to.proofs.NamedRefusals.{least_below, named_none, named_some}
+use Rattle.points_to.proofs.PairedFacts.{fact_there, known_there}
+use Rattle.points_to.proofs.RunningMethods.{running_same}
+
+pub no_memory_end : (p : Program) (gives : GivenAs) (entry : MethodNo) (limit : ℕ) (failure : Failure SolveFault) → failure ≡ OutOfMemory → IsSolveEnd p gives entry limit failure
+no_memory_end p gives entry limit failure e = subst (λ (f : Failure SolveFault). IsSolveEnd p gives entry limit f) (sym e) tt
+
+module _ (p : Program) (gives : GivenAs) (supply : IsSupplyOf p gives) (one : GivesOne gives) (entry : MethodNo) (limit : ℕ) where
+  pub refused_end : (n : Numbered) (items : List Item) (call : Option RefusedCall) (method : Option RefusedMethod) (listed : List RunningMethod)
+      → IsClosed p gives entry limit n items call method listed → (r : Refusal) → IsNamed p call method (Some r)
+      → EndsRefused p gives entry limit r
+  refused_end n items call method listed closed r named = record {
+    facts = facts_of closed.xs;
+    least = least_below p gives supply one entry limit n items call method listed closed;
+    first = named_some p gives supply one entry limit n items call method listed closed r named;
+  }
+
+  pub solved : (s : Solution) (call : Option RefusedCall) (method : Option RefusedMethod) → IsClosed p gives entry limit s.tables s.items.items.keys call method s.methods.items → IsNamed p call method None
+      → IsSolved p gives entry limit s
+  solved s call method closed named = record {
+    facts = facts_of closed.xs;
+    of = (closed.xs, closed.stand, refl);
+    solution = record {
+      least = least_below p gives supply one entry limit s.tables s.items.items.keys call method s.methods.items closed;
+      unrefused = named_none p gives supply one entry limit s.tables s.items.items.keys call method s.methods.items closed named;
+    };
+    running = running_same gives (KnownIn closed.xs) (Contains (facts_of closed.xs)) s.methods.items (λ fact. (fact_there closed.xs fact, known_there closed.xs fact)) closed.running;
+  }

@@ -1,0 +1,25 @@
+mod ExactItems
+mod Taken
+mod Grouped
+mod FirstNoted
+mod Noting
+mod Lacking
+mod PassedOn
+mod GivenMethods
+pub mod ItemPlaces
+mod StepItems
+mod OneSite
+mod NumberedCalls
+mod RunningMethods
+mod IndexedItems
+mod Following
+mod RefusedItems
+mod NumberRanges
+pub mod PairedFacts
+mod SoFar
+mod Closings
+mod CodeStarts
+mod RefusedNodes
+mod NamedRefusals
+mod Ends
+mod StartParts

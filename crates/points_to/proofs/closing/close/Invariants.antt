@@ -1,0 +1,17 @@
+use Rattle.std.proofs.Common.{◌≡◌, ◌<◌, ◌-◌, ◌^◌}
+use Rattle.op_model.specs.Supplies.{IsSameSupply}
+use Rattle.grouped_lists.specs.Groups.{values_at}
+use Rattle.points_to.specs.Queues.{pairs_among}
+use Rattle.points_to.proofs.SoFar.{IsSoFar}
+use Rattle.points_to.proofs.closing.close.Given as goal
+
+abbrev pub invariant-loop-done : goal.invariant-loop-done
+invariant-loop-done g l = record {
+  counted : l.queue.pairs ≡ pairs_among l.queue.items.keys;
+  room : l.queue.pairs < l.pair_limit;
+  so_far : IsSoFar l.program (g.S.Supply.gives l.fn.supply) l.fn.entry l.found.tables l.queue.items.keys (values_at l.index.sites.groups.items) (values_at l.index.users.groups.items) l.found.refusals.call l.found.refusals.method l.methods.items l.done;
+  same : IsSameSupply (g.S.Supply.gives l.fn.supply) (g.S.Supply.gives l.supply);
+}
+
+abbrev pub decreases-loop-done : goal.decreases-loop-done
+decreases-loop-done g l = 2 ^ 63 - l.done

@@ -1,0 +1,35 @@
+use Rattle.std.proofs.Common.{◌↔◌}
+use Rattle.failure.proofs.HandedOn.{handed_ok}
+use Rattle.points_to.specs.declared.refusals.RefusedCall.{RefusedCall}
+use Rattle.points_to.specs.Passing.{IsPassed, IsLackOf, NotesReason}
+use Rattle.points_to.proofs.Lacking.{lacks_are}
+use Rattle.points_to.proofs.Noting.{calls_same}
+use Rattle.points_to.proofs.PassedOn.{reason_before, passed_here}
+use Rattle.points_to_tables.proofs.Adding.{adds_same}
+use Rattle.points_to.proofs.found.Found.pass.Goals as goal
+
+pub returns-clause-adds : goal.returns-clause-adds
+returns-clause-adds c =
+    let n = c.args.self.now.tables in
+    let p = c.args.program.now in
+    let user = c.args.user in
+    let site = c.args.site in
+    let adds = handed_ok _ c.pass.result c.in_ok-lacks.lacks _ c.in_ok-lacks.ensures.cases c.pass.ensures.adds in
+    adds_same c.pass.new.tables _ (IsPassed p n user site) c.args.steps.now.items c.pass.new.steps.items (passed_here p n user site c.requires.user.numbered c.requires.site)
+    (adds c.requires.user.numbered.0 c.requires.site.0 c.requires.user.numbered.1 c.requires.site.1)
+
+pub returns-clause-lacks : goal.returns-clause-lacks
+returns-clause-lacks c =
+    let n = c.args.self.now.tables in
+    let m = c.pass.new.tables in
+    let p = c.args.program.now in
+    let user = c.args.user in
+    let site = c.args.site in
+    let lacks = c.in_ok-lacks.lacks in
+    let grows = handed_ok _ c.pass.result lacks _ c.in_ok-lacks.ensures.cases c.pass.ensures.grows in
+    let told = handed_ok _ c.pass.result lacks _ c.in_ok-lacks.ensures.cases c.pass.ensures.lacks in
+    let back = reason_before n m grows user c.requires.user.numbered lacks in
+    let are = lacks_are p c.well_formed-2.ensures.program n user site c.requires.user.numbered.0 c.requires.site.0 lacks c.requires.user.numbered.1 c.requires.site.1
+    (told c.requires.user.numbered.0 c.requires.site.0 c.requires.user.numbered.1 c.requires.site.1) in
+    let same : (call : RefusedCall) → NotesReason m user lacks call ↔ IsLackOf p n user site call = λ call. ((λ h. (are call).0 ((back call).0 h)), (λ h. (back call).1 ((are call).1 h))) in
+    calls_same (NotesReason m user lacks) (IsLackOf p n user site) c.args.self.now.refusals.call c.note_lack.new.refusals.call same c.note_lack.ensures.call

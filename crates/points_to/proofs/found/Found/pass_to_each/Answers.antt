@@ -1,0 +1,68 @@
+use Rattle.std.proofs.Common.{refl, ◌∙◌}
+use Rattle.points_to_items.specs.Items.{Item as RuleItem}
+use Rattle.points_to_tables.specs.declared.keys.UserNo.{UserNo}
+use Rattle.points_to_tables.proofs.Adding.{adds_start, adds_all}
+use Rattle.points_to_tables.proofs.Growing.{grows_same, grows_on}
+use Rattle.points_to.specs.declared.refusals.RefusedCall.{RefusedCall}
+use Rattle.points_to.specs.Passing.{IsPassed, IsLackOf}
+use Rattle.points_to.proofs.Noting.{calls_start, calls_all}
+use Rattle.points_to.proofs.PassedOn.{still_known, to_each_more, to_each_lacks}
+use Rattle.points_to.proofs.found.Found.pass_to_each.Goals as goal
+
+abbrev past : UserNo
+past = record { 0 = 0 }
+
+pub loop-user-init : goal.loop-user-init
+loop-user-init c =
+    let n = c.args.self.now.tables in
+    let p = c.args.program.now in
+    let site = c.args.site in
+    record {
+      grows = grows_same n;
+      calls = refl;
+      adds = adds_start (λ (u : UserNo) (x : RuleItem). IsPassed p n u site x) n c.args.users.now c.args.steps.now.items;
+      lacks = calls_start (λ (u : UserNo) (x : RefusedCall). IsLackOf p n u site x) c.args.users.now c.args.self.now.refusals.call;
+      method = refl;
+    }
+
+pub pass-requires-clause-user : goal.pass-requires-clause-user
+pass-requires-clause-user c =
+    still_known c.args.program.now c.args.self.now.tables c.loop-user.self.tables c.loop-user.invariant.grows _ (c.requires.users c.loop-user.user-index past c.loop-user-test.true)
+
+pub pass-requires-clause-site : goal.pass-requires-clause-site
+pass-requires-clause-site c = let known = c.requires.site in (known.0, c.loop-user.invariant.grows.sites _ known.0 known.1)
+
+pub loop-user-preserved : goal.loop-user-preserved
+loop-user-preserved c =
+    let n = c.args.self.now.tables in
+    let m = c.loop-user.self.tables in
+    let o = c.pass.new.self.tables in
+    let p = c.args.program.now in
+    let site = c.args.site in
+    let users = c.args.users.now in
+    let k = c.loop-user.user-index in
+    let within = c.loop-user-test.true in
+    let known = c.requires.users k past within in
+    let before = c.loop-user.invariant in
+    let now = c.in_ok-pass.ensures in
+    record {
+      grows = grows_on n m o before.grows now.grows;
+      calls = now.calls ∙ before.calls;
+      adds = to_each_more p n m o before.grows now.grows users site k past c.args.steps.now.items c.loop-user.steps.items c.pass.new.steps.items within known.numbered c.requires.site before.adds now.adds;
+      lacks = to_each_lacks p n m o before.grows now.grows users site k past c.args.self.now.refusals.call c.loop-user.self.refusals.call c.pass.new.self.refusals.call within known.numbered c.requires.site before.lacks now.lacks;
+      method = now.method ∙ before.method;
+    }
+
+pub returns-clause-adds : goal.returns-clause-adds
+returns-clause-adds c =
+    let n = c.args.self.now.tables in
+    let p = c.args.program.now in
+    let site = c.args.site in
+    adds_all (λ (u : UserNo) (x : RuleItem). IsPassed p n u site x) c.loop-user.self.tables c.args.users.now c.loop-user.user-index c.args.steps.now.items c.loop-user.steps.items c.loop-user-test.false c.loop-user.invariant.adds
+
+pub returns-clause-lacks : goal.returns-clause-lacks
+returns-clause-lacks c =
+    let n = c.args.self.now.tables in
+    let p = c.args.program.now in
+    let site = c.args.site in
+    calls_all (λ (u : UserNo) (x : RefusedCall). IsLackOf p n u site x) c.args.users.now c.loop-user.user-index c.args.self.now.refusals.call c.loop-user.self.refusals.call c.loop-user-test.false c.loop-user.invariant.lacks

@@ -1,0 +1,11 @@
+use Rattle.std.proofs.Common.{take}
+use Rattle.jvm_model.specs.declared.number.MethodNo.{MethodNo}
+use Rattle.points_to_items.specs.Items.{Item as RuleItem}
+use Rattle.points_to_methods.specs.Initiated.{IsInitiated}
+use Rattle.points_to_tables.proofs.Adding.{OfOne}
+use Rattle.points_to_tables.specs.Steps.{Makes}
+use Rattle.points_to.proofs.initialisers.initialiser_items.Given as goal
+
+abbrev pub invariant-loop-initialiser : goal.invariant-loop-initialiser
+invariant-loop-initialiser l =
+    Makes l.initial.tables l.tables (OfOne (λ (i : MethodNo) (x : RuleItem). IsInitiated i x) (take l.initialiser-index l.initialiser-items)) l.initial.steps.items l.steps.items

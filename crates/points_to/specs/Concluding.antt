@@ -1,0 +1,134 @@
+-- This crate's own proofs alone rest on this module.
+-- What follows from an item, by its number, together with those of one place that came before it.
+use Rattle.std.specs.Prelude.{◌≡◌, ◌⊎◌, ◌↔◌, ℕ, List, [], ◌∷◌, ◌++◌, length, Some, Ok, Err, Contains, slice_get}
+use Rattle.jvm_model.specs.declared.number.MethodNo.{MethodNo}
+use Rattle.jvm_model.specs.declared.number.SiteNo.{SiteNo}
+use Rattle.jvm_model.specs.Programs.{Program}
+use Rattle.linked_program.specs.Numbers.{IsMethodNumber}
+use Rattle.op_model.specs.declared.lowered.LoweredMethod.{LoweredMethod}
+use Rattle.op_model.specs.Supplies.{GivenAs}
+use Rattle.points_to_items.specs.CallItems.{CallItem}
+use Rattle.points_to_items.specs.Items.{CallSite, Item as RuleItem}
+use Rattle.points_to_items.specs.ItemRules.{MethodItem}
+use Rattle.points_to_methods.specs.NewCalls.{AddsCalls}
+use Rattle.points_to_tables.specs.declared.item.Item.{Item}
+use Rattle.points_to_tables.specs.declared.item.Item.TheVariants.{Holds, Runs, Calls, Uses}
+use Rattle.points_to_tables.specs.declared.keys.PlaceNo.{PlaceNo}
+use Rattle.points_to_tables.specs.declared.keys.UserNo.{UserNo}
+use Rattle.points_to_tables.specs.Numbered.{Numbered, IsNumbered}
+use Rattle.slot_names.specs.KeptNames.{name_table}
+use Rattle.slot_names.specs.Tables.{AreNames}
+use Rattle.points_to.specs.declared.refusals.RefusedCall.{RefusedCall}
+use Rattle.points_to.specs.declared.refusals.RefusedMethod.{RefusedMethod}
+use Rattle.points_to.specs.declared.solution.RunningMethod.{RunningMethod}
+use Rattle.points_to.specs.Passing.{IsKnownUser, PassesToSome, PassesSome, LacksForSome, LacksSome}
+
+-- ---- the sites and the users of each place
+
+-- The sites, or the users, of each place by its number.
+abbrev pub SitesBy : Type 0
+SitesBy = ℕ → List SiteNo
+
+abbrev pub UsersBy : Type 0
+UsersBy = ℕ → List UserNo
+
+-- They are those of the items.
+pub record IsIndex (sites : SitesBy) (users : UsersBy) (items : List Item) : Type 0 where
+  pub sites_are : (place : PlaceNo) (site : SiteNo) → Contains (sites place.0) site ↔ Contains items (Holds place site)
+  pub users_are : (place : PlaceNo) (user : UserNo) → Contains (users place.0) user ↔ Contains items (Uses place user)
+
+-- What is in the index is numbered, and calls that its users select at are resolved to methods of the program.
+pub record IsKnownIndex (p : Program) (n : Numbered) (sites : SitesBy) (users : UsersBy) : Type 0 where
+  pub sites_known : (place : ℕ) (site : SiteNo) → Contains (sites place) site → IsNumbered n.sites site.0
+  pub users_known : (place : ℕ) (user : UserNo) → Contains (users place) user → IsKnownUser p n user
+
+-- The call is that of a node of a method, and not the one of the start.
+abbrev pub HasCaller : CallSite → Type 0
+HasCaller call = (m : MethodNo) × (call.at.method ≡ Some m)
+
+-- The call of the number, where it is that of a node, is resolved to a method of the program.
+abbrev pub ResolvesIn : Program → Numbered → ℕ → Type 0
+ResolvesIn p n number = (call : CallSite) → slice_get n.calls number ≡ Some call → HasCaller call → IsMethodNumber p call.resolved.0
+
+-- A call that is numbered, and the target to which it goes.
+pub record IsKnownCall (p : Program) (n : Numbered) (number : ℕ) (target : MethodNo) : Type 0 where
+  pub numbered : IsNumbered n.calls number
+  pub target_is : IsMethodNumber p target.0
+  pub resolved : ResolvesIn p n number
+
+-- What an item names by its number is there.
+abbrev pub IsKnownItem : Program → Numbered → Item → Type 0
+IsKnownItem p n (Holds place site) = IsNumbered n.sites site.0
+IsKnownItem p n (Runs method) = IsMethodNumber p method.0
+IsKnownItem p n (Calls call target) = IsKnownCall p n call.0 target
+IsKnownItem p n (Uses place user) = IsKnownUser p n user
+
+-- ---- what follows
+
+-- What the call of the number leads to that goes to the target.
+pub record IsCallItem (p : Program) (n : Numbered) (number : ℕ) (target : MethodNo) (x : RuleItem) : Type 0 where
+  pub call : CallSite
+  pub stands : slice_get n.calls number ≡ Some call
+  pub caller : HasCaller call
+  pub item : CallItem p call target x
+
+-- What the nodes lead to as which the method is given.
+pub record IsGivenItem (p : Program) (gives : GivenAs) (number : ℕ) (x : RuleItem) : Type 0 where
+  pub method : LoweredMethod
+  pub given : gives number (Ok method)
+  pub item : MethodItem p method x
+
+-- What follows from an item, with the sites and the users of its place.
+abbrev pub FollowsFrom : Program → GivenAs → Numbered → SitesBy → UsersBy → Item → RuleItem → Type 0
+FollowsFrom p gives n sites users (Holds place site) x = PassesToSome p n (users place.0) site x
+FollowsFrom p gives n sites users (Runs method) x = IsGivenItem p gives method.0 x
+FollowsFrom p gives n sites users (Calls call target) x = IsCallItem p n call.0 target x
+FollowsFrom p gives n sites users (Uses place user) x = PassesSome p n user (sites place.0) x
+
+-- The calls that lack a target by it.
+abbrev pub LacksBy : Program → Numbered → SitesBy → UsersBy → Item → RefusedCall → Type 0
+LacksBy p n sites users (Holds place site) c = LacksForSome p n (users place.0) site c
+LacksBy p n sites users (Runs method) c = ⊥
+LacksBy p n sites users (Calls call target) c = ⊥
+LacksBy p n sites users (Uses place user) c = LacksSome p n user (sites place.0) c
+
+-- The method that is refused by it.
+pub record IsRefusedAs (gives : GivenAs) (method : MethodNo) (r : RefusedMethod) : Type 0 where
+  pub is : r.method ≡ method
+  pub refused : gives method.0 (Err r.refusal)
+
+abbrev pub RefusedBy : GivenAs → Item → RefusedMethod → Type 0
+RefusedBy gives (Holds place site) r = ⊥
+RefusedBy gives (Runs method) r = IsRefusedAs gives method r
+RefusedBy gives (Calls call target) r = ⊥
+RefusedBy gives (Uses place user) r = ⊥
+
+-- The calls that are numbered by it: those of the method that is given, or none.
+pub record AddsGivenCalls (gives : GivenAs) (number : ℕ) (old new : List CallSite) : Type 0 where
+  pub method : LoweredMethod
+  pub given : gives number (Ok method)
+  pub adds : AddsCalls method old new
+
+abbrev pub AddsCallsBy : GivenAs → Item → List CallSite → List CallSite → Type 0
+AddsCallsBy gives (Holds place site) old new = length new ≡ length old
+AddsCallsBy gives (Runs method) old new = AddsGivenCalls gives method.0 old new ⊎ (length new ≡ length old)
+AddsCallsBy gives (Calls call target) old new = length new ≡ length old
+AddsCallsBy gives (Uses place user) old new = length new ≡ length old
+
+-- ---- the methods that may run
+
+-- It is the method as which the number is given, with the variables of its slots.
+pub record IsRunningAs (gives : GivenAs) (number : ℕ) (m : RunningMethod) : Type 0 where
+  pub given : gives number (Ok m.method)
+  pub named : AreNames m.method (name_table m.names)
+
+-- The method of the number was added, if it is given as nodes.
+abbrev pub AddsMethod : GivenAs → ℕ → List RunningMethod → List RunningMethod → Type 0
+AddsMethod gives number old new =
+    ((m : RunningMethod) × IsRunningAs gives number m × (new ≡ old ++ m ∷ [])) ⊎ (((l : LoweredMethod) → gives number (Ok l) → ⊥) × (new ≡ old))
+
+abbrev pub AddsMethodsBy : GivenAs → Item → List RunningMethod → List RunningMethod → Type 0
+AddsMethodsBy gives (Holds place site) old new = new ≡ old
+AddsMethodsBy gives (Runs method) old new = AddsMethod gives method.0 old new
+AddsMethodsBy gives (Calls call target) old new = new ≡ old
+AddsMethodsBy gives (Uses place user) old new = new ≡ old

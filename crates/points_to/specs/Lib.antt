@@ -1,0 +1,9 @@
+pub mod Solutions
+pub mod Queues
+pub mod Firsts
+pub mod Passing
+pub mod Concluding
+pub mod Indexed
+pub mod Closing
+pub mod Starting
+pub mod Refusing

@@ -1,0 +1,135 @@
+//! What was found besides the items: the numbers, and the first refusals; and how objects are passed to users.
+
+ghost use Rattle.std.specs.Prelude.{◌≡◌, length, Some, None, All, OnOk, IfErr};
+ghost use Rattle.jvm_model.specs.Programs.{Class, object_name};
+ghost use Rattle.jvm_model.specs.Subtypes.{class_named};
+ghost use Rattle.points_to_tables.specs.Numbered.{Grows, IsNumbered, none_numbered};
+ghost use Rattle.points_to_tables.specs.Steps.{Adds};
+ghost use Rattle.points_to.specs.Passing.{IsKnownUser, IsOutOfMemory, IsPassed, IsLackOf, NotesCalls, NotesReason, PassesToSome, PassesSome, LacksForSome, LacksSome};
+
+use crate::refusals::{Refusals, RefusedCall};
+use crate::solve_failure::{SolveFailure, no_room};
+use jvm_model::{Reason, SiteNo};
+use linked_program::program::Program;
+use points_to_calls::pass;
+use points_to_tables::{Item, Tables, User, UserNo};
+use std::alloc::Global;
+
+/// The numbers that were given, and the first refusals.
+#[derive(Drop)]
+pub(crate) struct Found {
+    pub(crate) tables: Tables,
+    pub(crate) refusals: Refusals,
+}
+
+impl Found {
+    /// Nothing. It takes no memory.
+    pub(crate) fn new(alloc: Global) -> Self
+        ensures tables { result.tables ≡ none_numbered }
+        ensures call { result.refusals.call ≡ None }
+        ensures method { result.refusals.method ≡ None }
+    {
+        Found {
+            tables: Tables::new(alloc),
+            refusals: Refusals::new(),
+        }
+    }
+
+    /// Passes an object of a site to each of some users.
+    pub(crate) fn pass_to_each(
+        &mut self,
+        alloc: Global,
+        program: &Program,
+        users: &[UserNo],
+        site: SiteNo,
+        steps: &mut Vec<Item>,
+    ) -> Result<(), SolveFailure>
+        requires users { All (λ (user : UserNo). IsKnownUser program.now self.old.tables user) users.now }
+        requires site { IsNumbered self.old.tables.sites site.0 }
+        requires object { (object : Class) × (class_named program.now object_name ≡ Some object) }
+        ensures grows { OnOk result (Grows self.old.tables self.new.tables) }
+        ensures calls { OnOk result (length self.new.tables.calls ≡ length self.old.tables.calls) }
+        ensures adds { OnOk result (Adds self.new.tables (PassesToSome program.now self.old.tables users.now site) steps.old.items steps.new.items) }
+        ensures lacks { OnOk result (NotesCalls (LacksForSome program.now self.old.tables users.now site) self.old.refusals.call self.new.refusals.call) }
+        ensures method { self.new.refusals.method ≡ self.old.refusals.method }
+        ensures end { IfErr result IsOutOfMemory }
+    {
+        for user in users {
+            self.pass(alloc, program, *user, site, steps)?;
+        }
+        Ok(())
+    }
+
+    /// Passes an object of each of some sites to a user.
+    pub(crate) fn pass_each(
+        &mut self,
+        alloc: Global,
+        program: &Program,
+        user: UserNo,
+        sites: &[SiteNo],
+        steps: &mut Vec<Item>,
+    ) -> Result<(), SolveFailure>
+        requires user { IsKnownUser program.now self.old.tables user }
+        requires sites { All (λ (site : SiteNo). IsNumbered self.old.tables.sites site.0) sites.now }
+        requires object { (object : Class) × (class_named program.now object_name ≡ Some object) }
+        ensures grows { OnOk result (Grows self.old.tables self.new.tables) }
+        ensures calls { OnOk result (length self.new.tables.calls ≡ length self.old.tables.calls) }
+        ensures adds { OnOk result (Adds self.new.tables (PassesSome program.now self.old.tables user sites.now) steps.old.items steps.new.items) }
+        ensures lacks { OnOk result (NotesCalls (LacksSome program.now self.old.tables user sites.now) self.old.refusals.call self.new.refusals.call) }
+        ensures method { self.new.refusals.method ≡ self.old.refusals.method }
+        ensures end { IfErr result IsOutOfMemory }
+    {
+        for site in sites {
+            self.pass(alloc, program, user, *site, steps)?;
+        }
+        Ok(())
+    }
+
+    /// Passes an object of a site to a user: adds what the user makes of it, and notes the call that lacks a target for it.
+    fn pass(
+        &mut self,
+        alloc: Global,
+        program: &Program,
+        user: UserNo,
+        site: SiteNo,
+        steps: &mut Vec<Item>,
+    ) -> Result<(), SolveFailure>
+        requires user { IsKnownUser program.now self.old.tables user }
+        requires site { IsNumbered self.old.tables.sites site.0 }
+        requires object { (object : Class) × (class_named program.now object_name ≡ Some object) }
+        ensures grows { OnOk result (Grows self.old.tables self.new.tables) }
+        ensures calls { OnOk result (length self.new.tables.calls ≡ length self.old.tables.calls) }
+        ensures adds { OnOk result (Adds self.new.tables (IsPassed program.now self.old.tables user site) steps.old.items steps.new.items) }
+        ensures lacks { OnOk result (NotesCalls (IsLackOf program.now self.old.tables user site) self.old.refusals.call self.new.refusals.call) }
+        ensures method { self.new.refusals.method ≡ self.old.refusals.method }
+        ensures end { IfErr result IsOutOfMemory }
+    {
+        program.well_formed();
+        let lacks = pass(alloc, program, &mut self.tables, user, site, steps).map_err(no_room)?;
+        note_lack(&self.tables, &mut self.refusals, user, lacks);
+        Ok(())
+    }
+}
+
+/// Notes the call whose target a user selects, where it lacks one for a reason. The call of the start lacks none.
+fn note_lack(tables: &Tables, refusals: &mut Refusals, user: UserNo, lacks: Option<Reason>)
+    requires { IsNumbered tables.now.users user.0 }
+    ensures call { NotesCalls (NotesReason tables.now user lacks) refusals.old.call refusals.new.call }
+    ensures method { refusals.new.method ≡ refusals.old.method }
+{
+    let Some(reason) = lacks else {
+        return;
+    };
+    let User::Select(call) = tables.user_of(user) else {
+        return;
+    };
+    let at = tables.call_of(call).at;
+    let Some(method) = at.method else {
+        return;
+    };
+    refusals.note_call(RefusedCall {
+        method,
+        offset: at.offset,
+        reason,
+    });
+}

@@ -1,0 +1,54 @@
+//! The solver.
+
+ghost use Rattle.std.specs.Prelude.{◌≡◌, Some, IfOk, IfErr};
+ghost use Rattle.jvm_model.specs.Programs.{Class, object_name};
+ghost use Rattle.jvm_model.specs.Subtypes.{class_named};
+ghost use Rattle.linked_program.specs.Numbers.{IsMethodNumber};
+ghost use Rattle.op_model.specs.Supplies.{IsSameSupply};
+ghost use Rattle.points_to.specs.Solutions.{IsSolved, IsSolveEnd, IsSupplyOf};
+
+use crate::closing::{Closing, close};
+use crate::found::Found;
+use crate::refused::first_refusal;
+use crate::solution::Solution;
+use crate::solve_failure::{SolveFailure, SolveFault};
+use failure::Failure;
+use jvm_model::MethodNo;
+use linked_program::program::Program;
+use op_model::Supply;
+use std::alloc::Global;
+
+/// The least sets over what the supplier gives, from an entry method, where no method that may run and no call in one is refused, and there are
+/// fewer pairs than the limit. The limit is tested first.
+pub fn solve<S: Supply>(
+    alloc: Global,
+    program: &Program,
+    supply: &mut S,
+    entry: MethodNo,
+    pair_limit: u64,
+) -> Result<Solution, SolveFailure>
+    requires entry { IsMethodNumber program.now entry.0 }
+    requires supply { IsSupplyOf program.now (S.gives supply.old) }
+    requires object { (object : Class) × (class_named program.now object_name ≡ Some object) }
+    ensures solved { IfOk result (IsSolved program.now (S.gives supply.old) entry pair_limit) }
+    ensures end { IfErr result (IsSolveEnd program.now (S.gives supply.old) entry pair_limit) }
+    ensures same { IsSameSupply (S.gives supply.old) (S.gives supply.new) }
+{
+    if pair_limit == 0 {
+        return Err(Failure::Cause(SolveFault::PairLimit(0)));
+    }
+    let Closing {
+        queue,
+        found,
+        methods,
+    } = close(alloc, program, supply, entry, pair_limit)?;
+    let Found { tables, refusals } = found;
+    match first_refusal(alloc, program, refusals)? {
+        Some(refusal) => Err(Failure::Cause(SolveFault::Refused(refusal))),
+        None => Ok(Solution {
+            tables,
+            items: queue,
+            methods,
+        }),
+    }
+}

@@ -1,0 +1,152 @@
+//! A case: a folder of class files with an entry.
+
+ghost use Rattle.std.specs.Prelude.{IfOk, IfSome};
+ghost use Rattle.linked_program.specs.Numbers.{IsMethodNumber};
+
+use crate::request::{Amount, LIMIT};
+use crate::sets::{tell_counts, tell_sets};
+use anyhow::{Result, bail};
+use call_graph::Ground;
+use case_files::{CaseFailure, is_refusal, link_case, read_all_stubs, read_files};
+use case_names::{MemberName, Members, Names, members_of, method_of, method_text};
+use failure::Failure;
+use folder_analysis::{analyse, has_object};
+use jvm_model::{MethodNo, reason_word};
+use linked_program::program::Program;
+use points_to::SolveFault;
+use std::alloc::{AllocError, Global};
+use std::str;
+use ts_outside::Tree;
+
+/// The program of a case, and the members of its classes.
+#[derive(Drop)]
+struct Linked {
+    program: Program,
+    members: Members,
+}
+
+/// The entry and the limit of a case, as its file says.
+#[derive(Drop)]
+struct Entry {
+    method: String,
+    limit: u64,
+}
+
+/// Prints the sets of a case from the entry that its file names.
+pub fn tell_case<R: Print, T: Tree>(rt: &R, alloc: Global, tree: &mut T) -> Result<()> {
+    let Entry { method, limit } = read_entry(alloc, tree)?;
+    tell_one(rt, alloc, tree, method.as_str(), limit, Amount::Everything)
+}
+
+/// The entry and the limit that the file `entry` of a case names.
+fn read_entry<T: Tree>(alloc: Global, tree: &mut T) -> Result<Entry> {
+    let bytes = tree.read(alloc, "entry", 65536)?;
+    let text = str::from_utf8(&bytes)?;
+    let mut lines = text.lines();
+    let method = String::from_str(alloc, lines.next().unwrap_or(""))?;
+    let limit = match lines.next() {
+        Some(line) => line.parse::<u64>()?,
+        None => LIMIT,
+    };
+    Ok(Entry { method, limit })
+}
+
+/// Prints the sets of the class files of a folder from an entry; or why the files have no program.
+pub fn tell_one<R: Print, T: Tree>(
+    rt: &R,
+    alloc: Global,
+    tree: &mut T,
+    entry: &str,
+    limit: u64,
+    amount: Amount,
+) -> Result<()> {
+    match read_case(alloc, tree) {
+        Ok(Linked { program, members }) => {
+            tell_program(rt, alloc, &program, &members, entry, limit, amount)
+        }
+        Err(failure) if is_refusal(&failure) => {
+            println!(rt; "{failure}")?;
+            Ok(())
+        }
+        Err(failure) => Err(failure.into()),
+    }
+}
+
+/// The program of the files of a case, and what they declare.
+fn read_case<T: Tree>(alloc: Global, tree: &mut T) -> Result<Linked, CaseFailure> {
+    let files = read_files(alloc, tree)?;
+    let stubs = read_all_stubs(alloc, tree)?;
+    let members = members_of(alloc, &files, &stubs)?;
+    let program = link_case(alloc, files, stubs)?;
+    Ok(Linked { program, members })
+}
+
+/// Prints the sets of a program from an entry.
+fn tell_program<R: Print>(
+    rt: &R,
+    alloc: Global,
+    program: &Program,
+    members: &Members,
+    entry: &str,
+    limit: u64,
+    amount: Amount,
+) -> Result<()> {
+    let Some(entry) = entry_of(alloc, program, &members.methods, entry)? else {
+        println!(rt; "no entry")?;
+        return Ok(());
+    };
+    if !has_object(program) {
+        bail!("the class java/lang/Object is not there");
+    }
+    match analyse(alloc, program, entry, limit) {
+        Ok(ground) => {
+            println!(rt; "end solved")?;
+            let names = Names::of(alloc, program, members)?;
+            tell_ground(rt, alloc, &ground, &names, amount)
+        }
+        Err(Failure::Cause(SolveFault::PairLimit(limit))) => {
+            println!(rt; "end limit {limit}")?;
+            Ok(())
+        }
+        Err(Failure::Cause(SolveFault::Refused(refusal))) => {
+            let file = refusal.file.as_str();
+            let offset = refusal.offset;
+            let reason = reason_word(refusal.reason);
+            println!(rt; "end refused {file} {offset} {reason}")?;
+            Ok(())
+        }
+        Err(Failure::OutOfMemory) => Err(AllocError.into()),
+    }
+}
+
+/// Prints the sets, or how many there are of each kind.
+fn tell_ground<R: Print>(
+    rt: &R,
+    alloc: Global,
+    ground: &Ground,
+    names: &Names,
+    amount: Amount,
+) -> Result<()> {
+    match amount {
+        Amount::Everything => tell_sets(rt, alloc, ground, names),
+        Amount::Counts => tell_counts(rt, ground),
+    }
+}
+
+/// The method of a text, which is its class, a full stop, its name and its descriptor.
+fn entry_of(
+    alloc: Global,
+    program: &Program,
+    members: &[MemberName],
+    entry: &str,
+) -> Result<Option<MethodNo>, AllocError>
+    ensures { IfOk result (λ found. IfSome found (λ method. IsMethodNumber program.now method.0)) }
+{
+    for member in members {
+        let text = method_text(alloc, member)?;
+        if text.as_str() == entry {
+            return Ok(method_of(program, member));
+        }
+    }
+    Ok(None)
+}

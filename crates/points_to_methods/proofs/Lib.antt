@@ -1,0 +1,9 @@
+pub mod EntryLists
+pub mod OneSite
+pub mod NumberedSites
+pub mod SelectedSites
+pub mod NumberedCalls
+pub mod NodeSums
+pub mod NodesTaken
+pub mod StartedInitialisers
+pub mod BegunFields

@@ -1,0 +1,78 @@
+use Rattle.std.proofs.Common.{◌≡◌, length, List, Some, None, sym, subst, ◌∙◌, arith}
+use Rattle.std.specs.Vec.{vec_len}
+use Rattle.std.proofs.lemmas.Bool.{eqb-true}
+use Rattle.jvm_model.specs.declared.number.MethodNo.{MethodNo}
+use Rattle.points_to_items.specs.NodeItems.{TriggerItem}
+use Rattle.points_to_nodes.specs.Known.{names_at}
+use Rattle.points_to_nodes.proofs.NamedSlots.{stands_below}
+use Rattle.points_to_tables.proofs.Adding.{OfOne}
+use Rattle.points_to_tables.proofs.Making.{makes_all, makes_grown, makes_next_read, makes_none, makes_same, makes_start}
+use Rattle.points_to_tables.specs.Steps.{Makes}
+use Rattle.points_to_methods.specs.Started.{IsStarted}
+use Rattle.points_to_methods.proofs.StartedInitialisers.{all_started, none_found, none_started, trigger_numbered, trigger_read, untriggered}
+use Rattle.points_to_methods.proofs.triggers.trigger_items.Goals as goal
+
+pub returns-in_default : goal.returns-in_default
+returns-in_default c = λ n at.
+    let p = c.args.at.now.program.now in
+    let l = c.args.at.now.method.now in
+    let is_trigger : n.trigger ≡ None = trigger_read l.nodes c.as_slice.result.now c.args.node n _ None c.as_slice.ensures at c.in_default.is in
+    makes_none c.args.tables.now (TriggerItem p l.method l n) c.args.steps.now.items (none_started p l n (untriggered p n is_trigger))
+
+pub coded_initialisers-requires : goal.coded_initialisers-requires
+coded_initialisers-requires c =
+    let p = c.args.at.now.program.now in
+    let l = c.args.at.now.method.now in
+    let class = c.in-Some.class in
+    let (n, at) = stands_below l.nodes c.args.node c.requires.there in
+    trigger_numbered p l c.requires.known.in_program c.args.node n at class (trigger_read l.nodes c.as_slice.result.now c.args.node n _ (Some class) c.as_slice.ensures at c.in-Some.is)
+
+pub returns-then-is_empty : goal.returns-then-is_empty
+returns-then-is_empty c = λ n at.
+    let p = c.args.at.now.program.now in
+    let l = c.args.at.now.method.now in
+    let class = c.in-Some.class in
+    let found = c.in_ok-initialisers.initialisers in
+    let is_trigger : n.trigger ≡ Some class = trigger_read l.nodes c.as_slice.result.now c.args.node n _ (Some class) c.as_slice.ensures at c.in-Some.is in
+    let within = trigger_numbered p l c.requires.known.in_program c.args.node n at class is_trigger in
+    let no_more : vec_len found ≡ 0 = eqb-true (vec_len found) 0 (sym c.is_empty.ensures ∙ c.if-is_empty.true) in
+    let empty : length found.items ≡ 0 = omega (arith, found.ok, no_more) in
+    makes_none c.args.tables.now (TriggerItem p l.method l n) c.args.steps.now.items (none_started p l n (none_found p n class is_trigger within found.items c.in_ok-initialisers.ensures empty))
+
+pub loop-initialiser-init : goal.loop-initialiser-init
+loop-initialiser-init c = λ landing stands.
+    makes_start (λ (i : MethodNo). IsStarted i landing) c.landing_of.new.tables c.deref-initialiser-items.result.now c.args.steps.now.items
+
+pub started_items-requires : goal.started_items-requires
+started_items-requires c =
+    let (n, at) = stands_below c.args.at.now.method.now.nodes c.args.node c.requires.there in
+    let (landing, is_landing, stands) = c.in_ok-landing.ensures.stands n at in
+    (landing, (c.loop-initialiser.invariant landing stands).grows.landings c.in_ok-landing.landing.0 landing stands)
+
+pub loop-initialiser-preserved : goal.loop-initialiser-preserved
+loop-initialiser-preserved c = λ landing stands.
+    let made = c.loop-initialiser.invariant landing stands in
+    makes_next_read (λ (i : MethodNo). IsStarted i landing) c.landing_of.new.tables c.loop-initialiser.tables c.started_items.new.tables c.deref-initialiser-items.result.now c.loop-initialiser.initialiser-index _
+    c.args.steps.now.items c.loop-initialiser.steps.items c.started_items.new.steps.items c.loop-initialiser-test.true made
+    (c.in_ok-started_items.ensures landing (made.grows.landings c.in_ok-landing.landing.0 landing stands))
+
+pub returns : goal.returns
+returns c = λ n at.
+    let p = c.args.at.now.program.now in
+    let l = c.args.at.now.method.now in
+    let one = c.args.tables.now in
+    let two = c.landing_of.new.tables in
+    let three = c.loop-initialiser.tables in
+    let before = c.args.steps.now.items in
+    let after = c.loop-initialiser.steps.items in
+    let class = c.in-Some.class in
+    let found = c.in_ok-initialisers.initialisers.items in
+    let items = c.deref-initialiser-items.result.now in
+    let is_trigger : n.trigger ≡ Some class = trigger_read l.nodes c.as_slice.result.now c.args.node n _ (Some class) c.as_slice.ensures at c.in-Some.is in
+    let within = trigger_numbered p l c.requires.known.in_program c.args.node n at class is_trigger in
+    let (landing, is_landing, stands) = c.in_ok-landing.ensures.stands n at in
+    let all = makes_all (λ (i : MethodNo). IsStarted i landing) two three items c.loop-initialiser.initialiser-index before after (omega arith) (c.loop-initialiser.invariant landing stands) in
+    let of_found = subst (λ (is : List MethodNo). Makes two three (OfOne (λ (i : MethodNo). IsStarted i landing) is) before after) c.deref-initialiser-items.ensures.value all in
+    makes_same one three _ (TriggerItem p l.method l n) before after
+    (all_started p n class is_trigger within found c.in_ok-initialisers.ensures l (names_at c.args.at.now) c.requires.known landing is_landing)
+    (makes_grown one two three _ before after c.in_ok-landing.ensures.grows c.in_ok-landing.ensures.calls of_found)

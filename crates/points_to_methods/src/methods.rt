@@ -1,0 +1,45 @@
+//! The items of a method.
+
+ghost use Rattle.std.specs.Prelude.{IfOk, OnOk};
+ghost use Rattle.points_to_items.specs.ItemRules.{MethodItem};
+ghost use Rattle.points_to_items.specs.MethodNumbers.{IsMethodIn};
+ghost use Rattle.points_to_methods.specs.NewCalls.{AddsCalls};
+ghost use Rattle.points_to_tables.specs.Numbered.{Grows};
+ghost use Rattle.points_to_tables.specs.Steps.{Adds};
+ghost use Rattle.slot_names.specs.KeptNames.{name_table};
+ghost use Rattle.slot_names.specs.Tables.{AreNames};
+
+use crate::nodes::node_items;
+use class_index::index_failure::IndexFailure;
+use linked_program::program::Program;
+use op_model::LoweredMethod;
+use points_to_nodes::NamedMethod;
+use points_to_tables::{Item, Tables};
+use slot_names::{Names, names_of};
+use std::alloc::Global;
+
+/// Adds what the nodes of a method lead to, and answers the variables of its slots.
+pub fn method_items(
+    alloc: Global,
+    program: &Program,
+    tables: &mut Tables,
+    method: &LoweredMethod,
+    steps: &mut Vec<Item>,
+) -> Result<Names, IndexFailure>
+    requires { IsMethodIn program.now method.now.method.0 method.now }
+    ensures grows { OnOk result (Grows tables.old tables.new) }
+    ensures calls { OnOk result (AddsCalls method.now tables.old.calls tables.new.calls) }
+    ensures adds { OnOk result (Adds tables.new (MethodItem program.now method.now) steps.old.items steps.new.items) }
+    ensures names { IfOk result (λ names. AreNames method.now (name_table names)) }
+{
+    let names = names_of(alloc, method)?;
+    let at = NamedMethod {
+        program,
+        method,
+        names: &names,
+    };
+    for node in 0..method.nodes.len() {
+        node_items(alloc, &at, node, tables, steps)?;
+    }
+    Ok(names)
+}

@@ -1,0 +1,69 @@
+//! Loads of static fields: what the field holds, and what it begins with.
+
+ghost use Rattle.std.specs.Prelude.{◌≡◌, ℕ, List, Some, option_map, slice_get, IfSome, OnOk};
+ghost use Rattle.linked_program.specs.Numbers.{IsFieldNumber};
+ghost use Rattle.op_model.specs.declared.node.Node.{Node};
+ghost use Rattle.points_to_items.specs.NodeItems.{LoadStaticItem};
+ghost use Rattle.points_to_nodes.specs.Known.{HasNode, IsNamed};
+ghost use Rattle.points_to_rules.specs.Rules.{BeginsWith};
+ghost use Rattle.points_to_tables.specs.Steps.{Makes};
+
+use class_index::index_failure::IndexFailure;
+use jvm_model::FieldNo;
+use linked_program::program::Program;
+use points_to_nodes::{FixedPlace, NamedMethod, Passing, hold, pass_after};
+use points_to_tables::{Item, Tables, boot_site};
+
+/// Adds what a load of a static field leads to.
+pub(crate) fn load_static(
+    at: &NamedMethod<'_>,
+    node: usize,
+    field: FieldNo,
+    target: u32,
+    tables: &mut Tables,
+    steps: &mut Vec<Item>,
+) -> Result<(), IndexFailure>
+    requires known { IsNamed at.now }
+    requires there { HasNode at.now node }
+    requires field { IsFieldNumber at.now.program.now field.0 }
+    ensures { (n : Node) → slice_get at.now.method.now.nodes node ≡ Some n
+        → OnOk result (Makes tables.old tables.new (LoadStaticItem at.now.program.now at.now.method.now n field target) steps.old.items steps.new.items) }
+{
+    pass_after(
+        at,
+        node,
+        FixedPlace::Static(field),
+        Passing::To,
+        target,
+        tables,
+        steps,
+    )?;
+    let Some(class) = first_class(at.program, field) else {
+        return Ok(());
+    };
+    let site = boot_site(tables, class)?;
+    hold(tables, steps, FixedPlace::Static(field), site)?;
+    Ok(())
+}
+
+/// The class of the object that a static field begins with, if it begins with one: what its stub names; or, of a String of a class of the folder,
+/// that of a constant (JVMS 4.7.2).
+fn first_class(program: &Program, field: FieldNo) -> Option<&[u8]>
+    requires { IsFieldNumber program.now field.0 }
+    ensures found { IfSome result (λ class. BeginsWith program.now field class.now) }
+    ensures one { (class : List ℕ) → BeginsWith program.now field class → option_map (λ c. c.now) result ≡ Some class }
+{
+    program.well_formed();
+    if let Some(held) = program.held_class(field) {
+        return Some(held);
+    }
+    let member = program.field(field);
+    if member.signature.descriptor != b"Ljava/lang/String;".as_slice() {
+        return None;
+    }
+    if program.is_folder(member.class) {
+        Some(b"java/lang/String")
+    } else {
+        None
+    }
+}

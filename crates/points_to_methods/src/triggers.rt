@@ -1,0 +1,85 @@
+//! Initialisers that a node may start (JVMS 5.5).
+
+ghost use Rattle.std.specs.Prelude.{◌≡◌, Some, slice_get, OnOk};
+ghost use Rattle.op_model.specs.declared.node.Node.{Node};
+ghost use Rattle.points_to_items.specs.Items.{Landing};
+ghost use Rattle.points_to_items.specs.NodeItems.{TriggerItem};
+ghost use Rattle.points_to_nodes.specs.Known.{HasNode, IsNamed};
+ghost use Rattle.points_to_tables.specs.Numbered.{IsNumbered};
+ghost use Rattle.points_to_tables.specs.Steps.{Makes};
+ghost use Rattle.points_to_methods.specs.Initiated.{IsInitiated};
+ghost use Rattle.points_to_methods.specs.Started.{IsStarted};
+
+use class_index::index_failure::IndexFailure;
+use class_initialisers::coded_initialisers;
+use jvm_model::MethodNo;
+use points_to_nodes::{NamedMethod, landing_of};
+use points_to_tables::{Item, LandingNo, Place, Tables, User, add_use};
+use std::alloc::Global;
+
+/// Adds that the initialisers run that a node may start; what they throw is kept, and is thrown on at the node.
+pub(crate) fn trigger_items(
+    alloc: Global,
+    at: &NamedMethod<'_>,
+    node: usize,
+    tables: &mut Tables,
+    steps: &mut Vec<Item>,
+) -> Result<(), IndexFailure>
+    requires known { IsNamed at.now }
+    requires there { HasNode at.now node }
+    ensures { (n : Node) → slice_get at.now.method.now.nodes node ≡ Some n
+        → OnOk result (Makes tables.old tables.new (TriggerItem at.now.program.now at.now.method.now.method at.now.method.now n) steps.old.items steps.new.items) }
+{
+    let Some(class) = at.method.nodes.as_slice()[node].trigger else {
+        return Ok(());
+    };
+    let initialisers = coded_initialisers(alloc, at.program, class)?;
+    if initialisers.is_empty() {
+        return Ok(());
+    }
+    let landing = landing_of(alloc, at, node, tables)?;
+    for initialiser in &initialisers {
+        started_items(tables, *initialiser, landing, steps)?;
+    }
+    Ok(())
+}
+
+/// Adds that an initialiser runs; what it throws is kept, and goes to a landing.
+fn started_items(
+    tables: &mut Tables,
+    initialiser: MethodNo,
+    landing: LandingNo,
+    steps: &mut Vec<Item>,
+) -> Result<(), IndexFailure>
+    requires { IsNumbered tables.old.landings landing.0 }
+    ensures { (l : Landing) → slice_get tables.old.landings landing.0 ≡ Some l
+        → OnOk result (Makes tables.old tables.new (IsStarted initialiser l) steps.old.items steps.new.items) }
+{
+    initiated_items(tables, initialiser, steps)?;
+    add_use(
+        tables,
+        steps,
+        Place::Thrown(initialiser),
+        User::LandAt(landing),
+    )?;
+    Ok(())
+}
+
+/// Adds that an initialiser runs, and that what it throws is kept.
+pub fn initiated_items(
+    tables: &mut Tables,
+    initialiser: MethodNo,
+    steps: &mut Vec<Item>,
+) -> Result<(), IndexFailure>
+    ensures { OnOk result (Makes tables.old tables.new (IsInitiated initialiser) steps.old.items steps.new.items) }
+{
+    let kept = tables.place(Place::Kept)?;
+    steps.push(Item::Runs(initialiser))?;
+    add_use(
+        tables,
+        steps,
+        Place::Thrown(initialiser),
+        User::PassTo(kept),
+    )?;
+    Ok(())
+}
