@@ -1,0 +1,5 @@
+pub mod Digits
+pub mod Ranges
+pub mod OptionRules
+pub mod Parsing
+pub mod Asking

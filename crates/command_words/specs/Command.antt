@@ -1,0 +1,33 @@
+-- Public contracts rest on this module.
+-- The command of a run: its options, by their long names, each with one value.
+use Rattle.std.specs.Prelude.{codes, ◌≡◌, ℕ, true, List, [], ◌∷◌, Option, Some}
+use Rattle.clap.specs.Faults.{fault_of}
+use Rattle.clap.specs.Simple.{App, matches_of, new_rule, new_shape}
+use Rattle.clap.specs.Walk.{Rule, first_of}
+use Rattle.clap.specs.declared.builder.action.ArgAction.TheVariants.{Set}
+
+-- An option of this name with one value; and one that has to be there.
+abbrev pub option_named : List ℕ → Rule
+option_named name = record (new_rule name) { long = Some name; action = Some Set }
+
+abbrev pub required_option : List ℕ → Rule
+required_option name = record (option_named name) { required = true }
+
+abbrev pub options : List Rule
+options = required_option (codes "classes") ∷ required_option (codes "property") ∷ required_option (codes "entry") ∷ option_named (codes "stubs")
+    ∷ option_named (codes "stages") ∷ option_named (codes "depth") ∷ option_named (codes "fact-limit") ∷ option_named (codes "pair-limit") ∷ []
+
+-- The command, which has these options and nothing else, and whose words do not begin with its own name.
+abbrev pub run_command : App
+run_command = record {
+  top = record (new_shape (codes "typestate")) { rules = options; no_binary_name = true; disable_help_flag = true; disable_version_flag = true };
+  subs = [];
+}
+
+-- The words are of the command's form: the parser of command lines finds no fault in them.
+abbrev pub HasForm : List (List ℕ) → Type 0
+HasForm words = fault_of run_command words ≡ []
+
+-- The value of an option, where the words give it.
+abbrev pub option_in : List (List ℕ) → List ℕ → Option (List ℕ)
+option_in words name = first_of name (matches_of run_command words)

@@ -1,0 +1,4 @@
+pub mod Command
+pub mod Requests
+pub mod GivenValues
+pub mod Options

@@ -1,0 +1,67 @@
+//! Words of runs.
+
+use crate::{NumberOption, UsageFault, read_words};
+use failure::Failure;
+use std::alloc::{AllocError, Global};
+use std::test::Fail;
+
+/// The words of a text, which stand between spaces.
+fn words_of(alloc: Global, texts: &[&str]) -> Result<Vec<String>, AllocError> {
+    let mut words = Vec::new(alloc);
+    for text in texts {
+        words.push(String::from_str(alloc, *text)?)?;
+    }
+    Ok(words)
+}
+
+#[test]
+fn reads_each_option(rt: HostRuntime) -> Result<(), Fail> {
+    let texts = [
+        "--entry=a/b.C.main",
+        "--classes",
+        "folder",
+        "--property",
+        "p.toml",
+        "--stubs",
+        "s.toml",
+        "--stages=1",
+        "--depth",
+        "03",
+        "--fact-limit",
+        "1000000",
+        "--pair-limit",
+        "1",
+    ];
+    let words = words_of(rt.alloc(), &texts)?;
+    let request = read_words(rt.alloc(), &words)?;
+    assert_eq!(rt; request.property, "p.toml");
+    assert_eq!(rt; request.stubs, Some("s.toml"));
+    assert_eq!(rt; request.class, b"a/b.C".as_slice());
+    assert_eq!(rt; request.method, b"main".as_slice());
+    assert_eq!(rt; (request.stages, request.depth), (1, 3));
+    assert_eq!(rt; (request.fact_limit, request.pair_limit), (1_000_000, 1));
+    Ok(())
+}
+
+#[test]
+fn refuses_a_depth(rt: HostRuntime) -> Result<(), Fail> {
+    let texts = [
+        "--classes",
+        "folder",
+        "--property",
+        "p.toml",
+        "--entry",
+        "C.main",
+        "--depth",
+        "+2",
+    ];
+    let words = words_of(rt.alloc(), &texts)?;
+    let refused = read_words(rt.alloc(), &words);
+    assert!(rt;
+        matches!(
+            refused,
+            Err(Failure::Cause(UsageFault::Range(NumberOption::Depth)))
+        )
+    );
+    Ok(())
+}

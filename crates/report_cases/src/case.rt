@@ -1,0 +1,124 @@
+//! A case: a folder of class files with a property and an entry.
+
+ghost use Rattle.std.specs.Prelude.{◌≡◌, ℕ, Some};
+ghost use Rattle.folder_analysis.specs.Analyses.{IsAnalysis};
+ghost use Rattle.folder_supply.specs.Supplied.{IsSupplied};
+ghost use Rattle.jvm_model.specs.Automata.{IsAutomaton};
+ghost use Rattle.jvm_model.specs.declared.number.MethodNo.{MethodNo as RuleMethodNo};
+ghost use Rattle.jvm_model.specs.Programs.{Class, object_name};
+ghost use Rattle.jvm_model.specs.Subtypes.{class_named};
+ghost use Rattle.linked_program.specs.Numbers.{name_at, IsClassNumber, IsMethodNumber};
+
+use anyhow::{Result, bail};
+use call_graph::Ground;
+use case_files::{is_refusal, link_case, read_all_stubs, read_files};
+use entry_method::{find_entry, has_method_named};
+use folder_analysis::{analyse, has_object};
+use jvm_model::{Automaton, ClassNo, MethodNo};
+use linked_program::program::Program;
+use property_file::read_property;
+use stage_report::{Report, report_of};
+use std::alloc::Global;
+use std::str;
+use ts_outside::Tree;
+
+/// The most bytes of a property file, and one more.
+const PROPERTY_BYTES: u32 = 1_048_577;
+
+/// The most pairs of a place and a site.
+const LIMIT: u64 = 20_000_000;
+
+/// Prints the report of a case.
+pub fn tell_case<R: Print, T: Tree>(rt: &R, alloc: Global, tree: &mut T) -> Result<()> {
+    let property = tree.read(alloc, "p.toml", PROPERTY_BYTES)?;
+    let automaton = read_property(alloc, &property)?;
+    let bytes = tree.read(alloc, "entry", 65536)?;
+    let text = str::from_utf8(&bytes)?;
+    let Some((class, method)) = text.trim_end().rsplit_once('.') else {
+        bail!("the entry has no full stop");
+    };
+    let files = read_files(alloc, tree)?;
+    let stubs = read_all_stubs(alloc, tree)?;
+    let named = has_method_named(&files, class.as_bytes(), method.as_bytes());
+    println!(rt; "has a method of the name: {named}")?;
+    match link_case(alloc, files, stubs) {
+        Ok(program) => tell_program(rt, alloc, &program, &automaton, class, method),
+        Err(failure) if is_refusal(&failure) => {
+            println!(rt; "{failure}")?;
+            Ok(())
+        }
+        Err(failure) => Err(failure.into()),
+    }
+}
+
+/// Prints the report on a program.
+fn tell_program<R: Print>(
+    rt: &R,
+    alloc: Global,
+    program: &Program,
+    automaton: &Automaton,
+    class: &str,
+    method: &str,
+) -> Result<()>
+    requires { IsAutomaton automaton.now }
+{
+    let Some(entry) = find_entry(program, class.as_bytes(), method.as_bytes()) else {
+        println!(rt; "no entry")?;
+        return Ok(());
+    };
+    let Some(class) = program.find(automaton.class_name.as_slice()) else {
+        println!(rt; "no class of the property")?;
+        return Ok(());
+    };
+    if !has_object(program) {
+        bail!("the class java/lang/Object is not there");
+    }
+    tell_analysis(rt, alloc, program, automaton, entry, class)
+}
+
+/// Prints the report on a program from an entry.
+fn tell_analysis<R: Print>(
+    rt: &R,
+    alloc: Global,
+    program: &Program,
+    automaton: &Automaton,
+    entry: MethodNo,
+    class: ClassNo,
+) -> Result<()>
+    requires automaton { IsAutomaton automaton.now }
+    requires entry { IsMethodNumber program.now entry.0 }
+    requires object { (object : Class) × (class_named program.now object_name ≡ Some object) }
+    requires class { IsClassNumber program.now class.0 }
+    requires named { name_at program.now class.0 ≡ automaton.now.class_name }
+{
+    match analyse(alloc, program, entry, LIMIT) {
+        Ok(ground) => tell_report(rt, alloc, program, &ground, automaton, class),
+        Err(failure) => {
+            println!(rt; "{failure}")?;
+            Ok(())
+        }
+    }
+}
+
+/// Prints the report on an analysis.
+fn tell_report<R: Print>(
+    rt: &R,
+    alloc: Global,
+    program: &Program,
+    ground: &Ground,
+    automaton: &Automaton,
+    class: ClassNo,
+) -> Result<()>
+    requires automaton { IsAutomaton automaton.now }
+    requires class { IsClassNumber program.now class.0 }
+    requires named { name_at program.now class.0 ≡ automaton.now.class_name }
+    requires analysis { (entry : RuleMethodNo) × (limit : ℕ) × IsMethodNumber program.now entry.0
+        × IsAnalysis program.now (IsSupplied program.now) entry limit ground.now }
+{
+    let Report { lines, all_safe } = report_of(alloc, program, ground, automaton, class)?;
+    for line in &lines {
+        print!(rt; "{}", str::from_utf8(line)?)?;
+    }
+    println!(rt; "all safe: {all_safe}")?;
+    Ok(())
+}

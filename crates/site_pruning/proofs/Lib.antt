@@ -1,0 +1,6 @@
+mod Marking
+mod EventNumbers
+mod OrderedSites
+mod NumberedPlaces
+mod MarkedCalls
+mod PrunedSites

@@ -1,0 +1,4 @@
+pub mod Pruning
+pub mod Events
+pub mod Marks
+pub mod Places

@@ -1,0 +1,3 @@
+pub mod MethodViews
+pub mod PlainLines
+pub mod ReportLines

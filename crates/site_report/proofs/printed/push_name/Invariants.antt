@@ -1,0 +1,6 @@
+use Rattle.std.proofs.Common.{◌≡◌, ◌++◌, take}
+use Rattle.site_report.specs.Printed.{printed}
+use Rattle.site_report.proofs.printed.push_name.Given as goal
+
+abbrev pub invariant-loop-byte : goal.invariant-loop-byte
+invariant-loop-byte l = l.line.items ≡ l.initial.line.items ++ printed (take l.byte-index l.name)

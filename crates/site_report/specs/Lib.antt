@@ -1,0 +1,4 @@
+pub mod Lines
+pub mod Printed
+pub mod Sites
+pub mod Verdicts

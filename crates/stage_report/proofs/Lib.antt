@@ -1,0 +1,5 @@
+mod FoundLines
+mod CallTargets
+mod KnownSites
+mod Agreeing
+mod Reported

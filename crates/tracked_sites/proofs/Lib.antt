@@ -1,0 +1,5 @@
+mod Adding
+mod HeldFacts
+mod ClassSites
+mod SiteOrder
+mod FoundSites
