@@ -100,6 +100,11 @@ def emptied_method(reader: Reader, method: Method) -> bytes:
     return b"".join(parts)
 
 
+def offsets_of(data: bytes, named: set[str]) -> set[int]:
+    """The offsets at which the methods begin of which the name and the descriptor, in one word, are among these."""
+    return {method.start for method in methods_of(at_methods(data)) if method.name + method.descriptor in named}
+
+
 def emptied(data: bytes, offsets: set[int]) -> bytes:
     """The class file with each method emptied in which one of the offsets stands."""
     reader = at_methods(data)

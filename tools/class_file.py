@@ -1,4 +1,4 @@
-"""Reads what the tools need of a class file: its version, names, members, and what its constant pool names."""
+"""Reads what the tools need of a class file: its version, names, members, where their code lies, and what its constant pool names."""
 
 import struct
 from dataclasses import dataclass, field
@@ -16,11 +16,14 @@ class BadClassFile(Exception):
 
 @dataclass
 class Member:
-    """A field or a method: its access flags, and the exceptions that it declares."""
+    """A field or a method: its access flags, the exceptions that it declares, and the place of its code in the file, with its length."""
     flags: int
     throws: list
+    code_at: int = 0
+    code_length: int = 0
 
     def has(self, flag):
+        """Whether this access flag is set."""
         return bool(self.flags & flag)
 
 
@@ -37,12 +40,15 @@ class ClassFile:
     classes_named: set = field(default_factory=set)
     fields_named: set = field(default_factory=set)
     methods_named: set = field(default_factory=set)
+    pool: dict = field(default_factory=dict)
     path: str = ""
 
     def has(self, flag):
+        """Whether this access flag is set."""
         return bool(self.flags & flag)
 
     def supers(self):
+        """The superclass, if there is one, and the interfaces."""
         return ([self.super_class] if self.super_class else []) + self.interfaces
 
 
@@ -60,7 +66,7 @@ def parse(data):
     try:
         return Reader(data).whole()
     except (struct.error, IndexError, KeyError, TypeError, UnicodeDecodeError) as fault:
-        raise BadClassFile(f"it is cut off or spelled wrongly ({fault})") from fault
+        raise BadClassFile("it is cut off or spelled wrongly") from fault
 
 
 def element_class(name):
@@ -69,6 +75,12 @@ def element_class(name):
         return name
     element = name.lstrip("[")
     return element[1:-1] if element.startswith("L") else None
+
+
+def in_byte_order(names):
+    """Names, or tuples of names, in the order of their bytes."""
+    spelled = lambda each: each.encode("utf-8", "surrogatepass")
+    return sorted(names, key=lambda each: spelled(each) if isinstance(each, str) else tuple(map(spelled, each)))
 
 
 class Reader:
@@ -80,14 +92,17 @@ class Reader:
         self.pool = {}
 
     def u2(self):
+        """The next number of two bytes."""
         self.at += 2
         return struct.unpack_from(">H", self.data, self.at - 2)[0]
 
     def u4(self):
+        """The next number of four bytes."""
         self.at += 4
         return struct.unpack_from(">I", self.data, self.at - 4)[0]
 
     def read_pool(self):
+        """Reads the constant pool: each entry by its index, as its tag and its bytes."""
         count, index = self.u2(), 1
         while index < count:
             tag = self.data[self.at]
@@ -98,39 +113,50 @@ class Reader:
             index += 2 if tag in (5, 6) else 1
 
     def text(self, index):
+        """The text of an entry."""
         tag, body = self.pool[index]
         if tag != 1:
             raise KeyError(f"entry {index} is no text")
         return body[2:].decode("utf-8", "surrogatepass")
 
     def class_name(self, index):
+        """The class that an entry names."""
         return self.text(struct.unpack(">H", self.pool[index][1])[0])
 
     def reference(self, body):
+        """The class, name and descriptor of a field or a method, from the bytes of its entry."""
         class_index, pair = struct.unpack(">HH", body)
         name, descriptor = struct.unpack(">HH", self.pool[pair][1])
         return self.class_name(class_index), self.text(name), self.text(descriptor)
 
     def member(self):
+        """The next field or method, with its name and descriptor."""
         flags, name, descriptor = self.u2(), self.text(self.u2()), self.text(self.u2())
-        throws = []
+        found = Member(flags, [])
         for _ in range(self.u2()):
             attribute, length = self.text(self.u2()), self.u4()
             after = self.at + length
             if attribute == "Exceptions":
-                throws = [self.class_name(self.u2()) for _ in range(self.u2())]
+                found.throws = [self.class_name(self.u2()) for _ in range(self.u2())]
+            elif attribute == "Code":
+                self.at += 4
+                found.code_length = self.u4()
+                found.code_at = self.at
             self.at = after
-        return (name, descriptor), Member(flags, throws)
+        return (name, descriptor), found
 
     def members(self):
+        """The fields or the methods, which stand next."""
         return dict(self.member() for _ in range(self.u2()))
 
     def whole(self):
+        """The class, from its constant pool on."""
         self.read_pool()
         flags, this, above = self.u2(), self.u2(), self.u2()
         interfaces = [self.class_name(self.u2()) for _ in range(self.u2())]
         found = ClassFile(major_version(self.data), self.class_name(this), flags,
                           self.class_name(above) if above else "", interfaces, self.members(), self.members())
+        found.pool = self.pool
         for tag, body in self.pool.values():
             if tag == 7:
                 found.classes_named.add(self.text(struct.unpack(">H", body)[0]))

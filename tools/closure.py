@@ -67,11 +67,13 @@ class Closure:
         return self.above[name]
 
     def direct_supers(self, name):
+        """The superclass and the interfaces that the program gives a class."""
         if name in self.base and name not in self.folder:
             return self.base[name].supers
         return self.get(name).supers() if self.get(name) else []
 
     def walk(self, name, supers):
+        """All that is above a class, from the nearest on, where this function gives what is directly above one."""
         found = [name]
         for each in found:
             found.extend(above for above in dict.fromkeys(supers(each)) if above not in found)
@@ -92,6 +94,7 @@ class Closure:
         return self.found[name, key]
 
     def look_for_method(self, name, key):
+        """Looks for it, by JVMS 5.4.3.3 and 5.4.3.4."""
         for each in self.superclasses(name):
             if key in self.get(each).methods:
                 return each
@@ -103,6 +106,7 @@ class Closure:
         return (concrete or sorted(lowest) or [None])[0]
 
     def is_candidate(self, name, key):
+        """Whether an interface declares an instance method that a class below it has from there."""
         found = self.get(name)
         if not found or not found.has(INTERFACE) or key not in found.methods:
             return False
@@ -127,6 +131,7 @@ class Closure:
         return next(each for each in ways if declaring in self.library_supers(each))
 
     def is_described(self, name, key):
+        """Whether the stub file or the base stubs describe a method in this class."""
         return key in self.methods.get(name, {}) or (name in self.base and key in self.base[name].methods)
 
     def describe(self, name, key, member):
@@ -146,6 +151,7 @@ class Closure:
             self.made.add(name)
 
     def is_abstract(self, name):
+        """Whether a class has no objects of its own."""
         return self.get(name).has(ABSTRACT) or self.get(name).has(INTERFACE)
 
     def method_named(self, name, key):
@@ -203,6 +209,7 @@ class Closure:
                 self.describe(found.name, key, member)
 
     def size(self):
+        """How much is described."""
         return len(self.classes), len(self.made), sum(map(len, self.methods.values()))
 
     def overrides(self):

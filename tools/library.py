@@ -20,7 +20,8 @@ def jdk_folder(named):
     if not found and shutil.which("javap"):
         found = os.path.dirname(os.path.dirname(os.path.realpath(shutil.which("javap"))))
     if not found:
-        raise Unusable("no JDK is there: name one with --jdk PATH, or set JAVA_HOME")
+        raise Unusable("no JDK is there: install one, as by 'apt-get install default-jdk-headless', or name one with --jdk PATH, or set "
+                       "JAVA_HOME")
     return found
 
 
@@ -57,6 +58,7 @@ class Jars:
                 self.entries.update((entry[:-6], (jar, entry)) for entry in jar.namelist() if entry.endswith(".class"))
 
     def read(self, name):
+        """The bytes of a class file, or None."""
         jar, entry = self.entries.get(name, (None, None))
         return jar.read(entry) if jar else None
 
@@ -76,6 +78,7 @@ class Image:
         raise Unusable(f"{path} is no image of a JDK: name another JDK with --jdk PATH")
 
     def index(self, header):
+        """Finds where the classes of the image are."""
         _, _, _, _, length, places_size, texts_size = header
         offsets = struct.unpack_from(f"{self.order}{length}I", self.bytes, 28 + 4 * length)
         places = 28 + 8 * length
@@ -99,10 +102,12 @@ class Image:
         return found
 
     def text(self, offset):
+        """The text at an offset of the table of texts."""
         start = self.texts + offset
         return self.bytes[start:self.bytes.find(b"\0", start)]
 
     def read(self, name):
+        """The bytes of a class file, or None."""
         place = self.entries.get(name)
         if place is None:
             return None
@@ -131,18 +136,19 @@ def read_folder(folder):
 
 
 class BaseClass:
-    """A class that the base stubs describe: its supertypes, and its methods, each with whether it is abstract."""
+    """A class that the base stubs describe: its supertypes, its methods, each with whether it is abstract, and which are static."""
 
     def __init__(self, supers, is_interface):
         self.supers = supers
         self.is_interface = is_interface
         self.methods = {}
+        self.statics = set()
         self.fields = set()
 
 
 MESSAGE, CAUSE = "(Ljava/lang/String;)V", "(Ljava/lang/String;Ljava/lang/Throwable;)V"
 CONSTRUCTORS = {"-": ["()V"], "message": ["()V", MESSAGE], "cause": ["()V", MESSAGE, CAUSE]}
-METHOD = re.compile(r"- `(?:static )?([^(` ]+)(\([^` ]*)` (.*)")
+METHOD = re.compile(r"- `(static )?([^(` ]+)(\([^` ]*)` (.*)")
 QUOTED = re.compile(r"`([^`]*)`")
 
 
@@ -177,8 +183,9 @@ def base_line(base, current, line):
     elif current and line.startswith("Static fields"):
         current.fields.update(tuple(each.split(" ")) for each in quoted)
     elif current and METHOD.match(line):
-        name, descriptor, says = METHOD.match(line).groups()
+        is_static, name, descriptor, says = METHOD.match(line).groups()
         current.methods[name, descriptor] = says.startswith("abstract")
+        current.statics.update([(name, descriptor)] if is_static else [])
     return current
 
 

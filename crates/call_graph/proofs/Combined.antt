@@ -31,7 +31,7 @@ module _ (p : Program) (gives : GivenAs) (entry : MethodNo) where
   starting premises i (at_node m l n is starts one) = subst (λ (fs : List Fact). Hold IsPlain fs) (sym one) (tt, tt)
 
   -- no rule of the analysis rests on what methods may write
-  plain_premises : (premises : List Fact) (fact : Fact) → Instance p gives entry premises fact → Hold IsPlain premises
+  pub plain_premises : (premises : List Fact) (fact : Fact) → Instance p gives entry premises fact → Hold IsPlain premises
   plain_premises premises fact entry_runs = tt
   plain_premises premises fact entry_called = tt
   plain_premises premises fact (entry_argument has) = tt

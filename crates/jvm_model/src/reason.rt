@@ -89,8 +89,14 @@ pub enum Reason {
     BadProperty,
     /// A stub file breaks a rule of its keys.
     BadStub,
-    /// The input has a form that is not analysed yet.
-    NotYet,
+    /// No class file is that of the entry's class and has a method of the entry's name.
+    NoEntry,
+    /// No method of the entry's name can start a program.
+    EntryShape,
+    /// There are more class files than the limit, or more bytes of them together.
+    TooManyFiles,
+    /// The points-to sets have as many pairs of a place and a site as the limit.
+    PairLimit,
 }
 
 /// The word that is printed for a reason: the name of its variant.
@@ -137,7 +143,10 @@ pub fn reason_word(reason: Reason) -> &'static str
         Reason::BadToml => "BadToml",
         Reason::BadProperty => "BadProperty",
         Reason::BadStub => "BadStub",
-        Reason::NotYet => "NotYet",
+        Reason::NoEntry => "NoEntry",
+        Reason::EntryShape => "EntryShape",
+        Reason::TooManyFiles => "TooManyFiles",
+        Reason::PairLimit => "PairLimit",
     }
 }
 

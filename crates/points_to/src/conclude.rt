@@ -5,6 +5,7 @@ ghost use Rattle.jvm_model.specs.Programs.{Class, object_name};
 ghost use Rattle.jvm_model.specs.Subtypes.{class_named};
 ghost use Rattle.linked_program.specs.Numbers.{IsMethodNumber};
 ghost use Rattle.op_model.specs.Supplies.{IsSameSupply};
+ghost use Rattle.points_to_calls.specs.KeptAnswers.{AreRight};
 ghost use Rattle.points_to_tables.specs.Numbered.{Grows, IsNumbered};
 ghost use Rattle.points_to_tables.specs.Steps.{Adds};
 ghost use Rattle.points_to.specs.Solutions.{IsSupplyOf};
@@ -44,8 +45,10 @@ pub(crate) fn conclude<S: Supply>(
     requires item { IsKnownItem program.now found.old.tables item }
     requires index { IsKnownIndex program.now found.old.tables (values_at index.old.sites.groups.items) (values_at index.old.users.groups.items) }
     requires object { (object : Class) × (class_named program.now object_name ≡ Some object) }
+    requires answers { AreRight program.now found.old.tables found.old.answers }
     ensures indexed { OnOk result (IsIndexed index.old.sites.groups.items index.new.sites.groups.items index.old.users.groups.items index.new.users.groups.items item) }
     ensures grows { OnOk result (Grows found.old.tables found.new.tables) }
+    ensures answers { OnOk result (AreRight program.now found.new.tables found.new.answers) }
     ensures adds { OnOk result (Adds found.new.tables (FollowsFrom program.now (S.gives supply.old) found.old.tables (values_at index.new.sites.groups.items) (values_at index.new.users.groups.items) item) [] steps.new.items) }
     ensures calls { OnOk result (AddsCallsBy (S.gives supply.old) item found.old.tables.calls found.new.tables.calls) }
     ensures lacks { OnOk result (NotesCalls (LacksBy program.now found.old.tables (values_at index.new.sites.groups.items) (values_at index.new.users.groups.items) item) found.old.refusals.call found.new.refusals.call) }
@@ -81,7 +84,9 @@ fn run<S: Supply>(
 ) -> Result<(), SolveFailure>
     requires supply { IsSupplyOf program.now (S.gives supply.old) }
     requires method { IsMethodNumber program.now method.0 }
+    requires answers { AreRight program.now found.old.tables found.old.answers }
     ensures grows { OnOk result (Grows found.old.tables found.new.tables) }
+    ensures answers { OnOk result (AreRight program.now found.new.tables found.new.answers) }
     ensures adds { OnOk result (Adds found.new.tables (IsGivenItem program.now (S.gives supply.old) method.0) steps.old.items steps.new.items) }
     ensures calls { OnOk result (AddsGivenCalls (S.gives supply.old) method.0 found.old.tables.calls found.new.tables.calls ⊎ (length found.new.tables.calls ≡ length found.old.tables.calls)) }
     ensures refused { OnOk result (NotesMethods (IsRefusedAs (S.gives supply.old) method) found.old.refusals.method found.new.refusals.method) }
@@ -125,7 +130,9 @@ fn call_target(
     requires call { IsNumbered found.old.tables.calls call.0 }
     requires target { IsMethodNumber program.now target.0 }
     requires resolved { ResolvesIn program.now found.old.tables call.0 }
+    requires answers { AreRight program.now found.old.tables found.old.answers }
     ensures grows { OnOk result (Grows found.old.tables found.new.tables) }
+    ensures answers { OnOk result (AreRight program.now found.new.tables found.new.answers) }
     ensures adds { OnOk result (Adds found.new.tables (IsCallItem program.now found.old.tables call.0 target) steps.old.items steps.new.items) }
     ensures calls { OnOk result (length found.new.tables.calls ≡ length found.old.tables.calls) }
     ensures refusals { found.new.refusals ≡ found.old.refusals }

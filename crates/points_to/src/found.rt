@@ -1,9 +1,10 @@
 //! What was found besides the items: the numbers, and the first refusals; and how objects are passed to users.
 
 ghost use Rattle.std.specs.Prelude.{◌≡◌, length, Some, None, All, OnOk, IfErr};
-ghost use Rattle.jvm_model.specs.Programs.{Class, object_name};
+ghost use Rattle.jvm_model.specs.Programs.{Class, Program as LinkedProgram, object_name};
 ghost use Rattle.jvm_model.specs.Subtypes.{class_named};
-ghost use Rattle.points_to_tables.specs.Numbered.{Grows, IsNumbered, none_numbered};
+ghost use Rattle.points_to_calls.specs.KeptAnswers.{AreRight};
+ghost use Rattle.points_to_tables.specs.Numbered.{Numbered, Grows, IsNumbered, none_numbered};
 ghost use Rattle.points_to_tables.specs.Steps.{Adds};
 ghost use Rattle.points_to.specs.Passing.{IsKnownUser, IsOutOfMemory, IsPassed, IsLackOf, NotesCalls, NotesReason, PassesToSome, PassesSome, LacksForSome, LacksSome};
 
@@ -11,14 +12,15 @@ use crate::refusals::{Refusals, RefusedCall};
 use crate::solve_failure::{SolveFailure, no_room};
 use jvm_model::{Reason, SiteNo};
 use linked_program::program::Program;
-use points_to_calls::pass;
+use points_to_calls::{Answers, pass};
 use points_to_tables::{Item, Tables, User, UserNo};
 use std::alloc::Global;
 
-/// The numbers that were given, and the first refusals.
+/// The numbers that were given, the answers that are kept of classes, and the first refusals.
 #[derive(Drop)]
 pub(crate) struct Found {
     pub(crate) tables: Tables,
+    pub(crate) answers: Answers,
     pub(crate) refusals: Refusals,
 }
 
@@ -26,11 +28,13 @@ impl Found {
     /// Nothing. It takes no memory.
     pub(crate) fn new(alloc: Global) -> Self
         ensures tables { result.tables ≡ none_numbered }
+        ensures answers { (p : LinkedProgram) (n : Numbered) → AreRight p n result.answers }
         ensures call { result.refusals.call ≡ None }
         ensures method { result.refusals.method ≡ None }
     {
         Found {
             tables: Tables::new(alloc),
+            answers: Answers::new(alloc),
             refusals: Refusals::new(),
         }
     }
@@ -47,8 +51,10 @@ impl Found {
         requires users { All (λ (user : UserNo). IsKnownUser program.now self.old.tables user) users.now }
         requires site { IsNumbered self.old.tables.sites site.0 }
         requires object { (object : Class) × (class_named program.now object_name ≡ Some object) }
+        requires answers { AreRight program.now self.old.tables self.old.answers }
         ensures grows { OnOk result (Grows self.old.tables self.new.tables) }
         ensures calls { OnOk result (length self.new.tables.calls ≡ length self.old.tables.calls) }
+        ensures answers { OnOk result (AreRight program.now self.new.tables self.new.answers) }
         ensures adds { OnOk result (Adds self.new.tables (PassesToSome program.now self.old.tables users.now site) steps.old.items steps.new.items) }
         ensures lacks { OnOk result (NotesCalls (LacksForSome program.now self.old.tables users.now site) self.old.refusals.call self.new.refusals.call) }
         ensures method { self.new.refusals.method ≡ self.old.refusals.method }
@@ -72,8 +78,10 @@ impl Found {
         requires user { IsKnownUser program.now self.old.tables user }
         requires sites { All (λ (site : SiteNo). IsNumbered self.old.tables.sites site.0) sites.now }
         requires object { (object : Class) × (class_named program.now object_name ≡ Some object) }
+        requires answers { AreRight program.now self.old.tables self.old.answers }
         ensures grows { OnOk result (Grows self.old.tables self.new.tables) }
         ensures calls { OnOk result (length self.new.tables.calls ≡ length self.old.tables.calls) }
+        ensures answers { OnOk result (AreRight program.now self.new.tables self.new.answers) }
         ensures adds { OnOk result (Adds self.new.tables (PassesSome program.now self.old.tables user sites.now) steps.old.items steps.new.items) }
         ensures lacks { OnOk result (NotesCalls (LacksSome program.now self.old.tables user sites.now) self.old.refusals.call self.new.refusals.call) }
         ensures method { self.new.refusals.method ≡ self.old.refusals.method }
@@ -97,15 +105,26 @@ impl Found {
         requires user { IsKnownUser program.now self.old.tables user }
         requires site { IsNumbered self.old.tables.sites site.0 }
         requires object { (object : Class) × (class_named program.now object_name ≡ Some object) }
+        requires answers { AreRight program.now self.old.tables self.old.answers }
         ensures grows { OnOk result (Grows self.old.tables self.new.tables) }
         ensures calls { OnOk result (length self.new.tables.calls ≡ length self.old.tables.calls) }
+        ensures answers { OnOk result (AreRight program.now self.new.tables self.new.answers) }
         ensures adds { OnOk result (Adds self.new.tables (IsPassed program.now self.old.tables user site) steps.old.items steps.new.items) }
         ensures lacks { OnOk result (NotesCalls (IsLackOf program.now self.old.tables user site) self.old.refusals.call self.new.refusals.call) }
         ensures method { self.new.refusals.method ≡ self.old.refusals.method }
         ensures end { IfErr result IsOutOfMemory }
     {
         program.well_formed();
-        let lacks = pass(alloc, program, &mut self.tables, user, site, steps).map_err(no_room)?;
+        let lacks = pass(
+            alloc,
+            program,
+            &mut self.tables,
+            &mut self.answers,
+            user,
+            site,
+            steps,
+        )
+        .map_err(no_room)?;
         note_lack(&self.tables, &mut self.refusals, user, lacks);
         Ok(())
     }

@@ -42,7 +42,11 @@ pub fn solve<S: Supply>(
         found,
         methods,
     } = close(alloc, program, supply, entry, pair_limit)?;
-    let Found { tables, refusals } = found;
+    let Found {
+        tables,
+        answers: _answers,
+        refusals,
+    } = found;
     match first_refusal(alloc, program, refusals)? {
         Some(refusal) => Err(Failure::Cause(SolveFault::Refused(refusal))),
         None => Ok(Solution {

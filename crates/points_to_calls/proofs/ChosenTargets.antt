@@ -1,5 +1,5 @@
 -- What an object leads to that selects the target of a call: what it selects is one thing, and what is added by it.
-use Rattle.std.proofs.Common.{◌≡◌, ◌↔◌, ℕ, Bool, true, false, List, Some, None, Result, Ok, Err, refl, sym, ap, ◌∙◌, subst, inl, inr, ◌⊎◌}
+use Rattle.std.proofs.Common.{◌≡◌, ◌↔◌, ℕ, Bool, true, false, List, Option, Some, None, Result, Ok, Err, refl, sym, ap, ◌∙◌, subst, inl, inr, ◌⊎◌}
 use Rattle.std.specs.Prelude.{if◌then◌else◌}
 use Rattle.std.specs.List.{slice_get, Contains}
 use Rattle.std.proofs.lemmas.Bool.{false≢true}
@@ -28,7 +28,7 @@ use Rattle.points_to_items.specs.Items.{CallSite, Item as RuleItem}
 use Rattle.points_to_calls.specs.Describing.{ReceiverItem}
 use Rattle.points_to_calls.specs.Lacks.{CallLacks}
 use Rattle.points_to_calls.specs.Parts.{RuleGift, made, Gets, ResultsGet, ResultGives, KeptItem, GotItem}
-use Rattle.points_to_calls.specs.Selecting.{DescribedItem, TargetItem}
+use Rattle.points_to_calls.specs.Selecting.{DescribedItem, IsOnlyAnswer, TargetItem}
 use Rattle.std.proofs.lemmas.Option.{slice_get_within}
 
 -- ---- the class that selects
@@ -49,6 +49,11 @@ selecting_there p upper lower fit object = by (is_array lower) refl
     by false e = subst (λ (name : List ℕ). (c : Class) × (class_named p name ≡ Some c)) (sym (ap (λ (b : Bool). if b then object_name else lower) e)) (plain_there p upper lower fit e)
 
 -- ---- what is selected
+
+-- an only answer that is matched
+pub only_matched : (Q : Result ℕ Reason → Type 0) (answer : Option (Result MethodNo Reason)) (chosen outcome : Result MethodNo Reason)
+    → answer ≡ Some chosen → chosen ≡ outcome → IsOnlyAnswer Q answer → IsOnlyAnswer Q (Some outcome)
+only_matched Q answer chosen outcome some is only = subst (IsOnlyAnswer Q) (some ∙ ap (λ (a : Result MethodNo Reason). Some a) is) only
 
 -- a target is a method of the program
 target_within : (p : Program) (by_interface : Bool) (class : List ℕ) (resolved target : ℕ) → Selection p by_interface class resolved (Ok target) → IsMethodNumber p target
@@ -129,3 +134,11 @@ selects_target p site s x (given t stub argument to is by there unit among e) = 
 module _ (p : Program) (site : CallSite) (s : Site) where
   pub reason_selected : (r : Reason) → ((outcome : Result ℕ Reason) → SelectsFor site.kind p site.resolved s outcome → outcome ≡ Err r) → (x : RuleItem) → SelectItem p site s x → ⊥
   reason_selected r only x item = (let (t, is) = selects_target p site s x item in let e : Ok t.0 ≡ Err r = only (Ok t.0) is in cc e)
+
+  -- nothing is selected
+  pub none_selected : ((outcome : Result ℕ Reason) → SelectsFor site.kind p site.resolved s outcome → ⊥) → (x : RuleItem) → SelectItem p site s x → ⊥
+  none_selected none x item = let (t, is) = selects_target p site s x item in none (Ok t.0) is
+
+  pub none_lacks : ((outcome : Result ℕ Reason) → SelectsFor site.kind p site.resolved s outcome → ⊥) → CallLacks p site s None
+  none_lacks none reason (not_selected is) = none (Err reason) is
+  none_lacks none reason (not_described t is native e) = none (Ok t) is

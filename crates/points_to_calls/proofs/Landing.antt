@@ -1,11 +1,15 @@
 -- Where exceptions go, by the entry of a landing.
-use Rattle.std.proofs.Common.{◌≡◌, ℕ, ◌+◌, ◌<◌, get_or, drop, List, [], ◌∷◌, Some, length, refl, sym, ap, ◌∙◌, subst, inl, inr}
+use Rattle.std.proofs.Common.{◌≡◌, ◌↔◌, ℕ, false, ◌+◌, ◌<◌, get_or, drop, List, [], ◌∷◌, Some, length, refl, sym, ap, ◌∙◌, subst, inl, inr}
 use Rattle.std.specs.List.{slice_get, AllZip}
 use Rattle.std.proofs.lemmas.List.{drop_more}
+use Rattle.std.proofs.lemmas.Bool.{false≢true}
 use Rattle.std.proofs.lemmas.Option.{none-some, same_Some, slice_get_within}
 use Rattle.jvm_model.specs.declared.number.ClassNo.{ClassNo}
-use Rattle.jvm_model.specs.Programs.{Program}
-use Rattle.jvm_model.specs.Subtypes.{Fits}
+use Rattle.jvm_model.specs.LinkedPrograms.{IsProgram}
+use Rattle.jvm_model.specs.Programs.{Class, Program}
+use Rattle.jvm_model.specs.Soundness.{is_array}
+use Rattle.jvm_model.specs.Subtypes.{Fits, by_class, by_array, by_itself, by_elements, IsSubtype, class_named}
+use Rattle.type_fit.proofs.ClassNames.{class_plain}
 use Rattle.op_model.specs.declared.node.NodeHandler.{NodeHandler}
 use Rattle.node_machine.specs.NodeSteps.{Takes, all, fitting}
 use Rattle.linked_program.specs.Numbers.{name_at}
@@ -84,3 +88,16 @@ goes_later p class arms xs i d outside to same within passes later =
     let a = get_or xs i d in
     let next : drop i arms ≡ a ∷ drop (i + 1) arms = drop_more arms i d within ∙ ap (λ (ys : List Arm). get_or ys i d ∷ drop (i + 1) arms) (sym same) in
     subst (λ (ys : List Arm). GoesTo p class ys outside to) (sym next) (inr (passes, later))
+
+-- an object of a class of the program fits just the classes that are its own or above it
+pub fits_above : (p : Program) → IsProgram p → (upper lower : List ℕ) (c : Class) → class_named p lower ≡ Some c → IsSubtype p upper lower ↔ Fits p upper lower
+fits_above p program upper lower c named = ((λ above. by_class upper lower c named above), (λ fits. by fits))
+  where
+    plain : is_array lower ≡ false
+    plain = class_plain p program lower c named
+
+    by : Fits p upper lower → IsSubtype p upper lower
+    by (by_class u l d there above) = above
+    by (by_array u l array super) = absurd (false≢true (sym plain ∙ array))
+    by (by_itself u l array same) = absurd (false≢true (sym plain ∙ array))
+    by (by_elements u l above below u_is l_is fit) = absurd (false≢true (sym plain ∙ ap is_array l_is))

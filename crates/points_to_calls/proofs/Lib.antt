@@ -7,3 +7,4 @@ pub mod Stubs
 pub mod CallParted
 pub mod ChosenTargets
 pub mod PlainUsers
+pub mod RightAnswers

@@ -5,3 +5,4 @@ pub mod Units
 pub mod Describing
 pub mod Users
 pub mod Selecting
+pub mod KeptAnswers

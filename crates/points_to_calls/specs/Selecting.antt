@@ -1,4 +1,4 @@
--- This crate's own proofs alone rest on this module.
+-- Public contracts rest on this module.
 -- What an object that selects the target of a call leads to, by what it selects.
 use Rattle.std.specs.Prelude.{◌≡◌, ◌⊎◌, ℕ, Option, Some, None, Result}
 use Rattle.jvm_model.specs.declared.number.MethodNo.{MethodNo}

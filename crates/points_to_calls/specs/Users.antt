@@ -1,9 +1,15 @@
 -- This crate's own proofs alone rest on this module.
 -- What users make of an object, but for those that select the target of a call.
+use Rattle.std.specs.Prelude.{ℕ, List}
 use Rattle.jvm_model.specs.declared.site.Site.{Site}
 use Rattle.jvm_model.specs.Programs.{Program}
 use Rattle.points_to_items.specs.ItemRules.{Passed}
 use Rattle.points_to_items.specs.Items.{User, pass_to, pass_fitting, read_field, write_field, read_elements, write_elements, throw_at, land_at, select, Item}
+use Rattle.points_to_rules.specs.Facts.{Holder}
+
+-- The holder has an object of the site, if it fits the class.
+abbrev pub FittingPassed : Program → (class : List ℕ) → (to : Holder) → Site → Item → Type 0
+FittingPassed p class to s x = Passed p (pass_fitting class to) s x
 
 -- What a user makes of an object; one that selects a target makes nothing here.
 abbrev pub PlainPassed : Program → User → Site → Item → Type 0

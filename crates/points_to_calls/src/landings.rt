@@ -1,11 +1,13 @@
 //! Where exceptions go.
 
-ghost use Rattle.std.specs.Prelude.{◌≡◌, ◌↔◌, ℕ, List, Some, slice_get, IsTrue};
+ghost use Rattle.std.specs.Prelude.{◌≡◌, ◌↔◌, ℕ, List, Some, slice_get, IfSome, IsTrue};
+ghost use Rattle.linked_program.specs.Numbers.{name_at, IsClassNumber};
 ghost use Rattle.node_machine.specs.NodeSteps.{Takes};
 ghost use Rattle.points_to_calls.specs.Parts.{GoesTo, IsLandingPlace};
 ghost use Rattle.points_to_items.specs.Items.{Landing as ItemLanding};
 ghost use Rattle.points_to_tables.specs.Numbered.{IsNumbered};
 
+use jvm_model::ClassNo;
 use linked_program::program::Program;
 use op_model::NodeHandler;
 use points_to_tables::{Landing, LandingNo, PlaceNo, Tables};
@@ -23,16 +25,19 @@ pub(crate) fn lands(program: &Program, tables: &Tables, landing: LandingNo, clas
 fn goes_to(program: &Program, landing: &Landing, class: &[u8]) -> PlaceNo
     ensures { GoesTo program.now class.now landing.now.arms landing.now.outside result }
 {
+    let thrown = program.find(class);
     for arm in landing.arms.as_slice() {
-        if takes(program, arm.handler, class) {
+        if takes(program, arm.handler, thrown, class) {
             return arm.to;
         }
     }
     landing.outside
 }
 
-/// Whether a handler takes an exception of a class. One of a class that is not in the program takes none.
-fn takes(program: &Program, handler: NodeHandler, class: &[u8]) -> bool
+/// Whether a handler takes an exception of a class, which has this number if it is one of the program. One of a class that is not in the program
+/// is taken by a handler of all.
+fn takes(program: &Program, handler: NodeHandler, thrown: Option<ClassNo>, class: &[u8]) -> bool
+    requires { IfSome thrown (λ number. IsClassNumber program.now number.0 × (name_at program.now number.0 ≡ class.now)) }
     ensures { IsTrue result ↔ Takes program.now handler class.now }
 {
     program.well_formed();
@@ -42,5 +47,8 @@ fn takes(program: &Program, handler: NodeHandler, class: &[u8]) -> bool
     if caught.0 as usize >= program.class_count() {
         return false;
     }
-    fits(program, program.class_name(caught), class)
+    match thrown {
+        Some(number) => program.is_at_or_above(number, caught),
+        None => fits(program, program.class_name(caught), class),
+    }
 }

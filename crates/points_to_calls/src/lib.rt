@@ -1,18 +1,23 @@
 //! The items of the points-to solver to which calls and users lead: what a call passes to a target and gets from it, and what each user makes of an
-//! object of its place.
+//! object of its place. What is asked of classes again and again is kept.
 #![tactic(auto)]
 
+mod answer_keys;
 mod described;
 mod descriptors;
 mod gift;
 mod giving;
+mod kept;
 mod landings;
 mod passing;
 mod plain;
 mod reading;
 mod results;
 mod selecting;
+mod selection;
 mod targets;
 
+pub use answer_keys::{FitKey, SelectKey};
+pub use kept::Answers;
 pub use passing::pass;
 pub use targets::target_items;

@@ -5,12 +5,14 @@ ghost use Rattle.jvm_model.specs.declared.site.Site.{Site};
 ghost use Rattle.jvm_model.specs.Programs.{Class, object_name};
 ghost use Rattle.jvm_model.specs.Subtypes.{class_named};
 ghost use Rattle.linked_program.specs.Numbers.{IsMethodNumber};
+ghost use Rattle.points_to_calls.specs.KeptAnswers.{AreRight};
 ghost use Rattle.points_to_calls.specs.Lacks.{UserLacks};
 ghost use Rattle.points_to_items.specs.ItemRules.{Passed};
 ghost use Rattle.points_to_items.specs.Items.{CallSite, User as ItemUser, select};
 ghost use Rattle.points_to_tables.specs.Numbered.{Grows, IsNumbered};
 ghost use Rattle.points_to_tables.specs.Steps.{Adds};
 
+use crate::kept::Answers;
 use crate::plain::pass_plain;
 use crate::selecting::select_items;
 use class_index::index_failure::IndexFailure;
@@ -24,6 +26,7 @@ pub fn pass(
     alloc: Global,
     program: &Program,
     tables: &mut Tables,
+    answers: &mut Answers,
     user: UserNo,
     site: SiteNo,
     steps: &mut Vec<Item>,
@@ -32,17 +35,19 @@ pub fn pass(
     requires site { IsNumbered tables.old.sites site.0 }
     requires resolved { (c : CallSite) → slice_get tables.old.users user.0 ≡ Some (select c) → IsMethodNumber program.now c.resolved.0 }
     requires object { (object : Class) × (class_named program.now object_name ≡ Some object) }
+    requires answers { AreRight program.now tables.old answers.old }
     ensures grows { OnOk result (Grows tables.old tables.new) }
     ensures calls { OnOk result (length tables.new.calls ≡ length tables.old.calls) }
     ensures adds { OnOk result ((u : ItemUser) (s : Site) → slice_get tables.old.users user.0 ≡ Some u → slice_get tables.old.sites site.0 ≡ Some s
         → Adds tables.new (Passed program.now u s) steps.old.items steps.new.items) }
     ensures lacks { IfOk result (λ lacks. (u : ItemUser) (s : Site) → slice_get tables.old.users user.0 ≡ Some u → slice_get tables.old.sites site.0 ≡ Some s
         → UserLacks program.now u s lacks) }
+    ensures answers { OnOk result (AreRight program.now tables.new answers.new) }
 {
     let entry = tables.user_of(user);
     let User::Select(call) = entry else {
-        pass_plain(program, tables, entry, site, steps)?;
+        pass_plain(program, tables, answers, entry, site, steps)?;
         return Ok(None);
     };
-    select_items(alloc, program, tables, call, site, steps)
+    select_items(alloc, program, tables, answers, call, site, steps)
 }

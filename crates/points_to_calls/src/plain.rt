@@ -1,19 +1,22 @@
 //! What users make of an object that select no target.
 
-ghost use Rattle.std.specs.Prelude.{◌≡◌, Some, slice_get, codes, OnOk};
+ghost use Rattle.std.specs.Prelude.{◌≡◌, ℕ, List, Some, slice_get, codes, OnOk};
 ghost use Rattle.jvm_model.specs.declared.site.Site.{Site};
 ghost use Rattle.points_to_tables.specs.Steps.{Makes};
-ghost use Rattle.points_to_calls.specs.Users.{PlainPassed};
+ghost use Rattle.points_to_calls.specs.KeptAnswers.{AreRight};
+ghost use Rattle.points_to_calls.specs.Users.{FittingPassed, PlainPassed};
 ghost use Rattle.points_to_items.specs.ItemRules.{LandsAs};
 ghost use Rattle.points_to_items.specs.Items.{Landing as ItemLanding, User as ItemUser};
+ghost use Rattle.points_to_rules.specs.Facts.{Holder};
 ghost use Rattle.points_to_tables.specs.Numbered.{IsNumbered, IsUserAt};
 
 use crate::giving::add_use_at;
+use crate::kept::{Answers, fits_kept};
 use crate::landings::lands;
 use class_index::index_failure::IndexFailure;
 use jvm_model::SiteNo;
 use linked_program::program::Program;
-use points_to_tables::{Item, LandingNo, Place, PlaceNo, Tables, User, add_use};
+use points_to_tables::{ClassNameNo, Item, LandingNo, Place, PlaceNo, Tables, User, add_use};
 use type_fit::fits;
 
 /// The class of the objects of a site.
@@ -42,18 +45,47 @@ fn land(
     Ok(())
 }
 
+/// Adds that a place holds the objects of a site, if they fit a class.
+fn pass_if_fits(
+    program: &Program,
+    tables: &Tables,
+    answers: &mut Answers,
+    upper: ClassNameNo,
+    to: PlaceNo,
+    site: SiteNo,
+    steps: &mut Vec<Item>,
+) -> Result<(), IndexFailure>
+    requires upper { IsNumbered tables.now.classes upper.0 }
+    requires site { IsNumbered tables.now.sites site.0 }
+    requires answers { AreRight program.now tables.now answers.old }
+    ensures made { OnOk result ((name : List ℕ) (h : Holder) (s : Site) → slice_get tables.now.classes upper.0 ≡ Some name
+        → slice_get tables.now.holders to.0 ≡ Some h
+        → slice_get tables.now.sites site.0 ≡ Some s → Makes tables.now tables.now (FittingPassed program.now name h s) steps.old.items steps.new.items) }
+    ensures answers { AreRight program.now tables.now answers.new }
+{
+    let lower = tables.site_of(site).class;
+    let does_fit = fits_kept(program, tables, answers, upper, lower)?;
+    if does_fit {
+        steps.push(Item::Holds(to, site))?;
+    }
+    Ok(())
+}
+
 /// Adds what a user makes of an object of its place that does not select a target by it.
 pub(crate) fn pass_plain(
     program: &Program,
     tables: &mut Tables,
+    answers: &mut Answers,
     user: User,
     site: SiteNo,
     steps: &mut Vec<Item>,
 ) -> Result<(), IndexFailure>
     requires user { (u : ItemUser) × IsUserAt tables.old user u }
     requires site { IsNumbered tables.old.sites site.0 }
-    ensures { OnOk result ((u : ItemUser) (s : Site) → IsUserAt tables.old user u → slice_get tables.old.sites site.0 ≡ Some s
+    requires answers { AreRight program.now tables.old answers.old }
+    ensures made { OnOk result ((u : ItemUser) (s : Site) → IsUserAt tables.old user u → slice_get tables.old.sites site.0 ≡ Some s
         → Makes tables.old tables.new (PlainPassed program.now u s) steps.old.items steps.new.items) }
+    ensures answers { AreRight program.now tables.old answers.new }
 {
     match user {
         User::PassTo(to) => {
@@ -61,10 +93,7 @@ pub(crate) fn pass_plain(
             Ok(())
         }
         User::PassFitting(class, to) => {
-            if fits(program, tables.name_of(class), class_of(tables, site)) {
-                steps.push(Item::Holds(to, site))?;
-            }
-            Ok(())
+            pass_if_fits(program, tables, answers, class, to, site, steps)
         }
         User::ReadField(field, to) => {
             add_use(tables, steps, Place::Field(site, field), User::PassTo(to))

@@ -10,7 +10,7 @@ use call_graph::Ground;
 use case_files::{CaseFailure, is_refusal, link_case, read_all_stubs, read_files};
 use case_names::{MemberName, Members, Names, members_of, method_of, method_text};
 use failure::Failure;
-use folder_analysis::{analyse, has_object};
+use folder_report::{analyse, has_object};
 use jvm_model::{MethodNo, reason_word};
 use linked_program::program::Program;
 use points_to::SolveFault;

@@ -1,8 +1,9 @@
 -- A key is added to a list of keys: by a push, or where it is not there yet.
-use Rattle.std.proofs.Common.{◌≡◌, ℕ, zero, suc, Bool, true, false, cond, ◌||◌, List, [], ◌∷◌, ◌++◌, Some, refl, sym, ◌∙◌, ap, subst, inl, inr, ◌⊎◌}
-use Rattle.std.specs.List.{slice_get, list_any}
+use Rattle.std.proofs.Common.{◌≡◌, ℕ, zero, suc, Bool, true, false, cond, ◌||◌, List, [], ◌∷◌, ◌++◌, Some, get_or, refl, sym, ◌∙◌, ap, subst, inl, inr, ◌⊎◌}
+use Rattle.std.specs.List.{slice_get, list_any, position}
 use Rattle.std.proofs.lemmas.Bool.{false≢true}
-use Rattle.std.proofs.lemmas.Option.{same_Some, none-some}
+use Rattle.std.proofs.lemmas.List.Quantifiers.{position-Some}
+use Rattle.std.proofs.lemmas.Option.{same_Some, none-some, slice_get-get_or}
 use Rattle.indexmap.specs.IndexSet.{insert_key}
 use Rattle.class_index.proofs.ListPlaces.{in_longer, push_cases}
 use Rattle.least_sets.specs.Rules.{IsWithoutDoubles}
@@ -25,7 +26,7 @@ pushed_longer keys key place x e = in_longer keys (key ∷ []) place x e
 
 module _ {K : Type 0} (eq : K → K → Bool) (exact : (a b : K) → eq a b ≡ true → a ≡ b) (same : (a : K) → eq a a ≡ true) where
   -- a key that stands somewhere is found
-  found : (keys : List K) (key : K) (place : ℕ) → slice_get keys place ≡ Some key → list_any (eq key) keys ≡ true
+  pub found : (keys : List K) (key : K) (place : ℕ) → slice_get keys place ≡ Some key → list_any (eq key) keys ≡ true
   found [] key place e = absurd (none-some key e)
   found (k ∷ keys) key zero e = ap (λ (x : K). eq key x || list_any (eq key) keys) (same_Some _ _ e) ∙ ap (λ (b : Bool). b || list_any (eq key) keys) (same key)
   found (k ∷ keys) key (suc place) e = or_right (eq key k) _ (found keys key place e)
@@ -33,6 +34,16 @@ module _ {K : Type 0} (eq : K → K → Bool) (exact : (a b : K) → eq a b ≡ 
       or_right : (a b : Bool) → b ≡ true → (a || b) ≡ true
       or_right true b h = refl
       or_right false b h = h
+
+  -- a key that is found stands somewhere
+  pub stands_somewhere : (keys : List K) (key : K) → list_any (eq key) keys ≡ true → (place : ℕ) × (slice_get keys place ≡ Some key)
+  stands_somewhere [] key there = absurd (false≢true there)
+  stands_somewhere (k ∷ keys) key there = by (eq key k) refl (stands_somewhere keys key) there
+    where
+      by : (b : Bool) → eq key k ≡ b → (list_any (eq key) keys ≡ true → (place : ℕ) × (slice_get keys place ≡ Some key)) → (b || list_any (eq key) keys) ≡ true
+          → (place : ℕ) × (slice_get (k ∷ keys) place ≡ Some key)
+      by true e rest h = (0, ap Some (sym (exact key k e)))
+      by false e rest h = let (place, at) = rest h in (suc place, at)
 
   -- a new key goes last, and is none of the others
   fresh_apart : (keys : List K) (key : K) → list_any (eq key) keys ≡ false → IsWithoutDoubles keys → IsWithoutDoubles (keys ++ key ∷ [])
@@ -61,3 +72,10 @@ module _ {K : Type 0} (eq : K → K → Bool) (exact : (a b : K) → eq a b ≡ 
         others = λ place x e. elim (push_cases old key place x e) [ inl before ↦ inl before | inr last ↦ inr last.1 ];
         apart = fresh_apart old key fresh;
       }
+
+-- a key that is looked up stands at its place
+pub looked_up : {K : Type 0} (eq : K → K → Bool) (keys : List K) (key : K) (number : ℕ) → Some number ≡ position (eq key) keys
+    → (k : K) × (slice_get keys number ≡ Some k) × (eq key k ≡ true)
+looked_up eq keys key number found =
+    let (within, same, before) = position-Some (eq key) keys number key (sym found) in
+    (get_or keys number key, slice_get-get_or keys number key within, same)

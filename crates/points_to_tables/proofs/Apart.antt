@@ -12,7 +12,7 @@ use Rattle.points_to_tables.proofs.Standing.{site_stands, holder_stands}
 use Rattle.points_to_tables.proofs.KeptKeys.{apart_at}
 
 -- a site has one key
-one_key : (n : Numbered) → IsWithoutDoubles n.classes → (a b : SiteKey) (s : Site) → IsSiteAt n a s → IsSiteAt n b s → a ≡ b
+pub one_key : (n : Numbered) → IsWithoutDoubles n.classes → (a b : SiteKey) (s : Site) → IsSiteAt n a s → IsSiteAt n b s → a ≡ b
 one_key n apart a b s first second =
     let kind = sym first.kind ∙ second.kind in
     let method = sym first.method ∙ second.method in

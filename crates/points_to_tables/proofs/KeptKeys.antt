@@ -5,7 +5,7 @@ use Rattle.std.proofs.lemmas.Option.{same_Some, slice_get_within}
 use Rattle.class_index.proofs.ListPlaces.{map_at, at_map}
 use Rattle.least_sets.specs.Rules.{IsWithoutDoubles}
 use Rattle.points_to_tables.specs.Numbered.{Extends, Grows, IsNumbered, IsSiteAt, IsHolderAt, IsLandingAt, IsCallAt, IsUserAt}
-use Rattle.points_to_tables.specs.Kept.{Kept, StandForEach, IsSound, numbered, site_from, holder_from, landing_from, call_from, user_from, sites_of, holders_of, landings_of, calls_of}
+use Rattle.points_to_tables.specs.Kept.{Kept, StandForEach, AreFew, IsSound, numbered, site_from, holder_from, landing_from, call_from, user_from, sites_of, holders_of, landings_of, calls_of}
 use Rattle.points_to_tables.proofs.Standing.{site_stands, holder_stands, landing_stands, call_stands, user_stands}
 use Rattle.points_to_tables.proofs.Growing.{longer_site, longer_holder, longer_landing, longer_call, longer_user, grown_site, grown_holder, grown_landing, grown_call, grown_user}
 use Rattle.points_to_tables.proofs.AddedKeys.{IsAdded, extends_same, pushed_longer}
@@ -110,8 +110,8 @@ more_grows k m more =
     (λ user u is. user_stands o user u (longer_user n o more.classes holders landings calls user u is)) k.users m.users more.users in
     record { classes = more.classes; sites = sites; holders = holders; landings = landings; calls = calls; users = users }
 
-pub more_sound : (k m : Kept) → IsMore k m → IsWithoutDoubles m.sites → IsWithoutDoubles m.places → IsSound m
-more_sound k m more sites places =
+pub more_sound : (k m : Kept) → IsMore k m → IsWithoutDoubles m.sites → IsWithoutDoubles m.places → AreFew m → IsSound m
+more_sound k m more sites places few =
     let n = numbered k in let o = numbered m in let grows = more_grows k m more in
     record {
       sites = stand_too (IsSiteAt n) (IsSiteAt o) (grown_site n o grows) m.sites more.sites.stand;
@@ -121,4 +121,5 @@ more_sound k m more sites places =
       users = stand_too (IsUserAt n) (IsUserAt o) (grown_user n o grows) m.users more.users.stand;
       sites_apart = sites;
       places_apart = places;
+      few = few;
     }

@@ -1,5 +1,5 @@
 -- What is taken into the tables of a value, by the clauses of the calls that keep it.
-use Rattle.std.proofs.Common.{◌≡◌, ℕ, ◌+◌, true, List, [], ◌∷◌, ◌++◌, Some, length, sym, ap, ◌∙◌, subst}
+use Rattle.std.proofs.Common.{◌≡◌, ◌<◌, ◌^◌, ℕ, ◌+◌, true, List, [], ◌∷◌, ◌++◌, Some, length, sym, ap, ◌∙◌, subst}
 use Rattle.std.specs.List.{slice_get}
 use Rattle.std.proofs.lemmas.List.{length-map, length_push}
 use Rattle.class_index.specs.TextNumbers.{Extends as TextsExtend}
@@ -27,26 +27,26 @@ module _ (k : Kept) (n : Numbered) (is : numbered k ≡ n) (sound : IsSound k) w
   pub names_grow : (classes : List (List ℕ)) → Extends k.classes classes → Grows n (numbered (record k { classes = classes }))
   names_grow classes longer = subst (λ (o : Numbered). Grows o (numbered (record k { classes = classes }))) is (more_grows k (record k { classes = classes }) (classes_more k sound classes longer))
 
-  pub site_numbered : (sites : List SiteKey) (key : SiteKey) (number : ℕ) → sites ≡ insert_key same_sites k.sites key
+  pub site_numbered : (sites : List SiteKey) (key : SiteKey) (number : ℕ) → sites ≡ insert_key same_sites k.sites key → length sites < 2 ^ 32
       → (x : SiteKey) × (slice_get sites number ≡ Some x) × (same_sites key x ≡ true) → IsNumbered n.classes key.class.0
       → IsTaken IsSiteAt (λ o. o.sites) n (record k { sites = sites }) key number
-  site_numbered sites key number new stored named =
+  site_numbered sites key number new room stored named =
       let added = inserted same_sites exact_sites site_itself k.sites sites key number new stored in
-      taken_at IsSiteAt (λ o. o.sites) k (record k { sites = sites }) n key number is (site_taken k sound sites key number added) (has_site n key named)
+      taken_at IsSiteAt (λ o. o.sites) k (record k { sites = sites }) n key number is (site_taken k sound sites key number room added) (has_site n key named)
 
-  pub place_numbered : (places : List Place) (place : Place) (number : ℕ) → places ≡ insert_key same_places k.places place
+  pub place_numbered : (places : List Place) (place : Place) (number : ℕ) → places ≡ insert_key same_places k.places place → length places < 2 ^ 32
       → (x : Place) × (slice_get places number ≡ Some x) × (same_places place x ≡ true) → (h : Holder) × IsHolderAt n place h
       → IsTaken IsHolderAt (λ o. o.holders) n (record k { places = places }) place number
-  place_numbered places place number new stored stands =
+  place_numbered places place number new room stored stands =
       let added = inserted same_places exact_places place_itself k.places places place number new stored in
-      taken_at IsHolderAt (λ o. o.holders) k (record k { places = places }) n place number is (holder_taken k sound places place number added) stands
+      taken_at IsHolderAt (λ o. o.holders) k (record k { places = places }) n place number is (holder_taken k sound places place number room added) stands
 
-  pub user_numbered : (users : List User) (user : User) (number : ℕ) → users ≡ insert_key same_users k.users user
+  pub user_numbered : (users : List User) (user : User) (number : ℕ) → users ≡ insert_key same_users k.users user → length users < 2 ^ 32
       → (x : User) × (slice_get users number ≡ Some x) × (same_users user x ≡ true) → (u : ItemUser) × IsUserAt n user u
       → IsTaken IsUserAt (λ o. o.users) n (record k { users = users }) user number
-  user_numbered users user number new stored stands =
+  user_numbered users user number new room stored stands =
       let added = inserted same_users exact_users user_itself k.users users user number new stored in
-      taken_at IsUserAt (λ o. o.users) k (record k { users = users }) n user number is (user_taken k sound users user number added) stands
+      taken_at IsUserAt (λ o. o.users) k (record k { users = users }) n user number is (user_taken k sound users user number room added) stands
 
   pub landing_numbered : (landings : List Landing) (entry : Landing) (number : ℕ) → landings ≡ k.landings ++ entry ∷ [] → number ≡ length k.landings → (l : ItemLanding) × IsLandingAt n entry l
       → IsTaken IsLandingAt (λ o. o.landings) n (record k { landings = landings }) entry number

@@ -1,5 +1,5 @@
 -- What is taken into the tables: a name, a key or an entry more.
-use Rattle.std.proofs.Common.{◌≡◌, ℕ, List, [], ◌∷◌, ◌++◌, Some, length, refl, subst}
+use Rattle.std.proofs.Common.{◌≡◌, ◌<◌, ◌^◌, ℕ, List, [], ◌∷◌, ◌++◌, Some, length, refl, subst}
 use Rattle.std.specs.List.{slice_get}
 use Rattle.class_index.proofs.ListPlaces.{pushed_at}
 use Rattle.jvm_model.specs.declared.site.Site.{Site}
@@ -11,7 +11,7 @@ use Rattle.points_to_tables.specs.declared.keys.SiteKey.{SiteKey}
 use Rattle.points_to_tables.specs.declared.keys.Place.{Place}
 use Rattle.points_to_tables.specs.declared.keys.User.{User}
 use Rattle.points_to_tables.specs.Numbered.{Numbered, Extends, Grows, IsNumbered, IsSiteAt, IsHolderAt, IsLandingAt, IsCallAt, IsUserAt}
-use Rattle.points_to_tables.specs.Kept.{Kept, IsSound, numbered, site_from, holder_from, landing_from, call_from, user_from, sites_of, holders_of, landings_of, calls_of}
+use Rattle.points_to_tables.specs.Kept.{Kept, AreFew, IsSound, numbered, site_from, holder_from, landing_from, call_from, user_from, sites_of, holders_of, landings_of, calls_of}
 use Rattle.points_to_tables.proofs.Standing.{site_stands, holder_stands, landing_stands, call_stands, user_stands}
 use Rattle.points_to_tables.proofs.Growing.{grown_site, grown_holder, grown_landing, grown_call, grown_user}
 use Rattle.points_to_tables.proofs.AddedKeys.{IsAdded, extends_same}
@@ -34,6 +34,9 @@ has_site n key (name, at) = (
   record { kind = key.kind; method = key.method; offset = key.offset; class = name },
   record { class = at; kind = refl; method = refl; offset = refl },
 )
+
+few_too : (m : Kept) → length m.sites < 2 ^ 32 → length m.places < 2 ^ 32 → length m.users < 2 ^ 32 → AreFew m
+few_too m sites places users = record { sites = sites; places = places; users = users }
 
 module _ (k : Kept) (sound : IsSound k) where
   -- nothing more is kept
@@ -59,7 +62,9 @@ module _ (k : Kept) (sound : IsSound k) where
   }
 
   pub classes_sound : (classes : List (List ℕ)) → Extends k.classes classes → IsSound (record k { classes = classes })
-  classes_sound classes longer = more_sound k (record k { classes = classes }) (classes_more classes longer) sound.sites_apart sound.places_apart
+  classes_sound classes longer =
+      more_sound k (record k { classes = classes }) (classes_more classes longer) sound.sites_apart sound.places_apart
+      (few_too (record k { classes = classes }) sound.few.sites sound.few.places sound.few.users)
 
   -- a site more
   site_more : (sites : List SiteKey) (key : SiteKey) (number : ℕ) → IsAdded k.sites sites key number → (s : Site) × IsSiteAt (numbered k) key s → IsMore k (record k { sites = sites })
@@ -72,15 +77,15 @@ module _ (k : Kept) (sound : IsSound k) where
     users = same.users;
   }
 
-  pub site_taken : (sites : List SiteKey) (key : SiteKey) (number : ℕ) → IsAdded k.sites sites key number → (s : Site) × IsSiteAt (numbered k) key s
+  pub site_taken : (sites : List SiteKey) (key : SiteKey) (number : ℕ) → length sites < 2 ^ 32 → IsAdded k.sites sites key number → (s : Site) × IsSiteAt (numbered k) key s
       → IsTaken IsSiteAt (λ n. n.sites) (numbered k) (record k { sites = sites }) key number
   unfolding numbered
-  site_taken sites key number added stands =
+  site_taken sites key number room added stands =
       let m = record k { sites = sites } in
       let more = site_more sites key number added stands in
       let grows = more_grows k m more in
       record {
-        sound = more_sound k m more (added.apart sound.sites_apart) sound.places_apart;
+        sound = more_sound k m more (added.apart sound.sites_apart) sound.places_apart (few_too m room sound.few.places sound.few.users);
         grows = grows;
         stands = λ s is. at_number (IsSiteAt (numbered m)) (site_from m.classes) (site_stands (numbered m)) m.sites number key s added.stands
             (grown_site (numbered k) (numbered m) grows key s is);
@@ -97,15 +102,15 @@ module _ (k : Kept) (sound : IsSound k) where
     users = same.users;
   }
 
-  pub holder_taken : (places : List Place) (place : Place) (number : ℕ) → IsAdded k.places places place number → (h : Holder) × IsHolderAt (numbered k) place h
+  pub holder_taken : (places : List Place) (place : Place) (number : ℕ) → length places < 2 ^ 32 → IsAdded k.places places place number → (h : Holder) × IsHolderAt (numbered k) place h
       → IsTaken IsHolderAt (λ n. n.holders) (numbered k) (record k { places = places }) place number
   unfolding numbered
-  holder_taken places place number added stands =
+  holder_taken places place number room added stands =
       let m = record k { places = places } in
       let more = holder_more places place number added stands in
       let grows = more_grows k m more in
       record {
-        sound = more_sound k m more sound.sites_apart (added.apart sound.places_apart);
+        sound = more_sound k m more sound.sites_apart (added.apart sound.places_apart) (few_too m sound.few.sites room sound.few.users);
         grows = grows;
         stands = λ h is. at_number (IsHolderAt (numbered m)) (holder_from (sites_of m)) (holder_stands (numbered m)) m.places number place h added.stands
             (grown_holder (numbered k) (numbered m) grows place h is);
@@ -130,7 +135,7 @@ module _ (k : Kept) (sound : IsSound k) where
       let more = landing_more entry stands in
       let grows = more_grows k m more in
       record {
-        sound = more_sound k m more sound.sites_apart sound.places_apart;
+        sound = more_sound k m more sound.sites_apart sound.places_apart (few_too m sound.few.sites sound.few.places sound.few.users);
         grows = grows;
         stands = λ l is. at_number (IsLandingAt (numbered m)) (landing_from (holders_of m)) (landing_stands (numbered m)) m.landings (length k.landings) entry l (pushed_at k.landings entry)
             (grown_landing (numbered k) (numbered m) grows entry l is);
@@ -155,7 +160,7 @@ module _ (k : Kept) (sound : IsSound k) where
       let more = call_more entry stands in
       let grows = more_grows k m more in
       record {
-        sound = more_sound k m more sound.sites_apart sound.places_apart;
+        sound = more_sound k m more sound.sites_apart sound.places_apart (few_too m sound.few.sites sound.few.places sound.few.users);
         grows = grows;
         stands = λ c is. at_number (IsCallAt (numbered m)) (call_from (holders_of m) (landings_of m)) (call_stands (numbered m)) m.calls (length k.calls) entry c (pushed_at k.calls entry)
             (grown_call (numbered k) (numbered m) grows entry c is);
@@ -172,15 +177,15 @@ module _ (k : Kept) (sound : IsSound k) where
     users = one_more (IsUserAt (numbered k)) k.users users user number added sound.users stands;
   }
 
-  pub user_taken : (users : List User) (user : User) (number : ℕ) → IsAdded k.users users user number → (u : ItemUser) × IsUserAt (numbered k) user u
+  pub user_taken : (users : List User) (user : User) (number : ℕ) → length users < 2 ^ 32 → IsAdded k.users users user number → (u : ItemUser) × IsUserAt (numbered k) user u
       → IsTaken IsUserAt (λ n. n.users) (numbered k) (record k { users = users }) user number
   unfolding numbered
-  user_taken users user number added stands =
+  user_taken users user number room added stands =
       let m = record k { users = users } in
       let more = user_more users user number added stands in
       let grows = more_grows k m more in
       record {
-        sound = more_sound k m more sound.sites_apart sound.places_apart;
+        sound = more_sound k m more sound.sites_apart sound.places_apart (few_too m sound.few.sites sound.few.places room);
         grows = grows;
         stands = λ u is. at_number (IsUserAt (numbered m)) (user_from m.classes (holders_of m) (landings_of m) (calls_of m)) (user_stands (numbered m)) m.users number user u added.stands
             (grown_user (numbered k) (numbered m) grows user u is);

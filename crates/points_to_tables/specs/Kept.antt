@@ -1,6 +1,6 @@
 -- Public contracts rest on this module.
 -- What the tables keep, and what it stands for: each number in a key or an entry is looked up.
-use Rattle.std.specs.Prelude.{◌≡◌, ℕ, List, [], map, Option, Some, None, slice_get, slice_index_or}
+use Rattle.std.specs.Prelude.{◌≡◌, ◌<◌, ◌^◌, ℕ, List, [], length, map, Option, Some, None, slice_get, slice_index_or}
 use Rattle.jvm_model.specs.declared.site.Site.{Site}
 use Rattle.jvm_model.specs.declared.site.SiteKind.TheVariants.{Boot}
 use Rattle.op_model.specs.declared.op.CallKind.TheVariants.{Static}
@@ -117,7 +117,13 @@ numbered k = record { classes = k.classes; sites = sites_of k; holders = holders
 abbrev pub StandForEach : {K X : Type 0} → (K → X → Type 0) → List K → Type 0
 StandForEach {K} {X} IsAt keys = (number : ℕ) (key : K) → slice_get keys number ≡ Some key → (x : X) × IsAt key x
 
--- Something stands for each key and each entry, and no site and no place is kept twice.
+-- 32 bits number the sites, the places and the users.
+pub record AreFew (k : Kept) : Type 0 where
+  pub sites : length k.sites < 2 ^ 32
+  pub places : length k.places < 2 ^ 32
+  pub users : length k.users < 2 ^ 32
+
+-- Something stands for each key and each entry, no site and no place is kept twice, and 32 bits number them.
 pub record IsSound (k : Kept) : Type 0 where
   pub sites : StandForEach (IsSiteAt (numbered k)) k.sites
   pub places : StandForEach (IsHolderAt (numbered k)) k.places
@@ -126,3 +132,4 @@ pub record IsSound (k : Kept) : Type 0 where
   pub users : StandForEach (IsUserAt (numbered k)) k.users
   pub sites_apart : IsWithoutDoubles k.sites
   pub places_apart : IsWithoutDoubles k.places
+  pub few : AreFew k

@@ -100,6 +100,11 @@ pub record AreApart (n : Numbered) : Type 0 where
   pub sites : IsWithoutDoubles n.sites
   pub holders : IsWithoutDoubles n.holders
 
+-- No landing and no call has two numbers.
+pub record AreSingle (n : Numbered) : Type 0 where
+  pub landings : IsWithoutDoubles n.landings
+  pub calls : IsWithoutDoubles n.calls
+
 -- Nothing is numbered.
 abbrev pub none_numbered : Numbered
 none_numbered = record { classes = []; sites = []; holders = []; landings = []; calls = []; users = [] }

@@ -1,16 +1,21 @@
 //! The tables of what is numbered.
 
-ghost use Rattle.std.specs.Prelude.{◌≡◌, ◌+◌, true, length, Some, slice_get, Contains, IfNone, IfOk, IfSome, OnOk, OnErr};
+ghost use Rattle.std.specs.Prelude.{◌≡◌, ◌↔◌, ◌+◌, ◌<◌, ◌^◌, true, false, length, Some, Err, slice_get, Contains, IfNone, IfOk, IfSome, OnOk, OnErr};
+ghost use Rattle.std.specs.List.{list_any};
+ghost use Rattle.failure.specs.declared.Failure.TheVariants.{Cause};
+ghost use Rattle.class_index.specs.FirstPlaces.{StandsNowhere};
+ghost use Rattle.class_index.specs.Limits.{AreTooMany, too_many};
 ghost use Rattle.indexmap.specs.IndexSet.{insert_key};
 ghost use Rattle.jvm_model.specs.declared.site.Site.{Site};
 ghost use Rattle.points_to_rules.specs.Facts.{Holder};
 ghost use Rattle.points_to_items.specs.Items.{Landing as ItemLanding, CallSite as ItemCallSite, User as ItemUser};
-ghost use Rattle.points_to_tables.specs.Numbered.{Grows, IsNumbered, IsSiteAt, IsHolderAt, IsUserAt, IsLandingAt, IsCallAt, AreApart, none_numbered};
+ghost use Rattle.points_to_tables.specs.Numbered.{Grows, IsNumbered, IsSiteAt, IsHolderAt, IsUserAt, IsLandingAt, IsCallAt, AreApart, AreSingle, none_numbered};
 
 use crate::entries::{CallSite, Landing};
 use crate::keys::{CallNo, ClassNameNo, LandingNo, Place, PlaceNo, SiteKey, User, UserNo};
-use class_index::index_failure::IndexFailure;
+use class_index::index_failure::{IndexFailure, TooMany};
 use class_index::text_index::{TextIndex, next_number};
+use failure::Failure;
 use indexmap::IndexSet;
 use jvm_model::SiteNo;
 use std::alloc::Global;
@@ -58,11 +63,12 @@ impl Tables {
 
     /// The number of the name of a class or of an array.
     ///
-    /// The failure is `TooMany` where there are 2^32 - 1 of them, as with each number here.
+    /// The failure is `TooMany` where it has none yet and there are 2^32 - 1 of them, as with each number here.
     pub fn class_name(&mut self, name: &[u8]) -> Result<ClassNameNo, IndexFailure>
         ensures grows { OnOk result (Grows self.old self.new) }
         ensures calls { OnOk result (length self.new.calls ≡ length self.old.calls) }
         ensures stands { IfOk result (λ number. slice_get self.new.classes number.0 ≡ Some name.now) }
+        ensures too_many { (result ≡ Err (Cause too_many)) ↔ (StandsNowhere self.old.classes name.now × AreTooMany self.old.classes) }
     {
         let number = self.classes.intern(name)?;
         Ok(ClassNameNo(number))
@@ -74,7 +80,10 @@ impl Tables {
         ensures grows { OnOk result (Grows self.old self.new) }
         ensures calls { OnOk result (length self.new.calls ≡ length self.old.calls) }
         ensures stands { IfOk result (λ number. (s : Site) → IsSiteAt self.old key s → slice_get self.new.sites number.0 ≡ Some s) }
+        ensures too_many { (s : Site) → IsSiteAt self.old key s
+            → (result ≡ Err (Cause too_many)) ↔ (StandsNowhere self.old.sites s × AreTooMany self.old.sites) }
     {
+        self.apart();
         let number = number_of(&mut self.sites, key)?;
         Ok(SiteNo(number))
     }
@@ -85,7 +94,10 @@ impl Tables {
         ensures grows { OnOk result (Grows self.old self.new) }
         ensures calls { OnOk result (length self.new.calls ≡ length self.old.calls) }
         ensures stands { IfOk result (λ number. (h : Holder) → IsHolderAt self.old place h → slice_get self.new.holders number.0 ≡ Some h) }
+        ensures too_many { (h : Holder) → IsHolderAt self.old place h
+            → (result ≡ Err (Cause too_many)) ↔ (StandsNowhere self.old.holders h × AreTooMany self.old.holders) }
     {
+        self.apart();
         let number = number_of(&mut self.places, place)?;
         Ok(PlaceNo(number))
     }
@@ -96,7 +108,11 @@ impl Tables {
         ensures grows { OnOk result (Grows self.old self.new) }
         ensures calls { OnOk result (length self.new.calls ≡ length self.old.calls) }
         ensures stands { IfOk result (λ number. (u : ItemUser) → IsUserAt self.old user u → slice_get self.new.users number.0 ≡ Some u) }
+        ensures too_many { result ≡ Err (Cause too_many) → AreTooMany self.old.users }
+        ensures full { (u : ItemUser) → IsUserAt self.old user u → StandsNowhere self.old.users u × AreTooMany self.old.users → result ≡ Err (Cause too_many) }
+        ensures only_new { (u : ItemUser) → IsUserAt self.old user u → AreSingle self.old → result ≡ Err (Cause too_many) → StandsNowhere self.old.users u }
     {
+        self.apart();
         let number = number_of(&mut self.users, user)?;
         Ok(UserNo(number))
     }
@@ -107,6 +123,7 @@ impl Tables {
         ensures grows { OnOk result (Grows self.old self.new) }
         ensures calls { OnOk result (length self.new.calls ≡ length self.old.calls) }
         ensures stands { IfOk result (λ number. (l : ItemLanding) → IsLandingAt self.old landing l → slice_get self.new.landings number.0 ≡ Some l) }
+        ensures too_many { (result ≡ Err (Cause too_many)) ↔ AreTooMany self.old.landings }
     {
         let number = next_number(self.landings.len())?;
         self.landings.push(landing)?;
@@ -120,6 +137,7 @@ impl Tables {
         ensures added { IfOk result (λ number. number.0 ≡ length self.old.calls) }
         ensures one { OnOk result (length self.new.calls ≡ length self.old.calls + 1) }
         ensures stands { IfOk result (λ number. (c : ItemCallSite) → IsCallAt self.old call c → slice_get self.new.calls number.0 ≡ Some c) }
+        ensures too_many { (result ≡ Err (Cause too_many)) ↔ AreTooMany self.old.calls }
     {
         let number = next_number(self.calls.len())?;
         self.calls.push(call)?;
@@ -205,13 +223,23 @@ impl Tables {
     }
 }
 
-/// The number of a key, which goes last if it is not there yet.
+/// The number of a key, which goes last if it is not there yet. The key is looked up once.
+///
+/// The failure is `TooMany` where the key is new and there are 2^32 - 1 keys, and else out of memory.
 fn number_of<K: Eq + Hash + Drop>(keys: &mut IndexSet<K>, key: K) -> Result<u32, IndexFailure>
+    requires { length keys.old.keys < 2 ^ 32 }
     ensures keys { OnOk result (keys.new.keys ≡ insert_key K.eq keys.old.keys key) }
     ensures stored { IfOk result (λ number. (k : K) × (slice_get keys.new.keys number ≡ Some k) × (K.eq key k ≡ true)) }
+    ensures few { length keys.new.keys < 2 ^ 32 }
+    ensures too_many { (result ≡ Err (Cause too_many)) ↔ ((list_any (K.eq key) keys.old.keys ≡ false) × AreTooMany keys.old.keys) }
     ensures err { OnErr result (keys.new.keys ≡ keys.old.keys) }
 {
-    next_number(keys.len())?;
-    let (number, _) = keys.insert_full(key)?;
-    Ok(number as u32)
+    if keys.len() < u32::MAX as usize {
+        let (number, _) = keys.insert_full(key)?;
+        return Ok(number as u32);
+    }
+    match keys.get_index_of(&key) {
+        Some(number) => Ok(number as u32),
+        None => Err(Failure::Cause(TooMany)),
+    }
 }

@@ -1,19 +1,8 @@
 -- Public contracts rest on this module.
 -- The first stage: the order of the events is left out.
-use Rattle.std.specs.Prelude.{◌≡◌, ℕ, Bool, true, false, ◌&&◌, List, [], ◌∷◌, filter, fold, slice_index, All, Contains}
-use Rattle.std.specs.List.{list_any}
-use Rattle.std.specs.Str.{bytes_eq}
+use Rattle.std.specs.Prelude.{◌≡◌, ℕ, Bool, true, false, List, [], ◌∷◌, fold, slice_index, All, Contains}
 use Rattle.jvm_model.specs.declared.automaton.Automaton.{Automaton}
 use Rattle.jvm_model.specs.declared.automaton.Event.{Event}
-use Rattle.jvm_model.specs.Soundness.{plain_descriptor}
-
--- The event is chosen by a call, without arguments and result, of one of these methods.
-abbrev pub is_called : List (List ℕ) → Event → Bool
-is_called calls e = bytes_eq e.descriptor plain_descriptor && list_any (bytes_eq e.name) calls
-
--- The events that occur where these methods are called.
-abbrev pub events_of : List (List ℕ) → Automaton → List Event
-events_of calls a = filter (is_called calls) a.events
 
 -- The state to which a word of events leads.
 abbrev pub state_after : ℕ → List Event → ℕ

@@ -1,7 +1,7 @@
 //! A case: a folder of class files with a property and an entry.
 
 ghost use Rattle.std.specs.Prelude.{◌≡◌, ℕ, Some};
-ghost use Rattle.folder_analysis.specs.Analyses.{IsAnalysis};
+ghost use Rattle.folder_report.specs.Analyses.{IsAnalysis};
 ghost use Rattle.folder_supply.specs.Supplied.{IsSupplied};
 ghost use Rattle.jvm_model.specs.Automata.{IsAutomaton};
 ghost use Rattle.jvm_model.specs.declared.number.MethodNo.{MethodNo as RuleMethodNo};
@@ -13,11 +13,10 @@ use anyhow::{Result, bail};
 use call_graph::Ground;
 use case_files::{is_refusal, link_case, read_all_stubs, read_files};
 use entry_method::{find_entry, has_method_named};
-use folder_analysis::{analyse, has_object};
+use folder_report::{Report, analyse, has_object, report_of};
 use jvm_model::{Automaton, ClassNo, MethodNo};
 use linked_program::program::Program;
 use property_file::read_property;
-use stage_report::{Report, report_of};
 use std::alloc::Global;
 use std::str;
 use ts_outside::Tree;

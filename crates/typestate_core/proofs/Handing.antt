@@ -5,7 +5,7 @@ use Rattle.std.proofs.lemmas.Bool.{leb-true, leb-false}
 use Rattle.std.specs.List.{All}
 use Rattle.std.proofs.lemmas.List.{append-nil, drop_all, drop-map, length-drop}
 use Rattle.std.proofs.lemmas.List.Elements.{All-drop, All-head, All-same}
-use Rattle.one_class_form.proofs.Options.{at_some}
+use Rattle.typestate_core.proofs.Options.{at_some}
 use Rattle.ts_outside.specs.Handed.{Handed, and_then}
 use Rattle.typestate_core.specs.Output.{left, HandsOut, Hands}
 

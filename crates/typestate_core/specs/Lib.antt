@@ -1,8 +1,3 @@
 pub mod Answers
-pub mod Claims
-pub mod Lines
-pub mod Outcomes
+pub mod Ends
 pub mod Output
-pub mod Printed
-pub mod Requests
-pub mod Statuses

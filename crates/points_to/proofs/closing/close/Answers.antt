@@ -43,6 +43,7 @@ loop-done-init g c =
       so_far = rw (c.new-found.ensures.call, c.new-found.ensures.method, c.new-methods.ensures.items) (so_far_start p gives c.args.entry n steps new c.in_ok-start_items.ensures.call adds takes
           (values_at c.new-index.result.sites.groups.items) (values_at c.new-index.result.users.groups.items) c.new-index.ensures.sites c.new-index.ensures.users c.in_ok-take_all.ensures.held);
       same = same_itself gives;
+      answers = c.new-found.ensures.answers p n;
     }
 
 -- ---- the loop
@@ -99,6 +100,7 @@ loop-done-preserved g c =
       so_far = so_far_more c.requires.supply (g.met.S.Supply.one_answer c.args.supply.now) c.args.entry c.loop-done.invariant.so_far c.len.ensures.apart c.at-item.ensures told c.in_ok-take_all-2.ensures.takes
           c.in_ok-take_all-2.ensures.held;
       same = same_on gives now (g.S.Supply.gives c.conclude.new.supply) c.loop-done.invariant.same made.same;
+      answers = made.answers;
     }
 
 pub returns-clause-closed : goal.returns-clause-closed

@@ -1,6 +1,7 @@
 use Rattle.std.proofs.Common.{◌≡◌, ◌<◌, ◌-◌, ◌^◌}
 use Rattle.op_model.specs.Supplies.{IsSameSupply}
 use Rattle.grouped_lists.specs.Groups.{values_at}
+use Rattle.points_to_calls.specs.KeptAnswers.{AreRight}
 use Rattle.points_to.specs.Queues.{pairs_among}
 use Rattle.points_to.proofs.SoFar.{IsSoFar}
 use Rattle.points_to.proofs.closing.close.Given as goal
@@ -11,6 +12,7 @@ invariant-loop-done g l = record {
   room : l.queue.pairs < l.pair_limit;
   so_far : IsSoFar l.program (g.S.Supply.gives l.fn.supply) l.fn.entry l.found.tables l.queue.items.keys (values_at l.index.sites.groups.items) (values_at l.index.users.groups.items) l.found.refusals.call l.found.refusals.method l.methods.items l.done;
   same : IsSameSupply (g.S.Supply.gives l.fn.supply) (g.S.Supply.gives l.supply);
+  answers : AreRight l.program l.found.tables l.found.answers;
 }
 
 abbrev pub decreases-loop-done : goal.decreases-loop-done

@@ -1,5 +1,6 @@
 use Rattle.std.proofs.Common.{refl}
 use Rattle.failure.proofs.HandedOn.{handed_ok}
+use Rattle.points_to_calls.proofs.RightAnswers.{grown_right}
 use Rattle.points_to_tables.proofs.Adding.{adds_none, adds_same}
 use Rattle.points_to.specs.Concluding.{IsCallItem}
 use Rattle.points_to.proofs.GivenMethods.{start_leads_nowhere, call_items, caller_there, none_there, some_there}
@@ -24,3 +25,8 @@ pub target_items-requires-clause-resolved : goal.target_items-requires-clause-re
 target_items-requires-clause-resolved c = λ site stands.
     c.requires.resolved site stands
     (caller_there c.args.found.now.tables c.args.call.0 c.call_of.result.now (site, stands) c.call_of.ensures c.call_of.result.now.at.method refl (some_there c.call_of.result.now.at.method c.if-is_none.ensures))
+
+pub returns-clause-answers : goal.returns-clause-answers
+returns-clause-answers c =
+    grown_right c.args.program.now c.args.found.now.tables c.target_items.new.tables c.args.found.now.answers
+    (handed_ok _ c.target_items.result _ _ c.in_ok-map_err.ensures.cases c.target_items.ensures.grows) c.requires.answers

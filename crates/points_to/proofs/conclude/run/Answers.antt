@@ -2,6 +2,7 @@ use Rattle.std.proofs.Common.{ℕ, inl, inr, Ok, Err, Result, refl}
 use Rattle.jvm_model.specs.declared.reason.Refusal.{Refusal}
 use Rattle.op_model.specs.declared.lowered.LoweredMethod.{LoweredMethod}
 use Rattle.failure.proofs.HandedOn.{handed_ok}
+use Rattle.points_to_calls.proofs.RightAnswers.{grown_right}
 use Rattle.points_to_items.specs.ItemRules.{MethodItem}
 use Rattle.points_to_tables.proofs.Adding.{adds_none, adds_same}
 use Rattle.points_to.specs.Concluding.{IsGivenItem, IsRefusedAs}
@@ -66,3 +67,10 @@ returns-in-Err-Cause-clause-methods g c =
     let gives : ℕ → Result LoweredMethod Refusal → Type 0 = g.S.Supply.gives c.args.supply.now in
     let refused : gives c.args.method.0 (Err c.in-Err-Cause.refusal) = rw c.in-Err-Cause.field-0-is at c.in-Err-Cause.ensures.failed in
     inr ((λ l given. let both = g.met.S.Supply.one_answer c.args.supply.now c.args.method.0 (Ok l) (Err c.in-Err-Cause.refusal) given refused in cc), refl)
+
+-- ---- the kept answers
+
+pub returns-in_ok-push-in-Ok-clause-answers : goal.returns-in_ok-push-in-Ok-clause-answers
+returns-in_ok-push-in-Ok-clause-answers g c =
+    grown_right c.args.program.now c.args.found.now.tables c.method_items-made.new.tables c.args.found.now.answers
+    (handed_ok _ c.method_items-made.result _ _ c.in_ok-names-in-Ok.ensures.cases c.method_items-made.ensures.grows) c.requires.answers

@@ -8,21 +8,23 @@ use Rattle.points_to_tables.specs.Steps.{Adds}
 use Rattle.points_to_calls.specs.Users.{PlainPassed}
 use Rattle.points_to_tables.proofs.Making.{makes_same}
 use Rattle.points_to_calls.proofs.PlainUsers.{no_selection, plain_passed, plain_lacks}
+use Rattle.points_to_calls.proofs.RightAnswers.{grown_right}
 use Rattle.points_to_calls.proofs.passing.pass.Goals as goal
 
 pub returns-in_default : goal.returns-in_default
 returns-in_default c =
     let p = c.args.program.now in let n = c.args.tables.now in let m = c.pass_plain.new.tables in
     let (u, named) = c.requires.user in let (s, there) = c.requires.site in
-    let made = c.in_ok-pass_plain.ensures u s (c.user_of-entry.ensures u named) there in
+    let made = c.in_ok-pass_plain.ensures.made u s (c.user_of-entry.ensures u named) there in
     record {
       grows = made.grows;
       calls = made.calls;
       adds = λ v t stands at.
           let is = c.user_of-entry.ensures v stands in
           (makes_same n m (PlainPassed p v t) (Passed p v t) c.args.steps.now.items c.pass_plain.new.steps.items
-          (plain_passed p v t (no_selection n c.user_of-entry.result v c.in_default.not-Select is)) (c.in_ok-pass_plain.ensures v t is at)).adds;
+          (plain_passed p v t (no_selection n c.user_of-entry.result v c.in_default.not-Select is)) (c.in_ok-pass_plain.ensures.made v t is at)).adds;
       lacks = λ v t stands at. plain_lacks p v t (no_selection n c.user_of-entry.result v c.in_default.not-Select (c.user_of-entry.ensures v stands));
+      answers = grown_right p n m c.pass_plain.new.answers made.grows c.in_ok-pass_plain.ensures.answers;
     }
 
 pub returns-clause-grows : goal.returns-clause-grows
@@ -49,4 +51,14 @@ returns-clause-adds c =
     (λ lacks made u s stands there.
     let (call, at, e) = subst (λ (w : User). IsUserAt c.args.tables.now w u) c.in-Select.is (c.user_of-entry.ensures u stands) in
     subst (λ (v : ItemUser). Adds c.select_items.new.tables (Passed c.args.program.now v s) c.args.steps.now.items c.select_items.new.steps.items) (sym e) (made call s at there).adds)
+    c.select_items.ensures.adds
+
+pub returns-clause-answers : goal.returns-clause-answers
+returns-clause-answers c =
+    IfOk-weaker c.select_items.result _ _
+    (λ lacks made.
+    let (u, stands) = c.requires.user in let (s, there) = c.requires.site in
+    let (call, at, e) = subst (λ (w : User). IsUserAt c.args.tables.now w u) c.in-Select.is (c.user_of-entry.ensures u stands) in
+    grown_right c.args.program.now c.args.tables.now c.select_items.new.tables c.select_items.new.answers
+    (made call s at there).grows c.select_items.ensures.answers)
     c.select_items.ensures.adds

@@ -1,7 +1,6 @@
 use Rattle.std.proofs.Common.{◌≡◌, ℕ, List, refl, sym, ◌∙◌, subst}
 use Rattle.std.specs.Prelude.{codes}
 use Rattle.std.proofs.lemmas.Bool.{false≢true}
-use Rattle.std.proofs.lemmas.Option.{same_Some}
 use Rattle.std.proofs.lemmas.Result.{IfOk-weaker}
 use Rattle.jvm_model.specs.Subtypes.{Fits}
 use Rattle.points_to_rules.specs.Facts.{field_of, elements_of, may_hold}
@@ -49,26 +48,24 @@ add_use_at-requires-in-WriteElements-clause-user c =
     let (s, there) = c.requires.site in let h = elements_of s in
     (pass_to h, (h, c.in_ok-to-in-WriteElements.ensures.stands h (s, there, refl), refl))
 
-pub returns-in_ok-push-in-PassTo : goal.returns-in_ok-push-in-PassTo
-returns-in_ok-push-in-PassTo c = λ u s is there.
+pub returns-in_ok-push-in-PassTo-clause-made : goal.returns-in_ok-push-in-PassTo-clause-made
+returns-in_ok-push-in-PassTo-clause-made c = λ u s is there.
     let p = c.args.program.now in let n = c.args.tables.now in let a = c.args.steps.now.items in let b = c.push.new.self.items in
     let (h, held, e) = (subst (λ (w : User). IsUserAt c.args.tables.now w u) c.in-PassTo.is is) in
     subst (λ (v : ItemUser). Makes n n (PlainPassed p v s) a b) (sym e)
     (makes_one n (λ (x : RuleItem). x ≡ known (may_hold h s)) a b (Holds c.in-PassTo.to c.args.site) (known (may_hold h s)) c.in_ok-push-in-PassTo.ensures.items (h, s, held, there, refl) refl (λ y q. q))
 
-pub returns-in_ok-push-in-PassFitting : goal.returns-in_ok-push-in-PassFitting
-returns-in_ok-push-in-PassFitting c = λ u s is there.
-    let p = c.args.program.now in let n = c.args.tables.now in let a = c.args.steps.now.items in let b = c.push-then-fits.new.self.items in
+pub returns-in-PassFitting-clause-made : goal.returns-in-PassFitting-clause-made
+returns-in-PassFitting-clause-made c =
+    IfOk-weaker c.pass_if_fits.result _ _
+    (λ done made u s is there.
+    let p = c.args.program.now in let n = c.args.tables.now in let a = c.args.steps.now.items in let b = c.pass_if_fits.new.steps.items in
     let (name, h, named, held, e) = (subst (λ (w : User). IsUserAt c.args.tables.now w u) c.in-PassFitting.is is) in
-    let upper = same_Some c.name_of.result.now name (sym c.name_of.ensures ∙ named) in
-    let fits : Fits p name s.class =
-    subst (λ (k : List ℕ). Fits p k s.class) upper (subst (λ (k : List ℕ). Fits p c.name_of.result.now k) (c.class_of.ensures s there) (c.fits.ensures.0 c.if-fits.true)) in
-    subst (λ (v : ItemUser). Makes n n (PlainPassed p v s) a b) (sym e)
-    (makes_one n (λ (x : RuleItem). Fits p name s.class × (x ≡ known (may_hold h s))) a b (Holds c.in-PassFitting.to c.args.site) (known (may_hold h s)) c.in_ok-push-in-PassFitting.ensures.items
-    (h, s, held, there, refl) (fits, refl) (λ y q. q.1))
+    subst (λ (v : ItemUser). Makes n n (PlainPassed p v s) a b) (sym e) (made name h s named held there))
+    c.pass_if_fits.ensures.made
 
-pub returns-in-ReadField : goal.returns-in-ReadField
-returns-in-ReadField c =
+pub returns-in-ReadField-clause-made : goal.returns-in-ReadField-clause-made
+returns-in-ReadField-clause-made c =
     on_ok_three c.add_use.result c.add_use.ensures.grows c.add_use.ensures.calls c.add_use.ensures.adds
     (λ grows calls adds u s is there.
     let p = c.args.program.now in let n = c.args.tables.now in let m = c.add_use.new.tables in let a = c.args.steps.now.items in let b = c.add_use.new.steps.items in
@@ -76,8 +73,8 @@ returns-in-ReadField c =
     subst (λ (v : ItemUser). Makes n m (PlainPassed p v s) a b) (sym e)
     (makes_used n m (places.Field c.args.site c.in-ReadField.field) (users.PassTo c.in-ReadField.to) (field_of s c.in-ReadField.field) (pass_to h) a b (s, there, refl) (h, held, refl) grows calls adds))
 
-pub returns-in-ReadElements : goal.returns-in-ReadElements
-returns-in-ReadElements c =
+pub returns-in-ReadElements-clause-made : goal.returns-in-ReadElements-clause-made
+returns-in-ReadElements-clause-made c =
     on_ok_three c.add_use-in-ReadElements.result c.add_use-in-ReadElements.ensures.grows c.add_use-in-ReadElements.ensures.calls c.add_use-in-ReadElements.ensures.adds
     (λ grows calls adds u s is there.
     let p = c.args.program.now in let n = c.args.tables.now in let m = c.add_use-in-ReadElements.new.tables in let a = c.args.steps.now.items in let b = c.add_use-in-ReadElements.new.steps.items in
@@ -85,8 +82,8 @@ returns-in-ReadElements c =
     subst (λ (v : ItemUser). Makes n m (PlainPassed p v s) a b) (sym e)
     (makes_used n m (places.Elements c.args.site) (users.PassTo c.in-ReadElements.to) (elements_of s) (pass_to h) a b (s, there, refl) (h, held, refl) grows calls adds))
 
-pub returns-in_ok-to-in-WriteField : goal.returns-in_ok-to-in-WriteField
-returns-in_ok-to-in-WriteField c =
+pub returns-in_ok-to-in-WriteField-clause-made : goal.returns-in_ok-to-in-WriteField-clause-made
+returns-in_ok-to-in-WriteField-clause-made c =
     IfOk-weaker c.add_use_at.result _ _
     (λ done made u s is there.
     let p = c.args.program.now in let n = c.args.tables.now in let m = c.place.new.self in let o = c.add_use_at.new.tables in let a = c.args.steps.now.items in let b = c.add_use_at.new.steps.items in
@@ -97,8 +94,8 @@ returns-in_ok-to-in-WriteField c =
     (made h (pass_to to) (placed.grows.holders c.in-WriteField.from.0 h held) (to, placed.stands to (s, there, refl), refl))))
     c.add_use_at.ensures
 
-pub returns-in_ok-to-in-WriteElements : goal.returns-in_ok-to-in-WriteElements
-returns-in_ok-to-in-WriteElements c =
+pub returns-in_ok-to-in-WriteElements-clause-made : goal.returns-in_ok-to-in-WriteElements-clause-made
+returns-in_ok-to-in-WriteElements-clause-made c =
     IfOk-weaker c.add_use_at-in-WriteElements.result _ _
     (λ done made u s is there.
     let p = c.args.program.now in let n = c.args.tables.now in let m = c.place-in-WriteElements.new.self in let o = c.add_use_at-in-WriteElements.new.tables in let a = c.args.steps.now.items in let b = c.add_use_at-in-WriteElements.new.steps.items in
@@ -109,27 +106,27 @@ returns-in_ok-to-in-WriteElements c =
     (made h (pass_to to) (placed.grows.holders c.in-WriteElements.from.0 h held) (to, placed.stands to (s, there, refl), refl))))
     c.add_use_at-in-WriteElements.ensures
 
-pub returns-then-fits-2 : goal.returns-then-fits-2
-returns-then-fits-2 c =
+pub returns-then-fits-clause-made : goal.returns-then-fits-clause-made
+returns-then-fits-clause-made c =
     IfOk-weaker c.land.result _ _
     (λ done made u s is there.
     let p = c.args.program.now in let n = c.args.tables.now in let a = c.args.steps.now.items in let b = c.land.new.steps.items in
     let (l, at, e) = (subst (λ (w : User). IsUserAt c.args.tables.now w u) c.in-ThrowAt.is is) in
-    let fits = subst (λ (k : List ℕ). Fits p (codes "java/lang/Throwable") k) (c.class_of-in-ThrowAt.ensures s there) (c.fits-in-ThrowAt.ensures.0 c.if-fits-2.true) in
+    let fits = subst (λ (k : List ℕ). Fits p (codes "java/lang/Throwable") k) (c.class_of.ensures s there) (c.fits.ensures.0 c.if-fits.true) in
     subst (λ (v : ItemUser). Makes n n (PlainPassed p v s) a b) (sym e)
     (makes_same n n (LandsAs p l s) (PlainPassed p (throw_at l) s) a b (λ x. (λ lands. (fits, lands), λ both. both.1)) (made l s at there)))
     c.land.ensures
 
-pub returns-else-fits-2 : goal.returns-else-fits-2
-returns-else-fits-2 c = λ u s is there.
+pub returns-else-fits-clause-made : goal.returns-else-fits-clause-made
+returns-else-fits-clause-made c = λ u s is there.
     let p = c.args.program.now in let n = c.args.tables.now in let a = c.args.steps.now.items in
     let (l, at, e) = (subst (λ (w : User). IsUserAt c.args.tables.now w u) c.in-ThrowAt.is is) in
     subst (λ (v : ItemUser). Makes n n (PlainPassed p v s) a a) (sym e)
     (makes_none n (PlainPassed p (throw_at l) s) a (λ x both.
-    false≢true (sym c.if-fits-2.false ∙ c.fits-in-ThrowAt.ensures.1 (subst (λ (k : List ℕ). Fits p (codes "java/lang/Throwable") k) (sym (c.class_of-in-ThrowAt.ensures s there)) both.0))))
+    false≢true (sym c.if-fits.false ∙ c.fits.ensures.1 (subst (λ (k : List ℕ). Fits p (codes "java/lang/Throwable") k) (sym (c.class_of.ensures s there)) both.0))))
 
-pub returns-in-LandAt : goal.returns-in-LandAt
-returns-in-LandAt c =
+pub returns-in-LandAt-clause-made : goal.returns-in-LandAt-clause-made
+returns-in-LandAt-clause-made c =
     IfOk-weaker c.land-in-LandAt.result _ _
     (λ done made u s is there.
     let p = c.args.program.now in let n = c.args.tables.now in let a = c.args.steps.now.items in let b = c.land-in-LandAt.new.steps.items in

@@ -20,6 +20,7 @@ loop-site-init c =
     record {
       grows = grows_same n;
       calls = refl;
+      answers = c.requires.answers;
       adds = adds_start (λ (s : SiteNo) (x : RuleItem). IsPassed p n user s x) n c.args.sites.now c.args.steps.now.items;
       lacks = calls_start (λ (s : SiteNo) (x : RefusedCall). IsLackOf p n user s x) c.args.sites.now c.args.self.now.refusals.call;
       method = refl;
@@ -48,6 +49,7 @@ loop-site-preserved c =
     record {
       grows = grows_on n m o before.grows now.grows;
       calls = now.calls ∙ before.calls;
+      answers = now.answers;
       adds = each_more p n m o before.grows now.grows user sites k past c.args.steps.now.items c.loop-site.steps.items c.pass.new.steps.items within c.requires.user.numbered known before.adds now.adds;
       lacks = each_lacks p n m o before.grows now.grows user sites k past c.args.self.now.refusals.call c.loop-site.self.refusals.call c.pass.new.self.refusals.call within c.requires.user.numbered known before.lacks now.lacks;
       method = now.method ∙ before.method;

@@ -1,4 +1,5 @@
 use Rattle.std.proofs.Common.{◌≡◌, length, take}
+use Rattle.points_to_calls.specs.KeptAnswers.{AreRight}
 use Rattle.points_to_tables.specs.Numbered.{Grows}
 use Rattle.points_to_tables.specs.Steps.{Adds}
 use Rattle.points_to.specs.Passing.{NotesCalls, PassesSome, LacksSome}
@@ -8,6 +9,7 @@ abbrev pub invariant-loop-site : goal.invariant-loop-site
 invariant-loop-site l = record {
   grows : Grows l.initial.self.tables l.self.tables;
   calls : length l.self.tables.calls ≡ length l.initial.self.tables.calls;
+  answers : AreRight l.program l.self.tables l.self.answers;
   adds : Adds l.self.tables (PassesSome l.program l.initial.self.tables l.user (take l.site-index l.sites)) l.initial.steps.items l.steps.items;
   lacks : NotesCalls (LacksSome l.program l.initial.self.tables l.user (take l.site-index l.sites)) l.initial.self.refusals.call l.self.refusals.call;
   method : l.self.refusals.method ≡ l.initial.self.refusals.method;

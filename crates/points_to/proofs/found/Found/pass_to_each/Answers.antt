@@ -20,6 +20,7 @@ loop-user-init c =
     record {
       grows = grows_same n;
       calls = refl;
+      answers = c.requires.answers;
       adds = adds_start (λ (u : UserNo) (x : RuleItem). IsPassed p n u site x) n c.args.users.now c.args.steps.now.items;
       lacks = calls_start (λ (u : UserNo) (x : RefusedCall). IsLackOf p n u site x) c.args.users.now c.args.self.now.refusals.call;
       method = refl;
@@ -48,6 +49,7 @@ loop-user-preserved c =
     record {
       grows = grows_on n m o before.grows now.grows;
       calls = now.calls ∙ before.calls;
+      answers = now.answers;
       adds = to_each_more p n m o before.grows now.grows users site k past c.args.steps.now.items c.loop-user.steps.items c.pass.new.steps.items within known.numbered c.requires.site before.adds now.adds;
       lacks = to_each_lacks p n m o before.grows now.grows users site k past c.args.self.now.refusals.call c.loop-user.self.refusals.call c.pass.new.self.refusals.call within known.numbered c.requires.site before.lacks now.lacks;
       method = now.method ∙ before.method;

@@ -1,4 +1,5 @@
 use Rattle.std.proofs.Common.{◌≡◌, length, take}
+use Rattle.points_to_calls.specs.KeptAnswers.{AreRight}
 use Rattle.points_to_tables.specs.Numbered.{Grows}
 use Rattle.points_to_tables.specs.Steps.{Adds}
 use Rattle.points_to.specs.Passing.{NotesCalls, PassesToSome, LacksForSome}
@@ -8,6 +9,7 @@ abbrev pub invariant-loop-user : goal.invariant-loop-user
 invariant-loop-user l = record {
   grows : Grows l.initial.self.tables l.self.tables;
   calls : length l.self.tables.calls ≡ length l.initial.self.tables.calls;
+  answers : AreRight l.program l.self.tables l.self.answers;
   adds : Adds l.self.tables (PassesToSome l.program l.initial.self.tables (take l.user-index l.users) l.site) l.initial.steps.items l.steps.items;
   lacks : NotesCalls (LacksForSome l.program l.initial.self.tables (take l.user-index l.users) l.site) l.initial.self.refusals.call l.self.refusals.call;
   method : l.self.refusals.method ≡ l.initial.self.refusals.method;

@@ -1,5 +1,7 @@
-use Rattle.std.proofs.Common.{refl, ◌≡◌, length, vec_len, arith, ◌∙◌}
+use Rattle.std.proofs.Common.{rules, refl, ◌≡◌, length, vec_len, arith, ◌∙◌}
+use Rattle.std.proofs.lemmas.Result.{err_from_is_err_and}
 use Rattle.points_to_tables.specs.Kept.{kept}
+use Rattle.points_to_tables.proofs.FreshKeys.{landings_are, no_number, no_memory, numbered_as}
 use Rattle.points_to_tables.proofs.NewNumbers.{calls_stay, landing_numbered}
 use Rattle.points_to_tables.proofs.tables.Tables.landing.Goals as goal
 
@@ -20,3 +22,24 @@ returns-clause-stands c =
 
 pub returns-clause-calls : goal.returns-clause-calls
 returns-clause-calls c = calls_stay (kept c.self.inside) c.args.self.now c.self.view_is c.self.invariant (record (kept c.self.inside) { landings = c.push.new.self.items }) refl
+
+pub returns-in_err-number-clause-too_many : goal.returns-in_err-number-clause-too_many
+returns-in_err-number-clause-too_many c =
+    let long : vec_len c.self.inside.landings ≡ length c.self.inside.landings.items = omega arith in
+    let are = landings_are (kept c.self.inside) c.args.self.now c.self.view_is c.self.invariant in
+    let past = c.in_err-number.ensures.err.0 (search rules) in
+    let e = err_from_is_err_and c.from_residual.result c.from_residual.ensures.1 in
+    rw (e.1, e.2) (no_number c.in_err-number.field-0.0 c.in_err-number.ensures.too_many (omega (arith, long, are, past, c.len.ensures)))
+
+pub returns-in_err-push-clause-too_many : goal.returns-in_err-push-clause-too_many
+returns-in_err-push-clause-too_many c =
+    let long : vec_len c.self.inside.landings ≡ length c.self.inside.landings.items = omega arith in
+    let are = landings_are (kept c.self.inside) c.args.self.now c.self.view_is c.self.invariant in
+    let e = err_from_is_err_and c.from_residual-in_err-push.result c.from_residual-in_err-push.ensures.1 in
+    rw e.1 (no_memory e.0 e.2 (λ many. omega (arith, long, are, many, c.len.ensures, c.in_ok-number.ensures.number, c.in_ok-number.ensures.room)))
+
+pub returns-clause-too_many : goal.returns-clause-too_many
+returns-clause-too_many c =
+    let long : vec_len c.self.inside.landings ≡ length c.self.inside.landings.items = omega arith in
+    let are = landings_are (kept c.self.inside) c.args.self.now c.self.view_is c.self.invariant in
+    numbered_as _ (λ many. omega (arith, long, are, many, c.len.ensures, c.in_ok-number.ensures.number, c.in_ok-number.ensures.room))

@@ -1,0 +1,61 @@
+"""Libraries to be measured: the class files of jars in a folder, with their stub file and a driver (bench/driver.py) that calls the
+public methods, and without what links nowhere."""
+
+import os
+import pathlib
+import subprocess
+import sys
+import tempfile
+
+ROOT = pathlib.Path(__file__).resolve().parent.parent
+sys.path.append(str(ROOT / "tools"))
+
+from closure import Closure  # noqa: E402
+from driver import Driver  # noqa: E402
+from library import jdk_folder, open_jdk, read_base, read_folder  # noqa: E402
+
+STUBS = "stubs.toml"
+
+
+def run_tool(*words: str) -> str:
+    """What a tool of this repository prints; or the end, with what it says."""
+    run = subprocess.run([str(ROOT / "tools" / words[0]), *words[1:]], capture_output=True, text=True, check=False)
+    if run.returncode != 0:
+        sys.exit(f"tools/{words[0]}: {run.stdout[-500:]}{run.stderr}")
+    return run.stdout
+
+
+def drop_classes_without_supers(folder: str) -> int:
+    """Takes out the class files of which a supertype is nowhere. How many."""
+    base = read_base(ROOT / "docs/BASE_STUBS.md")
+    closure = Closure(open_jdk(jdk_folder(None)), read_folder(folder), base, set())
+    closure.collect()
+    without = closure.without_supers()
+    for name in without:
+        os.remove(closure.folder[name].path)
+    return len(without)
+
+
+def refused_methods(folder: str) -> dict[str, set[str]]:
+    """The methods with code that is refused before a run, by the names of their classes: their names with their descriptors."""
+    with tempfile.NamedTemporaryFile("r") as listed:
+        run_tool("stubs", folder, "--refused", listed.name)
+        methods = [line.split(" ")[1] for line in listed.read().splitlines() if not line.startswith("native ")]
+    found: dict[str, set[str]] = {}
+    for method in methods:
+        owner, _, key = method.partition(".")
+        found.setdefault(owner, set()).add(key)
+    return found
+
+
+def unpack_library(jars: list[str], folder: str) -> tuple[Driver, int]:
+    """Puts the class files of jars into a folder, with their stub file and the driver. The driver, and how many class
+    files were taken out."""
+    run_tool("unpack", *jars, folder)
+    dropped = drop_classes_without_supers(folder)
+    stubs = run_tool("stubs", folder)
+    driver = Driver(read_folder(folder))
+    (pathlib.Path(folder) / STUBS).write_text(stubs)
+    for name, content in driver.files().items():
+        (pathlib.Path(folder) / name).write_bytes(content)
+    return driver, dropped

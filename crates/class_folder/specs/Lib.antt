@@ -1,0 +1,2 @@
+pub mod ClassFiles
+pub mod Reading

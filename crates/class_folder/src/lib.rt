@@ -1,0 +1,10 @@
+//! The class files of a folder: read in byte order of their names, within the limits of number and size.
+#![tactic(auto)]
+
+mod fault;
+mod read;
+#[cfg(test)]
+mod tests;
+
+pub use fault::{FolderFailure, FolderFault};
+pub use read::read_classes;

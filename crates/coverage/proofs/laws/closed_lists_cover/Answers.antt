@@ -1,0 +1,9 @@
+use Rattle.std.specs.List.{Contains}
+use Rattle.coverage.specs.Methods.{as_given}
+use Rattle.coverage.proofs.Executions.{own_map, covers_all}
+use Rattle.coverage.proofs.Refused.{calls_unrefused}
+use Rattle.coverage.proofs.laws.closed_lists_cover.Goals as goal
+
+pub returns : goal.returns
+returns c = λ x given facts program whole closed unrefused.
+    covers_all x given (as_given given) (Contains facts) (own_map given) closed whole (calls_unrefused x.program (as_given given) (Contains facts) program whole unrefused)

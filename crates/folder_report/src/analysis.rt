@@ -1,0 +1,63 @@
+//! The analysis of a linked program, from an entry.
+
+ghost use Rattle.std.specs.Prelude.{◌≡◌, ◌↔◌, Some, IfErr, IfOk, IsTrue};
+ghost use Rattle.jvm_model.specs.Programs.{Class, object_name};
+ghost use Rattle.jvm_model.specs.Subtypes.{class_named};
+ghost use Rattle.linked_program.specs.Numbers.{IsMethodNumber};
+ghost use Rattle.folder_supply.specs.Supplied.{IsSupplied};
+ghost use Rattle.points_to.specs.Solutions.{IsSolved, IsSolveEnd};
+ghost use Rattle.folder_report.specs.Analyses.{IsAnalysis};
+
+use call_graph::{Ground, ground_of};
+use folder_supply::{FolderSupply, laws};
+use jvm_model::MethodNo;
+use linked_program::program::Program;
+use points_to::{Solution, SolveFailure, solve};
+use std::alloc::Global;
+use supply_laws::supplied_methods_are_whole;
+
+/// The least sets of the methods of class files, from an entry method; or why there are none: there are as many pairs of a place and a site as the
+/// limit; or a method that may run, or a call in one, is refused.
+pub fn solve_folder(
+    alloc: Global,
+    program: &Program,
+    entry: MethodNo,
+    pair_limit: u64,
+) -> Result<Solution, SolveFailure>
+    requires entry { IsMethodNumber program.now entry.0 }
+    requires object { (object : Class) × (class_named program.now object_name ≡ Some object) }
+    ensures solved { IfOk result (IsSolved program.now (IsSupplied program.now) entry pair_limit) }
+    ensures end { IfErr result (IsSolveEnd program.now (IsSupplied program.now) entry pair_limit) }
+{
+    program.well_formed();
+    laws::each_answer();
+    supplied_methods_are_whole();
+    let mut supply = FolderSupply::new(alloc, program);
+    solve(alloc, program, &mut supply, entry, pair_limit)
+}
+
+/// The ground of these sets, which has also what methods may write.
+pub fn analyse(
+    alloc: Global,
+    program: &Program,
+    entry: MethodNo,
+    pair_limit: u64,
+) -> Result<Ground, SolveFailure>
+    requires entry { IsMethodNumber program.now entry.0 }
+    requires object { (object : Class) × (class_named program.now object_name ≡ Some object) }
+    ensures ground { IfOk result (IsAnalysis program.now (IsSupplied program.now) entry pair_limit) }
+    ensures end { IfErr result (IsSolveEnd program.now (IsSupplied program.now) entry pair_limit) }
+{
+    supplied_methods_are_whole();
+    let solution = solve_folder(alloc, program, entry, pair_limit)?;
+    let ground = ground_of(alloc, program, solution)?;
+    Ok(ground)
+}
+
+/// Whether the class `java/lang/Object` is in the program, as the analysis asks.
+pub fn has_object(program: &Program) -> bool
+    ensures { IsTrue result ↔ ((object : Class) × (class_named program.now object_name ≡ Some object)) }
+{
+    program.well_formed();
+    program.find(b"java/lang/Object").is_some()
+}

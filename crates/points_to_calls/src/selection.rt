@@ -1,0 +1,52 @@
+//! What a call of a resolved method selects by the class of an object.
+
+ghost use Rattle.std.specs.Prelude.{◌≡◌, Some};
+ghost use Rattle.bytecode_machine.specs.Machine.{selecting_class};
+ghost use Rattle.jvm_model.specs.declared.site.Site.{Site};
+ghost use Rattle.jvm_model.specs.Programs.{Class, object_name};
+ghost use Rattle.jvm_model.specs.Subtypes.{class_named};
+ghost use Rattle.linked_program.specs.Numbers.{IsMethodNumber};
+ghost use Rattle.points_to_calls.specs.Selecting.{IsOnlyAnswer};
+ghost use Rattle.points_to_rules.specs.Calls.{SelectsAs};
+
+use hierarchy::classes::find_class;
+use hierarchy::select::select;
+use jvm_model::grammar::is_array;
+use jvm_model::{MethodNo, Reason};
+use linked_program::program::Program;
+use type_fit::fits;
+
+/// The class from which the method is selected that a call on an object of a class goes to: an array has those of java/lang/Object.
+fn selecting_class(class: &[u8]) -> &[u8]
+    ensures { result.now ≡ selecting_class class.now }
+{
+    if is_array(class) {
+        return b"java/lang/Object";
+    }
+    class
+}
+
+/// What a call of a resolved method selects by the class of an object, if it may be made on it.
+pub(crate) fn selected_from(
+    program: &Program,
+    resolved: MethodNo,
+    class: &[u8],
+    interface: bool,
+) -> Option<Result<MethodNo, Reason>>
+    requires resolved { IsMethodNumber program.now resolved.0 }
+    requires object { (object : Class) × (class_named program.now object_name ≡ Some object) }
+    ensures { (s : Site) → class.now ≡ s.class → IsOnlyAnswer (SelectsAs interface program.now resolved s) result }
+{
+    program.well_formed();
+    if !fits(
+        program,
+        program.class_name(program.method(resolved).class),
+        class,
+    ) {
+        return None;
+    }
+    let Some(receiver) = find_class(program, selecting_class(class)) else {
+        return None;
+    };
+    Some(select(program, resolved, receiver, interface))
+}

@@ -1,0 +1,3 @@
+pub mod Tracked
+pub mod Pruning
+pub mod Reports

@@ -1,0 +1,9 @@
+mod Words
+mod Properties
+mod Linked
+mod Entry
+mod Runs
+mod ClassChecks
+mod ClassFiles
+mod Ends
+mod ExampleRuns

@@ -1,0 +1,50 @@
+-- A site that the first stage proves safe never errs, in any execution of the bytecode.
+use Rattle.std.proofs.Common.{ℕ, List, Contains}
+use Rattle.jvm_model.specs.declared.site.Site.{Site}
+use Rattle.jvm_model.specs.LinkedPrograms.{IsProgram}
+use Rattle.bytecode_machine.specs.Executions.{Errs}
+use Rattle.bytecode_machine.specs.Objects.{Subject}
+use Rattle.op_model.specs.Supplies.{Given, IsMapOf}
+use Rattle.least_sets.specs.Rules.{IsClosedSet}
+use Rattle.points_to_rules.specs.Facts.{Fact}
+use Rattle.points_to_rules.specs.Refusals.{IsUnrefused}
+use Rattle.points_to_rules.specs.Rules.{Instance}
+use Rattle.folder_supply.proofs.EachAnswer.{each_answer}
+use Rattle.folder_supply.proofs.Maps.{is_map}
+use Rattle.folder_supply.specs.Supplied.{IsSupplied}
+use Rattle.points_to.specs.Solutions.{IsSolution}
+use Rattle.simulation.proofs.Supplied.{supplied_runs}
+use Rattle.simulation.specs.Simulation.{HasEntry, HasExceptions, IsRun}
+use Rattle.coverage.proofs.Refused.{calls_unrefused}
+use Rattle.supplied_coverage.proofs.Whole.{supplied_covered}
+use Rattle.covered_executions.proofs.Executions.{executions_covered}
+use Rattle.report_rules.specs.Pruning.{IsPruned}
+use Rattle.run_truth.proofs.Words.{never_errs}
+
+pub pruned_never_errs : (x : Subject) (given : Given) (facts : List Fact) → IsRun x given → IsMapOf given (IsSupplied x.program)
+    → IsClosedSet (Instance x.program (IsSupplied x.program) (record { 0 = x.entry })) (Contains facts) → IsUnrefused x.program (IsSupplied x.program) (Contains facts)
+    → (s : Site) → IsPruned (IsSupplied x.program) (Contains facts) x.property s → Errs x s → ⊥
+pruned_never_errs x given facts run map closed unrefused s pruned e =
+    let whole = supplied_covered x.program in
+    let all = executions_covered x given (IsSupplied x.program) (Contains facts) run map (λ number coded. each_answer x.program number run.program coded) whole closed unrefused
+    e.states e.execution in
+    never_errs x given (IsSupplied x.program) (Contains facts) map closed whole (calls_unrefused x.program (IsSupplied x.program) (Contains facts) run.program whole unrefused) s pruned
+    (record {
+      states = e.states;
+      execution = all.1;
+      state = e.state;
+      reached = e.reached;
+      object = e.object;
+      lives = e.lives;
+      of_site = e.of_site;
+      in_error = e.in_error;
+    })
+
+-- So it is by the least facts of a folder's analysis.
+pub solved_never_errs : (x : Subject) (facts : List Fact) (limit : ℕ) → IsProgram x.program → HasExceptions x.program → HasEntry x
+    → IsSolution x.program (IsSupplied x.program) (record { 0 = x.entry }) limit facts
+    → (s : Site) → IsPruned (IsSupplied x.program) (Contains facts) x.property s → Errs x s → ⊥
+solved_never_errs x facts limit program exceptions entry solution s pruned e =
+    let m = is_map x.program program in
+    pruned_never_errs x m.0 facts (supplied_runs x m.0 program exceptions entry m.1) m.1
+    (λ premises fact instance hold. solution.least.least.closed premises fact instance hold) solution.unrefused s pruned e

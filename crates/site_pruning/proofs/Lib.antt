@@ -1,6 +1,0 @@
-mod Marking
-mod EventNumbers
-mod OrderedSites
-mod NumberedPlaces
-mod MarkedCalls
-mod PrunedSites

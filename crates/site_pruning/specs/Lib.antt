@@ -1,4 +1,0 @@
-pub mod Pruning
-pub mod Events
-pub mod Marks
-pub mod Places

@@ -1,5 +1,0 @@
-mod FoundLines
-mod CallTargets
-mod KnownSites
-mod Agreeing
-mod Reported

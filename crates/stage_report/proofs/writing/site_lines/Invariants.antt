@@ -1,5 +1,0 @@
-use Rattle.stage_report.proofs.FoundLines.{LeavesLines}
-use Rattle.stage_report.proofs.writing.site_lines.Given as goal
-
-abbrev pub invariant-loop-place : goal.invariant-loop-place
-invariant-loop-place l = record { left : LeavesLines l.program l.sites l.answers l.lines.items l.place }

@@ -1,0 +1,4 @@
+pub mod RowUnits
+pub mod Operations
+pub mod Whole
+pub mod Covered

@@ -1,5 +1,0 @@
-mod Adding
-mod HeldFacts
-mod ClassSites
-mod SiteOrder
-mod FoundSites

@@ -1,0 +1,120 @@
+//! What is said on standard error beside the answer of a run that is no report: what to do about it.
+
+use crate::sentences::{reason_named, sentence_on};
+use command_words::{Request, UsageFault, read_words};
+use failure::Failure;
+use jvm_model::Reason;
+use property_file::read_property;
+use run_outcomes::Status;
+use std::alloc::Global;
+use std::fmt::Display;
+use stub_file::read_stubs;
+use toml_tables::DOCUMENT_LIMIT;
+use ts_outside::Tree;
+
+/// One more than the most bytes of a property file or a stub file, so that a longer one is seen.
+const DOCUMENT_BYTES: u32 = DOCUMENT_LIMIT as u32 + 1;
+
+const WRONG_WORDS: &str = "The words are not those of a run: ./typestate --help shows them.";
+
+const WRONG_NUMBER: &str =
+    "The number of this option is not in its range: ./typestate --help shows it.";
+
+const MISSING: &str =
+    "There is no file of this name in the folder of --classes: names are relative to it, with / between folders.";
+
+const READ_FAULT: &str = "A file or a folder cannot be read: look at their permissions and names.";
+
+const WRITE_FAULT: &str = "Standard output took no more.";
+
+const NO_MEMORY: &str = "There is not enough memory.";
+
+/// Says what to do where a run ended so, with this word at the end of its line. Nothing is said beside a report.
+pub(crate) fn advise<R: Eprint, T: Tree>(
+    rt: &R,
+    alloc: Global,
+    words: &[String],
+    tree: &mut T,
+    status: Status,
+    last_word: &[u8],
+) {
+    match status {
+        Status::AllSafe | Status::SomeUnproved | Status::RejectedCertificate => {}
+        Status::Refused => advise_on_refusal(rt, alloc, words, tree, last_word),
+        Status::ReadFault => say(rt, READ_FAULT),
+        Status::WriteFault => say(rt, WRITE_FAULT),
+        Status::Usage => match read_words(alloc, words) {
+            Ok(_) => say(rt, MISSING),
+            Err(Failure::Cause(UsageFault::Words)) => say(rt, WRONG_WORDS),
+            Err(Failure::Cause(UsageFault::Range(_))) => say(rt, WRONG_NUMBER),
+            Err(Failure::OutOfMemory) => say(rt, NO_MEMORY),
+        },
+        Status::Memory => say(rt, NO_MEMORY),
+    }
+}
+
+/// Says what to do about a refusal. Where a property file or a stub file is refused, what is wrong with it is said first.
+fn advise_on_refusal<R: Eprint, T: Tree>(
+    rt: &R,
+    alloc: Global,
+    words: &[String],
+    tree: &mut T,
+    word: &[u8],
+) {
+    let Some(reason) = reason_named(word) else {
+        return;
+    };
+    if matches!(
+        reason,
+        Reason::BadToml | Reason::BadProperty | Reason::BadStub
+    ) {
+        if let Ok(request) = read_words(alloc, words) {
+            if !say_property_fault(rt, alloc, &request, tree) {
+                say_stub_fault(rt, alloc, &request, tree);
+            }
+        }
+    }
+    say(rt, sentence_on(reason));
+}
+
+/// Says what is wrong with the property file. Whether anything is.
+fn say_property_fault<R: Eprint, T: Tree>(
+    rt: &R,
+    alloc: Global,
+    request: &Request<'_>,
+    tree: &mut T,
+) -> bool {
+    let Ok(bytes) = tree.read(alloc, request.property, DOCUMENT_BYTES) else {
+        return false;
+    };
+    match read_property(alloc, &bytes) {
+        Err(Failure::Cause(fault)) => {
+            say_of_file(rt, request.property, &fault);
+            true
+        }
+        _ => false,
+    }
+}
+
+/// Says what is wrong with the stub file, if anything is.
+fn say_stub_fault<R: Eprint, T: Tree>(rt: &R, alloc: Global, request: &Request<'_>, tree: &mut T) {
+    let Some(name) = request.stubs else {
+        return;
+    };
+    let Ok(bytes) = tree.read(alloc, name, DOCUMENT_BYTES) else {
+        return;
+    };
+    if let Err(Failure::Cause(fault)) = read_stubs(alloc, name, &bytes) {
+        say_of_file(rt, name, &fault);
+    }
+}
+
+/// Says something of a file on standard error. Where that takes nothing, nothing is said.
+fn say_of_file<R: Eprint>(rt: &R, file: &str, fault: &impl Display) {
+    let _ = eprintln!(rt; "typestate: {file}: {fault}");
+}
+
+/// Says a sentence on standard error. Where that takes nothing, nothing is said.
+fn say<R: Eprint>(rt: &R, sentence: &str) {
+    let _ = eprintln!(rt; "typestate: {sentence}");
+}

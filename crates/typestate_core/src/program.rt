@@ -1,0 +1,195 @@
+//! From class files and stubs to the report: linking, the entry, the property's class, the analysis, and the stages.
+
+ghost use Rattle.std.specs.Prelude.{◌≡◌, ◌↔◌, ℕ, Bool, List, All, Contains, IfOk, IfErr, IsTrue};
+ghost use Rattle.failure.specs.declared.Failure.TheVariants.{OutOfMemory};
+ghost use Rattle.jvm_model.specs.Automata.{IsAutomaton};
+ghost use Rattle.jvm_model.specs.declared.number.MethodNo.{MethodNo as RuleMethodNo};
+ghost use Rattle.jvm_model.specs.declared.program.NamedClass.{NamedClass as RuleNamedClass};
+ghost use Rattle.jvm_model.specs.Programs.{Class, object_name};
+ghost use Rattle.jvm_model.specs.Soundness.{IsChecked};
+ghost use Rattle.jvm_model.specs.Subtypes.{class_named};
+ghost use Rattle.linked_program.specs.Numbers.{IsMethodNumber, IsClassNumber, name_at};
+ghost use Rattle.jvm_model.specs.StubRules.{IsSoundStub};
+ghost use Rattle.command_words.specs.Requests.{wanted_of};
+ghost use Rattle.call_graph.specs.Grounds.{HasFacts};
+ghost use Rattle.folder_report.specs.Analyses.{IsAnalysis};
+ghost use Rattle.folder_supply.specs.Supplied.{IsSupplied};
+ghost use Rattle.points_to_rules.specs.Facts.{Fact};
+ghost use Rattle.report_rules.specs.Reports.{IsReport};
+ghost use Rattle.entry_method.specs.Entries.{NamesMethod};
+ghost use Rattle.typestate_core.specs.Answers.{IsReported, lines_of};
+ghost use Rattle.typestate_core.specs.Ends.{SaysEnd};
+ghost use Rattle.run_outcomes.specs.Outcomes.{AnalysisOutcome, ClassOutcome, EntryOutcome, LinkOutcome, report_status};
+
+use crate::answer::{Answer, RunFailure, refuse};
+use call_graph::Ground;
+use command_words::Request;
+use entry_method::{find_entry, has_method_named};
+use failure::Failure;
+use folder_report::{Report, analyse, report_of};
+use jvm_model::{Automaton, ClassNo, MethodNo, NamedClass, Reason, StubClass};
+use linked_program::link_failure::LinkFault;
+use linked_program::program::Program;
+use linking::link::link;
+use points_to::{SolveFailure, SolveFault};
+use run_outcomes::Status;
+use std::alloc::Global;
+use stub_file::{base_stubs, base_stubs_are_closed};
+
+/// Links the class files with the stubs that are built in and the user's.
+pub(crate) fn judge_classes(
+    alloc: Global,
+    request: &Request<'_>,
+    automaton: &Automaton,
+    stubs: Vec<StubClass>,
+    classes: Vec<NamedClass>,
+) -> Result<Answer, RunFailure>
+    requires automaton { IsAutomaton automaton.now }
+    requires stubs { All IsSoundStub stubs.items }
+    requires classes { All (λ (c : RuleNamedClass). IsChecked c.class) classes.items }
+    ensures told { IfOk result (λ a. LinkOutcome (wanted_of request.now) automaton.now stubs.items classes.items a.status (lines_of a)) }
+    ensures reported { IfOk result (λ a. IsReported a.status) }
+    ensures memory { IfErr result (λ e. e ≡ OutOfMemory) }
+{
+    let named = has_method_named(&classes, request.class, request.method);
+    base_stubs_are_closed();
+    let mut all = base_stubs(alloc)?;
+    let mut stubs = stubs;
+    all.append(&mut stubs)?;
+    match link(alloc, classes, all) {
+        Ok(program) => {
+            program.well_formed();
+            judge_program(alloc, request, automaton, named, &program)
+        }
+        Err(Failure::Cause(LinkFault::Refused(r))) => refuse(
+            alloc,
+            r.file.as_str().as_bytes(),
+            r.offset,
+            r.reason,
+        ),
+        Err(Failure::Cause(LinkFault::TooMany)) => Err(Failure::OutOfMemory),
+        Err(Failure::OutOfMemory) => Err(Failure::OutOfMemory),
+    }
+}
+
+/// Finds the entry. `named` says whether the entry's class is there and has a method of the entry's name.
+fn judge_program(
+    alloc: Global,
+    request: &Request<'_>,
+    automaton: &Automaton,
+    named: bool,
+    program: &Program,
+) -> Result<Answer, RunFailure>
+    requires automaton { IsAutomaton automaton.now }
+    requires object { (object : Class) × (class_named program.now object_name ≡ Some object) }
+    ensures told { IfOk result (λ a. (classes : List RuleNamedClass) → IsTrue named ↔ NamesMethod classes request.now.class.now request.now.method.now
+        → EntryOutcome (wanted_of request.now) automaton.now classes program.now a.status (lines_of a)) }
+    ensures reported { IfOk result (λ a. IsReported a.status) }
+    ensures memory { IfErr result (λ e. e ≡ OutOfMemory) }
+{
+    match find_entry(program, request.class, request.method) {
+        Some(entry) => judge_entry(alloc, request, automaton, program, entry),
+        None if named => refuse(alloc, b"-", 0, Reason::EntryShape),
+        None => refuse(alloc, b"-", 0, Reason::NoEntry),
+    }
+}
+
+/// Finds the property's class.
+fn judge_entry(
+    alloc: Global,
+    request: &Request<'_>,
+    automaton: &Automaton,
+    program: &Program,
+    entry: MethodNo,
+) -> Result<Answer, RunFailure>
+    requires automaton { IsAutomaton automaton.now }
+    requires entry { IsMethodNumber program.now entry.0 }
+    requires object { (object : Class) × (class_named program.now object_name ≡ Some object) }
+    ensures told { IfOk result (λ a. ClassOutcome (wanted_of request.now) automaton.now program.now entry a.status (lines_of a)) }
+    ensures reported { IfOk result (λ a. IsReported a.status) }
+    ensures memory { IfErr result (λ e. e ≡ OutOfMemory) }
+{
+    program.well_formed();
+    match program.find(automaton.class_name.as_slice()) {
+        Some(class) => judge_analysis(alloc, request, automaton, program, entry, class),
+        None => refuse(alloc, request.property.as_bytes(), 0, Reason::MissingClass),
+    }
+}
+
+/// Analyses the program, and reports on its tracked sites.
+fn judge_analysis(
+    alloc: Global,
+    request: &Request<'_>,
+    automaton: &Automaton,
+    program: &Program,
+    entry: MethodNo,
+    class: ClassNo,
+) -> Result<Answer, RunFailure>
+    requires automaton { IsAutomaton automaton.now }
+    requires entry { IsMethodNumber program.now entry.0 }
+    requires object { (object : Class) × (class_named program.now object_name ≡ Some object) }
+    requires class { IsClassNumber program.now class.0 }
+    requires named { name_at program.now class.0 ≡ automaton.now.class_name }
+    ensures told { IfOk result (λ a. AnalysisOutcome (wanted_of request.now) automaton.now program.now entry a.status (lines_of a)) }
+    ensures reported { IfOk result (λ a. IsReported a.status) }
+    ensures memory { IfErr result (λ e. e ≡ OutOfMemory) }
+{
+    match analyse(alloc, program, entry, u64::from(request.pair_limit)) {
+        Ok(ground) => report_on(alloc, automaton, program, &ground, class),
+        Err(failure) => refuse_end(alloc, &failure),
+    }
+}
+
+/// Why the analysis has no sets.
+fn refuse_end(alloc: Global, failure: &SolveFailure) -> Result<Answer, RunFailure>
+    ensures ok { IfOk result (λ a. SaysEnd a failure.now) }
+    ensures reported { IfOk result (λ a. IsReported a.status) }
+    ensures memory { IfErr result (λ e. e ≡ OutOfMemory) }
+{
+    match failure {
+        Failure::Cause(SolveFault::PairLimit(_)) => refuse(alloc, b"-", 0, Reason::PairLimit),
+        Failure::Cause(SolveFault::Refused(r)) => refuse(
+            alloc,
+            r.file.as_str().as_bytes(),
+            r.offset,
+            r.reason,
+        ),
+        Failure::OutOfMemory => Err(Failure::OutOfMemory),
+    }
+}
+
+/// Reports on the tracked sites of a program that is analysed. The report speaks of any facts that the ground has.
+fn report_on(
+    alloc: Global,
+    automaton: &Automaton,
+    program: &Program,
+    ground: &Ground,
+    class: ClassNo,
+) -> Result<Answer, RunFailure>
+    requires automaton { IsAutomaton automaton.now }
+    requires class { IsClassNumber program.now class.0 }
+    requires named { name_at program.now class.0 ≡ automaton.now.class_name }
+    requires analysis { (entry : RuleMethodNo) × (limit : ℕ) × IsMethodNumber program.now entry.0 × IsAnalysis program.now (IsSupplied program.now) entry limit ground.now }
+    ensures told { IfOk result (λ a. (facts : List Fact) → HasFacts ground.now facts
+        → (all_safe : Bool) × IsReport program.now (IsSupplied program.now) (Contains facts) automaton.now (lines_of a) all_safe × (a.status ≡ report_status all_safe)) }
+    ensures reported { IfOk result (λ a. IsReported a.status) }
+    ensures memory { IfErr result (λ e. e ≡ OutOfMemory) }
+{
+    let Report { lines, all_safe } = report_of(alloc, program, ground, automaton, class)?;
+    Ok(Answer {
+        status: report_status(all_safe),
+        lines,
+    })
+}
+
+/// The status where each tracked site is safe, and where not.
+fn report_status(all_safe: bool) -> Status
+    ensures value { result ≡ report_status all_safe }
+    ensures reported { IsReported result }
+{
+    if all_safe {
+        Status::AllSafe
+    } else {
+        Status::SomeUnproved
+    }
+}

@@ -1,0 +1,65 @@
+"""Writes what was found as a document of the Static Analysis Results Interchange Format (SARIF), version 2.1.0."""
+
+import json
+from dataclasses import dataclass
+from urllib.parse import quote
+
+SCHEMA = "https://docs.oasis-open.org/sarif/sarif/v2.1.0/errata01/os/schemas/sarif-schema-2.1.0.json"
+
+RULES: dict[str, str] = {
+    "safe": "No order of the events that objects made at this place may meet breaks the protocol.",
+    "unproved": "Some order of the events that objects made at this place may meet would break the protocol. That need not be a fault.",
+    "limit": "The analysis met its limit of facts at this place. That need not be a fault.",
+    "refused": "The input was refused, so that nothing was analysed.",
+}
+
+
+@dataclass
+class Finding:
+    """A finding: its rule, or none, its text, its method, and its source file and line, where they are known."""
+    rule: str
+    text: str
+    method: str
+    file: str
+    line: int
+
+
+def location(finding: Finding) -> dict:
+    """The place of a finding: the method, and the line if it is known."""
+    found: dict = {}
+    if finding.method:
+        found["logicalLocations"] = [{"fullyQualifiedName": finding.method, "kind": "function"}]
+    if finding.file:
+        physical: dict = {"artifactLocation": {"uri": quote(finding.file, errors="surrogateescape")}}
+        if finding.line:
+            physical["region"] = {"startLine": finding.line}
+        found["physicalLocation"] = physical
+    return found
+
+
+def result(finding: Finding) -> dict:
+    """A finding as a result: a safe place passes; any other is a warning, so that systems that read the file show it."""
+    safe = finding.rule == "safe"
+    found = {
+        "ruleId": finding.rule,
+        "ruleIndex": list(RULES).index(finding.rule),
+        "kind": "pass" if safe else "fail",
+        "level": "none" if safe else "error" if finding.rule == "refused" else "warning",
+        "message": {"text": finding.text},
+    }
+    place = location(finding)
+    return found | ({"locations": [place]} if place else {})
+
+
+def document(findings: list[Finding], trouble: str) -> str:
+    """The document; `trouble` says why there is no report, or is empty."""
+    rules = [{"id": name, "shortDescription": {"text": text}} for name, text in RULES.items()]
+    invocation: dict = {"executionSuccessful": not trouble}
+    if trouble:
+        invocation["toolExecutionNotifications"] = [{"level": "error", "message": {"text": trouble}}]
+    run = {
+        "tool": {"driver": {"name": "typestate", "rules": rules}},
+        "invocations": [invocation],
+        "results": [result(finding) for finding in findings if finding.rule],
+    }
+    return json.dumps({"$schema": SCHEMA, "version": "2.1.0", "runs": [run]}, indent=2) + "\n"
