@@ -10,7 +10,7 @@ use Rattle.site_report.specs.declared.verdict.Verdict.TheVariants.{Safe, Unprove
 use Rattle.site_report.specs.Lines.{summary_line, verdict_line}
 use Rattle.site_report.specs.Sites.{site_in}
 use Rattle.report_rules.specs.Reports.{is_safe, line_of}
-use Rattle.run_truth.specs.Truth.{IsTrueLine, SaysSafe}
+use Rattle.run_truth.specs.Truth.{IsReportedSite, IsTrueLine, SaysSafe}
 
 -- the second letter of the word that says that a site is safe
 abbrev has_a : List ℕ → Bool
@@ -19,9 +19,10 @@ has_a line = nat_eq (slice_index_or line 1 0) 97
 says_a : (line : List ℕ) → SaysSafe line → has_a line ≡ true
 says_a line (rest, e) = ap has_a e
 
-module _ (x : Subject) (V : TrackedSite → Verdict → Type 0) (never : (t : TrackedSite) (stage : ℕ) → V t (Safe stage) → Errs x (site_in x.program t) → ⊥) where
+module _ (x : Subject) (V : TrackedSite → Verdict → Type 0) (never : (t : TrackedSite) (stage : ℕ) → V t (Safe stage) → Errs x (site_in x.program t) → ⊥)
+    (reported : (t : TrackedSite) (v : Verdict) → V t v → IsReportedSite x t) where
   one : (t : TrackedSite) (v : Verdict) → V t v → SaysSafe (verdict_line x.program t v) → IsTrueLine x (verdict_line x.program t v)
-  one t (Safe stage) is safe = record { site = t; stage = stage; is = refl; never = never t stage is }
+  one t (Safe stage) is safe = record { site = t; reported = reported t (Safe stage) is; stage = stage; is = refl; never = never t stage is }
   one t Unproved is safe = absurd (cc (says_a (verdict_line x.program t Unproved) safe))
   one t (Limit stage) is safe = absurd (cc (says_a (verdict_line x.program t (Limit stage)) safe))
 
