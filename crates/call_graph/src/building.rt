@@ -1,19 +1,21 @@
 //! A ground is made of a solution.
 
-ghost use Rattle.std.specs.Prelude.{◌≡◌, List, Contains, IfOk};
+ghost use Rattle.std.specs.Prelude.{◌≡◌, List, map, Contains, IfOk};
 ghost use Rattle.points_to_items.specs.MethodNumbers.{IsMethodIn};
 ghost use Rattle.points_to_rules.specs.Facts.{Fact};
 ghost use Rattle.points_to.specs.declared.solution.RunningMethod.{RunningMethod};
 ghost use Rattle.points_to.specs.Solutions.{AreFactsOf};
-ghost use Rattle.call_graph.specs.Grounds.{IsGround};
+ghost use Rattle.call_graph.specs.Grounds.{IsGround, nodes_of};
+ghost use Rattle.call_graph.specs.Written.{AreWrites};
 
 use crate::edges::edges_of;
-use crate::ground::Ground;
+use crate::ground::{FieldWrite, Ground};
 use crate::sets::{Sets, sets_of};
 use crate::stores::stores_of;
 use crate::writes::close_writes;
+use indexmap::IndexSet;
 use linked_program::program::Program;
-use points_to::Solution;
+use points_to::{RunningMethod, Solution};
 use std::alloc::{AllocError, Global};
 
 /// The ground of a solution: its sets, with the instance fields that each method may write, by itself, its targets, and the initialisers that it may
@@ -25,15 +27,13 @@ pub fn ground_of(alloc: Global, program: &Program, solution: Solution) -> Result
     ensures tables { IfOk result (λ g. g.tables ≡ solution.tables) }
     ensures ground { IfOk result (λ g. (found : List Fact) → AreFactsOf solution.tables solution.items.items.keys found → IsGround program.now found g) }
 {
+    let sets = sets_of(alloc, &solution.tables, solution.items.items.as_slice())?;
+    let writes = writes_of(alloc, program, &solution.methods, &sets)?;
     let Solution {
         tables,
-        items,
+        items: _items,
         methods,
     } = solution;
-    let sets = sets_of(alloc, &tables, items.items.as_slice())?;
-    let stores = stores_of(alloc, &methods, &sets.running)?;
-    let edges = edges_of(alloc, program, &methods, &sets)?;
-    let writes = close_writes(alloc, stores, &edges)?;
     let Sets {
         sites,
         running,
@@ -49,4 +49,19 @@ pub fn ground_of(alloc: Global, program: &Program, solution: Solution) -> Result
         targets,
         writes,
     })
+}
+
+/// The instance fields that each method may write.
+fn writes_of(
+    alloc: Global,
+    program: &Program,
+    methods: &[RunningMethod],
+    sets: &Sets,
+) -> Result<IndexSet<FieldWrite>, AllocError>
+    requires { (m : RunningMethod) → Contains methods.now m → IsMethodIn program.now m.method.method.0 m.method }
+    ensures { IfOk result (λ writes. AreWrites program.now (map nodes_of methods.now) sets.now writes.keys) }
+{
+    let stores = stores_of(alloc, methods, &sets.running)?;
+    let edges = edges_of(alloc, program, methods, sets)?;
+    close_writes(alloc, stores, &edges)
 }

@@ -3,8 +3,6 @@
 
 mod fault;
 mod read;
-#[cfg(test)]
-mod tests;
 
 pub use fault::{FolderFailure, FolderFault};
 pub use read::read_classes;

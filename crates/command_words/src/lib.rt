@@ -5,8 +5,6 @@ mod command;
 mod fault;
 mod numbers;
 mod request;
-#[cfg(test)]
-mod tests;
 
 pub use fault::{NumberOption, UsageFailure, UsageFault};
 pub use request::{Request, read_words};

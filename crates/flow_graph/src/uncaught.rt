@@ -184,19 +184,3 @@ fn take_listed(level: &mut Level, offset: u32, targets: &mut Vec<u32>) -> Result
     }
     Ok(())
 }
-
-#[test]
-fn a_handler_is_told_where_it_is_first_met(rt: HostRuntime) -> Result<(), AllocError> {
-    let alloc = rt.alloc();
-    let rows = [(0, 9, 20), (3, 8, 30), (5, 6, 40)];
-    let handlers = rows.map(|(start, finish, target)| Handler {
-        start,
-        finish,
-        target,
-        catch_type: 0,
-    });
-    let mut uncaught = UncaughtHandlers::new(alloc, &handlers)?;
-    assert_eq!(rt; uncaught.take(alloc, 4)?.as_slice(), [30, 20].as_slice());
-    assert_eq!(rt; uncaught.take(alloc, 5)?.as_slice(), [40].as_slice());
-    Ok(())
-}

@@ -20,10 +20,12 @@ impl<X> Model for Sequence<X> {
 pub type Bytes = Sequence<u8>;
 
 impl<X> Sequence<X> {
-    /// The list of a vector's items. It takes no memory.
+    /// The list of a vector's items. It takes no memory, and gives back the room that they do not take.
     pub fn from_vec(items: Vec<X>) -> Self
         ensures { result ≡ items.items }
     {
+        let mut items = items;
+        items.shrink_to_fit();
         Sequence { items }
     }
 

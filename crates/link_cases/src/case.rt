@@ -16,17 +16,35 @@ const QUERIES: &str = "queries";
 /// Prints what linking says of the files of a case, and the answer to each of its queries.
 pub fn tell_case<R: Print, T: Tree>(rt: &R, alloc: Global, tree: &mut T) -> Result<()> {
     match linked(alloc, tree) {
-        Ok(program) => {
-            let count = program.class_count();
-            println!(rt; "linked {count} classes")?;
-            tell_answers(rt, alloc, tree, Some(&program))
-        }
-        Err(failure) if is_refusal(&failure) => {
-            println!(rt; "{failure}")?;
-            tell_answers(rt, alloc, tree, None)
-        }
-        Err(failure) => Err(failure.into()),
+        Ok(program) => tell_linked(rt, alloc, tree, &program),
+        Err(failure) => tell_unlinked(rt, alloc, tree, failure),
     }
+}
+
+/// Prints how many classes a program has, and the answer to each query.
+fn tell_linked<R: Print, T: Tree>(
+    rt: &R,
+    alloc: Global,
+    tree: &mut T,
+    program: &Program,
+) -> Result<()> {
+    let count = program.class_count();
+    println!(rt; "linked {count} classes")?;
+    tell_answers(rt, alloc, tree, Some(program))
+}
+
+/// Prints the refusal for which nothing is linked, and the answer to each query. Another failure is handed on.
+fn tell_unlinked<R: Print, T: Tree>(
+    rt: &R,
+    alloc: Global,
+    tree: &mut T,
+    failure: CaseFailure,
+) -> Result<()> {
+    if is_refusal(&failure) {
+        println!(rt; "{failure}")?;
+        return tell_answers(rt, alloc, tree, None);
+    }
+    Err(failure.into())
 }
 
 /// The program of the files of a case.

@@ -17,6 +17,7 @@ use std::alloc::{AllocError, Global};
 use ts_outside::Tree;
 
 /// The program of a case, and the members of its classes.
+#[derive(Drop)]
 struct Linked {
     program: Program,
     members: Members,
@@ -25,16 +26,24 @@ struct Linked {
 /// Prints the methods of a case, each as nodes or with its first refusal; or why the files have no program.
 pub fn tell_case<R: Print, T: Tree>(rt: &R, alloc: Global, tree: &mut T) -> Result<()> {
     match read_case(alloc, tree) {
-        Ok(Linked { program, members }) => {
-            let names = Names::of(alloc, &program, &members)?;
-            tell_classes(rt, alloc, &program, &members.methods, &names)
-        }
-        Err(failure) if is_refusal(&failure) => {
-            println!(rt; "{failure}")?;
-            Ok(())
-        }
-        Err(failure) => Err(failure.into()),
+        Ok(linked) => tell_linked(rt, alloc, &linked),
+        Err(failure) => tell_failure(rt, failure),
     }
+}
+
+/// Prints the methods of a program.
+fn tell_linked<R: Print>(rt: &R, alloc: Global, linked: &Linked) -> Result<()> {
+    let names = Names::of(alloc, &linked.program, &linked.members)?;
+    tell_classes(rt, alloc, &linked.program, &linked.members.methods, &names)
+}
+
+/// Prints the refusal for which nothing is linked. Another failure is handed on.
+fn tell_failure<R: Print>(rt: &R, failure: CaseFailure) -> Result<()> {
+    if is_refusal(&failure) {
+        println!(rt; "{failure}")?;
+        return Ok(());
+    }
+    Err(failure.into())
 }
 
 /// The program of the files of a case, and what they declare.

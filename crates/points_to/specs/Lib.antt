@@ -5,5 +5,6 @@ pub mod Passing
 pub mod Concluding
 pub mod Indexed
 pub mod Closing
+pub mod Working
 pub mod Starting
 pub mod Refusing

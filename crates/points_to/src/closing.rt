@@ -1,34 +1,62 @@
 //! The loop of the solver: each item is taken with what follows from it, until nothing is new.
 
-ghost use Rattle.std.specs.Prelude.{◌≡◌, ◌<◌, ℕ, Some, IfOk, IfErr};
+ghost use Rattle.std.specs.Prelude.{◌≡◌, ◌<◌, ℕ, Some, IfOk, OnOk, IfErr};
 ghost use Rattle.jvm_model.specs.Programs.{Class, object_name};
 ghost use Rattle.jvm_model.specs.Subtypes.{class_named};
 ghost use Rattle.linked_program.specs.Numbers.{IsMethodNumber};
 ghost use Rattle.op_model.specs.Supplies.{IsSameSupply};
 ghost use Rattle.points_to.specs.Solutions.{IsSupplyOf};
 ghost use Rattle.points_to.specs.Closing.{IsClosed, IsClosingEnd};
+ghost use Rattle.points_to.specs.Working.{IsFresh};
 
 use crate::conclude::conclude;
 use crate::found::Found;
 use crate::index::Index;
 use crate::queue::Queue;
-use crate::solution::RunningMethod;
+use crate::refusals::Refusals;
+use crate::solution::{RunningMethod, Solution};
 use crate::solve_failure::SolveFailure;
 use crate::start::start_items;
 use jvm_model::MethodNo;
 use linked_program::program::Program;
 use op_model::Supply;
+use points_to_tables::Item;
 use std::alloc::Global;
 
-/// The least items with what was found, and the methods that may run and have code.
+/// The least items by numbers with the methods that may run and have code, and the first refusals.
 #[derive(Drop)]
 pub(crate) struct Closing {
-    pub(crate) queue: Queue,
-    pub(crate) found: Found,
-    pub(crate) methods: Vec<RunningMethod>,
+    pub(crate) solution: Solution,
+    pub(crate) refusals: Refusals,
 }
 
-/// Takes in what follows from the start and from each item, until nothing is new. A refused method leads to nothing.
+/// What the loop works on: the items, what was found besides, the sites and the users of what is done, the methods, and what follows from one
+/// item. It is one value, so that a failure has one value to drop.
+#[derive(Drop)]
+pub(crate) struct Working {
+    pub(crate) queue: Queue,
+    pub(crate) found: Found,
+    pub(crate) index: Index,
+    pub(crate) methods: Vec<RunningMethod>,
+    pub(crate) steps: Vec<Item>,
+}
+
+impl Working {
+    /// Nothing. It takes no memory.
+    fn new(alloc: Global) -> Self
+        ensures { IsFresh result }
+    {
+        Working {
+            queue: Queue::new(alloc),
+            found: Found::new(alloc),
+            index: Index::new(alloc),
+            methods: Vec::new(alloc),
+            steps: Vec::new(alloc),
+        }
+    }
+}
+
+/// The least items and the first refusals. A refused method leads to nothing.
 pub(crate) fn close<S: Supply>(
     alloc: Global,
     program: &Program,
@@ -40,39 +68,78 @@ pub(crate) fn close<S: Supply>(
     requires supply { IsSupplyOf program.now (S.gives supply.old) }
     requires limit { 0 < pair_limit }
     requires object { (object : Class) × (class_named program.now object_name ≡ Some object) }
-    ensures closed { IfOk result (λ closing. IsClosed program.now (S.gives supply.old) entry pair_limit closing.found.tables closing.queue.items.keys closing.found.refusals.call closing.found.refusals.method closing.methods.items) }
+    ensures closed { IfOk result (λ closing. IsClosed program.now (S.gives supply.old) entry pair_limit closing.solution.tables closing.solution.items.items.keys closing.refusals.call closing.refusals.method closing.solution.methods.items) }
     ensures same { IsSameSupply (S.gives supply.old) (S.gives supply.new) }
     ensures end { IfErr result (IsClosingEnd program.now (S.gives supply.old) entry pair_limit) }
 {
-    let mut queue = Queue::new(alloc);
-    let mut found = Found::new(alloc);
-    let mut index = Index::new(alloc);
-    let mut methods = Vec::new(alloc);
-    let mut steps = Vec::new(alloc);
-    start_items(alloc, program, &mut found.tables, entry, &mut steps)?;
-    found.tables.apart();
-    queue.take_all(&steps, pair_limit)?;
+    let mut working = Working::new(alloc);
+    close_over(alloc, program, supply, entry, pair_limit, &mut working)?;
+    let Working {
+        queue,
+        found,
+        index: _index,
+        methods,
+        steps: _steps,
+    } = working;
+    let Found {
+        tables,
+        answers: _answers,
+        refusals,
+    } = found;
+    Ok(Closing {
+        solution: Solution {
+            tables,
+            items: queue,
+            methods,
+        },
+        refusals,
+    })
+}
+
+/// Takes in what follows from the start and from each item, until nothing is new.
+fn close_over<S: Supply>(
+    alloc: Global,
+    program: &Program,
+    supply: &mut S,
+    entry: MethodNo,
+    pair_limit: u64,
+    working: &mut Working,
+) -> Result<(), SolveFailure>
+    requires entry { IsMethodNumber program.now entry.0 }
+    requires supply { IsSupplyOf program.now (S.gives supply.old) }
+    requires limit { 0 < pair_limit }
+    requires object { (object : Class) × (class_named program.now object_name ≡ Some object) }
+    requires fresh { IsFresh working.old }
+    ensures closed { OnOk result (IsClosed program.now (S.gives supply.old) entry pair_limit working.new.found.tables working.new.queue.items.keys working.new.found.refusals.call working.new.found.refusals.method working.new.methods.items) }
+    ensures same { IsSameSupply (S.gives supply.old) (S.gives supply.new) }
+    ensures end { IfErr result (IsClosingEnd program.now (S.gives supply.old) entry pair_limit) }
+{
+    start_items(
+        alloc,
+        program,
+        &mut working.found.tables,
+        entry,
+        &mut working.steps,
+    )?;
+    working.found.tables.apart();
+    working.queue.take_all(&working.steps, pair_limit)?;
     let mut done = 0;
-    while done < queue.len() {
-        let item = queue.at(done);
+    while done < working.queue.len() {
+        let item = working.queue.at(done);
         conclude(
             alloc,
             program,
             supply,
-            &mut found,
-            &mut index,
-            &mut methods,
+            &mut working.found,
+            &mut working.index,
+            &mut working.methods,
             item,
-            &mut steps,
+            &mut working.steps,
         )?;
-        found.tables.apart();
-        queue.take_all(&steps, pair_limit)?;
+        working.found.tables.apart();
+        working.queue.take_all(&working.steps, pair_limit)?;
         done += 1;
     }
-    found.tables.apart();
-    Ok(Closing {
-        queue,
-        found,
-        methods,
-    })
+    working.found.tables.apart();
+    Ok(())
 }

@@ -8,7 +8,6 @@ ghost use Rattle.op_model.specs.Supplies.{IsSameSupply};
 ghost use Rattle.points_to.specs.Solutions.{IsSolved, IsSolveEnd, IsSupplyOf};
 
 use crate::closing::{Closing, close};
-use crate::found::Found;
 use crate::refused::first_refusal;
 use crate::solution::Solution;
 use crate::solve_failure::{SolveFailure, SolveFault};
@@ -37,22 +36,9 @@ pub fn solve<S: Supply>(
     if pair_limit == 0 {
         return Err(Failure::Cause(SolveFault::PairLimit(0)));
     }
-    let Closing {
-        queue,
-        found,
-        methods,
-    } = close(alloc, program, supply, entry, pair_limit)?;
-    let Found {
-        tables,
-        answers: _answers,
-        refusals,
-    } = found;
+    let Closing { solution, refusals } = close(alloc, program, supply, entry, pair_limit)?;
     match first_refusal(alloc, program, refusals)? {
         Some(refusal) => Err(Failure::Cause(SolveFault::Refused(refusal))),
-        None => Ok(Solution {
-            tables,
-            items: queue,
-            methods,
-        }),
+        None => Ok(solution),
     }
 }

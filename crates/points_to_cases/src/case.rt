@@ -13,7 +13,7 @@ use failure::Failure;
 use folder_report::{analyse, has_object};
 use jvm_model::{MethodNo, reason_word};
 use linked_program::program::Program;
-use points_to::SolveFault;
+use points_to::{SolveFailure, SolveFault};
 use std::alloc::{AllocError, Global};
 use std::str;
 use ts_outside::Tree;
@@ -61,15 +61,26 @@ pub fn tell_one<R: Print, T: Tree>(
     amount: Amount,
 ) -> Result<()> {
     match read_case(alloc, tree) {
-        Ok(Linked { program, members }) => {
-            tell_program(rt, alloc, &program, &members, entry, limit, amount)
-        }
-        Err(failure) if is_refusal(&failure) => {
-            println!(rt; "{failure}")?;
-            Ok(())
-        }
-        Err(failure) => Err(failure.into()),
+        Ok(linked) => tell_program(
+            rt,
+            alloc,
+            &linked.program,
+            &linked.members,
+            entry,
+            limit,
+            amount,
+        ),
+        Err(failure) => tell_failure(rt, failure),
     }
+}
+
+/// Prints the refusal for which nothing is linked. Another failure is handed on.
+fn tell_failure<R: Print>(rt: &R, failure: CaseFailure) -> Result<()> {
+    if is_refusal(&failure) {
+        println!(rt; "{failure}")?;
+        return Ok(());
+    }
+    Err(failure.into())
 }
 
 /// The program of the files of a case, and what they declare.
@@ -99,23 +110,40 @@ fn tell_program<R: Print>(
         bail!("the class java/lang/Object is not there");
     }
     match analyse(alloc, program, entry, limit) {
-        Ok(ground) => {
-            println!(rt; "end solved")?;
-            let names = Names::of(alloc, program, members)?;
-            tell_ground(rt, alloc, &ground, &names, amount)
-        }
-        Err(Failure::Cause(SolveFault::PairLimit(limit))) => {
+        Ok(ground) => tell_solved(rt, alloc, program, members, &ground, amount),
+        Err(failure) => tell_end(rt, failure),
+    }
+}
+
+/// Prints that there is a solution, and its sets.
+fn tell_solved<R: Print>(
+    rt: &R,
+    alloc: Global,
+    program: &Program,
+    members: &Members,
+    ground: &Ground,
+    amount: Amount,
+) -> Result<()> {
+    println!(rt; "end solved")?;
+    let names = Names::of(alloc, program, members)?;
+    tell_ground(rt, alloc, ground, &names, amount)
+}
+
+/// Prints why there is no solution. Want of memory is handed on.
+fn tell_end<R: Print>(rt: &R, failure: SolveFailure) -> Result<()> {
+    match failure {
+        Failure::Cause(SolveFault::PairLimit(limit)) => {
             println!(rt; "end limit {limit}")?;
             Ok(())
         }
-        Err(Failure::Cause(SolveFault::Refused(refusal))) => {
+        Failure::Cause(SolveFault::Refused(refusal)) => {
             let file = refusal.file.as_str();
             let offset = refusal.offset;
             let reason = reason_word(refusal.reason);
             println!(rt; "end refused {file} {offset} {reason}")?;
             Ok(())
         }
-        Err(Failure::OutOfMemory) => Err(AllocError.into()),
+        Failure::OutOfMemory => Err(AllocError.into()),
     }
 }
 

@@ -5,6 +5,10 @@
 #[cfg(test)]
 mod documents;
 #[cfg(test)]
+mod folders;
+#[cfg(test)]
 mod one_method;
 #[cfg(test)]
 mod readers;
+#[cfg(test)]
+mod words;

@@ -11,7 +11,7 @@ ghost use Rattle.linked_program.specs.Numbers.{name_at, IsClassNumber, IsMethodN
 
 use anyhow::{Result, bail};
 use call_graph::Ground;
-use case_files::{is_refusal, link_case, read_all_stubs, read_files};
+use case_files::{CaseFailure, is_refusal, link_case, read_all_stubs, read_files};
 use entry_method::{find_entry, has_method_named};
 use folder_report::{Report, analyse, has_object, report_of};
 use jvm_model::{Automaton, ClassNo, MethodNo};
@@ -42,12 +42,17 @@ pub fn tell_case<R: Print, T: Tree>(rt: &R, alloc: Global, tree: &mut T) -> Resu
     println!(rt; "has a method of the name: {named}")?;
     match link_case(alloc, files, stubs) {
         Ok(program) => tell_program(rt, alloc, &program, &automaton, class, method),
-        Err(failure) if is_refusal(&failure) => {
-            println!(rt; "{failure}")?;
-            Ok(())
-        }
-        Err(failure) => Err(failure.into()),
+        Err(failure) => tell_failure(rt, failure),
     }
+}
+
+/// Prints the refusal for which nothing is linked. Another failure is handed on.
+fn tell_failure<R: Print>(rt: &R, failure: CaseFailure) -> Result<()> {
+    if is_refusal(&failure) {
+        println!(rt; "{failure}")?;
+        return Ok(());
+    }
+    Err(failure.into())
 }
 
 /// Prints the report on a program.

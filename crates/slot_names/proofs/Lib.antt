@@ -8,4 +8,3 @@ pub mod MovedVariables
 pub mod EnteredNodes
 pub mod ReachedNodes
 pub mod NamedTables
-pub mod TwoWays

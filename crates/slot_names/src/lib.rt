@@ -11,8 +11,6 @@ mod names;
 mod naming;
 mod places;
 mod rows;
-#[cfg(test)]
-mod tests;
 mod variable;
 
 pub use names::{Names, names_of};

@@ -42,6 +42,7 @@ pub(crate) fn enter_all(
         follow(alloc, method, arrivals, from, &mut naming)?;
         done += 1;
     }
+    naming.rows.fit();
     Ok(naming)
 }
 

@@ -18,7 +18,7 @@ pub(crate) struct Rows {
 }
 
 impl Rows {
-    ghost use Rattle.slot_names.specs.Rows.{named_at, IsRow, IsSet};
+    ghost use Rattle.slot_names.specs.Rows.{named_at, IsRow, IsSet, KeepsRows};
 
     /// The empty row alone. It takes no memory.
     pub(crate) fn new(alloc: Global) -> Self {
@@ -44,6 +44,14 @@ impl Rows {
         self.variables.push(variable)?;
         let value = number(self.variables.len())?;
         self.place(row, slot, value)
+    }
+
+    /// Gives back the room that no branch and no variable takes. It takes no memory.
+    pub(crate) fn fit(&mut self)
+        ensures { KeepsRows self.old self.new }
+    {
+        self.branches.shrink_to_fit();
+        self.variables.shrink_to_fit();
     }
 
     /// The branch of a row.

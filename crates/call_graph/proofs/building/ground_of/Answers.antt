@@ -3,9 +3,9 @@ use Rattle.std.specs.List.{Contains}
 use Rattle.points_to.specs.declared.solution.RunningMethod.{RunningMethod}
 use Rattle.points_to_tables.specs.declared.item.Item.{Item}
 use Rattle.call_graph.specs.declared.ground.Ground.{Ground}
-use Rattle.call_graph.specs.Edges.{AreEdges, AreStores}
 use Rattle.call_graph.specs.Grounds.{nodes_of}
 use Rattle.call_graph.specs.Sets.{AreSetsOf}
+use Rattle.call_graph.specs.Written.{AreWrites}
 use Rattle.call_graph.proofs.FoundFacts.{stands_for_each}
 use Rattle.call_graph.proofs.GroundFacts.{is_ground}
 use Rattle.call_graph.proofs.building.ground_of.Goals as goal
@@ -16,8 +16,8 @@ sets_of-requires c = λ item there.
     let among = subst (λ (items : List Item). Contains items item) c.as_slice.ensures.keys there in
     stands_for_each solution.tables solution.items.items.keys c.requires.facts.0 c.requires.facts.1 item among
 
-pub edges_of-requires : goal.edges_of-requires
-edges_of-requires c = λ m there. c.requires.methods m (subst (λ (methods : List RunningMethod). Contains methods m) c.deref-2.ensures.value there)
+pub writes_of-requires : goal.writes_of-requires
+writes_of-requires c = λ m there. c.requires.methods m (subst (λ (methods : List RunningMethod). Contains methods m) c.deref.ensures.value there)
 
 pub returns-clause-ground : goal.returns-clause-ground
 returns-clause-ground c = λ found facts.
@@ -35,6 +35,5 @@ returns-clause-ground c = λ found facts.
     } in
     let items = solution.items.items.keys in
     let sets = subst (λ (xs : List Item). AreSetsOf solution.tables xs s) c.as_slice.ensures.keys c.in_ok-sets.ensures in
-    let stores = subst (λ (methods : List RunningMethod). AreStores (map nodes_of methods) s.running.keys c.in_ok-stores.stores.keys) c.deref.ensures.value c.in_ok-stores.ensures in
-    let edges = subst (λ (methods : List RunningMethod). AreEdges p (map nodes_of methods) s c.in_ok-edges.edges.keys) c.deref-2.ensures.value c.in_ok-edges.ensures in
-    is_ground g items found facts sets p c.in_ok-stores.stores.keys c.in_ok-edges.edges.keys stores edges c.in_ok-writes.ensures
+    let written = subst (λ (methods : List RunningMethod). AreWrites p (map nodes_of methods) s c.in_ok-writes.writes.keys) c.deref.ensures.value c.in_ok-writes.ensures in
+    is_ground g items found facts sets p written.own written.edges written.stores written.leads written.closed

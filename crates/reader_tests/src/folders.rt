@@ -1,6 +1,6 @@
 //! A folder without class files, and one whose class file is cut.
 
-use crate::{FolderFault, read_classes};
+use class_folder::{FolderFault, read_classes};
 use failure::Failure;
 use jvm_model::Reason;
 use std::test::Fail;

@@ -4,15 +4,15 @@ use Rattle.grouped_lists.specs.Groups.{values_at}
 use Rattle.points_to_calls.specs.KeptAnswers.{AreRight}
 use Rattle.points_to.specs.Queues.{pairs_among}
 use Rattle.points_to.proofs.SoFar.{IsSoFar}
-use Rattle.points_to.proofs.closing.close.Given as goal
+use Rattle.points_to.proofs.closing.close_over.Given as goal
 
 abbrev pub invariant-loop-done : goal.invariant-loop-done
 invariant-loop-done g l = record {
-  counted : l.queue.pairs ≡ pairs_among l.queue.items.keys;
-  room : l.queue.pairs < l.pair_limit;
-  so_far : IsSoFar l.program (g.S.Supply.gives l.fn.supply) l.fn.entry l.found.tables l.queue.items.keys (values_at l.index.sites.groups.items) (values_at l.index.users.groups.items) l.found.refusals.call l.found.refusals.method l.methods.items l.done;
+  counted : l.working.queue.pairs ≡ pairs_among l.working.queue.items.keys;
+  room : l.working.queue.pairs < l.pair_limit;
+  so_far : IsSoFar l.program (g.S.Supply.gives l.fn.supply) l.fn.entry l.working.found.tables l.working.queue.items.keys (values_at l.working.index.sites.groups.items) (values_at l.working.index.users.groups.items) l.working.found.refusals.call l.working.found.refusals.method l.working.methods.items l.done;
   same : IsSameSupply (g.S.Supply.gives l.fn.supply) (g.S.Supply.gives l.supply);
-  answers : AreRight l.program l.found.tables l.found.answers;
+  answers : AreRight l.program l.working.found.tables l.working.found.answers;
 }
 
 abbrev pub decreases-loop-done : goal.decreases-loop-done

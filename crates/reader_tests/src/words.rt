@@ -1,6 +1,6 @@
 //! Words of runs.
 
-use crate::{NumberOption, UsageFault, read_words};
+use command_words::{NumberOption, UsageFault, read_words};
 use failure::Failure;
 use std::alloc::{AllocError, Global};
 use std::test::Fail;
