@@ -7,4 +7,5 @@ pub mod MethodKinds
 pub mod Parameters
 pub mod SoundUses
 pub mod SumFronts
+pub mod TableParts
 pub mod ViewedItems

@@ -1,12 +1,10 @@
 //! The instruction table (JVMS 6.5), as the code has it: a row for each opcode. It is the table of specs/, row by row.
 
-ghost use Rattle.std.specs.Prelude.{◌≡◌, map, option_map};
+ghost use Rattle.std.specs.Prelude.{◌≡◌, ◌+◌, ◌<◌, ◌≤◌, length, map, take, drop, option_map};
 ghost use Rattle.jvm_model.specs.RowViews.{row_view};
 ghost use Rattle.jvm_model.specs.Table.{row_of, rows};
 
 mod rows;
-
-use rows::ROWS;
 
 /// `aload_0`: pushes the local variable 0, a reference. The local variables 1 to 3 have the opcodes after it (JVMS 6.5.aload_n).
 pub const ALOAD_0: u8 = 42;
@@ -31,7 +29,7 @@ pub const INVOKE_SPECIAL: u8 = 183;
 pub const NEW: u8 = 187;
 
 /// What an index of the constant pool has to lead to.
-#[derive(Clone, Copy, Debug, PartialEq, Eq)]
+#[derive(Clone, Copy, PartialEq, Eq)]
 pub enum PoolTarget {
     /// What `ldc` loads: a number of one unit, a text, a class, a method handle or a method type.
     Loadable,
@@ -52,7 +50,7 @@ pub enum PoolTarget {
 }
 
 /// What stands after an opcode. Numbers in the names are bytes.
-#[derive(Clone, Copy, Debug, PartialEq, Eq)]
+#[derive(Clone, Copy, PartialEq, Eq)]
 pub enum Operands {
     Nothing,
     /// None: the opcode itself says which local variable.
@@ -81,7 +79,7 @@ pub enum Operands {
 }
 
 /// What a popped unit has to be.
-#[derive(Clone, Copy, Debug, PartialEq, Eq)]
+#[derive(Clone, Copy, PartialEq, Eq)]
 pub enum UnitKind {
     Any,
     Primitive,
@@ -89,7 +87,7 @@ pub enum UnitKind {
 }
 
 /// Where a unit that is written comes from.
-#[derive(Clone, Copy, Debug, PartialEq, Eq)]
+#[derive(Clone, Copy, PartialEq, Eq)]
 pub enum UnitSource {
     /// A popped unit, counted from the lowest one.
     Popped(u8),
@@ -119,7 +117,7 @@ pub enum Flow {
 }
 
 /// What an instruction does beside popping and writing units.
-#[derive(Clone, Copy, Debug, PartialEq, Eq)]
+#[derive(Clone, Copy, PartialEq, Eq)]
 pub enum Action {
     Plain,
     LoadConstant,
@@ -179,13 +177,25 @@ pub struct Row {
 pub fn row_of_opcode(opcode: u8) -> Option<&'static Row>
     ensures { option_map (λ r. row_view r.now) result ≡ row_of opcode }
 {
-    row_among(&ROWS, opcode)
+    match opcode {
+        0..=20 => row_in(rows::constants(), 0, opcode),
+        21..=53 => row_in(rows::loads(), 21, opcode),
+        54..=86 => row_in(rows::stores(), 54, opcode),
+        87..=95 => row_in(rows::stack(), 87, opcode),
+        96..=132 => row_in(rows::arithmetic(), 96, opcode),
+        133..=152 => row_in(rows::conversions(), 133, opcode),
+        153..=177 => row_in(rows::branches(), 153, opcode),
+        178..=201 => row_in(rows::objects(), 178, opcode),
+        _ => None,
+    }
 }
 
-/// The row of an opcode among all rows.
-fn row_among(all: &'static [Row], opcode: u8) -> Option<&'static Row>
-    requires { map (λ r. row_view r) all.now ≡ rows }
+/// The row of an opcode in a part of the table, whose first row has another opcode.
+fn row_in(part: &'static [Row], first: u8, opcode: u8) -> Option<&'static Row>
+    requires rows { map (λ r. row_view r) part.now ≡ take (length part.now) (drop first rows) }
+    requires from { first ≤ opcode }
+    requires until { opcode < first + length part.now }
     ensures { option_map (λ r. row_view r.now) result ≡ row_of opcode }
 {
-    all.get(opcode as usize)
+    part.get((opcode - first) as usize)
 }

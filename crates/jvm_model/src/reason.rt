@@ -5,11 +5,11 @@ ghost use Rattle.jvm_model.specs.Words.{word_of};
 
 use crate::name::Name;
 use failure::Failure;
-use thiserror::Error;
+use std::error::Error;
+use std::fmt;
 
 /// The reason of a refusal, in the order in which reasons at one offset are named; in code `BadIndex` comes last.
-#[derive(Clone, Copy, Debug, PartialEq, Eq, PartialOrd, Ord, Hash, Error)]
-#[error("{}", reason_word(*self))]
+#[derive(Clone, Copy, Debug, PartialEq, Eq, PartialOrd, Ord, Hash)]
 pub enum Reason {
     /// The file ends before or inside a field.
     Truncated,
@@ -99,6 +99,14 @@ pub enum Reason {
     PairLimit,
 }
 
+impl fmt::Display for Reason {
+    fn fmt<W: fmt::Write>(&self, f: &mut fmt::Formatter<W>) -> fmt::Result {
+        f.write_str(reason_word(*self))
+    }
+}
+
+impl Error for Reason {}
+
 /// The word that is printed for a reason: the name of its variant.
 pub fn reason_word(reason: Reason) -> &'static str
     ensures { result.now ≡ word_of reason }
@@ -160,7 +168,7 @@ pub struct Refusal {
 }
 
 /// What is wrong with a class file, and at which offset, counted from its first byte.
-#[derive(Clone, Copy, Debug, PartialEq, Eq, Error)]
+#[derive(Clone, Copy, Debug, PartialEq, Eq, thiserror::Error)]
 #[error("refused at offset {offset}: {reason}")]
 pub struct Fault {
     pub offset: u32,

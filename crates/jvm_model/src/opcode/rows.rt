@@ -1,6 +1,12 @@
 //! The rows of the instruction table, in the order of their opcodes. A row is written as the manual writes it: mnemonic,
 //! operands, and the units that are popped => those that are pushed, the topmost one last; then, where there is any, what
 //! is stored into local variables, where it goes on if not at the next instruction, what it does beside, and what it raises.
+//!
+//! The table stands in parts, each of which is compared with the definition by itself: that takes a tenth of the time.
+
+ghost use Rattle.std.specs.Prelude.{◌≡◌, length, map, take, drop};
+ghost use Rattle.jvm_model.specs.RowViews.{row_view};
+ghost use Rattle.jvm_model.specs.Table.{rows};
 
 use super::Operands::{
     Implied, Local1, LocalAndValue, Nothing, Offset2, Offset4, PairsWithOffsets, Pool1, Pool2,
@@ -42,8 +48,71 @@ macro_rules! row {
     };
 }
 
-/// The rows of the opcodes 0 to 201.
-pub static ROWS: [Row; 202] = [
+/// The rows that push constants. The first one has the opcode 0.
+pub fn constants() -> &'static [Row]
+    ensures rows { map (λ r. row_view r) result.now ≡ take (length result.now) (drop 0 rows) }
+    ensures count { length result.now ≡ 21 }
+{
+    &CONSTANTS
+}
+
+/// The rows that load local variables, and elements of arrays. The first one has the opcode 21.
+pub fn loads() -> &'static [Row]
+    ensures rows { map (λ r. row_view r) result.now ≡ take (length result.now) (drop 21 rows) }
+    ensures count { length result.now ≡ 33 }
+{
+    &LOADS
+}
+
+/// The rows that store into local variables, and into elements of arrays. The first one has the opcode 54.
+pub fn stores() -> &'static [Row]
+    ensures rows { map (λ r. row_view r) result.now ≡ take (length result.now) (drop 54 rows) }
+    ensures count { length result.now ≡ 33 }
+{
+    &STORES
+}
+
+/// The rows that rearrange the operand stack. The first one has the opcode 87.
+pub fn stack() -> &'static [Row]
+    ensures rows { map (λ r. row_view r) result.now ≡ take (length result.now) (drop 87 rows) }
+    ensures count { length result.now ≡ 9 }
+{
+    &STACK
+}
+
+/// The rows of arithmetic. The first one has the opcode 96.
+pub fn arithmetic() -> &'static [Row]
+    ensures rows { map (λ r. row_view r) result.now ≡ take (length result.now) (drop 96 rows) }
+    ensures count { length result.now ≡ 37 }
+{
+    &ARITHMETIC
+}
+
+/// The rows of conversions and of comparisons. The first one has the opcode 133.
+pub fn conversions() -> &'static [Row]
+    ensures rows { map (λ r. row_view r) result.now ≡ take (length result.now) (drop 133 rows) }
+    ensures count { length result.now ≡ 20 }
+{
+    &CONVERSIONS
+}
+
+/// The rows of branches, switches and returns. The first one has the opcode 153.
+pub fn branches() -> &'static [Row]
+    ensures rows { map (λ r. row_view r) result.now ≡ take (length result.now) (drop 153 rows) }
+    ensures count { length result.now ≡ 25 }
+{
+    &BRANCHES
+}
+
+/// The rows of fields, calls, objects and arrays, and the last ones. The first one has the opcode 178.
+pub fn objects() -> &'static [Row]
+    ensures rows { map (λ r. row_view r) result.now ≡ take (length result.now) (drop 178 rows) }
+    ensures count { length result.now ≡ 24 }
+{
+    &OBJECTS
+}
+
+static CONSTANTS: [Row; 21] = [
     // 0: constants
     row!("nop", Nothing, [] => []),
     row!("aconst_null", Nothing, [] => [Null]),
@@ -68,6 +137,9 @@ pub static ROWS: [Row; 202] = [
     row!("ldc_w", Pool2(Loadable), [] => [], does LoadConstant),
     // 20
     row!("ldc2_w", Pool2(WideNumber), [] => [Primitive, Primitive]),
+];
+
+static LOADS: [Row; 33] = [
     // 21: loads
     row!("iload", Local1, [] => [Primitive]),
     row!("lload", Local1, [] => [Primitive, Primitive]),
@@ -105,6 +177,9 @@ pub static ROWS: [Row; 202] = [
     row!("baload", Nothing, [Reference, Primitive] => [Primitive], does ProbeElement, raises [NullPointer, ArrayIndex]),
     row!("caload", Nothing, [Reference, Primitive] => [Primitive], does ProbeElement, raises [NullPointer, ArrayIndex]),
     row!("saload", Nothing, [Reference, Primitive] => [Primitive], does ProbeElement, raises [NullPointer, ArrayIndex]),
+];
+
+static STORES: [Row; 33] = [
     // 54: stores
     row!("istore", Local1, [Primitive] => [], stores [Primitive]),
     row!("lstore", Local1, [Primitive, Primitive] => [], stores [Primitive, Primitive]),
@@ -142,6 +217,9 @@ pub static ROWS: [Row; 202] = [
     row!("bastore", Nothing, [Reference, Primitive, Primitive] => [], does ProbeElement, raises [NullPointer, ArrayIndex]),
     row!("castore", Nothing, [Reference, Primitive, Primitive] => [], does ProbeElement, raises [NullPointer, ArrayIndex]),
     row!("sastore", Nothing, [Reference, Primitive, Primitive] => [], does ProbeElement, raises [NullPointer, ArrayIndex]),
+];
+
+static STACK: [Row; 9] = [
     // 87: the operand stack
     row!("pop", Nothing, [Any] => []),
     row!("pop2", Nothing, [Any, Any] => []),
@@ -153,6 +231,9 @@ pub static ROWS: [Row; 202] = [
     row!("dup2_x1", Nothing, [Any, Any, Any] => [Popped(1), Popped(2), Popped(0), Popped(1), Popped(2)]),
     row!("dup2_x2", Nothing, [Any, Any, Any, Any] => [Popped(2), Popped(3), Popped(0), Popped(1), Popped(2), Popped(3)]),
     row!("swap", Nothing, [Any, Any] => [Popped(1), Popped(0)]),
+];
+
+static ARITHMETIC: [Row; 37] = [
     // 96: arithmetic
     row!("iadd", Nothing, [Primitive, Primitive] => [Primitive]),
     row!("ladd", Nothing, [Primitive, Primitive, Primitive, Primitive] => [Primitive, Primitive]),
@@ -195,6 +276,9 @@ pub static ROWS: [Row; 202] = [
     row!("ixor", Nothing, [Primitive, Primitive] => [Primitive]),
     row!("lxor", Nothing, [Primitive, Primitive, Primitive, Primitive] => [Primitive, Primitive]),
     row!("iinc", LocalAndValue, [] => [], stores [Primitive]),
+];
+
+static CONVERSIONS: [Row; 20] = [
     // 133: conversions
     row!("i2l", Nothing, [Primitive] => [Primitive, Primitive]),
     row!("i2f", Nothing, [Primitive] => [Primitive]),
@@ -219,6 +303,9 @@ pub static ROWS: [Row; 202] = [
     row!("fcmpg", Nothing, [Primitive, Primitive] => [Primitive]),
     row!("dcmpl", Nothing, [Primitive, Primitive, Primitive, Primitive] => [Primitive]),
     row!("dcmpg", Nothing, [Primitive, Primitive, Primitive, Primitive] => [Primitive]),
+];
+
+static BRANCHES: [Row; 25] = [
     // 153: branches
     row!("ifeq", Offset2, [Primitive] => [], goes Branch),
     row!("ifne", Offset2, [Primitive] => [], goes Branch),
@@ -248,6 +335,9 @@ pub static ROWS: [Row; 202] = [
     row!("dreturn", Nothing, [Primitive, Primitive] => [], goes Leave, does LeaveMethod),
     row!("areturn", Nothing, [Reference] => [], goes Leave, does LeaveMethod),
     row!("return", Nothing, [] => [], goes Leave, does LeaveMethod),
+];
+
+static OBJECTS: [Row; 24] = [
     // 178: fields
     row!("getstatic", Pool2(Field), [] => [], does GetStatic),
     row!("putstatic", Pool2(Field), [] => [], does PutStatic),
