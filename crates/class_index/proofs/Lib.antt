@@ -1,4 +1,5 @@
 pub mod ListPlaces
+pub mod IndexedTexts
 pub mod TextPlaces
 pub mod NumberedKeys
 pub mod SpelledKeys

@@ -1,8 +1,7 @@
 -- Lists by their places: `slice_get` against `++`, `map` and `position`.
-use Rattle.std.proofs.Common.{◌≡◌, ◌≢◌, ℕ, zero, suc, ◌<◌, ◌+◌, Bool, cond, ltb, not, ◌||◌, List, [], ◌∷◌, ◌++◌, length, map, get_or, position, Some, None, refl, sym, ◌∙◌, ap, arith, inl, inr, ◌⊎◌}
-use Rattle.std.specs.List.{slice_get, prefix_len, list_any}
+use Rattle.std.proofs.Common.{◌≡◌, ◌≢◌, ℕ, zero, suc, ◌<◌, List, [], ◌∷◌, ◌++◌, length, map, get_or, Some, refl, sym, ◌∙◌, ap, arith, inl, inr, ◌⊎◌}
+use Rattle.std.specs.List.{slice_get}
 use Rattle.std.specs.Option.{option_map}
-use Rattle.std.proofs.lemmas.List.{length-map}
 use Rattle.std.proofs.lemmas.Option.{slice_get_within, slice_get-get_or, slice_get-map, same_Some, none-some}
 use Rattle.class_index.specs.FirstPlaces.{IsFirstPlace, StandsNowhere}
 
@@ -31,21 +30,6 @@ map_at f (x ∷ xs) (suc k) y e = map_at f xs k y e
 
 pub at_map : {X Y : Type 0} (f : X → Y) (xs : List X) (k : ℕ) (x : X) → slice_get xs k ≡ Some x → slice_get (map f xs) k ≡ Some (f x)
 at_map f xs k x e = slice_get-map f xs k ∙ ap (option_map f) e
-
--- a test of the answers
-prefix_len-map : {X Y : Type 0} (p : Y → Bool) (f : X → Y) (xs : List X) → prefix_len p (map f xs) ≡ prefix_len (λ x. p (f x)) xs
-prefix_len-map p f [] = refl
-prefix_len-map p f (x ∷ xs) = ap (λ (n : ℕ). cond (p (f x)) (1 + n) 0) (prefix_len-map p f xs)
-
-pub position-map : {X Y : Type 0} (p : Y → Bool) (f : X → Y) (xs : List X) → position p (map f xs) ≡ position (λ x. p (f x)) xs
-position-map p f xs =
-    let first = prefix_len-map (λ y. not (p y)) f xs in
-    let long = length-map xs f in
-    (λ i. cond (ltb (first i) (long i)) (Some (first i)) None)
-
-pub list_any-map : {X Y : Type 0} (p : Y → Bool) (f : X → Y) (xs : List X) → list_any p (map f xs) ≡ list_any (λ x. p (f x)) xs
-list_any-map p f [] = refl
-list_any-map p f (x ∷ xs) = ap (λ (b : Bool). p (f x) || b) (list_any-map p f xs)
 
 -- a list of one more
 pub first_in_longer : {X : Type 0} (xs ys : List X) (x : X) (place : ℕ) → IsFirstPlace xs x place → IsFirstPlace (xs ++ ys) x place

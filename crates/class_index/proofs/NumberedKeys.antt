@@ -7,7 +7,7 @@ use Rattle.std.proofs.lemmas.Map.Views.{exact_unsigned_eq}
 use Rattle.std.proofs.lemmas.Cmp.{nat_eq_equiv}
 use Rattle.std.proofs.lemmas.Option.{same_Some, none-some}
 use Rattle.std.specs.Map.{lookup}
-use Rattle.indexmap.specs.IndexMap.{IndexMap, get}
+use Rattle.std.specs.HashMap.{HashMap, get}
 use Rattle.class_index.specs.declared.numbered_key.NumberedKey.{NumberedKey}
 use Rattle.class_index.specs.contracts.numbered_key.NumberedKeyPartialEq.TheImpl as key_block
 use Rattle.class_index.specs.FirstPlaces.{IsFirstPlace}
@@ -45,7 +45,7 @@ some_is_not : (o : Option ℕ) → is_some o ≡ true → o ≡ None → ⊥
 some_is_not None h e = absurd (false≢true h)
 some_is_not (Some x) h e = absurd cc
 
-module _ {S : Type 0} (keys : List NumberedKey) (places new : IndexMap NumberedKey ℕ S) (are : ArePlaces keys places) where
+module _ {S : Type 0} (keys : List NumberedKey) (places new : HashMap NumberedKey ℕ S) (are : ArePlaces keys places) where
   -- the map has the same entries
   pub places_stay : new.entries ≡ places.entries → ArePlaces keys new
   places_stay same = record {

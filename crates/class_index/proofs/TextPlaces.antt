@@ -1,20 +1,15 @@
 -- Where a text stands among texts that are distinct, and when more texts are added.
-use Rattle.std.proofs.Common.{◌≡◌, ℕ, zero, suc, ◌<◌, ◌≤◌, ◌+◌, Bool, true, false, cond, not, ◌||◌, List, [], ◌∷◌, ◌++◌, length, take, get_or, position, Some, None, ◌^◌, refl, sym, ◌∙◌, ap, arith, append_assoc, inl, inr}
-use Rattle.std.specs.List.{slice_get, list_any, position_or_len}
+use Rattle.std.proofs.Common.{◌≡◌, ℕ, zero, suc, ◌<◌, ◌+◌, Bool, true, false, cond, ◌||◌, List, [], ◌∷◌, ◌++◌, length, Some, ◌^◌, refl, sym, ◌∙◌, ap, arith, append_assoc, inl, inr}
+use Rattle.std.specs.List.{slice_get, list_any}
 use Rattle.std.specs.Str.{bytes_eq}
-use Rattle.std.proofs.lemmas.Bool.{ltb-false}
-use Rattle.std.proofs.lemmas.List.{append-nil, map-append, length-append, length-take}
-use Rattle.std.proofs.lemmas.List.Quantifiers.{position-Some}
-use Rattle.std.proofs.lemmas.Option.{slice_get_within, slice_get-get_or, same_Some, none-some}
+use Rattle.std.proofs.lemmas.List.{append-nil, length-append}
+use Rattle.std.proofs.lemmas.Option.{same_Some, none-some}
 use Rattle.std.proofs.lemmas.Slice.Eq.{bytes_eq-Decides}
 use Rattle.class_index.specs.FirstPlaces.{StandsNowhere}
 use Rattle.class_index.specs.Limits.{AreTooMany}
 use Rattle.class_index.specs.TextNumbers.{AreDistinct, with_text, with_texts, Extends}
-use Rattle.std.specs.Global.{Vec}
-use Rattle.indexmap.specs.IndexSet.{insert_key}
-use Rattle.class_index.specs.OwnedTexts.{owned_texts, AreNumbered}
-use Rattle.class_index.proofs.ListPlaces.{in_longer, push_cases, position-map, list_any-map}
-use Rattle.class_index.proofs.OrderPlaces.{in_front}
+use Rattle.class_index.specs.OwnedTexts.{AreNumbered}
+use Rattle.class_index.proofs.ListPlaces.{in_longer, push_cases}
 
 -- whether a text is among texts
 pub among : (texts : List (List ℕ)) (text : List ℕ) (k : ℕ) → slice_get texts k ≡ Some text → list_any (bytes_eq text) texts ≡ true
@@ -33,36 +28,6 @@ not_among (x ∷ xs) text none = by (bytes_eq text x) refl (not_among xs text (r
     by : (b : Bool) → bytes_eq text x ≡ b → list_any (bytes_eq text) xs ≡ false → (b || list_any (bytes_eq text) xs) ≡ false
     by true h rest = absurd (none.nowhere 0 (ap Some (sym ((bytes_eq-Decides text x).0 h))))
     by false h rest = rest
-
--- where a text stands, by the place of the first that is equal
-pub stands_at_position : (texts : List (List ℕ)) (text : List ℕ) (k : ℕ) → position (bytes_eq text) texts ≡ Some k → slice_get texts k ≡ Some text
-stands_at_position texts text k e =
-    let p = position-Some (bytes_eq text) texts k text e in
-    slice_get-get_or texts k text p.0 ∙ ap Some (sym ((bytes_eq-Decides text (get_or texts k text)).0 p.1))
-
-first_at_most : (texts : List (List ℕ)) (text : List ℕ) (k : ℕ) → slice_get texts k ≡ Some text → position_or_len (bytes_eq text) texts ≤ k
-first_at_most [] text k e = absurd (none-some text e)
-first_at_most (x ∷ xs) text zero e =
-    let first : bytes_eq text x ≡ true = (bytes_eq-Decides text x).1 (sym (same_Some _ _ e)) in
-    let stops : position_or_len (bytes_eq text) (x ∷ xs) ≡ 0 = ap (λ (b : Bool). cond (not b) (1 + position_or_len (bytes_eq text) xs) 0) first in
-    omega (arith, stops)
-first_at_most (x ∷ xs) text (suc k) e = by (bytes_eq text x) refl (first_at_most xs text k e)
-  where
-    by : (b : Bool) → bytes_eq text x ≡ b → position_or_len (bytes_eq text) xs ≤ k → position_or_len (bytes_eq text) (x ∷ xs) ≤ suc k
-    by true h le = let stops : position_or_len (bytes_eq text) (x ∷ xs) ≡ 0 = ap (λ (b : Bool). cond (not b) (1 + position_or_len (bytes_eq text) xs) 0) h in omega (arith, stops)
-    by false h le = let goes : position_or_len (bytes_eq text) (x ∷ xs) ≡ 1 + position_or_len (bytes_eq text) xs = ap (λ (b : Bool). cond (not b) (1 + position_or_len (bytes_eq text) xs) 0) h in omega (arith, goes, le)
-
-some_is : (b : Bool) (k : ℕ) → cond b (Some k) None ≡ None → b ≡ false
-some_is true k e = absurd cc
-some_is false k e = refl
-
-pub nowhere_without_position : (texts : List (List ℕ)) (text : List ℕ) → position (bytes_eq text) texts ≡ None → StandsNowhere texts text
-nowhere_without_position texts text e = record {
-  nowhere = λ k at_k.
-      let past : length texts ≤ position_or_len (bytes_eq text) texts = ltb-false _ _ (some_is _ _ e) in
-      let within : k < length texts = slice_get_within texts k text at_k in
-      absurd (omega (arith, first_at_most texts text k at_k));
-}
 
 -- texts stay distinct when one that is not among them goes last
 pub distinct_push : (texts : List (List ℕ)) (text : List ℕ) → AreDistinct texts → StandsNowhere texts text → AreDistinct (texts ++ text ∷ [])
@@ -121,32 +86,9 @@ too_many_longer old new longer many = omega (arith, ap (length {A = List ℕ}) l
 
 -- ---- texts that vectors own
 
-module _ (keys : List (Vec ℕ)) (text : List ℕ) where
-  pub found_text : (k : ℕ) → Some k ≡ position (λ (key : Vec ℕ). bytes_eq text key.items) keys → slice_get (owned_texts keys) k ≡ Some text
-  found_text k e = stands_at_position _ text k (position-map (bytes_eq text) (λ (key : Vec ℕ). key.items) keys ∙ sym e)
-
-  pub absent_text : None ≡ position (λ (key : Vec ℕ). bytes_eq text key.items) keys → StandsNowhere (owned_texts keys) text
-  absent_text e = nowhere_without_position _ text (position-map (bytes_eq text) (λ (key : Vec ℕ). key.items) keys ∙ sym e)
-
--- a text that is not among them was inserted
-pub inserted_texts : (keys new : List (Vec ℕ)) (copy : Vec ℕ) (text : List ℕ) → new ≡ insert_key (λ (x y : Vec ℕ). bytes_eq x.items y.items) keys copy
-    → copy.items ≡ text → StandsNowhere (owned_texts keys) text → owned_texts new ≡ owned_texts keys ++ text ∷ []
-inserted_texts keys new copy text inserted same none =
-    let fresh : list_any (λ (key : Vec ℕ). bytes_eq copy.items key.items) keys ≡ false =
-    sym (list_any-map (bytes_eq copy.items) (λ (key : Vec ℕ). key.items) keys) ∙ not_among _ copy.items (rw same none) in
-    let last : new ≡ keys ++ copy ∷ [] = inserted ∙ ap (λ (b : Bool). cond b keys (keys ++ copy ∷ [])) fresh in
-    ap owned_texts last ∙ map-append (λ (key : Vec ℕ). key.items) keys (copy ∷ []) ∙ ap (λ (x : List ℕ). owned_texts keys ++ x ∷ []) same
-
--- and numbered they stay
+-- numbered texts stay so when one that is not among them goes last
 pub numbered_push : (texts : List (List ℕ)) (text : List ℕ) → AreNumbered texts → StandsNowhere texts text → length texts + 1 < 2 ^ 32 → AreNumbered (texts ++ text ∷ [])
 numbered_push texts text numbered none room = record {
   distinct = distinct_push texts text numbered.distinct none;
   small = simp length-append (omega arith);
-}
-
--- the first ones too
-pub numbered_front : (texts : List (List ℕ)) (n : ℕ) → AreNumbered texts → AreNumbered (take n texts)
-numbered_front texts n numbered = record {
-  distinct = record { one_place = λ i j text at_i at_j. numbered.distinct.one_place i j text (in_front texts n i text at_i).1 (in_front texts n j text at_j).1 };
-  small = let front = length-take n texts in omega (arith, front, numbered.small);
 }

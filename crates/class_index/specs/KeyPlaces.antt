@@ -1,7 +1,7 @@
 -- Public contracts rest on this module.
 -- Keys whose texts have numbers, and a map from each to its first place.
 use Rattle.std.specs.Prelude.{◌≡◌, ℕ, ◌<◌, ◌^◌, List, ◌∷◌, ◌++◌, length, map, All, Some, None, slice_index_or, []}
-use Rattle.indexmap.specs.IndexMap.{IndexMap, get}
+use Rattle.std.specs.HashMap.{HashMap, get}
 use Rattle.class_index.specs.declared.numbered_key.NumberedKey.{NumberedKey}
 use Rattle.class_index.specs.contracts.numbered_key.NumberedKeyPartialEq.TheImpl as key_block
 use Rattle.class_index.specs.FirstPlaces.{IsFirstPlace, StandsNowhere}
@@ -9,7 +9,7 @@ use Rattle.class_index.specs.MemberKeys.{Key, key_texts}
 use Rattle.class_index.specs.TextNumbers.{different}
 
 -- the map has the first place of each key, and no other key
-pub record ArePlaces {S : Type 0} (keys : List NumberedKey) (places : IndexMap NumberedKey ℕ S) : Type 0 where
+pub record ArePlaces {S : Type 0} (keys : List NumberedKey) (places : HashMap NumberedKey ℕ S) : Type 0 where
   pub first : (key : NumberedKey) (place : ℕ) → get (key_block.ghosts).eq places key ≡ Some place → IsFirstPlace keys key place
   pub none : (key : NumberedKey) → get (key_block.ghosts).eq places key ≡ None → StandsNowhere keys key
   pub small : length keys < 2 ^ 32

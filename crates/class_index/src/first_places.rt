@@ -8,15 +8,15 @@ ghost use Rattle.class_index.specs.Limits.{AreTooMany, too_many};
 use crate::index_failure::IndexFailure;
 use crate::numbered_key::NumberedKey;
 use crate::text_index::next_number;
-use indexmap::IndexMap;
 use std::alloc::Global;
+use std::collections::HashMap;
 use std::marker::Model;
 
 /// Keys in the order of their insertion. Contracts see the list.
 #[derive(Drop)]
 pub struct FirstPlaces {
     keys: Vec<NumberedKey>,
-    places: IndexMap<NumberedKey, u32>,
+    places: HashMap<NumberedKey, u32>,
 }
 
 impl Model for FirstPlaces {
@@ -38,7 +38,7 @@ impl FirstPlaces {
     {
         FirstPlaces {
             keys: Vec::new(alloc),
-            places: IndexMap::new(alloc),
+            places: HashMap::new(alloc),
         }
     }
 
