@@ -1,12 +1,7 @@
 //! The classes that are there without any stub file, as a table of rows. The modules are its parts, in their order.
 
-ghost use Rattle.std.specs.Prelude.{◌≡◌, map, IfOk};
-ghost use Rattle.stub_file.specs.BaseExceptions.{base_exceptions};
-ghost use Rattle.stub_file.specs.BaseInterfaces.{base_interfaces};
-ghost use Rattle.stub_file.specs.BaseLanguage.{base_language};
-ghost use Rattle.stub_file.specs.BaseLists.{base_lists};
+ghost use Rattle.std.specs.Prelude.{◌≡◌, ◌++◌, map, IfOk};
 ghost use Rattle.stub_file.specs.BaseRead.{base_class};
-ghost use Rattle.stub_file.specs.BaseStreams.{base_streams};
 ghost use Rattle.stub_file.specs.BaseStubs.{base_classes};
 
 mod exceptions;
@@ -24,50 +19,21 @@ use std::alloc::{AllocError, Global};
 pub fn base_stubs(alloc: Global) -> Result<Vec<StubClass>, AllocError>
     ensures table { IfOk result (λ classes. classes.items ≡ base_classes) }
 {
-    let mut classes = interfaces_of(alloc, &interfaces::INTERFACES)?;
-    classes.append(&mut language_of(alloc, &language::LANGUAGE)?)?;
-    classes.append(&mut streams_of(alloc, &streams::STREAMS)?)?;
-    classes.append(&mut lists_of(alloc, &lists::LISTS)?)?;
-    classes.append(&mut exceptions_of(alloc, &exceptions::EXCEPTIONS)?)?;
+    let mut classes = all_of(alloc, interfaces::rows())?;
+    add(alloc, &mut classes, language::rows())?;
+    add(alloc, &mut classes, streams::rows())?;
+    add(alloc, &mut classes, lists::rows())?;
+    add(alloc, &mut classes, exceptions::rows())?;
     Ok(classes)
 }
 
-/// The interfaces, from their rows.
-fn interfaces_of(alloc: Global, rows: &[BaseClass]) -> Result<Vec<StubClass>, AllocError>
-    requires { map base_class rows.now ≡ base_interfaces }
-    ensures { IfOk result (λ classes. classes.items ≡ base_interfaces) }
+/// Adds the classes that the rows say, in order.
+fn add(
+    alloc: Global,
+    classes: &mut Vec<StubClass>,
+    rows: &[BaseClass],
+) -> Result<(), AllocError>
+    ensures { IfOk result (λ _. classes.new.items ≡ classes.old.items ++ map base_class rows.now) }
 {
-    all_of(alloc, rows)
-}
-
-/// The classes of `java/lang`, from their rows.
-fn language_of(alloc: Global, rows: &[BaseClass]) -> Result<Vec<StubClass>, AllocError>
-    requires { map base_class rows.now ≡ base_language }
-    ensures { IfOk result (λ classes. classes.items ≡ base_language) }
-{
-    all_of(alloc, rows)
-}
-
-/// The streams, from their rows.
-fn streams_of(alloc: Global, rows: &[BaseClass]) -> Result<Vec<StubClass>, AllocError>
-    requires { map base_class rows.now ≡ base_streams }
-    ensures { IfOk result (λ classes. classes.items ≡ base_streams) }
-{
-    all_of(alloc, rows)
-}
-
-/// The lists and `java/lang/Throwable`, from their rows.
-fn lists_of(alloc: Global, rows: &[BaseClass]) -> Result<Vec<StubClass>, AllocError>
-    requires { map base_class rows.now ≡ base_lists }
-    ensures { IfOk result (λ classes. classes.items ≡ base_lists) }
-{
-    all_of(alloc, rows)
-}
-
-/// The exceptions, from their rows.
-fn exceptions_of(alloc: Global, rows: &[BaseClass]) -> Result<Vec<StubClass>, AllocError>
-    requires { map base_class rows.now ≡ base_exceptions }
-    ensures { IfOk result (λ classes. classes.items ≡ base_exceptions) }
-{
-    all_of(alloc, rows)
+    classes.append(&mut all_of(alloc, rows)?)
 }

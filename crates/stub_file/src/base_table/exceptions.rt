@@ -1,5 +1,9 @@
 //! The exceptions and errors of the base stubs.
 
+ghost use Rattle.std.specs.Prelude.{◌≡◌, map};
+ghost use Rattle.stub_file.specs.BaseExceptions.{base_exceptions};
+ghost use Rattle.stub_file.specs.BaseRead.{base_class};
+
 use crate::base_row::{BaseClass, BaseMethod, BaseResult, CLASS, METHOD};
 use jvm_model::StubArgument;
 
@@ -29,8 +33,15 @@ const CAUSE: BaseMethod = BaseMethod {
     ..METHOD
 };
 
+/// The rows of the exceptions.
+pub(super) fn rows() -> &'static [BaseClass]
+    ensures { map base_class result.now ≡ base_exceptions }
+{
+    &EXCEPTIONS
+}
+
 /// The exceptions and errors.
-pub(super) const EXCEPTIONS: [BaseClass; 26] = [
+const EXCEPTIONS: [BaseClass; 26] = [
     BaseClass {
         name: "java/lang/Exception",
         super_class: "java/lang/Throwable",

@@ -1,9 +1,20 @@
 //! The interfaces of the base stubs. All their methods are abstract.
 
+ghost use Rattle.std.specs.Prelude.{◌≡◌, map};
+ghost use Rattle.stub_file.specs.BaseInterfaces.{base_interfaces};
+ghost use Rattle.stub_file.specs.BaseRead.{base_class};
+
 use crate::base_row::{ABSTRACT, BaseClass, BaseMethod, INTERFACE};
 
+/// The rows of the interfaces.
+pub(super) fn rows() -> &'static [BaseClass]
+    ensures { map base_class result.now ≡ base_interfaces }
+{
+    &INTERFACES
+}
+
 /// The interfaces.
-pub(super) const INTERFACES: [BaseClass; 12] = [
+const INTERFACES: [BaseClass; 12] = [
     BaseClass {
         name: "java/lang/Cloneable",
         ..INTERFACE

@@ -1,10 +1,21 @@
 //! The classes of `java/lang` among the base stubs, but for the exceptions.
 
+ghost use Rattle.std.specs.Prelude.{◌≡◌, map};
+ghost use Rattle.stub_file.specs.BaseLanguage.{base_language};
+ghost use Rattle.stub_file.specs.BaseRead.{base_class};
+
 use crate::base_row::{ABSTRACT, BaseClass, BaseField, BaseMethod, BaseResult, CLASS, METHOD};
 use jvm_model::StubArgument;
 
+/// The rows of the classes of `java/lang`.
+pub(super) fn rows() -> &'static [BaseClass]
+    ensures { map base_class result.now ≡ base_language }
+{
+    &LANGUAGE
+}
+
 /// Classes of `java/lang`.
-pub(super) const LANGUAGE: [BaseClass; 7] = [
+const LANGUAGE: [BaseClass; 7] = [
     BaseClass {
         name: "java/lang/Object",
         super_class: "",

@@ -1,10 +1,21 @@
 //! The list of `java/util` among the base stubs, and `java/lang/Throwable`.
 
+ghost use Rattle.std.specs.Prelude.{◌≡◌, map};
+ghost use Rattle.stub_file.specs.BaseLists.{base_lists};
+ghost use Rattle.stub_file.specs.BaseRead.{base_class};
+
 use crate::base_row::{ABSTRACT, BaseClass, BaseMethod, BaseResult, CLASS, METHOD};
 use jvm_model::StubArgument;
 
+/// The rows of the lists and of `java/lang/Throwable`.
+pub(super) fn rows() -> &'static [BaseClass]
+    ensures { map base_class result.now ≡ base_lists }
+{
+    &LISTS
+}
+
 /// Lists of `java/util`, and `java/lang/Throwable`.
-pub(super) const LISTS: [BaseClass; 3] = [
+const LISTS: [BaseClass; 3] = [
     BaseClass {
         name: "java/util/ArrayList",
         interfaces: &[

@@ -1,9 +1,20 @@
 //! The streams of `java/io` among the base stubs.
 
+ghost use Rattle.std.specs.Prelude.{◌≡◌, map};
+ghost use Rattle.stub_file.specs.BaseStreams.{base_streams};
+ghost use Rattle.stub_file.specs.BaseRead.{base_class};
+
 use crate::base_row::{ABSTRACT, BaseClass, BaseMethod, BaseResult, CLASS, METHOD};
 
+/// The rows of the streams.
+pub(super) fn rows() -> &'static [BaseClass]
+    ensures { map base_class result.now ≡ base_streams }
+{
+    &STREAMS
+}
+
 /// The streams of `java/io`.
-pub(super) const STREAMS: [BaseClass; 6] = [
+const STREAMS: [BaseClass; 6] = [
     BaseClass {
         name: "java/io/InputStream",
         interfaces: &["java/io/Closeable"],
