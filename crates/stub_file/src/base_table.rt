@@ -1,7 +1,11 @@
 //! The classes that are there without any stub file, as a table of rows. The modules are its parts, in their order.
 
 ghost use Rattle.std.specs.Prelude.{◌≡◌, ◌++◌, map, IfOk};
+ghost use Rattle.stub_file.specs.BaseExceptions.{base_exceptions};
+ghost use Rattle.stub_file.specs.BaseLanguage.{base_language};
+ghost use Rattle.stub_file.specs.BaseLists.{base_lists};
 ghost use Rattle.stub_file.specs.BaseRead.{base_class};
+ghost use Rattle.stub_file.specs.BaseStreams.{base_streams};
 ghost use Rattle.stub_file.specs.BaseStubs.{base_classes};
 
 mod exceptions;
@@ -20,11 +24,27 @@ pub fn base_stubs(alloc: Global) -> Result<Vec<StubClass>, AllocError>
     ensures table { IfOk result (λ classes. classes.items ≡ base_classes) }
 {
     let mut classes = all_of(alloc, interfaces::rows())?;
-    add(alloc, &mut classes, language::rows())?;
-    add(alloc, &mut classes, streams::rows())?;
-    add(alloc, &mut classes, lists::rows())?;
-    add(alloc, &mut classes, exceptions::rows())?;
+    add_language(alloc, &mut classes)?;
+    add_rest(alloc, &mut classes)?;
     Ok(classes)
+}
+
+/// Adds the classes of `java/lang`.
+fn add_language(alloc: Global, classes: &mut Vec<StubClass>) -> Result<(), AllocError>
+    ensures { IfOk result (λ _. classes.new.items ≡ classes.old.items ++ base_language) }
+{
+    add(alloc, classes, language::object_and_string())?;
+    add(alloc, classes, language::string_builder())?;
+    add(alloc, classes, language::other_classes())
+}
+
+/// Adds what follows the classes of `java/lang`.
+fn add_rest(alloc: Global, classes: &mut Vec<StubClass>) -> Result<(), AllocError>
+    ensures { IfOk result (λ _. classes.new.items ≡ classes.old.items ++ (base_streams ++ (base_lists ++ base_exceptions))) }
+{
+    add(alloc, classes, streams::rows())?;
+    add(alloc, classes, lists::rows())?;
+    add(alloc, classes, exceptions::rows())
 }
 
 /// Adds the classes that the rows say, in order.

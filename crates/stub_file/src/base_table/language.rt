@@ -1,21 +1,35 @@
 //! The classes of `java/lang` among the base stubs, but for the exceptions.
 
-ghost use Rattle.std.specs.Prelude.{◌≡◌, map};
+ghost use Rattle.std.specs.Prelude.{◌≡◌, map, take, drop};
 ghost use Rattle.stub_file.specs.BaseLanguage.{base_language};
 ghost use Rattle.stub_file.specs.BaseRead.{base_class};
 
 use crate::base_row::{ABSTRACT, BaseClass, BaseField, BaseMethod, BaseResult, CLASS, METHOD};
 use jvm_model::StubArgument;
 
-/// The rows of the classes of `java/lang`.
-pub(super) fn rows() -> &'static [BaseClass]
-    ensures { map base_class result.now ≡ base_language }
+/// The rows of `java/lang/Object` and `java/lang/String`.
+pub(super) fn object_and_string() -> &'static [BaseClass]
+    ensures { map base_class result.now ≡ take 2 base_language }
 {
-    &LANGUAGE
+    &OBJECT_AND_STRING
 }
 
-/// Classes of `java/lang`.
-const LANGUAGE: [BaseClass; 7] = [
+/// The row of `java/lang/StringBuilder`.
+pub(super) fn string_builder() -> &'static [BaseClass]
+    ensures { map base_class result.now ≡ take 1 (drop 2 base_language) }
+{
+    &STRING_BUILDER
+}
+
+/// The rows of the other classes of `java/lang`.
+pub(super) fn other_classes() -> &'static [BaseClass]
+    ensures { map base_class result.now ≡ drop 3 base_language }
+{
+    &OTHER_CLASSES
+}
+
+/// `java/lang/Object` and `java/lang/String`.
+const OBJECT_AND_STRING: [BaseClass; 2] = [
     BaseClass {
         name: "java/lang/Object",
         super_class: "",
@@ -122,6 +136,10 @@ const LANGUAGE: [BaseClass; 7] = [
         ],
         ..CLASS
     },
+];
+
+/// `java/lang/StringBuilder`.
+const STRING_BUILDER: [BaseClass; 1] = [
     BaseClass {
         name: "java/lang/StringBuilder",
         interfaces: &["java/lang/CharSequence", "java/io/Serializable"],
@@ -203,6 +221,10 @@ const LANGUAGE: [BaseClass; 7] = [
         ],
         ..CLASS
     },
+];
+
+/// The other classes of `java/lang`.
+const OTHER_CLASSES: [BaseClass; 4] = [
     BaseClass {
         name: "java/lang/Class",
         interfaces: &["java/io/Serializable"],
