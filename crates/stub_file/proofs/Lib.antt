@@ -1,4 +1,5 @@
 pub mod BaseChecks
+pub mod ClassParts
 pub mod Differing
 pub mod Finding
 pub mod Lists

@@ -7,6 +7,7 @@ pub mod BaseRead
 pub mod BaseRows
 pub mod BaseStreams
 pub mod BaseStubs
+pub mod ClassParts
 pub mod Signatures
 pub mod StubFile
 pub mod StubReading

@@ -3,13 +3,14 @@
 ghost use Rattle.std.specs.Prelude.{◌≡◌, ◌↔◌, IfOk, IsTrue};
 ghost use Rattle.toml.specs.View.{table_view};
 ghost use Rattle.toml_tables.specs.Tables.{Finds, HasOnly};
+ghost use Rattle.stub_file.specs.ClassParts.{SpellsClassHead, SpellsClassLists};
 ghost use Rattle.stub_file.specs.StubFile.{GivesClass};
 ghost use Rattle.stub_file.specs.StubSpelling.{class_keys, SpellsClass, SpellsSuper};
 
 use crate::rules::is_sound_class;
 use crate::spelled::list_at;
 use jvm_model::grammar::is_class_name;
-use jvm_model::{Bytes, Name, StubClass};
+use jvm_model::{Bytes, Name, Sequence, StubClass, StubField, StubMethod};
 use std::alloc::{AllocError, Global};
 use toml::Table;
 use toml_tables::{bytes_at, bytes_of, flag_at, has_only, optional_bytes_at};
@@ -32,6 +33,23 @@ pub(crate) fn class_of(
     }
 }
 
+/// What a table spells of a class beside its lists.
+#[derive(Drop)]
+struct ClassHead {
+    name: Bytes,
+    is_interface: bool,
+    is_patch: bool,
+    super_class: Bytes,
+}
+
+/// The lists of a class that a table spells.
+#[derive(Drop)]
+struct ClassLists {
+    interfaces: Sequence<Bytes>,
+    methods: Sequence<StubMethod>,
+    fields: Sequence<StubField>,
+}
+
 /// The class that a table spells.
 fn class_in(alloc: Global, file: &str, table: &Table) -> Result<Option<StubClass>, AllocError>
     ensures { IfOk result (Finds (SpellsClass file.now (table_view table.now))) }
@@ -39,6 +57,28 @@ fn class_in(alloc: Global, file: &str, table: &Table) -> Result<Option<StubClass
     if !has_class_keys(table) {
         return Ok(None);
     }
+    let Some(head) = head_in(alloc, table)? else {
+        return Ok(None);
+    };
+    let Some(lists) = lists_in(alloc, table)? else {
+        return Ok(None);
+    };
+    Ok(Some(StubClass {
+        file: name_of(alloc, file)?,
+        name: head.name,
+        super_class: head.super_class,
+        interfaces: lists.interfaces,
+        is_interface: head.is_interface,
+        is_patch: head.is_patch,
+        methods: lists.methods,
+        fields: lists.fields,
+    }))
+}
+
+/// What the table of a class spells beside its lists.
+fn head_in(alloc: Global, table: &Table) -> Result<Option<ClassHead>, AllocError>
+    ensures { IfOk result (Finds (SpellsClassHead (table_view table.now))) }
+{
     let Some(name) = bytes_at(alloc, table, "name")? else {
         return Ok(None);
     };
@@ -51,6 +91,18 @@ fn class_in(alloc: Global, file: &str, table: &Table) -> Result<Option<StubClass
     let Some(super_class) = super_in(alloc, table, is_patch)? else {
         return Ok(None);
     };
+    Ok(Some(ClassHead {
+        name,
+        is_interface,
+        is_patch,
+        super_class,
+    }))
+}
+
+/// The lists that the table of a class spells.
+fn lists_in(alloc: Global, table: &Table) -> Result<Option<ClassLists>, AllocError>
+    ensures { IfOk result (Finds (SpellsClassLists (table_view table.now))) }
+{
     let Some(interfaces) = list_at(alloc, table, "interfaces")? else {
         return Ok(None);
     };
@@ -60,13 +112,8 @@ fn class_in(alloc: Global, file: &str, table: &Table) -> Result<Option<StubClass
     let Some(fields) = list_at(alloc, table, "field")? else {
         return Ok(None);
     };
-    Ok(Some(StubClass {
-        file: name_of(alloc, file)?,
-        name,
-        super_class,
+    Ok(Some(ClassLists {
         interfaces,
-        is_interface,
-        is_patch,
         methods,
         fields,
     }))
