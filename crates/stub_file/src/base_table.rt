@@ -48,11 +48,7 @@ fn add_rest(alloc: Global, classes: &mut Vec<StubClass>) -> Result<(), AllocErro
 }
 
 /// Adds the classes that the rows say, in order.
-fn add(
-    alloc: Global,
-    classes: &mut Vec<StubClass>,
-    rows: &[BaseClass],
-) -> Result<(), AllocError>
+fn add(alloc: Global, classes: &mut Vec<StubClass>, rows: &[BaseClass]) -> Result<(), AllocError>
     ensures { IfOk result (λ _. classes.new.items ≡ classes.old.items ++ map base_class rows.now) }
 {
     classes.append(&mut all_of(alloc, rows)?)

@@ -1,6 +1,6 @@
 //! The table of a class.
 
-ghost use Rattle.std.specs.Prelude.{◌≡◌, ◌↔◌, IfOk, IsTrue};
+ghost use Rattle.std.specs.Prelude.{◌≡◌, ◌↔◌, cond, Err, IfOk, IsTrue, MatchResult, None, Ok, Some};
 ghost use Rattle.toml.specs.View.{table_view};
 ghost use Rattle.toml_tables.specs.Tables.{Finds, HasOnly};
 ghost use Rattle.stub_file.specs.ClassParts.{SpellsClassHead, SpellsClassLists};
@@ -26,11 +26,15 @@ pub(crate) fn class_of(
     let Some(class) = class_in(alloc, file, table)? else {
         return Ok(None);
     };
-    if is_sound_class(alloc, &class)? {
-        Ok(Some(class))
-    } else {
-        Ok(None)
-    }
+    let sound = is_sound_class(alloc, &class);
+    kept_if(class, sound)
+}
+
+/// The value, if it is to be kept.
+fn kept_if<X: Drop>(value: X, kept: Result<bool, AllocError>) -> Result<Option<X>, AllocError>
+    ensures { MatchResult kept (λ is. result ≡ Ok (cond is (Some value) None)) (λ e. result ≡ Err e) }
+{
+    if kept? { Ok(Some(value)) } else { Ok(None) }
 }
 
 /// What a table spells of a class beside its lists.

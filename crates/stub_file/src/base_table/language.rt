@@ -139,89 +139,87 @@ const OBJECT_AND_STRING: [BaseClass; 2] = [
 ];
 
 /// `java/lang/StringBuilder`.
-const STRING_BUILDER: [BaseClass; 1] = [
-    BaseClass {
-        name: "java/lang/StringBuilder",
-        interfaces: &["java/lang/CharSequence", "java/io/Serializable"],
-        methods: &[
-            BaseMethod {
-                name: "<init>",
-                descriptor: "()V",
-                returns: &[BaseResult::Void],
-                ..METHOD
-            },
-            BaseMethod {
-                name: "<init>",
-                descriptor: "(Ljava/lang/String;)V",
-                returns: &[BaseResult::Void],
-                throws: &["java/lang/NullPointerException"],
-                ..METHOD
-            },
-            BaseMethod {
-                name: "append",
-                descriptor: "(Ljava/lang/String;)Ljava/lang/StringBuilder;",
-                returns: &[BaseResult::This],
-                ..METHOD
-            },
-            BaseMethod {
-                name: "append",
-                descriptor: "(I)Ljava/lang/StringBuilder;",
-                returns: &[BaseResult::This],
-                ..METHOD
-            },
-            BaseMethod {
-                name: "append",
-                descriptor: "(J)Ljava/lang/StringBuilder;",
-                returns: &[BaseResult::This],
-                ..METHOD
-            },
-            BaseMethod {
-                name: "append",
-                descriptor: "(C)Ljava/lang/StringBuilder;",
-                returns: &[BaseResult::This],
-                ..METHOD
-            },
-            BaseMethod {
-                name: "append",
-                descriptor: "(Z)Ljava/lang/StringBuilder;",
-                returns: &[BaseResult::This],
-                ..METHOD
-            },
-            BaseMethod {
-                name: "append",
-                descriptor: "(F)Ljava/lang/StringBuilder;",
-                returns: &[BaseResult::This],
-                ..METHOD
-            },
-            BaseMethod {
-                name: "append",
-                descriptor: "(D)Ljava/lang/StringBuilder;",
-                returns: &[BaseResult::This],
-                ..METHOD
-            },
-            BaseMethod {
-                name: "length",
-                descriptor: "()I",
-                returns: &[BaseResult::Primitive],
-                ..METHOD
-            },
-            BaseMethod {
-                name: "charAt",
-                descriptor: "(I)C",
-                returns: &[BaseResult::Primitive],
-                throws: &["java/lang/StringIndexOutOfBoundsException"],
-                ..METHOD
-            },
-            BaseMethod {
-                name: "toString",
-                descriptor: "()Ljava/lang/String;",
-                returns: &[BaseResult::New("java/lang/String")],
-                ..METHOD
-            },
-        ],
-        ..CLASS
-    },
-];
+const STRING_BUILDER: [BaseClass; 1] = [BaseClass {
+    name: "java/lang/StringBuilder",
+    interfaces: &["java/lang/CharSequence", "java/io/Serializable"],
+    methods: &[
+        BaseMethod {
+            name: "<init>",
+            descriptor: "()V",
+            returns: &[BaseResult::Void],
+            ..METHOD
+        },
+        BaseMethod {
+            name: "<init>",
+            descriptor: "(Ljava/lang/String;)V",
+            returns: &[BaseResult::Void],
+            throws: &["java/lang/NullPointerException"],
+            ..METHOD
+        },
+        BaseMethod {
+            name: "append",
+            descriptor: "(Ljava/lang/String;)Ljava/lang/StringBuilder;",
+            returns: &[BaseResult::This],
+            ..METHOD
+        },
+        BaseMethod {
+            name: "append",
+            descriptor: "(I)Ljava/lang/StringBuilder;",
+            returns: &[BaseResult::This],
+            ..METHOD
+        },
+        BaseMethod {
+            name: "append",
+            descriptor: "(J)Ljava/lang/StringBuilder;",
+            returns: &[BaseResult::This],
+            ..METHOD
+        },
+        BaseMethod {
+            name: "append",
+            descriptor: "(C)Ljava/lang/StringBuilder;",
+            returns: &[BaseResult::This],
+            ..METHOD
+        },
+        BaseMethod {
+            name: "append",
+            descriptor: "(Z)Ljava/lang/StringBuilder;",
+            returns: &[BaseResult::This],
+            ..METHOD
+        },
+        BaseMethod {
+            name: "append",
+            descriptor: "(F)Ljava/lang/StringBuilder;",
+            returns: &[BaseResult::This],
+            ..METHOD
+        },
+        BaseMethod {
+            name: "append",
+            descriptor: "(D)Ljava/lang/StringBuilder;",
+            returns: &[BaseResult::This],
+            ..METHOD
+        },
+        BaseMethod {
+            name: "length",
+            descriptor: "()I",
+            returns: &[BaseResult::Primitive],
+            ..METHOD
+        },
+        BaseMethod {
+            name: "charAt",
+            descriptor: "(I)C",
+            returns: &[BaseResult::Primitive],
+            throws: &["java/lang/StringIndexOutOfBoundsException"],
+            ..METHOD
+        },
+        BaseMethod {
+            name: "toString",
+            descriptor: "()Ljava/lang/String;",
+            returns: &[BaseResult::New("java/lang/String")],
+            ..METHOD
+        },
+    ],
+    ..CLASS
+}];
 
 /// The other classes of `java/lang`.
 const OTHER_CLASSES: [BaseClass; 4] = [
