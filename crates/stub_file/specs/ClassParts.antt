@@ -1,3 +1,4 @@
+-- This crate's own proofs alone rest on this module.
 -- The two parts in which the table of a class is read, beside the name of its file.
 use Rattle.std.specs.Prelude.{codes}
 use Rattle.toml.specs.Data.{Members}
