@@ -2,6 +2,7 @@
 use Rattle.std.proofs.Common.{◌≡◌, ℕ, Bool, true, false, not, ◌||◌, List, [], ◌∷◌, Option, Some, None, option_and_then, refl, ap}
 use Rattle.std.specs.List.{list_any}
 use Rattle.std.specs.Option.{option_map_or}
+use Rattle.std.proofs.lemmas.Bool.{false≢true}
 use Rattle.jvm_model.specs.declared.class_file.ClassFile.{ClassFile}
 use Rattle.jvm_model.specs.declared.code.Instruction.{Instruction as Given}
 use Rattle.jvm_model.specs.declared.pool.EntryKind.{EntryKind}
@@ -82,36 +83,36 @@ module _ (p : Program) (current : List ℕ) (c : ClassFile) (i : Given) (r : Row
   method_named invoke_virtual e call =
       let leads = leads_by c i r class_method sound is (ap (λ (b : Action). expected b) e) in
       let there = class_method_there c i.operand sound.sound leads in
-      method_by (kinds.Method ∷ []) (λ class member h. cc) (ap is_call e) leads there.method there.named
+      method_by (kinds.Method ∷ []) (λ class member h. false≢true h) (ap is_call e) leads there.method there.named
   method_named invoke_special e call =
       let leads = leads_by c i r any_method sound is (ap (λ (b : Action). expected b) e) in
       let there = any_method_there c i.operand sound.sound leads in
-      method_by (kinds.Method ∷ kinds.InterfaceMethod ∷ []) (λ class member h. cc) (ap is_call e) leads there.method there.named
+      method_by (kinds.Method ∷ kinds.InterfaceMethod ∷ []) (λ class member h. false≢true h) (ap is_call e) leads there.method there.named
   method_named invoke_static e call =
       let leads = leads_by c i r any_method sound is (ap (λ (b : Action). expected b) e) in
       let there = any_method_there c i.operand sound.sound leads in
-      method_by (kinds.Method ∷ kinds.InterfaceMethod ∷ []) (λ class member h. cc) (ap is_call e) leads there.method there.named
+      method_by (kinds.Method ∷ kinds.InterfaceMethod ∷ []) (λ class member h. false≢true h) (ap is_call e) leads there.method there.named
   method_named invoke_interface e call =
       let leads = leads_by c i r interface_method sound is (ap (λ (b : Action). expected b) e) in
       let there = interface_method_there c i.operand sound.sound leads in
-      method_by (kinds.InterfaceMethod ∷ []) (λ class member h. cc) (ap is_call e) leads there.method there.named
-  method_named plain e call = absurd cc
-  method_named load_constant e call = absurd cc
-  method_named load_element e call = absurd cc
-  method_named store_element e call = absurd cc
-  method_named probe_element e call = absurd cc
-  method_named probe_array e call = absurd cc
-  method_named probe_object e call = absurd cc
-  method_named get_static e call = absurd cc
-  method_named put_static e call = absurd cc
-  method_named get_field e call = absurd cc
-  method_named put_field e call = absurd cc
-  method_named make_object e call = absurd cc
-  method_named make_array e call = absurd cc
-  method_named throw_object e call = absurd cc
-  method_named cast e call = absurd cc
-  method_named leave_method e call = absurd cc
-  method_named refused e call = absurd cc
+      method_by (kinds.InterfaceMethod ∷ []) (λ class member h. false≢true h) (ap is_call e) leads there.method there.named
+  method_named plain e call = absurd (false≢true call)
+  method_named load_constant e call = absurd (false≢true call)
+  method_named load_element e call = absurd (false≢true call)
+  method_named store_element e call = absurd (false≢true call)
+  method_named probe_element e call = absurd (false≢true call)
+  method_named probe_array e call = absurd (false≢true call)
+  method_named probe_object e call = absurd (false≢true call)
+  method_named get_static e call = absurd (false≢true call)
+  method_named put_static e call = absurd (false≢true call)
+  method_named get_field e call = absurd (false≢true call)
+  method_named put_field e call = absurd (false≢true call)
+  method_named make_object e call = absurd (false≢true call)
+  method_named make_array e call = absurd (false≢true call)
+  method_named throw_object e call = absurd (false≢true call)
+  method_named cast e call = absurd (false≢true call)
+  method_named leave_method e call = absurd (false≢true call)
+  method_named refused e call = absurd (false≢true call)
 
   field_by : expected r.action ≡ Some a_field → is_field_access r.action ≡ true → LeadsToMember j
   field_by e access =
@@ -123,23 +124,23 @@ module _ (p : Program) (current : List ℕ) (c : ClassFile) (i : Given) (r : Row
   field_named put_static e access = field_by (ap (λ (b : Action). expected b) e) (ap is_field_access e)
   field_named get_field e access = field_by (ap (λ (b : Action). expected b) e) (ap is_field_access e)
   field_named put_field e access = field_by (ap (λ (b : Action). expected b) e) (ap is_field_access e)
-  field_named plain e access = absurd cc
-  field_named load_constant e access = absurd cc
-  field_named load_element e access = absurd cc
-  field_named store_element e access = absurd cc
-  field_named probe_element e access = absurd cc
-  field_named probe_array e access = absurd cc
-  field_named probe_object e access = absurd cc
-  field_named invoke_virtual e access = absurd cc
-  field_named invoke_special e access = absurd cc
-  field_named invoke_static e access = absurd cc
-  field_named invoke_interface e access = absurd cc
-  field_named make_object e access = absurd cc
-  field_named make_array e access = absurd cc
-  field_named throw_object e access = absurd cc
-  field_named cast e access = absurd cc
-  field_named leave_method e access = absurd cc
-  field_named refused e access = absurd cc
+  field_named plain e access = absurd (false≢true access)
+  field_named load_constant e access = absurd (false≢true access)
+  field_named load_element e access = absurd (false≢true access)
+  field_named store_element e access = absurd (false≢true access)
+  field_named probe_element e access = absurd (false≢true access)
+  field_named probe_array e access = absurd (false≢true access)
+  field_named probe_object e access = absurd (false≢true access)
+  field_named invoke_virtual e access = absurd (false≢true access)
+  field_named invoke_special e access = absurd (false≢true access)
+  field_named invoke_static e access = absurd (false≢true access)
+  field_named invoke_interface e access = absurd (false≢true access)
+  field_named make_object e access = absurd (false≢true access)
+  field_named make_array e access = absurd (false≢true access)
+  field_named throw_object e access = absurd (false≢true access)
+  field_named cast e access = absurd (false≢true access)
+  field_named leave_method e access = absurd (false≢true access)
+  field_named refused e access = absurd (false≢true access)
 
   pub names_member : NamesMember j
   names_member = record { call = λ call. method_named r.action refl call; access = λ access. field_named r.action refl access }
