@@ -1,6 +1,7 @@
 pub mod Loop
 pub mod Entries
 pub mod Classes
+pub mod ClassParts
 pub mod OneSpelling
 pub mod FirstPlaces
 pub mod Ascending

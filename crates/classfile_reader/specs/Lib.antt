@@ -1,5 +1,6 @@
 pub mod PoolReading
 pub mod ClassReading
+pub mod ClassParts
 pub mod Faults
 pub mod FirstPlace
 pub mod Order

@@ -6,6 +6,7 @@ ghost use Rattle.jvm_model.specs.Spelling.{is_wide};
 ghost use Rattle.byte_reader.specs.Reading.{Reads, Gives};
 ghost use Rattle.classfile_reader.specs.PoolReading.{pair_at, utf8_at, handle_at, contents_at, tagged_at, entry_at, index_at, indices_at, pool_at};
 
+use crate::refusal::fault_at;
 use byte_reader::Input;
 use failure::Failure;
 use jvm_model::pool::PoolEntry;
@@ -79,10 +80,7 @@ fn contents(input: &mut Input, alloc: Global, tag: u8) -> Result<PoolEntry, Read
             let (bootstrap, member) = pair(input)?;
             Ok(PoolEntry::InvokeDynamic { bootstrap, member })
         }
-        _ => Err(Failure::Cause(Fault {
-            offset: input.offset(),
-            reason: Reason::BadTag,
-        })),
+        _ => Err(fault_at(input.offset(), Reason::BadTag)),
     }
 }
 
@@ -103,10 +101,7 @@ fn entry(input: &mut Input, alloc: Global) -> Result<PoolEntry, ReadFailure>
     let start = input.offset();
     match tagged(input, alloc) {
         Ok(entry) => Ok(entry),
-        Err(Failure::Cause(Fault { reason, .. })) => Err(Failure::Cause(Fault {
-            offset: start,
-            reason,
-        })),
+        Err(Failure::Cause(Fault { reason, .. })) => Err(fault_at(start, reason)),
         Err(Failure::OutOfMemory) => Err(Failure::OutOfMemory),
     }
 }
@@ -150,10 +145,7 @@ fn indices(input: &mut Input, alloc: Global, count: u16) -> Result<Sequence<Pool
     }
     match wide {
         None => Ok(Sequence::from_vec(entries)),
-        Some(tag) => Err(Failure::Cause(Fault {
-            offset: tag,
-            reason: Reason::BadIndex,
-        })),
+        Some(tag) => Err(fault_at(tag, Reason::BadIndex)),
     }
 }
 
@@ -165,10 +157,7 @@ pub(crate) fn pool(input: &mut Input, alloc: Global) -> Result<Sequence<PoolEntr
     let start = input.offset();
     let count = input.u2()?;
     if count == 0 {
-        return Err(Failure::Cause(Fault {
-            offset: start,
-            reason: Reason::BadIndex,
-        }));
+        return Err(fault_at(start, Reason::BadIndex));
     }
     indices(input, alloc, count - 1)
 }

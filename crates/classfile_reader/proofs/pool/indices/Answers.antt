@@ -17,4 +17,4 @@ pub returns-in-None : goal.returns-in-None
 returns-in-None c = rw c.from_vec.ensures (indices_are_done c.loop.entries.items c.args.count c.loop.counter c.loop.wide c.loop.input (indices_at c.args.count None c.args.input.now) c.loop-test.false c.in-None.is c.loop.invariant)
 
 pub returns-in-Some : goal.returns-in-Some
-returns-in-Some c = lacks_an_index c.loop.entries.items c.args.count c.loop.counter c.in-Some.tag c.loop.wide c.loop.input (indices_at c.args.count None c.args.input.now) c.loop-test.false c.in-Some.is c.loop.invariant
+returns-in-Some c = rw c.fault_at.ensures (lacks_an_index c.loop.entries.items c.args.count c.loop.counter c.in-Some.tag c.loop.wide c.loop.input (indices_at c.args.count None c.args.input.now) c.loop-test.false c.in-Some.is c.loop.invariant)
