@@ -38,6 +38,10 @@ taken : (t : Bool) (r : Result DecodedInstruction Reason) (reason : Reason) (i :
 taken true r reason i e = e
 taken false r reason i e = absurd cc
 
+-- what is refused is not read
+never_read : (reason : Reason) (i : DecodedInstruction) → refused reason ≡ Ok i → IsKnown i
+never_read reason i e = absurd cc
+
 -- an instruction with a row, which is the one that is read
 known : (opcode : ℕ) (r : Row) (o : Operands) (j i : DecodedInstruction) → row_of opcode ≡ Some r → r.operands ≡ o → j.opcode ≡ opcode → j.row ≡ r → HasSize o j.size → read_as j ≡ Ok i → IsKnown i
 known opcode r o j i row of at same size e =
@@ -66,28 +70,28 @@ by_pairs opcode r offset bytes i row of e =
 by_widened : (opcode : ℕ) (r : Row) (o : Operands) (bytes : List ℕ) (i : DecodedInstruction) → row_of opcode ≡ Some r → r.operands ≡ o → widened_by opcode r o bytes ≡ Ok i → IsKnown i
 by_widened opcode r local_1 bytes i row of e = known opcode r local_1 _ i row of refl refl tt (passed (ltb (length bytes) 2) CodeCut _ i e)
 by_widened opcode r local_and_value bytes i row of e = known opcode r local_and_value _ i row of refl refl tt (passed (ltb (length bytes) 4) CodeCut _ i e)
-by_widened opcode r nothing bytes i row of e = absurd cc
-by_widened opcode r (implied local) bytes i row of e = absurd cc
-by_widened opcode r value_1 bytes i row of e = absurd cc
-by_widened opcode r value_2 bytes i row of e = absurd cc
-by_widened opcode r type_code bytes i row of e = absurd cc
-by_widened opcode r (pool_1 leads) bytes i row of e = absurd cc
-by_widened opcode r (pool_2 leads) bytes i row of e = absurd cc
-by_widened opcode r offset_2 bytes i row of e = absurd cc
-by_widened opcode r offset_4 bytes i row of e = absurd cc
-by_widened opcode r pool_2_and_count bytes i row of e = absurd cc
-by_widened opcode r pool_2_and_zeros bytes i row of e = absurd cc
-by_widened opcode r pool_2_and_dimensions bytes i row of e = absurd cc
-by_widened opcode r table_of_offsets bytes i row of e = absurd cc
-by_widened opcode r pairs_with_offsets bytes i row of e = absurd cc
-by_widened opcode r widened bytes i row of e = absurd cc
+by_widened opcode r nothing bytes i row of e = never_read BadOpcode i e
+by_widened opcode r (implied local) bytes i row of e = never_read BadOpcode i e
+by_widened opcode r value_1 bytes i row of e = never_read BadOpcode i e
+by_widened opcode r value_2 bytes i row of e = never_read BadOpcode i e
+by_widened opcode r type_code bytes i row of e = never_read BadOpcode i e
+by_widened opcode r (pool_1 leads) bytes i row of e = never_read BadOpcode i e
+by_widened opcode r (pool_2 leads) bytes i row of e = never_read BadOpcode i e
+by_widened opcode r offset_2 bytes i row of e = never_read BadOpcode i e
+by_widened opcode r offset_4 bytes i row of e = never_read BadOpcode i e
+by_widened opcode r pool_2_and_count bytes i row of e = never_read BadOpcode i e
+by_widened opcode r pool_2_and_zeros bytes i row of e = never_read BadOpcode i e
+by_widened opcode r pool_2_and_dimensions bytes i row of e = never_read BadOpcode i e
+by_widened opcode r table_of_offsets bytes i row of e = never_read BadOpcode i e
+by_widened opcode r pairs_with_offsets bytes i row of e = never_read BadOpcode i e
+by_widened opcode r widened bytes i row of e = never_read BadOpcode i e
 
 by_widened_row : (opcode : ℕ) (o : Option Row) (bytes : List ℕ) (i : DecodedInstruction) → row_of opcode ≡ o → widened_row opcode o bytes ≡ Ok i → IsKnown i
 by_widened_row opcode (Some r) bytes i row e = by_widened opcode r r.operands bytes i row refl e
-by_widened_row opcode None bytes i row e = absurd cc
+by_widened_row opcode None bytes i row e = never_read BadOpcode i e
 
 by_widened_first : (bytes : List ℕ) (i : DecodedInstruction) → widened_first bytes ≡ Ok i → IsKnown i
-by_widened_first [] i e = absurd cc
+by_widened_first [] i e = never_read CodeCut i e
 by_widened_first (opcode ∷ bytes) i e = by_widened_row opcode (row_of opcode) bytes i refl e
 
 by_operands : (opcode : ℕ) (r : Row) (offset : ℕ) (o : Operands) (bytes : List ℕ) (i : DecodedInstruction) → row_of opcode ≡ Some r → r.operands ≡ o → with_operands opcode r offset o bytes ≡ Ok i → IsKnown i
@@ -114,10 +118,10 @@ by_operands opcode r offset widened bytes i row of e = by_widened_first bytes i 
 
 by_row : (opcode : ℕ) (o : Option Row) (offset : ℕ) (bytes : List ℕ) (i : DecodedInstruction) → row_of opcode ≡ o → with_row opcode o offset bytes ≡ Ok i → IsKnown i
 by_row opcode (Some r) offset bytes i row e = by_operands opcode r offset r.operands bytes i row refl e
-by_row opcode None offset bytes i row e = absurd cc
+by_row opcode None offset bytes i row e = never_read BadOpcode i e
 
 by_first : (offset : ℕ) (bytes : List ℕ) (i : DecodedInstruction) → first_instruction offset bytes ≡ Ok i → IsKnown i
-by_first offset [] i e = absurd cc
+by_first offset [] i e = never_read CodeCut i e
 by_first offset (opcode ∷ bytes) i e = by_row opcode (row_of opcode) offset bytes i refl e
 
 pub known_at : (code : List ℕ) (offset : ℕ) (i : DecodedInstruction) → instruction_at code offset ≡ Ok i → IsKnown i

@@ -15,3 +15,4 @@ pub mod SwitchTables
 pub mod Taken
 pub mod ToldBodies
 pub mod ToldCodes
+pub mod HandlerParts

@@ -1,6 +1,7 @@
 pub mod Decoding
 pub mod Division
 pub mod CodeReading
+pub mod HandlerParts
 pub mod Divided
 pub mod Bodies
 pub mod Parameters

@@ -10,6 +10,7 @@ ghost use Rattle.code_reader.specs.Divided.{KnowsStarts};
 use crate::division::{Division, divide};
 use crate::fault::{Locals, first_fault};
 use crate::handler::handlers;
+use crate::refusal::fault_at;
 use crate::spot::Spot;
 use byte_reader::{Input, table};
 use failure::Failure;
@@ -37,10 +38,7 @@ fn code_length(input: &mut Input) -> Result<u32, ReadFailure>
     let offset = input.offset();
     let long = input.u4()?;
     if long == 0 || 65_535 < long {
-        return Err(Failure::Cause(Fault {
-            offset,
-            reason: Reason::CodeCut,
-        }));
+        return Err(fault_at(offset, Reason::CodeCut));
     }
     Ok(long)
 }
@@ -81,10 +79,7 @@ fn tail(
     let handlers = handlers(input, alloc, pool, long, division)?;
     let _attributes: Sequence<Attribute> = table(input, alloc)?;
     if !input.is_empty() {
-        return Err(Failure::Cause(Fault {
-            offset: input.offset(),
-            reason: Reason::CodeCut,
-        }));
+        return Err(fault_at(input.offset(), Reason::CodeCut));
     }
     Ok(handlers)
 }

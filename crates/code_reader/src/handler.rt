@@ -3,14 +3,15 @@
 ghost use Rattle.std.specs.Prelude.{◌≡◌};
 ghost use Rattle.byte_reader.specs.Reading.{Reads, items_at, table_at};
 ghost use Rattle.code_reader.specs.CodeReading.{handler_at};
+ghost use Rattle.code_reader.specs.HandlerParts.{pair_at};
 ghost use Rattle.code_reader.specs.Divided.{KnowsStarts};
 ghost use Rattle.code_reader.specs.Division.{is_handler};
 
 use crate::division::Division;
+use crate::refusal::fault_at;
 use byte_reader::Input;
-use failure::Failure;
 use jvm_model::lookup::leads_to;
-use jvm_model::{EntryKind, Fault, Handler, PoolEntry, ReadFailure, Reason, Sequence};
+use jvm_model::{EntryKind, Handler, PoolEntry, ReadFailure, Reason, Sequence};
 use std::alloc::Global;
 
 /// Whether a handler is one of code that has so many bytes and is divided so.
@@ -25,8 +26,18 @@ fn is_handler(pool: &[PoolEntry], long: u32, division: &Division, handler: Handl
         && (handler.catch_type == 0 || leads_to(pool, &[EntryKind::Class], handler.catch_type))
 }
 
+/// Two numbers of two bytes.
+#[tactic(auto, unfolding(crate::specs::HandlerParts::pair_at))]
+fn pair(input: &mut Input) -> Result<(u16, u16), ReadFailure>
+    ensures { Reads result input.new (pair_at input.old) }
+{
+    let first = input.u2()?;
+    let second = input.u2()?;
+    Ok((first, second))
+}
+
 /// The handler at the front of the input.
-#[tactic(auto, unfolding(crate::specs::CodeReading::handler_at))]
+#[tactic(auto, using(crate::proofs::HandlerParts::handler_in_pairs), unfolding(crate::specs::HandlerParts::by_pairs_at))]
 fn next_handler(
     input: &mut Input,
     pool: &[PoolEntry],
@@ -37,21 +48,16 @@ fn next_handler(
     ensures { Reads result input.new (handler_at pool.now long division.now.spots.items input.old) }
 {
     let offset = input.offset();
-    let start = u32::from(input.u2()?);
-    let finish = u32::from(input.u2()?);
-    let target = u32::from(input.u2()?);
-    let catch_type = input.u2()?;
+    let (start, finish) = pair(input)?;
+    let (target, catch_type) = pair(input)?;
     let handler = Handler {
-        start,
-        finish,
-        target,
+        start: u32::from(start),
+        finish: u32::from(finish),
+        target: u32::from(target),
         catch_type,
     };
     if !is_handler(pool, long, division, handler) {
-        return Err(Failure::Cause(Fault {
-            offset,
-            reason: Reason::BadHandler,
-        }));
+        return Err(fault_at(offset, Reason::BadHandler));
     }
     Ok(handler)
 }

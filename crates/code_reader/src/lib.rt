@@ -11,6 +11,7 @@ pub mod laws;
 mod number;
 mod place;
 mod read;
+mod refusal;
 mod spot;
 mod switch;
 
