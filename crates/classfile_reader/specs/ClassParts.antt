@@ -1,3 +1,4 @@
+-- This crate's own proofs alone rest on this module.
 -- Reading a class file in parts: what stands before the constant pool, the three numbers after it, and the tables two by two.
 use Rattle.std.specs.Prelude.{ℕ, List, Result, Ok}
 use Rattle.std.specs.Int.{w16}

@@ -8,10 +8,9 @@ ghost use Rattle.classfile_reader.specs.ClassParts.{versions_at, names_at, table
 
 use crate::limit::CLASS_FILE_LIMIT;
 use crate::pool::pool;
-use crate::refusal::fault_at;
 use byte_reader::{Input, Structure, table};
 use jvm_model::class_file::ClassFile;
-use jvm_model::reason::{ReadFailure, Reason};
+use jvm_model::reason::{ReadFailure, Reason, fault_at};
 use jvm_model::sequence::Sequence;
 use std::alloc::Global;
 

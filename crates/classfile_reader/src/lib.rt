@@ -7,7 +7,6 @@ pub mod laws;
 mod limit;
 mod pool;
 mod read;
-mod refusal;
 mod soundness;
 
 pub use limit::CLASS_FILE_LIMIT;

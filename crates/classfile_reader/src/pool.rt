@@ -6,11 +6,10 @@ ghost use Rattle.jvm_model.specs.Spelling.{is_wide};
 ghost use Rattle.byte_reader.specs.Reading.{Reads, Gives};
 ghost use Rattle.classfile_reader.specs.PoolReading.{pair_at, utf8_at, handle_at, contents_at, tagged_at, entry_at, index_at, indices_at, pool_at};
 
-use crate::refusal::fault_at;
 use byte_reader::Input;
 use failure::Failure;
 use jvm_model::pool::PoolEntry;
-use jvm_model::reason::{Fault, ReadFailure, Reason};
+use jvm_model::reason::{Fault, ReadFailure, Reason, fault_at};
 use jvm_model::sequence::{Bytes, Sequence};
 use std::alloc::Global;
 

@@ -1,3 +1,4 @@
+-- This crate's own proofs alone rest on this module.
 -- Reading a handler as two pairs of numbers.
 use Rattle.std.specs.Prelude.{ℕ, List, Result, Ok}
 use Rattle.std.specs.Int.{w16}

@@ -10,10 +10,10 @@ ghost use Rattle.code_reader.specs.Divided.{KnowsStarts};
 use crate::division::{Division, divide};
 use crate::fault::{Locals, first_fault};
 use crate::handler::handlers;
-use crate::refusal::fault_at;
 use crate::spot::Spot;
 use byte_reader::{Input, table};
 use failure::Failure;
+use jvm_model::reason::fault_at;
 use jvm_model::{
     Attribute, Code, Fault, Handler, Instruction, PlacedInstruction, PoolEntry, ReadFailure,
     Reason, Sequence,

@@ -8,9 +8,9 @@ ghost use Rattle.code_reader.specs.Divided.{KnowsStarts};
 ghost use Rattle.code_reader.specs.Division.{is_handler};
 
 use crate::division::Division;
-use crate::refusal::fault_at;
 use byte_reader::Input;
 use jvm_model::lookup::leads_to;
+use jvm_model::reason::fault_at;
 use jvm_model::{EntryKind, Handler, PoolEntry, ReadFailure, Reason, Sequence};
 use std::alloc::Global;
 

@@ -11,7 +11,6 @@ pub mod laws;
 mod number;
 mod place;
 mod read;
-mod refusal;
 mod spot;
 mod switch;
 

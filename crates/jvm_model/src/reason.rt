@@ -1,6 +1,7 @@
 //! Why an input is refused.
 
 ghost use Rattle.std.specs.Prelude.{◌≡◌};
+ghost use Rattle.failure.specs.declared.Failure.TheVariants.{Cause};
 ghost use Rattle.jvm_model.specs.Words.{word_of};
 
 use crate::name::Name;
@@ -177,3 +178,10 @@ pub struct Fault {
 
 /// Why a class file is not read.
 pub type ReadFailure = Failure<Fault>;
+
+/// The failure whose cause is a fault at an offset.
+pub fn fault_at(offset: u32, reason: Reason) -> ReadFailure
+    ensures { result ≡ Cause (record { offset = offset; reason = reason }) }
+{
+    Failure::Cause(Fault { offset, reason })
+}
