@@ -62,13 +62,18 @@ pub enum Query<'a> {
 /// The query of a line; `None` if it asks nothing that is known.
 pub fn query_of<'a>(alloc: Global, line: &'a str) -> Result<Option<Query<'a>>, AllocError> {
     let words: Vec<&'a str> = line.split(' ').collect(alloc)?;
-    match words.as_slice() {
-        ["graph", file, name, descriptor] => Ok(Some(Query::Graph(FileMethod {
+    Ok(query_in(words.as_slice()))
+}
+
+/// The query that some words ask.
+fn query_in<'a>(words: &[&'a str]) -> Option<Query<'a>> {
+    match words {
+        ["graph", file, name, descriptor] => Some(Query::Graph(FileMethod {
             file,
             name,
             descriptor,
-        }))),
-        others => Ok(search_in(others).map(Query::OfProgram)),
+        })),
+        others => search_in(others).map(Query::OfProgram),
     }
 }
 
@@ -78,66 +83,74 @@ fn search_in<'a>(words: &[&'a str]) -> Option<Search<'a>> {
         ["find", name] => Some(Search::Find(name)),
         ["subtype", lower, upper] => Some(Search::Subtype(lower, upper)),
         ["cast", upper, lower] => Some(Search::Cast(upper, lower)),
-        ["method", class, kind, name, descriptor] => {
-            let reference = method_reference(class, kind, name, descriptor)?;
-            Some(Search::Method(reference))
-        }
-        ["body", class, kind, name, descriptor] => {
-            let reference = method_reference(class, kind, name, descriptor)?;
-            Some(Search::Body(reference))
-        }
-        ["field", class, kind, name, descriptor] => {
-            let reference = field_reference(class, kind, name, descriptor)?;
-            Some(Search::Field(reference))
-        }
-        ["select", class, kind, name, descriptor, receiver] => {
-            let reference = method_reference(class, kind, name, descriptor)?;
-            Some(Search::Select(reference, receiver))
-        }
-        ["special", current, class, kind, name, descriptor] => {
-            let reference = method_reference(class, kind, name, descriptor)?;
-            Some(Search::Special(current, reference))
-        }
+        others => search_by_reference(others),
+    }
+}
+
+/// The search that some words ask for by a reference to a method or a field.
+fn search_by_reference<'a>(words: &[&'a str]) -> Option<Search<'a>> {
+    match words {
+        ["method", reference @ ..] => method_reference(reference).map(Search::Method),
+        ["body", reference @ ..] => method_reference(reference).map(Search::Body),
+        ["field", reference @ ..] => field_reference(reference).map(Search::Field),
+        ["select", reference @ .., receiver] => selection(reference, receiver),
+        ["special", current, reference @ ..] => special_call(current, reference),
         _ => None,
     }
 }
 
-/// The reference to a method that takes its class for one of a kind.
-fn method_reference<'a>(
-    class: &'a str,
-    kind: &str,
-    name: &'a str,
-    descriptor: &'a str,
-) -> Option<MethodReference<'a>> {
-    let interface = match kind {
-        "class" => false,
-        "interface" => true,
-        _ => return None,
+/// The search for the method that a call goes to on an object of a class or an array.
+fn selection<'a>(reference: &[&'a str], receiver: &'a str) -> Option<Search<'a>> {
+    let reference = method_reference(reference)?;
+    Some(Search::Select(reference, receiver))
+}
+
+/// The search for the method that a special call in the code of a class goes to.
+fn special_call<'a>(current: &'a str, reference: &[&'a str]) -> Option<Search<'a>> {
+    let reference = method_reference(reference)?;
+    Some(Search::Special(current, reference))
+}
+
+/// The reference to a method that some words spell: the class, its kind, the name and the descriptor.
+fn method_reference<'a>(words: &[&'a str]) -> Option<MethodReference<'a>> {
+    let [class, kind, name, descriptor] = words else {
+        return None;
     };
     Some(MethodReference {
         class,
-        interface,
+        interface: is_interface(kind)?,
         name,
         descriptor,
     })
 }
 
-/// The reference to a field of a kind.
-fn field_reference<'a>(
-    class: &'a str,
-    kind: &str,
-    name: &'a str,
-    descriptor: &'a str,
-) -> Option<FieldReference<'a>> {
-    let is_static = match kind {
-        "instance" => false,
-        "static" => true,
-        _ => return None,
+/// Whether a kind of classes is that of interfaces.
+fn is_interface(kind: &str) -> Option<bool> {
+    match kind {
+        "class" => Some(false),
+        "interface" => Some(true),
+        _ => None,
+    }
+}
+
+/// The reference to a field that some words spell: the class, the kind of the field, its name and its descriptor.
+fn field_reference<'a>(words: &[&'a str]) -> Option<FieldReference<'a>> {
+    let [class, kind, name, descriptor] = words else {
+        return None;
     };
     Some(FieldReference {
         class,
-        is_static,
+        is_static: is_static(kind)?,
         name,
         descriptor,
     })
+}
+
+/// Whether a kind of fields is that of static ones.
+fn is_static(kind: &str) -> Option<bool> {
+    match kind {
+        "instance" => Some(false),
+        "static" => Some(true),
+        _ => None,
+    }
 }
