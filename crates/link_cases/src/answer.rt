@@ -2,7 +2,7 @@
 
 ghost use Rattle.linked_program.specs.Numbers.{IsFieldNumber, IsMethodNumber};
 
-use crate::query::Search;
+use crate::query::{FieldReference, MethodReference, Search};
 use crate::searches::{
     SearchFailure, class_of, is_below, resolved, resolved_field, selected, special,
 };
@@ -32,31 +32,79 @@ fn found<'a>(
 ) -> Result<String, SearchFailure<'a>> {
     match search {
         Search::Find(name) => yes_or_no(alloc, class_of(program, name).is_ok()),
-        Search::Subtype(lower, upper) => yes_or_no(alloc, is_below(program, lower, upper)?),
+        Search::Subtype(lower, upper) => told_subtype(alloc, program, lower, upper),
         Search::Cast(upper, lower) => {
             yes_or_no(alloc, fits(program, upper.as_bytes(), lower.as_bytes()))
         }
-        Search::Method(reference) => {
-            let method = resolved(program, reference)?;
-            full_name(alloc, program, method)
-        }
-        Search::Body(reference) => {
-            let method = resolved(program, reference)?;
-            source_of(alloc, program, method)
-        }
-        Search::Field(reference) => {
-            let field = resolved_field(program, reference)?;
-            owner_of_field(alloc, program, field)
-        }
-        Search::Select(reference, receiver) => {
-            let method = selected(program, reference, receiver)?;
-            owner_of_method(alloc, program, method)
-        }
-        Search::Special(current, reference) => {
-            let method = special(program, current, reference)?;
-            owner_of_method(alloc, program, method)
-        }
+        Search::Method(reference) => told_method(alloc, program, reference),
+        Search::Body(reference) => told_body(alloc, program, reference),
+        Search::Field(reference) => told_field(alloc, program, reference),
+        Search::Select(reference, receiver) => told_selected(alloc, program, reference, receiver),
+        Search::Special(current, reference) => told_special(alloc, program, current, reference),
     }
+}
+
+/// Whether the lower class is a subtype of the upper one.
+fn told_subtype<'a>(
+    alloc: Global,
+    program: &Program,
+    lower: &'a str,
+    upper: &'a str,
+) -> Result<String, SearchFailure<'a>> {
+    let is = is_below(program, lower, upper)?;
+    yes_or_no(alloc, is)
+}
+
+/// The method that a reference resolves to.
+fn told_method<'a>(
+    alloc: Global,
+    program: &Program,
+    reference: &MethodReference<'a>,
+) -> Result<String, SearchFailure<'a>> {
+    let method = resolved(program, reference)?;
+    full_name(alloc, program, method)
+}
+
+/// What stands for the method that a reference resolves to.
+fn told_body<'a>(
+    alloc: Global,
+    program: &Program,
+    reference: &MethodReference<'a>,
+) -> Result<String, SearchFailure<'a>> {
+    let method = resolved(program, reference)?;
+    source_of(alloc, program, method)
+}
+
+/// The class of the field that a reference resolves to.
+fn told_field<'a>(
+    alloc: Global,
+    program: &Program,
+    reference: &FieldReference<'a>,
+) -> Result<String, SearchFailure<'a>> {
+    let field = resolved_field(program, reference)?;
+    owner_of_field(alloc, program, field)
+}
+
+/// The class of the method that a call goes to on an object of a class or an array.
+fn told_selected<'a>(
+    alloc: Global,
+    program: &Program,
+    reference: &MethodReference<'a>,
+    receiver: &'a str,
+) -> Result<String, SearchFailure<'a>> {
+    let method = selected(program, reference, receiver)?;
+    owner_of_method(alloc, program, method)
+}
+
+/// The class of the method that a special call in the code of a class goes to.
+fn told_special<'a>(
+    alloc: Global,
+    program: &Program,
+    current: &'a str,
+    reference: &MethodReference<'a>,
+) -> Result<String, SearchFailure<'a>> {
+    let method = special(program, current, reference)?;
+    owner_of_method(alloc, program, method)
 }
 
 fn yes_or_no<'a>(alloc: Global, is: bool) -> Result<String, SearchFailure<'a>> {

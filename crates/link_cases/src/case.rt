@@ -2,12 +2,12 @@
 
 use crate::answer::answer;
 use crate::flow::tell_graph;
-use crate::query::{Query, query_of};
+use crate::query::{Query, Search, query_of};
 use anyhow::Result;
 use case_files::{CaseFailure, CaseFault, is_refusal, link_case, read_all_stubs, read_files};
 use failure::Failure;
 use linked_program::program::Program;
-use std::alloc::Global;
+use std::alloc::{AllocError, Global};
 use ts_outside::{Tree, TreeFault};
 
 /// The file of the queries of a case, one a line.
@@ -91,10 +91,19 @@ fn answer_to<T: Tree>(
 ) -> Result<String, CaseFailure> {
     match query_of(alloc, line)? {
         Some(Query::Graph(method)) => tell_graph(alloc, tree, &method),
-        Some(Query::OfProgram(search)) => match program {
-            Some(program) => Ok(answer(alloc, program, &search)?),
-            None => Ok(String::from_str(alloc, "no program")?),
-        },
+        Some(Query::OfProgram(search)) => Ok(answer_in(alloc, program, &search)?),
         None => Ok(String::from_str(alloc, "no such query")?),
+    }
+}
+
+/// The answer of a program, if one was linked.
+fn answer_in(
+    alloc: Global,
+    program: Option<&Program>,
+    search: &Search<'_>,
+) -> Result<String, AllocError> {
+    match program {
+        Some(program) => answer(alloc, program, search),
+        None => String::from_str(alloc, "no program"),
     }
 }

@@ -24,10 +24,23 @@ pub fn tell_graph<T: Tree>(
     tree: &mut T,
     method: &FileMethod<'_>,
 ) -> Result<String, CaseFailure> {
-    let named = read_file(alloc, tree, String::from_str(alloc, method.file)?)?;
-    match place_of(&named.class, method) {
-        Some(place) => Ok(told(alloc, &named.class, method.file, place)?),
-        None => Ok(format!(in alloc; "no method")?),
+    let file = String::from_str(alloc, method.file)?;
+    let named = read_file(alloc, tree, file)?;
+    Ok(told_method(alloc, &named.class, method)?)
+}
+
+/// What is printed of a method of a class.
+fn told_method(
+    alloc: Global,
+    class: &ClassFile,
+    method: &FileMethod<'_>,
+) -> Result<String, AllocError>
+    requires sound { IsSoundClass class.now }
+    requires size { length (spell class.now) < 2 ^ 32 }
+{
+    match place_of(class, method) {
+        Some(place) => told(alloc, class, method.file, place),
+        None => format!(in alloc; "no method"),
     }
 }
 
