@@ -11,6 +11,7 @@ use crate::question::{Question, answer, question_of};
 use crate::sweep::Sweep;
 use anyhow::{Context, Result, bail};
 use std::alloc::Global;
+use std::ops::RangeInclusive;
 
 /// What the rows ask, the class file in which their bytes stand, and the bytes that have names.
 #[derive(Drop)]
@@ -46,33 +47,43 @@ fn tell_line<R: Print>(
 ) -> Result<()> {
     match word {
         "#" => Ok(()),
-        "let" => {
-            let (name, bytes) = parts(rest, " ")?;
-            let bytes = bytes_of(alloc, &sheet.pieces, bytes, 0)?;
-            sheet.pieces.set(alloc, name, bytes)?;
-            Ok(())
-        }
-        "ask" => {
-            let (word, frame) = parts(rest, " ")?;
-            sheet.question = question_of(word).ok_or(NotationEnd::Word)?;
-            sheet.frame = String::from_str(alloc, frame)?;
-            Ok(())
-        }
-        "row" => {
-            let (title, bytes) = parts(rest, ": ")?;
-            tell_row(rt, alloc, sheet, title, bytes)
-        }
-        "cuts" => {
-            let (title, bytes) = parts(rest, ": ")?;
-            tell_cuts(rt, alloc, sheet, title, bytes)
-        }
+        "let" => Ok(name_bytes(alloc, sheet, rest)?),
+        "ask" => Ok(ask(alloc, sheet, rest)?),
+        "row" => tell_row(rt, alloc, sheet, rest),
+        "cuts" => tell_cuts(rt, alloc, sheet, rest),
         _ => bail!("there are no such lines"),
     }
+}
+
+/// Gives bytes a name, as the rest of a line says.
+fn name_bytes(alloc: Global, sheet: &mut Sheet, rest: &str) -> Result<(), NotationEnd> {
+    let (name, bytes) = parts(rest, " ")?;
+    let bytes = bytes_of(alloc, &sheet.pieces, bytes, 0)?;
+    Ok(sheet.pieces.set(alloc, name, bytes)?)
+}
+
+/// Takes the question and the class file that the rest of a line names for those of the rows that follow.
+fn ask(alloc: Global, sheet: &mut Sheet, rest: &str) -> Result<(), NotationEnd> {
+    let (word, frame) = parts(rest, " ")?;
+    sheet.question = question_of(word).ok_or(NotationEnd::Word)?;
+    sheet.frame = String::from_str(alloc, frame)?;
+    Ok(())
 }
 
 /// What stands before the first mark in a text, and what behind it.
 fn parts<'a>(text: &'a str, mark: &str) -> Result<(&'a str, &'a str), NotationEnd> {
     text.split_once(mark).ok_or(NotationEnd::Word)
+}
+
+/// The answer to a row, in which a byte that takes several values has this one.
+fn answer_at(
+    alloc: Global,
+    sheet: &mut Sheet,
+    line: &str,
+    value: u8,
+) -> Result<String, NotationEnd> {
+    let bytes = bytes_of(alloc, &sheet.pieces, line, value)?;
+    answer_to(alloc, sheet, bytes)
 }
 
 /// The answer to the question of a case on the class file in which these bytes stand.
@@ -83,44 +94,86 @@ fn answer_to(alloc: Global, sheet: &mut Sheet, row: Vec<u8>) -> Result<String, N
 }
 
 /// Prints the answer to a row, or those for the values of its byte that takes several.
-fn tell_row<R: Print>(
+fn tell_row<R: Print>(rt: &R, alloc: Global, sheet: &mut Sheet, rest: &str) -> Result<()> {
+    let (title, line) = parts(rest, ": ")?;
+    match values_in(line)? {
+        Some((first, last)) => {
+            println!(rt; "{title}:")?;
+            tell_values(rt, alloc, sheet, line, first..=last)
+        }
+        None => tell_answer(rt, alloc, sheet, title, line),
+    }
+}
+
+/// Prints the answer to a row.
+fn tell_answer<R: Print>(
     rt: &R,
     alloc: Global,
     sheet: &mut Sheet,
     title: &str,
     line: &str,
 ) -> Result<()> {
-    let Some((first, last)) = values_in(line)? else {
-        let bytes = bytes_of(alloc, &sheet.pieces, line, 0)?;
-        let answer = answer_to(alloc, sheet, bytes)?;
-        println!(rt; "{title}: {answer}")?;
-        return Ok(());
-    };
-    println!(rt; "{title}:")?;
+    let answer = answer_at(alloc, sheet, line, 0)?;
+    println!(rt; "{title}: {answer}")?;
+    Ok(())
+}
+
+/// Prints the answers for each value of the byte of a row that takes several.
+fn tell_values<R: Print>(
+    rt: &R,
+    alloc: Global,
+    sheet: &mut Sheet,
+    line: &str,
+    values: RangeInclusive<u8>,
+) -> Result<()> {
     let mut sweep = Sweep::new();
-    for value in first..=last {
-        let bytes = bytes_of(alloc, &sheet.pieces, line, value)?;
-        let answer = answer_to(alloc, sheet, bytes)?;
-        sweep.add(rt, format!(in alloc; "{value:02x}")?, answer)?;
+    for value in values {
+        add_value(rt, alloc, sheet, &mut sweep, line, value)?;
     }
     sweep.print(rt)
 }
 
-/// Prints the answers for each number of bytes from the front of a row.
-fn tell_cuts<R: Print>(
+/// Adds the answer for a value of the byte of a row that takes several.
+fn add_value<R: Print>(
     rt: &R,
     alloc: Global,
     sheet: &mut Sheet,
-    title: &str,
+    sweep: &mut Sweep,
     line: &str,
+    value: u8,
 ) -> Result<()> {
+    let answer = answer_at(alloc, sheet, line, value)?;
+    let label = format!(in alloc; "{value:02x}")?;
+    sweep.add(rt, label, answer)
+}
+
+/// Prints the answers for each number of bytes from the front of a row.
+fn tell_cuts<R: Print>(rt: &R, alloc: Global, sheet: &mut Sheet, rest: &str) -> Result<()> {
+    let (title, line) = parts(rest, ": ")?;
     println!(rt; "{title}:")?;
     let whole = bytes_of(alloc, &sheet.pieces, line, 0)?;
+    tell_fronts(rt, alloc, sheet, &whole)
+}
+
+/// Prints the answers for each number of bytes from the front of these.
+fn tell_fronts<R: Print>(rt: &R, alloc: Global, sheet: &mut Sheet, whole: &[u8]) -> Result<()> {
     let mut sweep = Sweep::new();
     for kept in 0..whole.len() {
-        let front = Vec::from_slice(alloc, &whole[..kept])?;
-        let answer = answer_to(alloc, sheet, front)?;
-        sweep.add(rt, format!(in alloc; "{kept}")?, answer)?;
+        add_front(rt, alloc, sheet, &mut sweep, &whole[..kept])?;
     }
     sweep.print(rt)
+}
+
+/// Adds the answer for bytes from the front of a row.
+fn add_front<R: Print>(
+    rt: &R,
+    alloc: Global,
+    sheet: &mut Sheet,
+    sweep: &mut Sweep,
+    front: &[u8],
+) -> Result<()> {
+    let kept = front.len();
+    let answer = answer_to(alloc, sheet, Vec::from_slice(alloc, front)?)?;
+    let label = format!(in alloc; "{kept}")?;
+    sweep.add(rt, label, answer)
 }

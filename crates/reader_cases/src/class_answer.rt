@@ -7,50 +7,85 @@ use std::str;
 /// The numbers of a class file, the entries of its constant pool, its interfaces, its members, and its attributes.
 pub fn told_class(alloc: Global, class: &ClassFile) -> Result<String, AllocError> {
     let mut text = String::new(alloc);
+    tell_class(&mut text, class)?;
+    Ok(text)
+}
+
+/// Adds the parts of a class file, in its order.
+fn tell_class(text: &mut String, class: &ClassFile) -> Result<(), AllocError> {
+    tell_version(text, class)?;
+    tell_pool(text, class.pool.as_slice())?;
+    tell_interfaces(text, class.interfaces.as_slice())?;
+    tell_members(text, "fields", class.fields.as_slice())?;
+    tell_members(text, "methods", class.methods.as_slice())?;
+    tell_attributes(text, class.attributes.as_slice())
+}
+
+/// Adds the version of a class file, its flags, and the indices of its name and of that of its superclass.
+fn tell_version(text: &mut String, class: &ClassFile) -> Result<(), AllocError> {
     write!(text, "version {}.{}", class.major, class.minor)?;
     write!(
         text,
         " flags {:04x} class {}",
         class.flags, class.this_class
     )?;
-    write!(text, " superclass {} pool", class.super_class)?;
-    for entry in class.pool.as_slice() {
+    write!(text, " superclass {}", class.super_class)
+}
+
+/// Adds the entries of the constant pool.
+fn tell_pool(text: &mut String, pool: &[PoolEntry]) -> Result<(), AllocError> {
+    text.push_str(" pool")?;
+    for entry in pool {
         text.push(' ')?;
-        tell_entry(&mut text, entry)?;
+        tell_entry(text, entry)?;
     }
+    Ok(())
+}
+
+/// Adds the indices of the interfaces.
+fn tell_interfaces(text: &mut String, interfaces: &[u16]) -> Result<(), AllocError> {
     text.push_str(" interfaces")?;
-    for interface in class.interfaces.as_slice() {
+    for interface in interfaces {
         write!(text, " {interface}")?;
     }
-    tell_members(&mut text, "fields", class.fields.as_slice())?;
-    tell_members(&mut text, "methods", class.methods.as_slice())?;
-    tell_attributes(&mut text, class.attributes.as_slice())?;
-    Ok(text)
+    Ok(())
 }
 
 /// Adds an entry of the constant pool.
 fn tell_entry(text: &mut String, entry: &PoolEntry) -> Result<(), AllocError> {
     match entry {
         PoolEntry::Utf8(bytes) => tell_text(text, bytes.as_slice()),
-        PoolEntry::Integer(bits) => write!(text, "int({bits})"),
-        PoolEntry::Float(bits) => write!(text, "float({bits})"),
-        PoolEntry::Long(bits) => write!(text, "long({bits})"),
-        PoolEntry::Double(bits) => write!(text, "double({bits})"),
-        PoolEntry::Class(name) => write!(text, "class({name})"),
-        PoolEntry::Str(value) => write!(text, "string({value})"),
-        PoolEntry::Fieldref { class, member } => write!(text, "field({class},{member})"),
-        PoolEntry::Methodref { class, member } => write!(text, "method({class},{member})"),
+        PoolEntry::Integer(bits) => tell_one(text, "int", u64::from(*bits)),
+        PoolEntry::Float(bits) => tell_one(text, "float", u64::from(*bits)),
+        PoolEntry::Long(bits) => tell_one(text, "long", *bits),
+        PoolEntry::Double(bits) => tell_one(text, "double", *bits),
+        PoolEntry::Class(name) => tell_one(text, "class", u64::from(*name)),
+        PoolEntry::Str(value) => tell_one(text, "string", u64::from(*value)),
+        PoolEntry::Fieldref { class, member } => tell_two(text, "field", *class, *member),
+        PoolEntry::Methodref { class, member } => tell_two(text, "method", *class, *member),
         PoolEntry::InterfaceMethodref { class, member } => {
-            write!(text, "interface_method({class},{member})")
+            tell_two(text, "interface_method", *class, *member)
         }
-        PoolEntry::NameAndType { name, descriptor } => write!(text, "name({name},{descriptor})"),
-        PoolEntry::MethodHandle { kind, reference } => write!(text, "handle({kind},{reference})"),
-        PoolEntry::MethodType(descriptor) => write!(text, "type({descriptor})"),
+        PoolEntry::NameAndType { name, descriptor } => tell_two(text, "name", *name, *descriptor),
+        PoolEntry::MethodHandle { kind, reference } => {
+            tell_two(text, "handle", u16::from(*kind), *reference)
+        }
+        PoolEntry::MethodType(descriptor) => tell_one(text, "type", u64::from(*descriptor)),
         PoolEntry::InvokeDynamic { bootstrap, member } => {
-            write!(text, "dynamic({bootstrap},{member})")
+            tell_two(text, "dynamic", *bootstrap, *member)
         }
-        PoolEntry::Taken => write!(text, "taken"),
+        PoolEntry::Taken => text.push_str("taken"),
     }
+}
+
+/// Adds an entry that is one number.
+fn tell_one(text: &mut String, title: &str, number: u64) -> Result<(), AllocError> {
+    write!(text, "{title}({number})")
+}
+
+/// Adds an entry of two numbers.
+fn tell_two(text: &mut String, title: &str, first: u16, second: u16) -> Result<(), AllocError> {
+    write!(text, "{title}({first},{second})")
 }
 
 /// Adds a text of the constant pool, or its digits where it is none.

@@ -43,13 +43,16 @@ fn any_code(pool: &[PoolEntry], attributes: &[Attribute]) -> bool
 /// Where the code stands, its limits, its instructions, and its handlers.
 fn told(alloc: Global, code: &Code) -> Result<String, AllocError> {
     let mut text = String::new(alloc);
-    write!(text, "at {} stack {}", code.at, code.max_stack)?;
-    write!(text, " locals {}", code.max_locals)?;
+    tell_limits(&mut text, code)?;
     tell_instructions(&mut text, code.instructions.as_slice())?;
-    for handler in code.handlers.as_slice() {
-        tell_handler(&mut text, handler)?;
-    }
+    tell_handlers(&mut text, code.handlers.as_slice())?;
     Ok(text)
+}
+
+/// Adds where the code stands, and its limits.
+fn tell_limits(text: &mut String, code: &Code) -> Result<(), AllocError> {
+    write!(text, "at {} stack {}", code.at, code.max_stack)?;
+    write!(text, " locals {}", code.max_locals)
 }
 
 /// Adds how many instructions there are, and each but the `nop` that follow another.
@@ -73,14 +76,31 @@ fn tell_instructions(
 fn tell_instruction(text: &mut String, placed: &PlacedInstruction) -> Result<(), AllocError> {
     let given = &placed.instruction;
     write!(text, " {}:{:02x}", placed.offset, given.opcode)?;
-    if given.operand != 0 {
-        write!(text, "#{}", given.operand)?;
+    tell_unless_0(text, "#", given.operand)?;
+    tell_unless_0(text, "x", u32::from(given.dimensions))?;
+    tell_targets(text, given.targets.as_slice())
+}
+
+/// Adds a mark and a number, if it is not 0.
+fn tell_unless_0(text: &mut String, mark: &str, number: u32) -> Result<(), AllocError> {
+    if number == 0 {
+        return Ok(());
     }
-    if given.dimensions != 0 {
-        write!(text, "x{}", given.dimensions)?;
-    }
-    for target in given.targets.as_slice() {
+    write!(text, "{mark}{number}")
+}
+
+/// Adds the targets of an instruction.
+fn tell_targets(text: &mut String, targets: &[u32]) -> Result<(), AllocError> {
+    for target in targets {
         write!(text, ">{target}")?;
+    }
+    Ok(())
+}
+
+/// Adds handlers.
+fn tell_handlers(text: &mut String, handlers: &[Handler]) -> Result<(), AllocError> {
+    for handler in handlers {
+        tell_handler(text, handler)?;
     }
     Ok(())
 }

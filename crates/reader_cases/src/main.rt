@@ -26,13 +26,24 @@ fn main(rt: HostRuntime) -> Result<()> {
     let names = fs::read_to_string(&rt, names.as_str())?;
     for case in &files(&rt, alloc, cases.as_str())? {
         println!(rt; "{case}")?;
-        let path = format!(in alloc; "{cases}/{case}")?;
-        let lines = fs::read_to_string(&rt, path.as_str())?;
-        let lines = format!(in alloc; "{names}{lines}")?;
+        let lines = lines_of(&rt, alloc, names.as_str(), cases.as_str(), case.as_str())?;
         tell_case(&rt, alloc, lines.as_str())?;
         println!(rt; "")?;
     }
     Ok(())
+}
+
+/// The lines of a case in a folder, behind those that give names to bytes.
+fn lines_of(
+    rt: &HostRuntime,
+    alloc: Global,
+    names: &str,
+    folder: &str,
+    case: &str,
+) -> Result<String> {
+    let path = format!(in alloc; "{folder}/{case}")?;
+    let lines = fs::read_to_string(rt, path.as_str())?;
+    Ok(format!(in alloc; "{names}{lines}")?)
 }
 
 /// The names of the files in a folder, in byte order.

@@ -1,10 +1,14 @@
 //! What the rows of a case ask of a class file, and the answer: what was read, or where and why it is refused.
 
+ghost use Rattle.std.specs.Prelude.{◌<◌, ◌^◌, length};
+ghost use Rattle.jvm_model.specs.Soundness.{IsSoundClass};
+ghost use Rattle.jvm_model.specs.Spelling.{spell};
+
 use crate::class_answer::told_class;
 use crate::code_answer::told_code;
 use crate::graph_answer::told_graph;
 use classfile_reader::read_class;
-use jvm_model::{Fault, ReadFailure, reason_word};
+use jvm_model::{ClassFile, Fault, ReadFailure, reason_word};
 use std::alloc::{AllocError, Global};
 
 /// What is asked of a class file.
@@ -43,9 +47,17 @@ pub fn answer(alloc: Global, question: Question, bytes: &[u8]) -> Result<String,
 /// What was read.
 fn told(alloc: Global, question: Question, bytes: &[u8]) -> Result<String, ReadFailure> {
     let class = read_class(alloc, bytes)?;
+    told_of(alloc, question, &class)
+}
+
+/// What a question asks of a class file.
+fn told_of(alloc: Global, question: Question, class: &ClassFile) -> Result<String, ReadFailure>
+    requires sound { IsSoundClass class.now }
+    requires size { length (spell class.now) < 2 ^ 32 }
+{
     match question {
-        Question::Class => Ok(told_class(alloc, &class)?),
-        Question::Code => told_code(alloc, &class),
-        Question::Graph => told_graph(alloc, &class),
+        Question::Class => Ok(told_class(alloc, class)?),
+        Question::Code => told_code(alloc, class),
+        Question::Graph => told_graph(alloc, class),
     }
 }

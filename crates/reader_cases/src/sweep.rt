@@ -1,6 +1,7 @@
 //! Answers one after the other, of which those that are equal are printed as one line.
 
 use anyhow::Result;
+use std::alloc::AllocError;
 
 /// Equal answers: what the first and the last of them stand for, and the answer.
 #[derive(Drop)]
@@ -8,6 +9,30 @@ struct Run {
     first: String,
     last: String,
     answer: String,
+}
+
+impl Run {
+    /// The answer of what a label stands for, and of nothing else.
+    fn new(label: String, answer: String) -> Result<Run, AllocError> {
+        Ok(Run {
+            first: label.clone()?,
+            last: label,
+            answer,
+        })
+    }
+
+    /// Prints the answer, behind what it stands for.
+    fn print<R: Print>(&self, rt: &R) -> Result<()> {
+        let first = self.first.as_str();
+        let last = self.last.as_str();
+        let answer = self.answer.as_str();
+        if first == last {
+            println!(rt; "  {first}: {answer}")?;
+        } else {
+            println!(rt; "  {first} to {last}: {answer}")?;
+        }
+        Ok(())
+    }
 }
 
 /// The last equal answers, which are not printed yet.
@@ -31,25 +56,14 @@ impl Sweep {
             }
         }
         self.print(rt)?;
-        self.run = Some(Run {
-            first: label.clone()?,
-            last: label,
-            answer,
-        });
+        self.run = Some(Run::new(label, answer)?);
         Ok(())
     }
 
     /// Prints the last equal answers.
     pub fn print<R: Print>(&self, rt: &R) -> Result<()> {
         if let Some(run) = &self.run {
-            let first = run.first.as_str();
-            let last = run.last.as_str();
-            let answer = run.answer.as_str();
-            if first == last {
-                println!(rt; "  {first}: {answer}")?;
-            } else {
-                println!(rt; "  {first} to {last}: {answer}")?;
-            }
+            run.print(rt)?;
         }
         Ok(())
     }
