@@ -1,7 +1,8 @@
 //! What is known of the methods of a class with what patches add to it.
 
-ghost use Rattle.std.specs.Prelude.{◌≡◌, map, flat_map, filter, IfOk, OnOk, IfErr};
-ghost use Rattle.linking.specs.Patching.{description_of, is_native_in, with_native};
+ghost use Rattle.std.specs.Prelude.{◌≡◌, ◌⊎◌, map, flat_map, filter, IfOk, OnOk, IfErr};
+ghost use Rattle.linked_program.specs.MemberLists.{AreTooManyKeys};
+ghost use Rattle.linking.specs.Patching.{description_of, is_native_in, native_keys, with_native};
 ghost use Rattle.linking.specs.TooLarge.{AreTooManyDescriptions, AreTooManyNatives, TellsTooMany};
 ghost use Rattle.jvm_model.specs.Linking.{descriptions, with_descriptions, stub_descriptions, native_descriptions};
 
@@ -83,6 +84,21 @@ fn add_native<'a>(
     }
 }
 
+/// Adds what patches say of native methods of a class file. The errors are those of adding a description, or a native method.
+fn add_native_patches<'a>(
+    alloc: Global,
+    all: &mut Descriptions<'a>,
+    found: &[&'a StubClass],
+    class: &ClassFile,
+) -> Result<(), IndexFailure>
+    ensures added { OnOk result (all.new ≡ with_descriptions all.old (filter (is_native_in class.now) (flat_map descriptions (map (λ s. s.now) found.now)))) }
+    ensures too_many { IfErr result (TellsTooMany (AreTooManyKeys (native_keys class.now.pool class.now.methods) ⊎ AreTooManyDescriptions
+        (with_descriptions all.old (filter (is_native_in class.now) (flat_map descriptions (map (λ s. s.now) found.now)))))) }
+{
+    let natives = Natives::of(alloc, class)?;
+    add_patches(all, &natives, found)
+}
+
 /// What patches say of native methods of a class file. The errors are those of adding a description, or a native method.
 pub fn native_descriptions<'a>(
     alloc: Global,
@@ -93,9 +109,7 @@ pub fn native_descriptions<'a>(
     ensures too_many { IfErr result (TellsTooMany (AreTooManyNatives patches.now class.now)) }
 {
     let name = class_text(class.pool.as_slice(), class.this_class);
-    let found = patches.of(name);
     let mut all = Descriptions::new(alloc);
-    let natives = Natives::of(alloc, class)?;
-    add_patches(&mut all, &natives, found)?;
+    add_native_patches(alloc, &mut all, patches.of(name), class)?;
     Ok(all)
 }
