@@ -1,12 +1,15 @@
 //! Where the classes of a program come from: the class files, and the stubs with what patches add to them.
 
-ghost use Rattle.std.specs.Prelude.{◌≡◌, ◌++◌, map, filter, All, IfOk, OnOk, IfErr};
+ghost use Rattle.std.specs.Prelude.{◌≡◌, ◌⊎◌, ◌++◌, map, filter, All, IfOk, OnOk, IfErr};
+ghost use Rattle.class_index.specs.Limits.{AreTooMany};
+ghost use Rattle.failure.specs.declared.Failure.TheVariants.{OutOfMemory};
 ghost use Rattle.linking.specs.LinkAnswers.{IsSoundFile};
 ghost use Rattle.linking.specs.Patching.{is_patch_stub, own_one, patch_one};
 ghost use Rattle.linking.specs.TooLarge.{AreTooManyDescriptions, AreTooManyNatives, HasLargeFile, HasLargeStub, IsTooLargeInput, TellsTooMany};
 ghost use Rattle.jvm_model.specs.Linking.{described_methods, origins, folder_origin, stub_origin, native_descriptions, stub_descriptions, own_classes};
 
 use crate::copies::copied_methods;
+use crate::descriptions::Descriptions;
 use crate::patch_index::Patches;
 use crate::patches::{native_descriptions, stub_descriptions};
 use class_index::index_failure::IndexFailure;
@@ -31,12 +34,38 @@ pub fn origins(
     ensures all { IfOk result (λ all. all.items ≡ origins files.items stubs.items) }
     ensures too_many { IfErr result (TellsTooMany (IsTooLargeInput files.items stubs.items)) }
 {
-    let parted = part(alloc, stubs)?;
-    let Parted { own, patches } = parted;
-    let patches = Patches::new(alloc, patches.as_slice())?;
+    let Parted { own, patches } = part(alloc, stubs)?;
+    origins_patched(alloc, files, own, patches.as_slice())
+}
+
+/// Where these classes come from: class files, and then stubs, with what patches add to them.
+fn origins_patched(
+    alloc: Global,
+    files: Vec<NamedClass>,
+    own: Vec<StubClass>,
+    patches: &[StubClass],
+) -> Result<Vec<Origin>, IndexFailure>
+    ensures all { IfOk result (λ all. all.items ≡ map (folder_origin patches.now) files.items ++ map (stub_origin patches.now) own.items) }
+    ensures too_many { IfErr result (TellsTooMany (AreTooMany (filter is_patch_stub patches.now)
+        ⊎ (HasLargeFile patches.now files.items ⊎ HasLargeStub patches.now own.items))) }
+{
+    let patches = Patches::new(alloc, patches)?;
+    origins_found(alloc, &patches, files, own)
+}
+
+/// The same where the patches are found by the name of their class.
+fn origins_found(
+    alloc: Global,
+    patches: &Patches<'_>,
+    files: Vec<NamedClass>,
+    own: Vec<StubClass>,
+) -> Result<Vec<Origin>, IndexFailure>
+    ensures all { IfOk result (λ all. all.items ≡ map (folder_origin patches.now) files.items ++ map (stub_origin patches.now) own.items) }
+    ensures too_many { IfErr result (TellsTooMany (HasLargeFile patches.now files.items ⊎ HasLargeStub patches.now own.items)) }
+{
     let mut all = Vec::new(alloc);
-    add_files(alloc, &mut all, &patches, files)?;
-    add_stubs(alloc, &mut all, &patches, own)?;
+    add_files(alloc, &mut all, patches, files)?;
+    add_stubs(alloc, &mut all, patches, own)?;
     Ok(all)
 }
 
@@ -93,6 +122,17 @@ fn told_of_file(
     ensures too_many { IfErr result (TellsTooMany (AreTooManyNatives patches.now f.now.class)) }
 {
     let all = native_descriptions(alloc, patches, &f.class)?;
+    copied_descriptions(alloc, &all)
+}
+
+/// Copies of what descriptions say. The failure is out of memory.
+fn copied_descriptions(
+    alloc: Global,
+    all: &Descriptions<'_>,
+) -> Result<Sequence<StubMethod>, IndexFailure>
+    ensures copies { IfOk result (λ copies. copies ≡ described_methods all.now) }
+    ensures memory { IfErr result (λ error. error ≡ OutOfMemory) }
+{
     Ok(copied_methods(alloc, all.as_slice())?)
 }
 
@@ -119,7 +159,7 @@ fn told_of_stub(
     ensures too_many { IfErr result (TellsTooMany (AreTooManyDescriptions (stub_descriptions patches.now c.now))) }
 {
     let all = stub_descriptions(alloc, patches, c)?;
-    Ok(copied_methods(alloc, all.as_slice())?)
+    copied_descriptions(alloc, &all)
 }
 
 /// Adds class files.
