@@ -1,17 +1,17 @@
 //! Linking: from the class files of a folder and from stubs to one program.
 
-ghost use Rattle.std.specs.Prelude.{◌≡◌, All, IfOk};
+ghost use Rattle.std.specs.Prelude.{◌≡◌, ◌++◌, All, IfOk};
 ghost use Rattle.std.specs.Ordering.{nat_cmp};
 ghost use Rattle.std.specs.Cmp.Lexicographic.{slice_cmp};
 ghost use Rattle.jvm_model.specs.LinkedPrograms.{HasStubClasses};
-ghost use Rattle.jvm_model.specs.Linking.{IsFileOrder, IsOrder, class_from};
+ghost use Rattle.jvm_model.specs.Linking.{IsFileOrder, IsOrder, class_from, kind_claims, own_classes, there_claims};
 ghost use Rattle.jvm_model.specs.StubRules.{IsSoundStub};
-ghost use Rattle.linking.specs.Claims.{TellsClaimsOrLarge, unsorted};
+ghost use Rattle.linking.specs.Claims.{Knows, TellsClaimsOrLarge, unsorted};
 ghost use Rattle.linking.specs.LinkAnswers.{flat_claims, IsSoundFile, IsLinkAnswer, IsAnswerInOrder};
 ghost use Rattle.linking.specs.TooLarge.{IsTooLargeInput};
 
 use crate::claims::{check_kinds, check_names, check_presence};
-use crate::known::known_classes;
+use crate::known::{Known, known_classes};
 use crate::origins::origins;
 use crate::patch_index::Patches;
 use failure::Failure;
@@ -79,9 +79,38 @@ fn check(alloc: Global, files: &[NamedClass], stubs: &[StubClass]) -> Result<(),
 {
     check_names(alloc, files, stubs)?;
     let known = known_classes(alloc, files, stubs).map_err(Failure::widen)?;
+    check_known(alloc, &known, files, stubs)
+}
+
+/// What is demanded once the names and the kinds of all classes are known.
+fn check_known(
+    alloc: Global,
+    known: &Known,
+    files: &[NamedClass],
+    stubs: &[StubClass],
+) -> Result<(), LinkFailure>
+    requires known { Knows known.now (unsorted files.now stubs.now) }
+    requires files { All IsSoundFile files.now }
+    ensures { TellsClaimsOrLarge (IsTooLargeInput files.now stubs.now) (unsorted files.now stubs.now)
+        (there_claims files.now stubs.now ++ kind_claims files.now (own_classes stubs.now)) result }
+{
+    check_all_there(alloc, known, files, stubs)?;
+    check_kinds(alloc, known, files, stubs)
+}
+
+/// All classes that are named are there, by class files, by stubs, or by the patches among these.
+fn check_all_there(
+    alloc: Global,
+    known: &Known,
+    files: &[NamedClass],
+    stubs: &[StubClass],
+) -> Result<(), LinkFailure>
+    requires known { Knows known.now (unsorted files.now stubs.now) }
+    requires files { All IsSoundFile files.now }
+    ensures { TellsClaimsOrLarge (IsTooLargeInput files.now stubs.now) (unsorted files.now stubs.now) (there_claims files.now stubs.now) result }
+{
     let patches = Patches::new(alloc, stubs).map_err(Failure::widen)?;
-    check_presence(alloc, &known, &patches, files, stubs)?;
-    check_kinds(alloc, &known, files, stubs)
+    check_presence(alloc, known, &patches, files, stubs)
 }
 
 /// Puts class files in byte order of the names of their files.

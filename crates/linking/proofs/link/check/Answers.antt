@@ -1,12 +1,11 @@
-use Rattle.std.proofs.Common.{◌++◌, filter}
+use Rattle.std.proofs.Common.{List, ◌++◌, append_assoc, subst, sym}
 use Rattle.std.proofs.lemmas.Result.{err_from_is_err_and}
-use Rattle.jvm_model.specs.Linking.{kind_claims, name_claims, own_classes, there_claims}
+use Rattle.jvm_model.specs.Linking.{Claim, kind_claims, name_claims, own_classes, there_claims}
 use Rattle.class_index.specs.Limits.{AreTooMany}
-use Rattle.linking.specs.Claims.{all_names, unsorted}
+use Rattle.linking.specs.Claims.{TellsClaimsOrLarge, all_names, unsorted}
 use Rattle.linking.specs.LinkAnswers.{flat_claims}
-use Rattle.linking.specs.Patching.{is_patch_stub}
-use Rattle.linking.specs.TooLarge.{IsTooLargeInput, in_classes, in_patches}
-use Rattle.linking.proofs.ClaimSteps.{end_back, end_front, met_append, tells_back, tells_unnumbered}
+use Rattle.linking.specs.TooLarge.{IsTooLargeInput, in_classes}
+use Rattle.linking.proofs.ClaimSteps.{end_front, tells_back}
 use Rattle.linking.proofs.DistinctNames.{names_new}
 use Rattle.linking.proofs.LargeInputs.{errors_more, handed_end}
 use Rattle.linking.proofs.link.check.Goals as goal
@@ -26,18 +25,6 @@ returns-in_err-check_names c =
 pub known_classes-requires : goal.known_classes-requires
 known_classes-requires c = names_new (unsorted c.args.files.now c.args.stubs.now) c.args.files.now c.args.stubs.now c.in_ok-check_names.ensures
 
-pub returns-in_err-check_presence : goal.returns-in_err-check_presence
-returns-in_err-check_presence c =
-    let q = err_from_is_err_and c.from_residual-in_err-check_presence.result c.from_residual-in_err-check_presence.ensures.1 in
-    let files = c.args.files.now in
-    let stubs = c.args.stubs.now in
-    let p = unsorted files stubs in
-    let ns = name_claims files (own_classes stubs) in
-    let ts = there_claims files stubs in
-    let end = c.in_err-check_presence.field-0.0 in
-    let large = IsTooLargeInput files stubs in
-    rw (q.1, q.2) (end_front large p (ns ++ ts) (kind_claims files (own_classes stubs)) end (end_back large p ns ts end c.in_ok-check_names.ensures c.in_err-check_presence.ensures))
-
 pub returns : goal.returns
 returns c =
     let files = c.args.files.now in
@@ -47,8 +34,8 @@ returns c =
     let ts = there_claims files stubs in
     let ks = kind_claims files (own_classes stubs) in
     let large = IsTooLargeInput files stubs in
-    let r = c.check_kinds.result in
-    tells_back large p (ns ++ ts) ks r (met_append p ns ts c.in_ok-check_names.ensures c.in_ok-check_presence.ensures) (tells_unnumbered large p ks r c.check_kinds.ensures)
+    let r = c.check_known.result in
+    subst (λ (claims : List Claim). TellsClaimsOrLarge large p claims r) (sym (append_assoc ns ts ks)) (tells_back large p ns (ts ++ ks) r c.in_ok-check_names.ensures c.check_known.ensures)
 
 pub returns-in_err-known : goal.returns-in_err-known
 returns-in_err-known c =
@@ -58,12 +45,3 @@ returns-in_err-known c =
     let large = IsTooLargeInput files stubs in
     let e = c.in_err-known.field-0.0 in
     rw (q.1, q.2) (handed_end large (unsorted files stubs) (flat_claims files stubs) c.known_classes.result e c.in_err-known.ensures.cases (errors_more (AreTooMany (all_names files stubs)) large c.known_classes.result (λ many. in_classes many) c.known_classes.ensures.too_many))
-
-pub returns-in_err-patches : goal.returns-in_err-patches
-returns-in_err-patches c =
-    let q = err_from_is_err_and c.from_residual-in_err-patches.result c.from_residual-in_err-patches.ensures.1 in
-    let files = c.args.files.now in
-    let stubs = c.args.stubs.now in
-    let large = IsTooLargeInput files stubs in
-    let e = c.in_err-patches.field-0.0 in
-    rw (q.1, q.2) (handed_end large (unsorted files stubs) (flat_claims files stubs) c.new.result e c.in_err-patches.ensures.cases (errors_more (AreTooMany (filter is_patch_stub stubs)) large c.new.result (λ many. in_patches many) c.new.ensures.too_many))
