@@ -1,9 +1,9 @@
 //! The patches among stubs, found by the name of their class.
 
-ghost use Rattle.std.specs.Prelude.{◌≡◌, ◌+◌, ◌<◌, ◌≤◌, map, filter, length, Some, slice_get, IfOk, OnOk, IfErr};
+ghost use Rattle.std.specs.Prelude.{◌≡◌, [], ◌+◌, ◌<◌, ◌≤◌, map, filter, length, Some, slice_get, IfOk, OnOk, IfErr};
 ghost use Rattle.class_index.specs.Limits.{AreTooMany};
 ghost use Rattle.linking.specs.Patching.{is_patch_stub, patch_one, patches_for};
-ghost use Rattle.linking.specs.PatchLists.{lent_lists, PatchGoes, PlaceGoes};
+ghost use Rattle.linking.specs.PatchLists.{AreListed, lent_lists, PatchGoes, PlaceGoes};
 ghost use Rattle.linking.specs.TooLarge.{TellsTooMany};
 
 use class_index::index_failure::IndexFailure;
@@ -41,9 +41,7 @@ impl<'a> Patches<'a> {
     {
         let mut names = TextIndex::new(alloc);
         let mut lists = Vec::new(alloc);
-        for stub in stubs {
-            add_patch(alloc, &mut names, &mut lists, stub)?;
-        }
+        add_patches(alloc, &mut names, &mut lists, stubs)?;
         Ok(Patches {
             stubs,
             names,
@@ -60,6 +58,24 @@ impl<'a> Patches<'a> {
             None => &[],
         }
     }
+}
+
+/// Adds the patches among stubs to lists, of which there are none yet.
+fn add_patches<'a>(
+    alloc: Global,
+    names: &mut TextIndex,
+    lists: &mut Vec<Vec<&'a StubClass>>,
+    stubs: &'a [StubClass],
+) -> Result<(), IndexFailure>
+    requires names { names.old ≡ [] }
+    requires lists { lists.old.items ≡ [] }
+    ensures listed { OnOk result (AreListed stubs.entry.now names.new (lent_lists lists.new.items)) }
+    ensures too_many { IfErr result (TellsTooMany (AreTooMany (filter is_patch_stub stubs.entry.now))) }
+{
+    for stub in stubs {
+        add_patch(alloc, names, lists, stub)?;
+    }
+    Ok(())
 }
 
 /// Adds a stub, if it is a patch, to the list of its name.

@@ -7,7 +7,7 @@ use Rattle.linking.specs.Patching.{is_patch_stub, patch_one}
 use Rattle.linking.specs.PatchLists.{lent_lists, AreListed}
 use Rattle.linking.proofs.ClaimSteps.{from_item}
 use Rattle.linking.proofs.LargeInputs.{error_more, patches_count}
-use Rattle.linking.proofs.patch_index.Patches.new.Goals as goal
+use Rattle.linking.proofs.patch_index.add_patches.Goals as goal
 
 pub loop-stub-preserved : goal.loop-stub-preserved
 loop-stub-preserved c =

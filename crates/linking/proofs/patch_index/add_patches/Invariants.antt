@@ -1,7 +1,7 @@
 use Rattle.std.proofs.Common.{◌+◌, ◌≤◌, length, filter, take, drop}
 use Rattle.linking.specs.Patching.{is_patch_stub}
 use Rattle.linking.specs.PatchLists.{lent_lists, AreListed}
-use Rattle.linking.proofs.patch_index.Patches.new.Given as goal
+use Rattle.linking.proofs.patch_index.add_patches.Given as goal
 
 abbrev pub invariant-loop-stub : goal.invariant-loop-stub
 invariant-loop-stub l = record {
