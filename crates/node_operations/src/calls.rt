@@ -1,10 +1,12 @@
 //! Calls of methods (JVMS 6.5.invokevirtual, 6.5.invokespecial, 6.5.invokestatic, 6.5.invokeinterface).
 
-ghost use Rattle.std.specs.Prelude.{◌≡◌, ◌<◌, ◌^◌, ◌++◌, true, if◌then◌else◌, map, IfOk, Some, None};
+ghost use Rattle.std.specs.Prelude.{◌≡◌, ◌<◌, ◌^◌, ◌+◌, ◌++◌, length, true, if◌then◌else◌, map, IfOk, Some, None};
 ghost use Rattle.jvm_model.specs.Instructions.{member_at};
 ghost use Rattle.jvm_model.specs.Lookups.{lent_reference};
 ghost use Rattle.jvm_model.specs.RowViews.{row_view, action_view, kind_view};
 ghost use Rattle.jvm_model.specs.Table.{is_call};
+ghost use Rattle.method_nodes.specs.Operations.{unit_slots};
+ghost use Rattle.op_model.specs.declared.op.Op.TheVariants as operations;
 ghost use Rattle.instruction_reasons.specs.Judgements.{IsNamedMember};
 ghost use Rattle.node_operations.specs.ByAction.{call_kind, receiver_units, resolved_method, HasRow, IsCallee, IsOperation};
 ghost use Rattle.node_operations.specs.Orders.{IsOrdered};
@@ -14,7 +16,7 @@ use crate::placement::Placement;
 use crate::sites::copy_of;
 use crate::units::{MethodUnits, method_units, unit_slots};
 use instruction_reasons::NamedMember;
-use jvm_model::lookup::member_at;
+use jvm_model::lookup::{Signature, member_at};
 use jvm_model::opcode::{Action, UnitKind};
 use jvm_model::{MemberReference, MethodNo, Sequence};
 use op_model::{Call, CallKind, Op};
@@ -43,14 +45,48 @@ pub(crate) fn call(alloc: Global, at: Placement<'_>) -> Result<Op, AllocError>
     let units = method_units(alloc, named.signature.descriptor)?;
     let popped = popped_units(alloc, kind, &units)?;
     let base = at.top - popped.len() as u32;
+    let returned = result_slot(base, &units);
+    call_of(
+        alloc,
+        kind,
+        callee,
+        named.signature,
+        base,
+        &popped,
+        returned,
+    )
+}
+
+/// The call of a method by this name and descriptor, which pops these units, of which the lowest is the slot `base`.
+fn call_of(
+    alloc: Global,
+    kind: CallKind,
+    callee: Callee,
+    named: Signature<'_>,
+    base: u32,
+    popped: &[UnitKind],
+    returned: Option<u32>,
+) -> Result<Op, AllocError>
+    requires { base + length popped.now < 2 ^ 32 }
+    ensures { IfOk result (λ op. op ≡ operations.Call (record {
+      kind = kind;
+      resolved = callee.resolved;
+      chosen = callee.chosen;
+      name = named.entry.name.now;
+      descriptor = named.entry.descriptor.now;
+      arguments = unit_slots base (map kind_view popped.now);
+      result = returned;
+    })) }
+{
+    let arguments = unit_slots(alloc, base, popped)?;
     Ok(Op::Call(Call {
         kind,
         resolved: callee.resolved,
         chosen: callee.chosen,
-        name: copy_of(alloc, named.signature.name)?,
-        descriptor: copy_of(alloc, named.signature.descriptor)?,
-        arguments: Sequence::from_vec(unit_slots(alloc, base, &popped)?),
-        result: result_slot(base, &units),
+        name: copy_of(alloc, named.name)?,
+        descriptor: copy_of(alloc, named.descriptor)?,
+        arguments: Sequence::from_vec(arguments),
+        result: returned,
     }))
 }
 
