@@ -26,9 +26,17 @@ pub(crate) fn method_units(alloc: Global, descriptor: &[u8]) -> Result<MethodUni
     ensures { IfOk result (AreUnitsOf descriptor.now) }
 {
     let spelled = descriptor_of(alloc, descriptor)?;
+    units_spelled(alloc, &spelled)
+}
+
+/// The units of a method that is spelled by its descriptor.
+fn units_spelled(alloc: Global, spelled: &Option<Descriptor>) -> Result<MethodUnits, AllocError>
+    ensures parameters { IfOk result (λ units. units.parameters.items ≡ parameter_units spelled.now) }
+    ensures outcome { IfOk result (λ units. units.gives_reference ≡ gives_reference spelled.now) }
+{
     Ok(MethodUnits {
-        parameters: parameter_units(alloc, &spelled)?,
-        gives_reference: gives_reference(&spelled),
+        parameters: parameter_units(alloc, spelled)?,
+        gives_reference: gives_reference(spelled),
     })
 }
 
@@ -57,14 +65,18 @@ fn units_of(alloc: Global, kinds: &[Kind]) -> Result<Vec<UnitKind>, AllocError>
 fn push_kind(units: &mut Vec<UnitKind>, kind: &Kind) -> Result<(), AllocError>
     ensures { OnOk result (units.new.items ≡ units.old.items ++ unit_kinds kind.now) }
 {
+    units.extend_from_slice(kind_units(kind))
+}
+
+/// The units of a value of a kind.
+fn kind_units(kind: &Kind) -> &'static [UnitKind]
+    ensures { result.now ≡ unit_kinds kind.now }
+{
     match kind {
-        Kind::Prim { wide: true } => {
-            units.extend_from_slice(&[UnitKind::Primitive, UnitKind::Primitive])?;
-        }
-        Kind::Prim { wide: false } => units.push(UnitKind::Primitive)?,
-        Kind::Class(_) | Kind::Array { .. } => units.push(UnitKind::Reference)?,
+        Kind::Prim { wide: true } => &[UnitKind::Primitive, UnitKind::Primitive],
+        Kind::Prim { wide: false } => &[UnitKind::Primitive],
+        Kind::Class(_) | Kind::Array { .. } => &[UnitKind::Reference],
     }
-    Ok(())
 }
 
 /// Whether the result of a method is a reference; not of another descriptor.
