@@ -13,7 +13,7 @@ use crate::moves::cleared;
 use crate::placement::Placement;
 use crate::units::{field_units, is_reference_type};
 use instruction_reasons::NamedMember;
-use jvm_model::{FieldNo, Sequence};
+use jvm_model::FieldNo;
 use op_model::Op;
 use std::alloc::{AllocError, Global};
 
@@ -42,7 +42,7 @@ pub(crate) fn get_static(alloc: Global, at: Placement<'_>) -> Result<Op, AllocEr
             target: at.top,
         });
     }
-    Ok(Op::Assign(Sequence::from_vec(cleared(alloc, at.top, access.units)?)))
+    cleared(alloc, at.top, access.units)
 }
 
 /// The operation of `putstatic`.
@@ -63,7 +63,7 @@ pub(crate) fn put_static(alloc: Global, at: Placement<'_>) -> Result<Op, AllocEr
             value: base,
         });
     }
-    Ok(Op::Assign(Sequence::from_vec(cleared(alloc, base, access.units)?)))
+    cleared(alloc, base, access.units)
 }
 
 /// The operation of `getfield`.

@@ -17,7 +17,7 @@ use crate::placement::Placement;
 use crate::sites::copy_of;
 use jvm_model::lookup::entry_at;
 use jvm_model::site::{Site, SiteKind};
-use jvm_model::{PoolEntry, Sequence};
+use jvm_model::PoolEntry;
 use op_model::Op;
 use std::alloc::{AllocError, Global};
 
@@ -32,7 +32,7 @@ pub(crate) fn load_constant(alloc: Global, at: Placement<'_>) -> Result<Op, Allo
 {
     match constant_class(at.class.pool.as_slice(), at.instruction.operand as u16) {
         Some(class) => constant(alloc, class, at.top),
-        None => Ok(Op::Assign(Sequence::from_vec(cleared(alloc, at.top, 1)?))),
+        None => cleared(alloc, at.top, 1),
     }
 }
 

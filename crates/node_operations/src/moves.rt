@@ -3,10 +3,12 @@
 
 ghost use Rattle.std.specs.Prelude.{◌≡◌, ◌+◌, ◌<◌, ◌≤◌, ◌^◌, ◌++◌, length, map, IfOk, OnOk};
 ghost use Rattle.jvm_model.specs.RowViews.{row_view, source_view};
+ghost use Rattle.op_model.specs.declared.op.Op.TheVariants.{Assign};
 ghost use Rattle.node_operations.specs.MoveLists.{source_of, move_to, moves_from, cleared_from, moves_of};
 
+use jvm_model::Sequence;
 use jvm_model::opcode::{Row, UnitSource};
-use op_model::{Move, Source};
+use op_model::{Move, Op, Source};
 use std::alloc::{AllocError, Global};
 
 /// The moves of a row whose lowest popped unit is the slot `base`; the operand names a local variable (JVMS 6.5).
@@ -32,14 +34,14 @@ pub(crate) fn moves_of(
     Ok(moves)
 }
 
-/// The moves by which so many slots, from one on, become those of primitives.
-pub(crate) fn cleared(alloc: Global, start: u32, count: u32) -> Result<Vec<Move>, AllocError>
+/// The operation by which so many slots, from one on, become those of primitives.
+pub(crate) fn cleared(alloc: Global, start: u32, count: u32) -> Result<Op, AllocError>
     requires { start + count < 2 ^ 32 }
-    ensures { IfOk result (λ moves. moves.items ≡ cleared_from count start) }
+    ensures { IfOk result (λ op. op ≡ Assign (cleared_from count start)) }
 {
     let mut moves = Vec::new(alloc);
     push_cleared(&mut moves, start, count)?;
-    Ok(moves)
+    Ok(Op::Assign(Sequence::from_vec(moves)))
 }
 
 /// What a unit is read from.

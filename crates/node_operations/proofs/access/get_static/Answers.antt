@@ -1,4 +1,7 @@
-use Rattle.std.proofs.Common.{refl, ◌∙◌}
+use Rattle.std.proofs.Common.{refl, sym, subst}
+use Rattle.node_operations.specs.ByAction.{IsOperation}
+use Rattle.node_operations.specs.Orders.{IsOrdered}
+use Rattle.node_operations.proofs.Lifting.{if_ok}
 use Rattle.node_operations.proofs.FieldOperations.{gets_static, gets_primitive, gets_in_order}
 use Rattle.node_operations.proofs.access.get_static.Goals as goal
 
@@ -7,11 +10,17 @@ returns-then-access-clause-operation c = gets_static c.args.at c.accessed_field-
 
 pub returns-clause-operation : goal.returns-clause-operation
 returns-clause-operation c =
-    gets_primitive c.args.at c.accessed_field-access.result c.from_vec.result c.requires.row c.requires.action c.accessed_field-access.ensures.field c.if-access.false (c.from_vec.ensures ∙ c.in_ok-cleared.ensures)
+    let at = c.args.at in
+    let access = c.accessed_field-access.result in
+    if_ok c.cleared.result _ (IsOperation at) c.cleared.ensures
+    (λ op is. subst (IsOperation at) (sym is) (gets_primitive at access _ c.requires.row c.requires.action c.accessed_field-access.ensures.field c.if-access.false refl))
 
 pub returns-then-access-clause-order : goal.returns-then-access-clause-order
 returns-then-access-clause-order c = record { for_row = λ row of_row base lowest. tt }
 
 pub returns-clause-order : goal.returns-clause-order
 returns-clause-order c =
-    gets_in_order c.args.at c.accessed_field-access.result c.from_vec.result c.requires.row c.requires.action c.accessed_field-access.ensures.field c.if-access.false (c.from_vec.ensures ∙ c.in_ok-cleared.ensures)
+    let at = c.args.at in
+    let access = c.accessed_field-access.result in
+    if_ok c.cleared.result _ (IsOrdered at) c.cleared.ensures
+    (λ op is. subst (IsOrdered at) (sym is) (gets_in_order at access _ c.requires.row c.requires.action c.accessed_field-access.ensures.field c.if-access.false refl))
