@@ -15,9 +15,9 @@ ghost use Rattle.node_operations.specs.Placements.{judged_at};
 use crate::moves::cleared;
 use crate::placement::Placement;
 use crate::sites::copy_of;
+use jvm_model::PoolEntry;
 use jvm_model::lookup::entry_at;
 use jvm_model::site::{Site, SiteKind};
-use jvm_model::PoolEntry;
 use op_model::Op;
 use std::alloc::{AllocError, Global};
 
