@@ -54,6 +54,28 @@ impl Working {
             steps: Vec::new(alloc),
         }
     }
+
+    /// What the solver answers of it: the items with the numbers and the methods, and the refusals. The rest is dropped.
+    fn into_closing(self) -> Closing
+        ensures tables { result.solution.tables ≡ self.found.tables }
+        ensures items { result.solution.items ≡ self.queue }
+        ensures methods { result.solution.methods ≡ self.methods }
+        ensures refusals { result.refusals ≡ self.found.refusals }
+    {
+        let Found {
+            tables,
+            answers: _answers,
+            refusals,
+        } = self.found;
+        Closing {
+            solution: Solution {
+                tables,
+                items: self.queue,
+                methods: self.methods,
+            },
+            refusals,
+        }
+    }
 }
 
 /// The least items and the first refusals. A refused method leads to nothing.
@@ -74,26 +96,7 @@ pub(crate) fn close<S: Supply>(
 {
     let mut working = Working::new(alloc);
     close_over(alloc, program, supply, entry, pair_limit, &mut working)?;
-    let Working {
-        queue,
-        found,
-        index: _index,
-        methods,
-        steps: _steps,
-    } = working;
-    let Found {
-        tables,
-        answers: _answers,
-        refusals,
-    } = found;
-    Ok(Closing {
-        solution: Solution {
-            tables,
-            items: queue,
-            methods,
-        },
-        refusals,
-    })
+    Ok(working.into_closing())
 }
 
 /// Takes in what follows from the start and from each item, until nothing is new.
