@@ -95,8 +95,8 @@ pub(crate) fn close<S: Supply>(
     ensures end { IfErr result (IsClosingEnd program.now (S.gives supply.old) entry pair_limit) }
 {
     let mut working = Working::new(alloc);
-    close_over(alloc, program, supply, entry, pair_limit, &mut working)?;
-    Ok(working.into_closing())
+    let closed = close_over(alloc, program, supply, entry, pair_limit, &mut working);
+    closed.and(Ok(working.into_closing()))
 }
 
 /// Takes in what follows from the start and from each item, until nothing is new.
