@@ -26,6 +26,7 @@ use Rattle.points_to.specs.declared.refusals.RefusedMethod.{RefusedMethod}
 use Rattle.points_to.specs.declared.solution.RunningMethod.{RunningMethod}
 use Rattle.points_to.specs.declared.solve_failure.SolveFault.{SolveFault}
 use Rattle.points_to.specs.declared.solve_failure.SolveFault.TheVariants.{PairLimit, Refused}
+use Rattle.points_to.specs.declared.closing.Working.{Working}
 use Rattle.points_to.specs.Closing.{IsClosingEnd}
 use Rattle.points_to.specs.Concluding.{SitesBy, UsersBy, IsKnownIndex, IsKnownItem, ResolvesIn, FollowsFrom, LacksBy, RefusedBy, AddsCallsBy, AddsMethodsBy}
 use Rattle.grouped_lists.specs.Groups.{values_at}
@@ -33,12 +34,13 @@ use Rattle.points_to.specs.Indexed.{SiteGroups, UserGroups, IsIndexed}
 use Rattle.points_to.specs.Passing.{IsKnownUser, NotesCalls, NotesMethods}
 use Rattle.points_to.specs.Queues.{IsQueueEnd}
 use Rattle.points_to.specs.Solutions.{IsSupplyOf}
+use Rattle.points_to.specs.Taking.{IsStarted, IsTakenIn, IsTakingEnd}
 use Rattle.points_to.proofs.ItemPlaces.{front_rule}
 use Rattle.points_to.proofs.Noting.{those_same}
 use Rattle.points_to.proofs.NumberedCalls.{resolved_in}
 use Rattle.points_to.proofs.NumberRanges.{IsInRange, IsUserInRange, in_range_is_closed}
 use Rattle.points_to.proofs.PairedFacts.{many_derivable}
-use Rattle.points_to.proofs.SoFar.{IsSoFar, IsDerivedList, IsConcluded, in_whole}
+use Rattle.points_to.proofs.SoFar.{IsSoFar, IsDerivedList, IsConcluded, in_whole, derived_start}
 
 -- ---- the supply
 
@@ -99,23 +101,19 @@ module _ (old new : GivenAs) (same : IsSameSupply old new) where
   methods_as_before (Calls call target) a b h = h
   methods_as_before (Uses place user) a b h = h
 
--- what is told of an item by what the supply gives now
-pub concluded : (p : Program) (old now : GivenAs) → IsSameSupply old now → (n m : Numbered) (old_sites new_sites : SiteGroups) (old_users new_users : UserGroups) (old_call new_call : Option RefusedCall)
-    → (old_method new_method : Option RefusedMethod) (old_listed new_listed : List RunningMethod) (item : Item) (made steps : List Item) → Grows n m → AreApart m → IsIndexed old_sites new_sites old_users new_users item
-    → Adds m (FollowsFrom p now n (values_at new_sites) (values_at new_users) item) [] made → AddsCallsBy now item n.calls m.calls
-    → NotesCalls (LacksBy p n (values_at new_sites) (values_at new_users) item) old_call new_call → NotesMethods (RefusedBy now item) old_method new_method
-    → AddsMethodsBy now item old_listed new_listed → steps ≡ made
-    → IsConcluded p old n m old_sites new_sites old_users new_users old_call new_call old_method new_method old_listed new_listed item steps
-concluded p old now same n m old_sites new_sites old_users new_users old_call new_call old_method new_method old_listed new_listed item made steps grows apart indexed adds calls lacks refused methods is = record {
-  grows = grows;
-  apart = apart;
-  indexed = indexed;
-  adds = subst (λ (xs : List Item). Adds m (FollowsFrom p old n (values_at new_sites) (values_at new_users) item) [] xs) (sym is)
-      (adds_as_before p old now same n (values_at new_sites) (values_at new_users) item m [] made adds);
-  calls = calls_as_before old now same item n.calls m.calls calls;
-  lacks = lacks;
-  refused = refused_as_before old now same item old_method new_method refused;
-  methods = methods_as_before old now same item old_listed new_listed methods;
+-- what is told of an item that was taken in, by what the supply gave at first
+pub concluded : (p : Program) (old now : GivenAs) → IsSameSupply old now → (item : Item) (v w : Working) → IsTakenIn p now item v w
+    → IsConcluded p old v.found.tables w.found.tables v.index.sites.groups.items w.index.sites.groups.items v.index.users.groups.items w.index.users.groups.items v.found.refusals.call w.found.refusals.call
+    v.found.refusals.method w.found.refusals.method v.methods.items w.methods.items item w.steps.items
+concluded p old now same item v w made = record {
+  grows = made.grows;
+  apart = made.apart;
+  indexed = made.indexed;
+  adds = adds_as_before p old now same v.found.tables (values_at w.index.sites.groups.items) (values_at w.index.users.groups.items) item w.found.tables [] w.steps.items made.adds;
+  calls = calls_as_before old now same item v.found.tables.calls w.found.tables.calls made.calls;
+  lacks = made.lacks;
+  refused = refused_as_before old now same item v.found.refusals.method w.found.refusals.method made.refused;
+  methods = methods_as_before old now same item v.methods.items w.methods.items made.methods;
 }
 
 -- ---- what items name
@@ -160,3 +158,17 @@ closing_end p gives entry limit n items OutOfMemory apart h items_apart end = tt
 
 pub memory_end : (p : Program) (gives : GivenAs) (entry : MethodNo) (limit : ℕ) (failure : Failure SolveFault) → failure ≡ OutOfMemory → IsClosingEnd p gives entry limit failure
 memory_end p gives entry limit failure e = subst (λ (f : Failure SolveFault). IsClosingEnd p gives entry limit f) (sym e) tt
+
+-- where the start was taken in up to the limit
+pub start_end : (p : Program) (gives : GivenAs) (entry : MethodNo) (limit : ℕ) (n : Numbered) (steps items : List Item) (failure : Failure SolveFault)
+    → IsTakingEnd (IsStarted p entry n steps items) items limit failure → IsClosingEnd p gives entry limit failure
+start_end p gives entry limit n steps items failure (inl memory) = memory_end p gives entry limit failure memory
+start_end p gives entry limit n steps items failure (inr (made, end)) =
+    closing_end p gives entry limit n items failure made.apart (derived_start p gives entry n steps items made.call made.adds made.takes) made.items_apart end
+
+-- where what follows from an item was taken in up to the limit, and the items were derived
+pub taken_end : (p : Program) (gives now : GivenAs) (entry : MethodNo) (limit : ℕ) (item : Item) (v w : Working) (failure : Failure SolveFault)
+    → (IsTakenIn p now item v w → IsDerivedList p gives entry w.found.tables w.queue.items.keys) → IsTakingEnd (IsTakenIn p now item v w) w.queue.items.keys limit failure
+    → IsClosingEnd p gives entry limit failure
+taken_end p gives now entry limit item v w failure derived (inl memory) = memory_end p gives entry limit failure memory
+taken_end p gives now entry limit item v w failure derived (inr (made, end)) = closing_end p gives entry limit w.found.tables w.queue.items.keys failure made.apart (derived made) made.items_apart end

@@ -6,5 +6,6 @@ pub mod Concluding
 pub mod Indexed
 pub mod Closing
 pub mod Working
+pub mod Taking
 pub mod Starting
 pub mod Refusing

@@ -1,12 +1,18 @@
 //! The loop of the solver: each item is taken with what follows from it, until nothing is new.
 
-ghost use Rattle.std.specs.Prelude.{◌≡◌, ◌<◌, ℕ, Some, IfOk, OnOk, IfErr};
+ghost use Rattle.std.specs.Prelude.{◌≡◌, ◌<◌, ℕ, [], length, Some, All, Contains, IfOk, OnOk, IfErr};
+ghost use Rattle.grouped_lists.specs.Groups.{values_at};
 ghost use Rattle.jvm_model.specs.Programs.{Class, object_name};
 ghost use Rattle.jvm_model.specs.Subtypes.{class_named};
+ghost use Rattle.least_sets.specs.Rules.{IsWithoutDoubles};
 ghost use Rattle.linked_program.specs.Numbers.{IsMethodNumber};
 ghost use Rattle.op_model.specs.Supplies.{IsSameSupply};
+ghost use Rattle.points_to_calls.specs.KeptAnswers.{AreRight};
 ghost use Rattle.points_to.specs.Solutions.{IsSupplyOf};
 ghost use Rattle.points_to.specs.Closing.{IsClosed, IsClosingEnd};
+ghost use Rattle.points_to.specs.Concluding.{IsKnownIndex, IsKnownItem};
+ghost use Rattle.points_to.specs.Queues.{pairs_among};
+ghost use Rattle.points_to.specs.Taking.{IsStarted, IsTakenIn, IsTakingEnd};
 ghost use Rattle.points_to.specs.Working.{IsFresh};
 
 use crate::conclude::conclude;
@@ -20,7 +26,7 @@ use crate::start::start_items;
 use jvm_model::MethodNo;
 use linked_program::program::Program;
 use op_model::Supply;
-use points_to_tables::Item;
+use points_to_tables::{Item, Tables};
 use std::alloc::Global;
 
 /// The least items by numbers with the methods that may run and have code, and the first refusals.
@@ -117,32 +123,87 @@ fn close_over<S: Supply>(
     ensures same { IsSameSupply (S.gives supply.old) (S.gives supply.new) }
     ensures end { IfErr result (IsClosingEnd program.now (S.gives supply.old) entry pair_limit) }
 {
-    start_items(
+    take_start(
         alloc,
         program,
         &mut working.found.tables,
+        &mut working.queue,
         entry,
+        pair_limit,
         &mut working.steps,
     )?;
-    working.found.tables.apart();
-    working.queue.take_all(&working.steps, pair_limit)?;
     let mut done = 0;
     while done < working.queue.len() {
         let item = working.queue.at(done);
-        conclude(
-            alloc,
-            program,
-            supply,
-            &mut working.found,
-            &mut working.index,
-            &mut working.methods,
-            item,
-            &mut working.steps,
-        )?;
-        working.found.tables.apart();
-        working.queue.take_all(&working.steps, pair_limit)?;
+        take_in(alloc, program, supply, item, pair_limit, working)?;
         done += 1;
     }
     working.found.tables.apart();
     Ok(())
+}
+
+/// Takes in what the start leads to.
+fn take_start(
+    alloc: Global,
+    program: &Program,
+    tables: &mut Tables,
+    queue: &mut Queue,
+    entry: MethodNo,
+    pair_limit: u64,
+    steps: &mut Vec<Item>,
+) -> Result<(), SolveFailure>
+    requires entry { IsMethodNumber program.now entry.0 }
+    requires calls { length tables.old.calls ≡ 0 }
+    requires items { queue.old.items.keys ≡ [] }
+    requires pairs { queue.old.pairs ≡ 0 }
+    requires limit { 0 < pair_limit }
+    requires steps { steps.old.items ≡ [] }
+    ensures started { OnOk result (IsStarted program.now entry tables.new steps.new.items queue.new.items.keys) }
+    ensures held { OnOk result (All (Contains queue.new.items.keys) steps.new.items) }
+    ensures counted { queue.new.pairs ≡ pairs_among queue.new.items.keys }
+    ensures room { OnOk result (queue.new.pairs < pair_limit) }
+    ensures end { IfErr result (IsTakingEnd (IsStarted program.now entry tables.new steps.new.items queue.new.items.keys) queue.new.items.keys pair_limit) }
+{
+    start_items(alloc, program, tables, entry, steps)?;
+    tables.apart();
+    queue.take_all(steps, pair_limit)
+}
+
+/// Takes in what follows from an item, and puts the item in the index.
+fn take_in<S: Supply>(
+    alloc: Global,
+    program: &Program,
+    supply: &mut S,
+    item: Item,
+    pair_limit: u64,
+    working: &mut Working,
+) -> Result<(), SolveFailure>
+    requires supply { IsSupplyOf program.now (S.gives supply.old) }
+    requires item { IsKnownItem program.now working.old.found.tables item }
+    requires index { IsKnownIndex program.now working.old.found.tables (values_at working.old.index.sites.groups.items) (values_at working.old.index.users.groups.items) }
+    requires object { (object : Class) × (class_named program.now object_name ≡ Some object) }
+    requires answers { AreRight program.now working.old.found.tables working.old.found.answers }
+    requires apart { IsWithoutDoubles working.old.queue.items.keys }
+    requires counted { working.old.queue.pairs ≡ pairs_among working.old.queue.items.keys }
+    requires room { working.old.queue.pairs < pair_limit }
+    ensures taken { OnOk result (IsTakenIn program.now (S.gives supply.old) item working.old working.new) }
+    ensures held { OnOk result (All (Contains working.new.queue.items.keys) working.new.steps.items) }
+    ensures counted { working.new.queue.pairs ≡ pairs_among working.new.queue.items.keys }
+    ensures room { OnOk result (working.new.queue.pairs < pair_limit) }
+    ensures answers { OnOk result (AreRight program.now working.new.found.tables working.new.found.answers) }
+    ensures same { IsSameSupply (S.gives supply.old) (S.gives supply.new) }
+    ensures end { IfErr result (IsTakingEnd (IsTakenIn program.now (S.gives supply.old) item working.old working.new) working.new.queue.items.keys pair_limit) }
+{
+    conclude(
+        alloc,
+        program,
+        supply,
+        &mut working.found,
+        &mut working.index,
+        &mut working.methods,
+        item,
+        &mut working.steps,
+    )?;
+    working.found.tables.apart();
+    working.queue.take_all(&working.steps, pair_limit)
 }
