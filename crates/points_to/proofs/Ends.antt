@@ -1,8 +1,9 @@
 -- How the solver ends: with the limit, with a refusal, or with the least sets.
-use Rattle.std.proofs.Common.{◌≡◌, ℕ, List, Option, Some, None, refl, sym, subst}
+use Rattle.std.proofs.Common.{◌≡◌, ℕ, List, Option, Some, None, Result, Ok, Err, refl, sym, subst}
 use Rattle.std.specs.List.{Contains}
+use Rattle.std.specs.Result.{IfErr, IfOk, OnOk, result_and}
 use Rattle.failure.specs.declared.Failure.{Failure}
-use Rattle.failure.specs.declared.Failure.TheVariants.{OutOfMemory}
+use Rattle.failure.specs.declared.Failure.TheVariants.{Cause, OutOfMemory}
 use Rattle.jvm_model.specs.declared.number.MethodNo.{MethodNo}
 use Rattle.jvm_model.specs.declared.reason.Refusal.{Refusal}
 use Rattle.jvm_model.specs.Programs.{Program}
@@ -15,16 +16,28 @@ use Rattle.points_to.specs.declared.refusals.RefusedMethod.{RefusedMethod}
 use Rattle.points_to.specs.declared.solution.RunningMethod.{RunningMethod}
 use Rattle.points_to.specs.declared.solution.Solution.{Solution}
 use Rattle.points_to.specs.declared.solve_failure.SolveFault.{SolveFault}
+use Rattle.points_to.specs.declared.solve_failure.SolveFault.TheVariants.{PairLimit, Refused}
 use Rattle.points_to.specs.Closing.{KnownIn, IsClosed}
-use Rattle.points_to.specs.Refusing.{IsNamed}
+use Rattle.points_to.specs.Refusing.{IsNamed, IsRefusing}
 use Rattle.points_to.specs.Solutions.{IsSupplyOf, IsSolveEnd, IsSolved, EndsRefused}
 use Rattle.points_to.proofs.GivenMethods.{GivesOne}
 use Rattle.points_to.proofs.NamedRefusals.{least_below, named_none, named_some}
 use Rattle.points_to.proofs.PairedFacts.{fact_there, known_there}
 use Rattle.points_to.proofs.RunningMethods.{running_same}
 
-pub no_memory_end : (p : Program) (gives : GivenAs) (entry : MethodNo) (limit : ℕ) (failure : Failure SolveFault) → failure ≡ OutOfMemory → IsSolveEnd p gives entry limit failure
-no_memory_end p gives entry limit failure e = subst (λ (f : Failure SolveFault). IsSolveEnd p gives entry limit f) (sym e) tt
+-- memory that ran out is no refusal
+pub no_memory_refusing : (p : Program) (call : Option RefusedCall) (method : Option RefusedMethod) (failure : Failure SolveFault) → failure ≡ OutOfMemory → IsRefusing p call method failure
+no_memory_refusing p call method failure e = subst (λ (f : Failure SolveFault). IsRefusing p call method f) (sym e) tt
+
+-- what is so of a value that is answered where something else went well
+pub if_ok_and : {T U E : Type 0} (r : Result T E) (x : U) (P : Type 0) (Q : U → Type 0) → OnOk r P → (P → Q x) → IfOk (result_and r (Ok x)) Q
+if_ok_and (Ok t) x P Q h f = f h
+if_ok_and (Err e) x P Q h f = tt
+
+-- and of the failure where it did not
+pub if_err_and : {T U E : Type 0} (r : Result T E) (x : U) (P Q : E → Type 0) → ((e : E) → P e → Q e) → IfErr r P → IfErr (result_and r (Ok x)) Q
+if_err_and (Ok t) x P Q f h = tt
+if_err_and (Err e) x P Q f h = f e h
 
 module _ (p : Program) (gives : GivenAs) (supply : IsSupplyOf p gives) (one : GivesOne gives) (entry : MethodNo) (limit : ℕ) where
   pub refused_end : (n : Numbered) (items : List Item) (call : Option RefusedCall) (method : Option RefusedMethod) (listed : List RunningMethod)
@@ -35,6 +48,13 @@ module _ (p : Program) (gives : GivenAs) (supply : IsSupplyOf p gives) (one : Gi
     least = least_below p gives supply one entry limit n items call method listed closed;
     first = named_some p gives supply one entry limit n items call method listed closed r named;
   }
+
+  pub refusing_end : (n : Numbered) (items : List Item) (call : Option RefusedCall) (method : Option RefusedMethod) (listed : List RunningMethod)
+      → IsClosed p gives entry limit n items call method listed → (failure : Failure SolveFault) → IsRefusing p call method failure
+      → IsSolveEnd p gives entry limit failure
+  refusing_end n items call method listed closed (Cause (PairLimit k)) none = absurd none
+  refusing_end n items call method listed closed (Cause (Refused r)) named = refused_end n items call method listed closed r named
+  refusing_end n items call method listed closed OutOfMemory memory = tt
 
   pub solved : (s : Solution) (call : Option RefusedCall) (method : Option RefusedMethod) → IsClosed p gives entry limit s.tables s.items.items.keys call method s.methods.items → IsNamed p call method None
       → IsSolved p gives entry limit s

@@ -1,12 +1,16 @@
 -- This crate's own proofs alone rest on this module.
 -- The refusal that is named: of the first of the noted calls and methods.
 use Rattle.std.specs.Prelude.{◌≡◌, ◌⊎◌, ℕ, ◌+◌, List, Option, Some, None, option_map}
+use Rattle.failure.specs.declared.Failure.{Failure}
+use Rattle.failure.specs.declared.Failure.TheVariants.{Cause, OutOfMemory}
 use Rattle.jvm_model.specs.declared.reason.Refusal.{Refusal}
 use Rattle.jvm_model.specs.Programs.{Program}
 use Rattle.op_model.specs.Supplies.{IsCodedMethod}
 use Rattle.points_to_rules.specs.Refusals.{IsCodeStart}
 use Rattle.points_to.specs.declared.refusals.RefusedCall.{RefusedCall}
 use Rattle.points_to.specs.declared.refusals.RefusedMethod.{RefusedMethod}
+use Rattle.points_to.specs.declared.solve_failure.SolveFault.{SolveFault}
+use Rattle.points_to.specs.declared.solve_failure.SolveFault.TheVariants.{PairLimit, Refused}
 use Rattle.points_to.specs.Firsts.{LeadsMethod, TrailsMethod}
 
 -- The refusal of a call: in the file of its class, at the file offset of its node.
@@ -34,3 +38,9 @@ IsNamed p (Some call) method first = (LeadsMethod call.method.0 method × IsRefu
 abbrev pub IsOfCoded : Program → Option RefusedCall → Type 0
 IsOfCoded p None = Unit {0}
 IsOfCoded p (Some call) = IsCodedMethod p call.method.0
+
+-- The failure is the refusal that is named, or memory ran out.
+abbrev pub IsRefusing : Program → Option RefusedCall → Option RefusedMethod → Failure SolveFault → Type 0
+IsRefusing p call method (Cause (PairLimit n)) = ⊥
+IsRefusing p call method (Cause (Refused r)) = IsNamed p call method (Some r)
+IsRefusing p call method OutOfMemory = Unit {0}

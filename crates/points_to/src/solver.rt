@@ -1,13 +1,15 @@
 //! The solver.
 
-ghost use Rattle.std.specs.Prelude.{◌≡◌, Some, IfOk, IfErr};
+ghost use Rattle.std.specs.Prelude.{◌≡◌, Some, None, IfOk, OnOk, IfErr};
 ghost use Rattle.jvm_model.specs.Programs.{Class, object_name};
 ghost use Rattle.jvm_model.specs.Subtypes.{class_named};
 ghost use Rattle.linked_program.specs.Numbers.{IsMethodNumber};
 ghost use Rattle.op_model.specs.Supplies.{IsSameSupply};
+ghost use Rattle.points_to.specs.Refusing.{IsNamed, IsOfCoded, IsRefusing};
 ghost use Rattle.points_to.specs.Solutions.{IsSolved, IsSolveEnd, IsSupplyOf};
 
 use crate::closing::{Closing, close};
+use crate::refusals::Refusals;
 use crate::refused::first_refusal;
 use crate::solution::Solution;
 use crate::solve_failure::{SolveFailure, SolveFault};
@@ -37,8 +39,17 @@ pub fn solve<S: Supply>(
         return Err(Failure::Cause(SolveFault::PairLimit(0)));
     }
     let Closing { solution, refusals } = close(alloc, program, supply, entry, pair_limit)?;
+    refuse(alloc, program, refusals).and(Ok(solution))
+}
+
+/// Fails with the first refusal, if there is one.
+fn refuse(alloc: Global, program: &Program, refusals: Refusals) -> Result<(), SolveFailure>
+    requires { IsOfCoded program.now refusals.call }
+    ensures none { OnOk result (IsNamed program.now refusals.call refusals.method None) }
+    ensures end { IfErr result (IsRefusing program.now refusals.call refusals.method) }
+{
     match first_refusal(alloc, program, refusals)? {
         Some(refusal) => Err(Failure::Cause(SolveFault::Refused(refusal))),
-        None => Ok(solution),
+        None => Ok(()),
     }
 }

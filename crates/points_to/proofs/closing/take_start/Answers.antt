@@ -5,7 +5,8 @@ use Rattle.std.proofs.lemmas.Result.{IfErr-weaker}
 use Rattle.points_to_items.specs.ItemRules.{StartItem}
 use Rattle.points_to_tables.specs.declared.item.Item.{Item}
 use Rattle.points_to_tables.specs.Steps.{Adds}
-use Rattle.points_to.specs.Queues.{Takes}
+use Rattle.points_to.specs.Queues.{IsQueueEnd, Takes}
+use Rattle.points_to.specs.Taking.{IsStarted, IsTakingEnd}
 use Rattle.points_to.proofs.GivenMethods.{on_always}
 use Rattle.points_to.proofs.closing.take_start.Goals as goal
 
@@ -35,7 +36,7 @@ returns-clause-end c =
     let from_none = subst (λ (xs : List Item). Adds n (StartItem p c.args.entry) xs steps) c.requires.steps c.in_ok-start_items.ensures.adds in
     let over = subst (λ (xs : List Item). Takes xs c.deref.result.now new) c.requires.items c.take_all.ensures.takes in
     let takes = subst (λ (xs : List Item). Takes [] xs new) c.deref.ensures.value over in
-    IfErr-weaker c.take_all.result _ _ (λ failure end. inr (record {
+    IfErr-weaker c.take_all.result (IsQueueEnd new c.args.pair_limit) (IsTakingEnd (IsStarted p c.args.entry n steps new) new c.args.pair_limit) (λ failure end. inr (record {
       call = c.in_ok-start_items.ensures.call;
       apart = c.apart.ensures;
       adds = from_none;
