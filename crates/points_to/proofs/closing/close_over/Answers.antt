@@ -54,7 +54,7 @@ returns-in_err-take_in-clause-end g c =
     let e = err_from_is_err_and c.from_residual-in_err-take_in.result c.from_residual-in_err-take_in.ensures.1 in
     rw (e.1, e.2) (taken_end p gives now c.args.entry c.args.pair_limit c.at-item.result before after c.in_err-take_in.field-0.0
     (λ made. derived_more c.requires.supply (g.met.S.Supply.one_answer c.args.supply.now) c.args.entry c.loop-done.invariant.so_far c.len.ensures.apart c.at-item.ensures
-        (concluded p gives now c.loop-done.invariant.same c.at-item.result before after made) made.takes)
+    (concluded p gives now c.loop-done.invariant.same c.at-item.result before after made) made.takes)
     c.in_err-take_in.ensures.end)
 
 pub loop-done-preserved : goal.loop-done-preserved

@@ -1,4 +1,4 @@
-use Rattle.std.proofs.Common.{ℕ, List, inr, subst}
+use Rattle.std.proofs.Common.{List, inr, subst}
 use Rattle.std.specs.List.{All, Contains}
 use Rattle.std.specs.Result.{OnOk}
 use Rattle.std.proofs.lemmas.Result.{IfErr-weaker}
@@ -28,18 +28,21 @@ pub returns-clause-end : goal.returns-clause-end
 returns-clause-end g c =
     let made = c.in_ok-conclude.ensures in
     let takes = subst (λ (xs : List Item). Takes c.args.working.now.queue.items.keys xs c.take_all.new.self.items.keys) c.deref.ensures.value c.take_all.ensures.takes in
-    IfErr-weaker c.take_all.result _ _ (λ failure end. inr (record {
-      grows = made.grows;
-      apart = c.apart.ensures;
-      indexed = made.indexed;
-      adds = made.adds;
-      calls = made.calls;
-      lacks = made.lacks;
-      refused = made.refused;
-      methods = made.methods;
-      takes = takes;
-      items_apart = c.take_all.ensures.apart;
-    }, end)) c.take_all.ensures.end
+    IfErr-weaker c.take_all.result _ _ (λ failure end. inr (
+      record {
+        grows = made.grows;
+        apart = c.apart.ensures;
+        indexed = made.indexed;
+        adds = made.adds;
+        calls = made.calls;
+        lacks = made.lacks;
+        refused = made.refused;
+        methods = made.methods;
+        takes = takes;
+        items_apart = c.take_all.ensures.apart;
+      },
+      end,
+    )) c.take_all.ensures.end
 
 pub returns-clause-held : goal.returns-clause-held
 returns-clause-held g c = subst (λ (xs : List Item). OnOk c.take_all.result (All (Contains c.take_all.new.self.items.keys) xs)) c.deref.ensures.value c.take_all.ensures.held

@@ -1,4 +1,4 @@
-use Rattle.std.proofs.Common.{ℕ, List, [], inr, subst}
+use Rattle.std.proofs.Common.{List, [], inr, subst}
 use Rattle.std.specs.List.{All, Contains}
 use Rattle.std.specs.Result.{OnOk}
 use Rattle.std.proofs.lemmas.Result.{IfErr-weaker}
@@ -36,13 +36,16 @@ returns-clause-end c =
     let from_none = subst (λ (xs : List Item). Adds n (StartItem p c.args.entry) xs steps) c.requires.steps c.in_ok-start_items.ensures.adds in
     let over = subst (λ (xs : List Item). Takes xs c.deref.result.now new) c.requires.items c.take_all.ensures.takes in
     let takes = subst (λ (xs : List Item). Takes [] xs new) c.deref.ensures.value over in
-    IfErr-weaker c.take_all.result (IsQueueEnd new c.args.pair_limit) (IsTakingEnd (IsStarted p c.args.entry n steps new) new c.args.pair_limit) (λ failure end. inr (record {
-      call = c.in_ok-start_items.ensures.call;
-      apart = c.apart.ensures;
-      adds = from_none;
-      takes = takes;
-      items_apart = c.take_all.ensures.apart;
-    }, end)) c.take_all.ensures.end
+    IfErr-weaker c.take_all.result (IsQueueEnd new c.args.pair_limit) (IsTakingEnd (IsStarted p c.args.entry n steps new) new c.args.pair_limit) (λ failure end. inr (
+      record {
+        call = c.in_ok-start_items.ensures.call;
+        apart = c.apart.ensures;
+        adds = from_none;
+        takes = takes;
+        items_apart = c.take_all.ensures.apart;
+      },
+      end,
+    )) c.take_all.ensures.end
 
 pub returns-clause-held : goal.returns-clause-held
 returns-clause-held c = subst (λ (xs : List Item). OnOk c.take_all.result (All (Contains c.take_all.new.self.items.keys) xs)) c.deref.ensures.value c.take_all.ensures.held

@@ -28,7 +28,7 @@ returns-clause-end g c =
     subst (λ (r : Result Solution (Failure SolveFault)). IfErr r (IsSolveEnd p gives c.args.entry c.args.pair_limit)) (sym c.and.ensures)
     (if_err_and c.refuse.result closing.solution (IsRefusing p call method) (IsSolveEnd p gives c.args.entry c.args.pair_limit)
     (refusing_end p gives c.requires.supply (g.met.S.Supply.one_answer c.args.supply.now) c.args.entry c.args.pair_limit closing.solution.tables closing.solution.items.items.keys call method closing.solution.methods.items
-        c.in_ok-solution.ensures.closed)
+    c.in_ok-solution.ensures.closed)
     c.refuse.ensures.end)
 
 pub returns-clause-solved : goal.returns-clause-solved
