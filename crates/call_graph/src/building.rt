@@ -6,6 +6,7 @@ ghost use Rattle.points_to_rules.specs.Facts.{Fact};
 ghost use Rattle.points_to.specs.declared.solution.RunningMethod.{RunningMethod};
 ghost use Rattle.points_to.specs.Solutions.{AreFactsOf};
 ghost use Rattle.call_graph.specs.Grounds.{IsGround, nodes_of};
+ghost use Rattle.call_graph.specs.Sets.{AreSetsOf};
 ghost use Rattle.call_graph.specs.Written.{AreWrites};
 
 use crate::edges::edges_of;
@@ -27,28 +28,50 @@ pub fn ground_of(alloc: Global, program: &Program, solution: Solution) -> Result
     ensures tables { IfOk result (λ g. g.tables ≡ solution.tables) }
     ensures ground { IfOk result (λ g. (found : List Fact) → AreFactsOf solution.tables solution.items.items.keys found → IsGround program.now found g) }
 {
+    let found = found_in(alloc, program, &solution)?;
+    Ok(joined(solution, found))
+}
+
+/// What is found of a solution: its sets, and the instance fields that each method may write.
+#[derive(Drop)]
+struct Found {
+    sets: Sets,
+    writes: IndexSet<FieldWrite>,
+}
+
+/// The sets of a solution, and the instance fields that each method may write.
+fn found_in(alloc: Global, program: &Program, solution: &Solution) -> Result<Found, AllocError>
+    requires facts { (found : List Fact) × AreFactsOf solution.now.tables solution.now.items.items.keys found }
+    requires methods { (m : RunningMethod) → Contains solution.now.methods.items m → IsMethodIn program.now m.method.method.0 m.method }
+    ensures sets { IfOk result (λ found. AreSetsOf solution.now.tables solution.now.items.items.keys found.sets) }
+    ensures writes { IfOk result (λ found. AreWrites program.now (map nodes_of solution.now.methods.items) found.sets found.writes.keys) }
+{
     let sets = sets_of(alloc, &solution.tables, solution.items.items.as_slice())?;
     let writes = writes_of(alloc, program, &solution.methods, &sets)?;
-    let Solution {
-        tables,
-        items: _items,
-        methods,
-    } = solution;
-    let Sets {
-        sites,
-        running,
-        calls,
-        targets,
-    } = sets;
-    Ok(Ground {
-        tables,
-        methods,
-        sites,
-        running,
-        calls,
-        targets,
-        writes,
-    })
+    Ok(Found { sets, writes })
+}
+
+/// The ground of a solution, of which this is found.
+fn joined(solution: Solution, found: Found) -> Ground
+    ensures { result ≡ record {
+      tables = solution.tables;
+      methods = solution.methods;
+      sites = found.sets.sites;
+      running = found.sets.running;
+      calls = found.sets.calls;
+      targets = found.sets.targets;
+      writes = found.writes;
+    } }
+{
+    Ground {
+        tables: solution.tables,
+        methods: solution.methods,
+        sites: found.sets.sites,
+        running: found.sets.running,
+        calls: found.sets.calls,
+        targets: found.sets.targets,
+        writes: found.writes,
+    }
 }
 
 /// The instance fields that each method may write.

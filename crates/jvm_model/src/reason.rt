@@ -1,6 +1,6 @@
 //! Why an input is refused.
 
-ghost use Rattle.std.specs.Prelude.{◌≡◌};
+ghost use Rattle.std.specs.Prelude.{◌≡◌, Some};
 ghost use Rattle.failure.specs.declared.Failure.TheVariants.{Cause};
 ghost use Rattle.jvm_model.specs.Words.{word_of};
 
@@ -101,6 +101,8 @@ pub enum Reason {
 }
 
 impl fmt::Display for Reason {
+    ghost output = { λ reason. Some (word_of reason) };
+
     fn fmt<W: fmt::Write>(&self, f: &mut fmt::Formatter<W>) -> fmt::Result {
         f.write_str(reason_word(*self))
     }

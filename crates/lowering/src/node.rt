@@ -36,7 +36,6 @@ pub(crate) fn node(
     ensures { IfOk result (IsOrderedAt body.entry step.now) }
 {
     let trigger = trigger_of(body, judged);
-    let op = operation_of(alloc, body, step, judged)?;
     let handlers = node_handlers(
         alloc,
         body.program,
@@ -47,6 +46,7 @@ pub(crate) fn node(
     )?;
     let throws = thrown_classes(alloc, body.program, judged.row.raises, trigger)?;
     let successors = Vec::from_slice(alloc, step.successors.as_slice())?;
+    let op = operation_of(alloc, body, step, judged)?;
     Ok(Node {
         offset: step.offset,
         op,

@@ -1,8 +1,9 @@
 //! Words of runs.
 
-use command_words::{NumberOption, UsageFault, read_words};
+use command_words::{NumberOption, Request, UsageFault, read_words};
 use failure::Failure;
 use std::alloc::{AllocError, Global};
+use std::process::Abort;
 use std::test::Fail;
 
 /// The words of a text, which stand between spaces.
@@ -12,6 +13,16 @@ fn words_of(alloc: Global, texts: &[&str]) -> Result<Vec<String>, AllocError> {
         words.push(String::from_str(alloc, *text)?)?;
     }
     Ok(words)
+}
+
+/// What the words of `reads_each_option` ask for.
+fn look_at_request(rt: &impl Abort, request: Request<'_>) {
+    assert_eq!(rt; request.property, "p.toml");
+    assert_eq!(rt; request.stubs, Some("s.toml"));
+    assert_eq!(rt; request.class, b"a/b.C".as_slice());
+    assert_eq!(rt; request.method, b"main".as_slice());
+    assert_eq!(rt; (request.stages, request.depth), (1, 3));
+    assert_eq!(rt; (request.fact_limit, request.pair_limit), (1_000_000, 1));
 }
 
 #[test]
@@ -33,13 +44,7 @@ fn reads_each_option(rt: HostRuntime) -> Result<(), Fail> {
         "1",
     ];
     let words = words_of(rt.alloc(), &texts)?;
-    let request = read_words(rt.alloc(), &words)?;
-    assert_eq!(rt; request.property, "p.toml");
-    assert_eq!(rt; request.stubs, Some("s.toml"));
-    assert_eq!(rt; request.class, b"a/b.C".as_slice());
-    assert_eq!(rt; request.method, b"main".as_slice());
-    assert_eq!(rt; (request.stages, request.depth), (1, 3));
-    assert_eq!(rt; (request.fact_limit, request.pair_limit), (1_000_000, 1));
+    look_at_request(&rt, read_words(rt.alloc(), &words)?);
     Ok(())
 }
 
@@ -56,11 +61,11 @@ fn refuses_a_depth(rt: HostRuntime) -> Result<(), Fail> {
         "+2",
     ];
     let words = words_of(rt.alloc(), &texts)?;
-    let refused = read_words(rt.alloc(), &words);
+    let fault = read_words(rt.alloc(), &words).err();
     assert!(rt;
         matches!(
-            refused,
-            Err(Failure::Cause(UsageFault::Range(NumberOption::Depth)))
+            fault,
+            Some(Failure::Cause(UsageFault::Range(NumberOption::Depth)))
         )
     );
     Ok(())

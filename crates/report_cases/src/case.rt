@@ -1,12 +1,13 @@
 //! A case: a folder of class files with a property and an entry.
 
-ghost use Rattle.std.specs.Prelude.{◌≡◌, ℕ, Some};
+ghost use Rattle.std.specs.Prelude.{◌≡◌, ℕ, Some, All, IfOk};
 ghost use Rattle.folder_report.specs.Analyses.{IsAnalysis};
 ghost use Rattle.folder_supply.specs.Supplied.{IsSupplied};
 ghost use Rattle.jvm_model.specs.Automata.{IsAutomaton};
 ghost use Rattle.jvm_model.specs.declared.number.MethodNo.{MethodNo as RuleMethodNo};
 ghost use Rattle.jvm_model.specs.Programs.{Class, object_name};
 ghost use Rattle.jvm_model.specs.Subtypes.{class_named};
+ghost use Rattle.linking.specs.LinkAnswers.{IsSoundFile};
 ghost use Rattle.linked_program.specs.Numbers.{name_at, IsClassNumber, IsMethodNumber};
 
 use anyhow::{Result, bail};
@@ -14,8 +15,9 @@ use call_graph::Ground;
 use case_files::{CaseFailure, is_refusal, link_case, read_all_stubs, read_files};
 use entry_method::{find_entry, has_method_named};
 use folder_report::{Report, analyse, has_object, report_of};
-use jvm_model::{Automaton, ClassNo, MethodNo};
+use jvm_model::{Automaton, ClassNo, MethodNo, NamedClass};
 use linked_program::program::Program;
+use points_to::SolveFailure;
 use property_file::read_property;
 use std::alloc::Global;
 use std::str;
@@ -29,21 +31,66 @@ const LIMIT: u64 = 20_000_000;
 
 /// Prints the report of a case.
 pub fn tell_case<R: Print, T: Tree>(rt: &R, alloc: Global, tree: &mut T) -> Result<()> {
+    let automaton = property_of(alloc, tree)?;
+    tell_entry(rt, alloc, tree, &automaton)
+}
+
+/// The automaton of the property of a case.
+fn property_of<T: Tree>(alloc: Global, tree: &mut T) -> Result<Automaton>
+    ensures { IfOk result IsAutomaton }
+{
     let property = tree.read(alloc, "p.toml", PROPERTY_BYTES)?;
-    let automaton = read_property(alloc, &property)?;
+    Ok(read_property(alloc, &property)?)
+}
+
+/// Prints the report of a case, whose file `entry` names the entry.
+fn tell_entry<R: Print, T: Tree>(
+    rt: &R,
+    alloc: Global,
+    tree: &mut T,
+    automaton: &Automaton,
+) -> Result<()>
+    requires { IsAutomaton automaton.now }
+{
     let bytes = tree.read(alloc, "entry", 65536)?;
     let text = str::from_utf8(&bytes)?;
     let Some((class, method)) = text.trim_end().rsplit_once('.') else {
         bail!("the entry has no full stop");
     };
+    tell_files(rt, alloc, tree, automaton, class, method)
+}
+
+/// Prints whether a class file has a method of the entry's name, and the report from that entry.
+fn tell_files<R: Print, T: Tree>(
+    rt: &R,
+    alloc: Global,
+    tree: &mut T,
+    automaton: &Automaton,
+    class: &str,
+    method: &str,
+) -> Result<()>
+    requires { IsAutomaton automaton.now }
+{
     let files = read_files(alloc, tree)?;
-    let stubs = read_all_stubs(alloc, tree)?;
     let named = has_method_named(&files, class.as_bytes(), method.as_bytes());
+    let linked = linked(alloc, tree, files);
     println!(rt; "has a method of the name: {named}")?;
-    match link_case(alloc, files, stubs) {
-        Ok(program) => tell_program(rt, alloc, &program, &automaton, class, method),
+    match linked {
+        Ok(program) => tell_program(rt, alloc, &program, automaton, class, method),
         Err(failure) => tell_failure(rt, failure),
     }
+}
+
+/// The program of the class files and the stubs of a case.
+fn linked<T: Tree>(
+    alloc: Global,
+    tree: &mut T,
+    files: Vec<NamedClass>,
+) -> Result<Program, CaseFailure>
+    requires { All IsSoundFile files.items }
+{
+    let stubs = read_all_stubs(alloc, tree)?;
+    link_case(alloc, files, stubs)
 }
 
 /// Prints the refusal for which nothing is linked. Another failure is handed on.
@@ -97,11 +144,14 @@ fn tell_analysis<R: Print>(
 {
     match analyse(alloc, program, entry, LIMIT) {
         Ok(ground) => tell_report(rt, alloc, program, &ground, automaton, class),
-        Err(failure) => {
-            println!(rt; "{failure}")?;
-            Ok(())
-        }
+        Err(failure) => tell_end(rt, &failure),
     }
+}
+
+/// Prints why there is no analysis.
+fn tell_end<R: Print>(rt: &R, failure: &SolveFailure) -> Result<()> {
+    println!(rt; "{failure}")?;
+    Ok(())
 }
 
 /// Prints the report on an analysis.

@@ -2,12 +2,13 @@
 
 use failure::Failure;
 use std::alloc::{AllocError, Global};
+use std::process::Abort;
 use std::rt::Files;
 use std::test::Fail;
 use std::{env, fs, io, process};
 use ts_outside::{
     MemorySink, MemoryTree, RealSink, RealTree, Sink, SinkFailure, SteadySink, SteadyTree, Tree,
-    TreeFault, names_differ,
+    TreeFailure, TreeFault, names_differ,
 };
 
 /// Four files, of which three are class files; each holds its own name.
@@ -30,56 +31,78 @@ fn line_of(alloc: Global, names: &Vec<String>) -> Result<String, AllocError> {
     Ok(line)
 }
 
+/// Sees which class files a tree lists.
+fn see_listing<T: Tree>(
+    rt: &impl Abort,
+    alloc: Global,
+    tree: &mut T,
+    want: &str,
+) -> Result<(), TreeFailure> {
+    let names = tree.list(alloc)?;
+    let line = line_of(alloc, &names)?;
+    assert_eq!(rt; line.as_str(), want);
+    Ok(())
+}
+
+/// Sees that a tree cannot be listed.
+fn see_no_listing<T: Tree>(rt: &impl Abort, alloc: Global, tree: &mut T) {
+    let fault = tree.list(alloc).err();
+    assert_eq!(rt; fault, Some(Failure::Cause(TreeFault::Failed)));
+}
+
+/// Sees what the first bytes of a file are, at most so many.
+fn see_bytes<T: Tree>(
+    rt: &impl Abort,
+    alloc: Global,
+    tree: &mut T,
+    (name, limit): (&str, u32),
+    want: &str,
+) -> Result<(), TreeFailure> {
+    let bytes = tree.read(alloc, name, limit)?;
+    assert_eq!(rt; bytes.as_slice(), want.as_bytes());
+    Ok(())
+}
+
+/// Sees why a file cannot be read.
+fn see_fault<T: Tree>(rt: &impl Abort, alloc: Global, tree: &mut T, name: &str, want: TreeFault) {
+    let fault = tree.read(alloc, name, 3).err();
+    assert_eq!(rt; fault, Some(Failure::Cause(want)), "{name}");
+}
+
+/// A tree of four files, of which the calls of these numbers fail.
+fn memory_tree(rt: &impl Abort, alloc: Global, failing: &[u32]) -> Result<MemoryTree, AllocError> {
+    let files = four_files(alloc)?;
+    assert!(rt; names_differ(files.as_slice()));
+    Ok(MemoryTree::new(files, Vec::from_slice(alloc, failing)?))
+}
+
 #[test]
 fn memory_tree_lists_reads_and_fails(rt: HostRuntime) -> Result<(), Fail> {
     let alloc = rt.alloc();
+    let mut tree = memory_tree(&rt, alloc, &[2, 4])?;
+    see_listing(&rt, alloc, &mut tree, "a.class a/c.class b.class ")?;
+    see_bytes(&rt, alloc, &mut tree, ("x.txt", 100), "x.txt")?;
+    see_no_listing(&rt, alloc, &mut tree);
+    see_bytes(&rt, alloc, &mut tree, ("a/c.class", 3), "a/c")?;
+    see_fault(&rt, alloc, &mut tree, "a.class", TreeFault::Failed);
+    see_fault(&rt, alloc, &mut tree, "c.class", TreeFault::Missing);
+    Ok(())
+}
+
+/// A tree of four files.
+fn steady_tree(rt: &impl Abort, alloc: Global) -> Result<SteadyTree, AllocError> {
     let files = four_files(alloc)?;
     assert!(rt; names_differ(files.as_slice()));
-    let mut tree = MemoryTree::new(files, Vec::from_slice(alloc, &[2, 4])?);
-    let names = tree.list(alloc)?;
-    assert_eq!(rt;
-        line_of(alloc, &names)?.as_str(),
-        "a.class a/c.class b.class "
-    );
-    assert_eq!(rt;
-        tree.read(alloc, "x.txt", 100)?.as_slice(),
-        b"x.txt".as_slice()
-    );
-    assert_eq!(rt;
-        tree.list(alloc).err(),
-        Some(Failure::Cause(TreeFault::Failed))
-    );
-    assert_eq!(rt;
-        tree.read(alloc, "a/c.class", 3)?.as_slice(),
-        b"a/c".as_slice()
-    );
-    assert_eq!(rt;
-        tree.read(alloc, "a.class", 3).err(),
-        Some(Failure::Cause(TreeFault::Failed))
-    );
-    assert_eq!(rt;
-        tree.read(alloc, "c.class", 3).err(),
-        Some(Failure::Cause(TreeFault::Missing))
-    );
-    Ok(())
+    Ok(SteadyTree::new(files))
 }
 
 #[test]
 fn steady_tree_lists_and_reads(rt: HostRuntime) -> Result<(), Fail> {
     let alloc = rt.alloc();
-    let files = four_files(alloc)?;
-    assert!(rt; names_differ(files.as_slice()));
-    let mut tree = SteadyTree::new(files);
-    let names = tree.list(alloc)?;
-    assert_eq!(rt;
-        line_of(alloc, &names)?.as_str(),
-        "a.class a/c.class b.class "
-    );
-    assert_eq!(rt; tree.read(alloc, "b.class", 1)?.as_slice(), b"b".as_slice());
-    assert_eq!(rt;
-        tree.read(alloc, "", 1).err(),
-        Some(Failure::Cause(TreeFault::Missing))
-    );
+    let mut tree = steady_tree(&rt, alloc)?;
+    see_listing(&rt, alloc, &mut tree, "a.class a/c.class b.class ")?;
+    see_bytes(&rt, alloc, &mut tree, ("b.class", 1), "b")?;
+    see_fault(&rt, alloc, &mut tree, "", TreeFault::Missing);
     Ok(())
 }
 
@@ -94,15 +117,24 @@ fn same_names_are_found(rt: HostRuntime) -> Result<(), Fail> {
     Ok(())
 }
 
+/// Writes pieces until nothing fits.
+fn see_writes(rt: &impl Abort, sink: &mut MemorySink) {
+    let writes = [
+        (b"abc".as_slice(), Ok(3), b"abc".as_slice()),
+        (b"de", Err(SinkFailure), b"abc"),
+        (b"defg", Ok(2), b"abcde"),
+        (b"h", Err(SinkFailure), b"abcde"),
+    ];
+    for (piece, answer, taken) in writes {
+        assert_eq!(rt; sink.write(piece), answer);
+        assert_eq!(rt; sink.taken(), taken);
+    }
+}
+
 #[test]
 fn memory_sink_takes_what_fits(rt: HostRuntime) -> Result<(), Fail> {
-    let mut sink = MemorySink::new(rt.alloc(), 5, Vec::from_slice(rt.alloc(), &[1])?)?;
-    assert_eq!(rt; sink.write(b"abc"), Ok(3));
-    assert_eq!(rt; sink.write(b"de"), Err(SinkFailure));
-    assert_eq!(rt; sink.taken(), b"abc".as_slice());
-    assert_eq!(rt; sink.write(b"defg"), Ok(2));
-    assert_eq!(rt; sink.write(b"h"), Err(SinkFailure));
-    assert_eq!(rt; sink.taken(), b"abcde".as_slice());
+    let failing = Vec::from_slice(rt.alloc(), &[1])?;
+    see_writes(&rt, &mut MemorySink::new(rt.alloc(), 5, failing)?);
     Ok(())
 }
 
@@ -128,53 +160,39 @@ fn make_folder(rt: &impl Files, alloc: Global, path: &str) -> io::Result<()> {
     Ok(())
 }
 
+/// A path that no other process takes.
+fn own_path(rt: &HostRuntime, alloc: Global) -> Result<String, Fail> {
+    let parent = env::temp_dir(rt)?;
+    let id = process::id(rt.process());
+    Ok(format!(in alloc; "{}/ts_outside-{id}", parent.display())?)
+}
+
+/// Sees what the tree of the folder lists, reads and does not read.
+fn see_folder<T: Tree>(rt: &impl Abort, alloc: Global, tree: &mut T) -> Result<(), TreeFailure> {
+    see_listing(rt, alloc, tree, "b.class p/a.class p/q/c.class ")?;
+    see_bytes(rt, alloc, tree, ("p/q/c.class", 3), "p/q")?;
+    see_bytes(rt, alloc, tree, ("x.txt", 100), "x.txt")?;
+    for name in ["p/b.class", "b.class/a", "p/../b.class", "/b.class"] {
+        see_fault(rt, alloc, tree, name, TreeFault::Missing);
+    }
+    see_fault(rt, alloc, tree, "p", TreeFault::Failed);
+    Ok(())
+}
+
+/// Sees the folder of a path, removes it, and sees that it is not there.
+fn see_path(rt: &HostRuntime, abort: &impl Abort, alloc: Global, path: &str) -> Result<(), Fail> {
+    let mut tree = RealTree::new(rt.clone()?, String::from_str(alloc, path)?);
+    see_folder(abort, alloc, &mut tree)?;
+    fs::remove_dir_all(rt, path)?;
+    see_no_listing(abort, alloc, &mut tree);
+    Ok(())
+}
+
 #[test]
 fn real_tree_walks_a_folder(rt: HostRuntime) -> Result<(), Fail> {
-    let alloc = rt.alloc();
-    let parent = env::temp_dir(&rt)?;
-    let id = process::id(rt.process());
-    let path = format!(in alloc; "{}/ts_outside-{id}", parent.display())?;
-    make_folder(&rt, alloc, path.as_str())?;
-    let mut tree = RealTree::new(rt.clone()?, path.clone()?);
-    let names = tree.list(alloc)?;
-    assert_eq!(rt;
-        line_of(alloc, &names)?.as_str(),
-        "b.class p/a.class p/q/c.class "
-    );
-    assert_eq!(rt;
-        tree.read(alloc, "p/q/c.class", 3)?.as_slice(),
-        b"p/q".as_slice()
-    );
-    assert_eq!(rt;
-        tree.read(alloc, "x.txt", 100)?.as_slice(),
-        b"x.txt".as_slice()
-    );
-    assert_eq!(rt;
-        tree.read(alloc, "p/b.class", 3).err(),
-        Some(Failure::Cause(TreeFault::Missing))
-    );
-    assert_eq!(rt;
-        tree.read(alloc, "b.class/a", 3).err(),
-        Some(Failure::Cause(TreeFault::Missing))
-    );
-    assert_eq!(rt;
-        tree.read(alloc, "p/../b.class", 3).err(),
-        Some(Failure::Cause(TreeFault::Missing))
-    );
-    assert_eq!(rt;
-        tree.read(alloc, "/b.class", 3).err(),
-        Some(Failure::Cause(TreeFault::Missing))
-    );
-    assert_eq!(rt;
-        tree.read(alloc, "p", 3).err(),
-        Some(Failure::Cause(TreeFault::Failed))
-    );
-    fs::remove_dir_all(&rt, path.as_str())?;
-    assert_eq!(rt;
-        tree.list(alloc).err(),
-        Some(Failure::Cause(TreeFault::Failed))
-    );
-    Ok(())
+    let path = own_path(&rt, rt.alloc())?;
+    make_folder(&rt, rt.alloc(), path.as_str())?;
+    see_path(&rt, &rt, rt.alloc(), path.as_str())
 }
 
 #[test]

@@ -5,7 +5,7 @@ use class_index::member_index::MemberIndex;
 use class_index::member_key::MemberKey;
 use jvm_model::ClassNo;
 use jvm_model::lookup::Signature;
-use std::alloc::Global;
+use std::process::Abort;
 use std::test::Fail;
 
 fn key<'a>(class: u32, name: &'a [u8]) -> MemberKey<'a> {
@@ -18,20 +18,25 @@ fn key<'a>(class: u32, name: &'a [u8]) -> MemberKey<'a> {
     }
 }
 
-fn of_two_classes(alloc: Global) -> Result<MemberIndex, IndexFailure> {
-    let mut index = MemberIndex::new(alloc);
+/// Adds the members of two classes, of which one has a member twice.
+fn add_members(index: &mut MemberIndex) -> Result<(), IndexFailure> {
     index.push(key(0, b"run"))?;
     index.push(key(1, b"run"))?;
-    index.push(key(1, b"run"))?;
-    Ok(index)
+    index.push(key(1, b"run"))
+}
+
+/// Looks for members by their keys.
+fn look_at_members(rt: &impl Abort, index: &MemberIndex) {
+    assert!(rt; !index.is_empty());
+    assert_eq!(rt; index.len(), 3);
+    let found = [index.first(key(1, b"run")), index.first(key(2, b"run"))];
+    assert_eq!(rt; found, [Some(1), None]);
 }
 
 #[test]
 fn the_first_of_equal_members_is_found(rt: HostRuntime) -> Result<(), Fail> {
-    let index = of_two_classes(rt.alloc())?;
-    assert!(rt; !index.is_empty());
-    assert_eq!(rt; index.first(key(1, b"run")), Some(1));
-    assert_eq!(rt; index.first(key(2, b"run")), None);
-    assert_eq!(rt; index.len(), 3);
+    let mut index = MemberIndex::new(rt.alloc());
+    add_members(&mut index)?;
+    look_at_members(&rt, &index);
     Ok(())
 }

@@ -14,6 +14,7 @@ use jvm_model::{
 use linked_program::method_body::MethodBody;
 use linked_program::program::Program;
 use std::alloc::{AllocError, Global};
+use std::process::Abort;
 use std::test::Fail;
 
 /// A copy of the bytes.
@@ -85,9 +86,8 @@ fn object_alone(alloc: Global) -> Result<Vec<Origin>, AllocError>
     Ok(vec![in alloc; Origin::Stub(object_class(alloc)?)]?)
 }
 
-#[test]
-fn a_class_says_what_it_is(rt: HostRuntime) -> Result<(), Fail> {
-    let program = Program::assemble(rt.alloc(), object_alone(rt.alloc())?)?;
+/// What the program says of its class.
+fn look_at_class(rt: &impl Abort, program: &Program) {
     program.well_formed();
     assert_eq!(rt; program.class_count(), 1);
     let object = ClassNo(0);
@@ -100,35 +100,45 @@ fn a_class_says_what_it_is(rt: HostRuntime) -> Result<(), Fail> {
     assert_eq!(rt; program.find(b"java/lang/Object"), Some(object));
     assert_eq!(rt; program.find(b"java/lang/String"), None);
     assert!(rt; program.is_at_or_above(object, object));
-    Ok(())
 }
 
-#[test]
-fn members_say_what_they_are(rt: HostRuntime) -> Result<(), Fail> {
-    let program = Program::assemble(rt.alloc(), object_alone(rt.alloc())?)?;
+/// What the program says of the constructor.
+fn look_at_method(rt: &impl Abort, program: &Program) {
     program.well_formed();
     assert_eq!(rt; program.class_count(), 1);
     let constructor = Signature {
         name: b"<init>",
         descriptor: b"()V",
     };
+    let Some(number) = program.declared_method(ClassNo(0), constructor) else {
+        panic!(rt; "there is no constructor");
+    };
+    assert_eq!(rt; number, MethodNo(0));
+    assert_eq!(rt; program.method(number).flags, 0x0001);
+    assert!(rt; matches!(program.method_body(number), MethodBody::Described(_)));
+}
+
+/// What the program says of the field.
+fn look_at_field(rt: &impl Abort, program: &Program) {
+    program.well_formed();
+    assert_eq!(rt; program.class_count(), 1);
     let field = Signature {
         name: b"held",
         descriptor: b"I",
     };
-    if let Some(number) = program.declared_method(ClassNo(0), constructor) {
-        assert_eq!(rt; number, MethodNo(0));
-        assert_eq!(rt; program.method(number).flags, 0x0001);
-        assert!(rt; matches!(program.method_body(number), MethodBody::Described(_)));
-    } else {
-        assert!(rt; false);
-    }
-    if let Some(number) = program.declared_field(ClassNo(0), field) {
-        assert_eq!(rt; program.field(number).signature.name, b"held".as_slice());
-        assert_eq!(rt; program.field(number).flags, 0x0009);
-    } else {
-        assert!(rt; false);
-    }
+    let Some(number) = program.declared_field(ClassNo(0), field) else {
+        panic!(rt; "there is no field");
+    };
+    assert_eq!(rt; program.field(number).signature.name, b"held".as_slice());
+    assert_eq!(rt; program.field(number).flags, 0x0009);
     assert!(rt; program.declared_method(ClassNo(0), field).is_none());
+}
+
+#[test]
+fn a_program_says_what_it_has(rt: HostRuntime) -> Result<(), Fail> {
+    let program = Program::assemble(rt.alloc(), object_alone(rt.alloc())?)?;
+    look_at_class(&rt, &program);
+    look_at_method(&rt, &program);
+    look_at_field(&rt, &program);
     Ok(())
 }

@@ -4,56 +4,64 @@ use jvm_model::{Descriptor, Kind, descriptor_of};
 use std::alloc::{AllocError, Global};
 use std::test::Fail;
 
-/// Adds a kind to a text, and a space.
+/// Adds a kind to a text, and a space. The dimensions of an array are a byte.
 fn push_kind(text: &mut Vec<u8>, kind: &Kind) -> Result<(), AllocError> {
     match kind {
-        Kind::Prim { wide: true } => text.extend_from_slice(b"wide ")?,
-        Kind::Prim { wide: false } => text.extend_from_slice(b"prim ")?,
-        Kind::Class(name) => {
-            text.extend_from_slice(name.as_slice())?;
-            text.extend_from_slice(b" ")?;
-        }
+        Kind::Prim { wide: true } => text.extend_from_slice(b"wide"),
+        Kind::Prim { wide: false } => text.extend_from_slice(b"prim"),
+        Kind::Class(name) => text.extend_from_slice(name.as_slice()),
         Kind::Array {
             dimensions,
             element,
-        } => {
-            text.push(*dimensions)?;
-            text.extend_from_slice(b" of ")?;
-            text.extend_from_slice(element.as_slice())?;
-            text.extend_from_slice(b" ")?;
-        }
+        } => push_array(text, *dimensions, element.as_slice()),
+    }?;
+    text.push(b' ')?;
+    Ok(())
+}
+
+/// Adds an array to a text.
+fn push_array(text: &mut Vec<u8>, dimensions: u8, element: &[u8]) -> Result<(), AllocError> {
+    text.push(dimensions)?;
+    text.extend_from_slice(b" of ")?;
+    text.extend_from_slice(element)
+}
+
+/// Adds kinds to a text.
+fn push_kinds(text: &mut Vec<u8>, kinds: &[Kind]) -> Result<(), AllocError> {
+    for kind in kinds {
+        push_kind(text, kind)?;
     }
     Ok(())
 }
 
-/// A descriptor in words, with the dimensions of an array as a byte.
-fn in_words(alloc: Global, bytes: &[u8]) -> Result<Vec<u8>, AllocError> {
-    let mut text = Vec::new(alloc);
-    match descriptor_of(alloc, bytes)? {
-        None => text.extend_from_slice(b"none")?,
-        Some(Descriptor::Field(kind)) => push_kind(&mut text, &kind)?,
-        Some(
-            Descriptor::Method {
-                parameters,
-                outcome,
-            },
-        ) => {
+/// Adds a descriptor to a text.
+fn push_descriptor(text: &mut Vec<u8>, descriptor: &Descriptor) -> Result<(), AllocError> {
+    match descriptor {
+        Descriptor::Field(kind) => push_kind(text, kind),
+        Descriptor::Method {
+            parameters,
+            outcome,
+        } => {
             text.extend_from_slice(b"takes ")?;
-            for kind in parameters.as_slice() {
-                push_kind(&mut text, kind)?;
-            }
+            push_kinds(text, parameters.as_slice())?;
             text.extend_from_slice(b"gives ")?;
-            if let Some(kind) = outcome {
-                push_kind(&mut text, &kind)?;
-            }
+            push_kinds(text, outcome.as_slice())
         }
     }
+}
+
+/// A descriptor in words.
+fn in_words(alloc: Global, bytes: &[u8]) -> Result<Vec<u8>, AllocError> {
+    let mut text = Vec::new(alloc);
+    match &descriptor_of(alloc, bytes)? {
+        None => text.extend_from_slice(b"none"),
+        Some(descriptor) => push_descriptor(&mut text, descriptor),
+    }?;
     Ok(text)
 }
 
 #[test]
 fn descriptors_have_values(rt: HostRuntime) -> Result<(), Fail> {
-    let alloc = rt.alloc();
     let cases = [
         ("I", "prim "),
         ("J", "wide "),
@@ -73,22 +81,24 @@ fn descriptors_have_values(rt: HostRuntime) -> Result<(), Fail> {
         ("", "none"),
     ];
     for (text, want) in cases {
-        assert_eq!(rt;
-            in_words(alloc, text.as_bytes())?.as_slice(),
-            want.as_bytes(),
-            "{text}"
-        );
+        let told = in_words(rt.alloc(), text.as_bytes())?;
+        assert_eq!(rt; told.as_slice(), want.as_bytes(), "{text}");
     }
-    let mut text = vec![in alloc; b'['; 255]?;
+    Ok(())
+}
+
+/// An array of booleans with so many dimensions, in words.
+fn array_in_words(alloc: Global, dimensions: usize) -> Result<Vec<u8>, AllocError> {
+    let mut text = vec![in alloc; b'['; dimensions]?;
     text.push(b'Z')?;
-    assert_eq!(rt;
-        in_words(alloc, text.as_slice())?.as_slice(),
-        b"\xff of Z ".as_slice()
-    );
-    text.insert(0, b'[')?;
-    assert_eq!(rt;
-        in_words(alloc, text.as_slice())?.as_slice(),
-        b"none".as_slice()
-    );
+    in_words(alloc, &text)
+}
+
+#[test]
+fn arrays_have_dimensions(rt: HostRuntime) -> Result<(), Fail> {
+    let most = array_in_words(rt.alloc(), 255)?;
+    assert_eq!(rt; most.as_slice(), b"\xff of Z ".as_slice());
+    let more = array_in_words(rt.alloc(), 256)?;
+    assert_eq!(rt; more.as_slice(), b"none".as_slice());
     Ok(())
 }

@@ -4,17 +4,9 @@ use jvm_model::grammar::{is_class_name, is_method_descriptor, is_method_name, is
 use std::alloc::{AllocError, Global};
 use std::test::Fail;
 
-/// `(`, so many of a byte, and an end.
-fn repeated(alloc: Global, byte: u8, count: usize, end: &[u8]) -> Result<Vec<u8>, AllocError> {
-    let mut text = Vec::from_slice(alloc, b"(")?;
-    text.extend_from_slice(vec![in alloc; byte; count]?.as_slice())?;
-    text.extend_from_slice(end)?;
-    Ok(text)
-}
-
 #[test]
-fn names_and_descriptors(rt: HostRuntime) -> Result<(), Fail> {
-    let class_names = [
+fn class_names(rt: HostRuntime) {
+    let names = [
         ("java/lang/Object", true),
         ("A", true),
         ("", false),
@@ -25,10 +17,14 @@ fn names_and_descriptors(rt: HostRuntime) -> Result<(), Fail> {
         ("[A", false),
         ("A;", false),
     ];
-    for (text, want) in class_names {
+    for (text, want) in names {
         assert_eq!(rt; is_class_name(text.as_bytes()), want, "class name {text}");
     }
-    let method_names = [
+}
+
+#[test]
+fn method_names(rt: HostRuntime) {
+    let names = [
         ("<init>", true),
         ("<clinit>", true),
         ("<x>", false),
@@ -36,10 +32,14 @@ fn names_and_descriptors(rt: HostRuntime) -> Result<(), Fail> {
         ("read", true),
         ("", false),
     ];
-    for (text, want) in method_names {
+    for (text, want) in names {
         assert_eq!(rt; is_method_name(text.as_bytes()), want, "method name {text}");
     }
-    let state_names = [
+}
+
+#[test]
+fn state_names(rt: HostRuntime) {
+    let names = [
         ("open_1-A", true),
         ("", false),
         ("a b", false),
@@ -52,9 +52,13 @@ fn names_and_descriptors(rt: HostRuntime) -> Result<(), Fail> {
             false,
         ),
     ];
-    for (text, want) in state_names {
+    for (text, want) in names {
         assert_eq!(rt; is_state_name(text.as_bytes()), want, "state name {text}");
     }
+}
+
+#[test]
+fn descriptors(rt: HostRuntime) {
     let descriptors = [
         ("()V", true),
         ("(I)V", true),
@@ -74,7 +78,19 @@ fn names_and_descriptors(rt: HostRuntime) -> Result<(), Fail> {
             "descriptor {text}"
         );
     }
-    let long_descriptors = [
+}
+
+/// Whether `(`, so many of a byte, and an end are a descriptor of a method.
+fn is_descriptor_of(alloc: Global, byte: u8, count: usize, end: &[u8]) -> Result<bool, AllocError> {
+    let mut text = vec![in alloc; byte; count]?;
+    text.insert(0, b'(')?;
+    text.extend_from_slice(end)?;
+    Ok(is_method_descriptor(&text))
+}
+
+#[test]
+fn long_descriptors(rt: HostRuntime) -> Result<(), Fail> {
+    let descriptors = [
         (b'I', 255, ")V", true),
         (b'I', 256, ")V", false),
         (b'J', 127, ")V", true),
@@ -82,13 +98,9 @@ fn names_and_descriptors(rt: HostRuntime) -> Result<(), Fail> {
         (b'[', 255, "I)V", true),
         (b'[', 256, "I)V", false),
     ];
-    for (byte, count, end, want) in long_descriptors {
-        let text = repeated(rt.alloc(), byte, count, end.as_bytes())?;
-        assert_eq!(rt;
-            is_method_descriptor(text.as_slice()),
-            want,
-            "{count} times {byte}"
-        );
+    for (byte, count, end, want) in descriptors {
+        let told = is_descriptor_of(rt.alloc(), byte, count, end.as_bytes())?;
+        assert_eq!(rt; told, want, "{count} times {byte}");
     }
     Ok(())
 }

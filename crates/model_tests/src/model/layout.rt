@@ -1,6 +1,6 @@
 //! A small class file, whose places are counted by hand.
 
-ghost use Rattle.std.specs.Prelude.{◌≡◌, IfOk, length};
+ghost use Rattle.std.specs.Prelude.{◌≡◌, ◌<◌, ◌^◌, IfOk, length};
 ghost use Rattle.jvm_model.specs.Layout.{HasCodeAttribute};
 ghost use Rattle.jvm_model.specs.Spelling.{spell};
 
@@ -9,6 +9,7 @@ use jvm_model::layout::{
 };
 use jvm_model::{Attribute, ClassFile, Member, PoolEntry, Sequence};
 use std::alloc::{AllocError, Global};
+use std::process::Abort;
 use std::test::Fail;
 
 fn attribute(alloc: Global, name: u16, body: &[u8]) -> Result<Attribute, AllocError>
@@ -62,14 +63,24 @@ fn class_of_two_methods(alloc: Global) -> Result<ClassFile, AllocError>
     })
 }
 
+/// Where the parts of the class begin.
+fn look_at_places(rt: &impl Abort, class: &ClassFile)
+    requires size { length (spell class.now) < 2 ^ 32 }
+    requires code { HasCodeAttribute class.now 1 }
+{
+    let places = [
+        flags_offset(class),
+        interfaces_offset(class),
+        fields_offset(class),
+        methods_offset(class),
+        attributes_offset(class),
+        code_place(class, 1),
+    ];
+    assert_eq!(rt; places, [33, 41, 45, 64, 100, 93]);
+}
+
 #[test]
 fn places_of_a_class(rt: HostRuntime) -> Result<(), Fail> {
-    let class = class_of_two_methods(rt.alloc())?;
-    assert_eq!(rt; flags_offset(&class), 33);
-    assert_eq!(rt; interfaces_offset(&class), 41);
-    assert_eq!(rt; fields_offset(&class), 45);
-    assert_eq!(rt; methods_offset(&class), 64);
-    assert_eq!(rt; attributes_offset(&class), 100);
-    assert_eq!(rt; code_place(&class, 1), 93);
+    look_at_places(&rt, &class_of_two_methods(rt.alloc())?);
     Ok(())
 }

@@ -5,12 +5,14 @@ ghost use Rattle.jvm_model.specs.declared.pool.EntryKind.TheVariants as kinds;
 ghost use Rattle.jvm_model.specs.declared.pool.PoolEntry.TheVariants as entries;
 ghost use Rattle.jvm_model.specs.Soundness.{leads_to, IsSoundClass};
 
+use jvm_model::lookup::Signature;
 use jvm_model::sound::{
     class_name, code_of, member_signature, method, signature, superclass_name, text,
     this_class_name,
 };
 use jvm_model::{Attribute, Bytes, ClassFile, Member, PoolEntry, Sequence};
 use std::alloc::{AllocError, Global};
+use std::process::Abort;
 use std::test::Fail;
 
 /// A copy of the bytes.
@@ -91,25 +93,51 @@ fn class_of_one_method(alloc: Global) -> Result<ClassFile, AllocError>
     })
 }
 
+/// What the class says at its indices.
+fn look_at_indices(rt: &impl Abort, class: &ClassFile)
+    requires sound { IsSoundClass class.now }
+    requires text { leads_to class.now.pool (kinds.Text ∷ []) 4 ≡ true }
+    requires class { leads_to class.now.pool (kinds.Class ∷ []) 7 ≡ true }
+    requires signature { leads_to class.now.pool (kinds.NameAndType ∷ []) 8 ≡ true }
+    requires method { leads_to class.now.pool (kinds.Method ∷ []) 9 ≡ true }
+{
+    assert!(rt; superclass_name(class).is_some_and(|name| name == b"B".as_slice()));
+    let names = [
+        this_class_name(class),
+        class_name(class, 7),
+        method(class, 9).class,
+        text(class, 4),
+    ];
+    let wanted = [b"A".as_slice(), b"B", b"A", b"m"];
+    assert_eq!(rt; names, wanted);
+    for said in [signature(class, 8), method(class, 9).signature] {
+        look_at_signature(rt, said);
+    }
+}
+
+/// What the class says of the name and the descriptor of its method.
+fn look_at_signature(rt: &impl Abort, said: Signature<'_>) {
+    assert_eq!(rt; said.name, b"m".as_slice());
+    assert_eq!(rt; said.descriptor, b"()V".as_slice());
+}
+
+/// What the class says of its method.
+fn look_at_methods(rt: &impl Abort, class: &ClassFile)
+    requires { IsSoundClass class.now }
+{
+    assert_eq!(rt; class.methods.len(), 1);
+    for member in class.methods.as_slice() {
+        look_at_signature(rt, member_signature(class, member));
+        assert!(rt;
+            code_of(class, member).is_some_and(|code| code.body.as_slice() == b"abc".as_slice())
+        );
+    }
+}
+
 #[test]
 fn a_class_says_its_names(rt: HostRuntime) -> Result<(), Fail> {
     let class = class_of_one_method(rt.alloc())?;
-    assert_eq!(rt; this_class_name(&class), b"A".as_slice());
-    assert!(rt; superclass_name(&class).is_some_and(|name| name == b"B".as_slice()));
-    assert_eq!(rt; text(&class, 4), b"m".as_slice());
-    assert_eq!(rt; class_name(&class, 7), b"B".as_slice());
-    assert_eq!(rt; signature(&class, 8).name, b"m".as_slice());
-    assert_eq!(rt; signature(&class, 8).descriptor, b"()V".as_slice());
-    assert_eq!(rt; method(&class, 9).class, b"A".as_slice());
-    assert_eq!(rt; method(&class, 9).signature.name, b"m".as_slice());
-    assert_eq!(rt; class.methods.len(), 1);
-    for member in class.methods.as_slice() {
-        let said = member_signature(&class, member);
-        assert_eq!(rt; said.name, b"m".as_slice());
-        assert_eq!(rt; said.descriptor, b"()V".as_slice());
-        assert!(rt;
-            code_of(&class, member).is_some_and(|code| code.body.as_slice() == b"abc".as_slice())
-        );
-    }
+    look_at_indices(&rt, &class);
+    look_at_methods(&rt, &class);
     Ok(())
 }

@@ -1,6 +1,8 @@
 //! A call of `read_class`, on a class file without members. The program `reader_cases` tells what it tells of others.
 
 use classfile_reader::{CLASS_FILE_LIMIT, read_class};
+use jvm_model::ClassFile;
+use std::process::Abort;
 use std::test::*;
 
 /// A class A, whose superclass is java/lang/Object.
@@ -16,12 +18,16 @@ fn class() -> &'static [u8] {
     &CLASS
 }
 
-#[test]
-fn a_class_is_read(rt: HostRuntime) -> Result<(), Fail> {
-    assert!(rt; class().len() < CLASS_FILE_LIMIT as usize);
-    let class = read_class(rt.alloc(), class())?;
+/// What is told of the class.
+fn look_at_class(rt: &impl Abort, class: &ClassFile) {
     assert_eq!(rt; (class.minor, class.major, class.flags), (0, 52, 0x21));
     assert_eq!(rt; (class.this_class, class.super_class), (2, 4));
     assert_eq!(rt; (class.pool.len(), class.methods.len()), (4, 0));
+}
+
+#[test]
+fn a_class_is_read(rt: HostRuntime) -> Result<(), Fail> {
+    assert!(rt; class().len() < CLASS_FILE_LIMIT as usize);
+    look_at_class(&rt, &read_class(rt.alloc(), class())?);
     Ok(())
 }
