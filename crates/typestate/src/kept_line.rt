@@ -1,6 +1,6 @@
 //! A sink that keeps the end of what it hands on.
 
-ghost use Rattle.std.specs.Prelude.{◌≡◌, ℕ, ◌<◌, ◌≤◌, ◌++◌, List, length, take, Option, option_map, IfOk, OnErr};
+ghost use Rattle.std.specs.Prelude.{◌≡◌, ◌⊎◌, ℕ, ◌<◌, ◌≤◌, ◌-◌, ◌++◌, [], List, length, take, drop, Option, option_map, IfOk, OnErr};
 ghost use Rattle.ts_outside.specs.Counts.{Rose};
 ghost use Rattle.ts_outside.specs.Handed.{Handed, and_then};
 
@@ -40,7 +40,8 @@ impl<S: Sink + Drop> KeptLine<S> {
 
     /// Keeps the end of what was taken. Where there is no memory for it, nothing is kept.
     fn keep(&mut self, taken: &[u8])
-        ensures { self.new.inner ≡ self.old.inner }
+        ensures inner { self.new.inner ≡ self.old.inner }
+        ensures end { (self.new.end.items ≡ []) ⊎ (self.new.end.items ≡ drop (length taken.now - 64) taken.now) }
     {
         let (_front, end) = taken.split_at(taken.len().saturating_sub(KEPT));
         self.end.clear();
