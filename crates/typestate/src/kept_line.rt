@@ -20,7 +20,8 @@ pub(crate) struct KeptLine<S: Sink + Drop> {
 impl<S: Sink + Drop> KeptLine<S> {
     /// A sink that hands each piece on to this one.
     pub(crate) fn new(alloc: Global, inner: S) -> KeptLine<S>
-        ensures { result.inner ≡ inner }
+        ensures inner { result.inner ≡ inner }
+        ensures end { result.end.items ≡ [] }
     {
         KeptLine {
             inner,
