@@ -42,6 +42,7 @@ class ClassFile:
     methods_named: set = field(default_factory=set)
     pool: dict = field(default_factory=dict)
     path: str = ""
+    source: str = ""
 
     def has(self, flag):
         """Whether this access flag is set."""
@@ -149,6 +150,15 @@ class Reader:
         """The fields or the methods, which stand next."""
         return dict(self.member() for _ in range(self.u2()))
 
+    def source_file(self):
+        """The name of the source file, from the attributes of the class, which stand next."""
+        for _ in range(self.u2()):
+            attribute, length = self.text(self.u2()), self.u4()
+            if attribute == "SourceFile":
+                return self.text(self.u2())
+            self.at += length
+        return ""
+
     def whole(self):
         """The class, from its constant pool on."""
         self.read_pool()
@@ -157,6 +167,7 @@ class Reader:
         found = ClassFile(major_version(self.data), self.class_name(this), flags,
                           self.class_name(above) if above else "", interfaces, self.members(), self.members())
         found.pool = self.pool
+        found.source = self.source_file()
         for tag, body in self.pool.values():
             if tag == 7:
                 found.classes_named.add(self.text(struct.unpack(">H", body)[0]))

@@ -1,5 +1,6 @@
-"""Finds which classes and members of the library stubs have to describe for the class files of a folder."""
+"""Finds which classes and members of the library stubs have to describe for the class files of a folder, and which models it needs."""
 
+import facts
 from class_file import ABSTRACT, INTERFACE, NATIVE, PRIVATE, STATIC, BadClassFile, Member, element_class, parse
 from library import Unusable
 
@@ -8,6 +9,10 @@ MADE = "made/"
 # What the library calls by itself: each `new` of a class that declares one is refused, so that they stay undescribed.
 LEFT_OUT = {("finalize", "()V"), ("fillInStackTrace", "()Ljava/lang/Throwable;")}
 # Their methods take any descriptor, and every call of them is refused.
+# Methods of the base stubs that give elements, or causes, which may be of the library's own making.
+GIVE_ELEMENTS = [("java/util/ArrayList", "get", "(I)Ljava/lang/Object;"), ("java/util/ArrayList$Itr", "next", "()Ljava/lang/Object;"),
+                 ("java/lang/Throwable", "getCause", "()Ljava/lang/Throwable;")]
+ENUM, ENUM_START = "java/lang/Enum", ("<init>", "(Ljava/lang/String;I)V")
 POLYMORPHIC = {"java/lang/invoke/MethodHandle", "java/lang/invoke/VarHandle"}
 
 
@@ -19,18 +24,24 @@ def result_class(descriptor):
 
 class Closure:
     """What is described: `classes` are names of classes of the library, `methods` and `fields` stand by class and by
-    name and descriptor, and `made` are the abstract types of which results and fields hold objects of a class of their own."""
+    name and descriptor, and `made` are the abstract types of which results and fields hold objects of a class of their own. `folder` are
+    the classes of the folder, with the models that it needs, which are `adopted` too; `named` the classes of the library that it
+    names in casts, tests and handlers, and `caught` those of handlers."""
 
-    def __init__(self, jdk, folder, base, handed_out):
-        self.jdk, self.folder, self.base = jdk, folder, base
-        named = set().union(*(each.classes_named for each in folder.values()))
-        self.handed_out = [name for name in sorted(handed_out) if name in named and name not in folder]
-        self.read = dict(folder)
+    def __init__(self, jdk, folder, base, uses, models, running):
+        self.jdk, self.base = jdk, base
+        self.folder = dict(folder)
+        self.own = {name: folder[name] for name in running}
+        self.models = {name: each for name, each in models.items() if name not in folder and name not in base}
+        self.adopted, self.waiting = {}, list(self.own.values())
+        self.read = {**self.models, **folder}
         self.classes, self.made = set(), set()
         self.methods, self.fields = {}, {}
-        self.missing, self.missing_members, self.base_fields = set(), set(), set()
-        self.left_out = set()
+        self.missing, self.missing_members, self.base_fields, self.object_fields = set(), set(), set(), set()
+        self.left_out, self.not_described = set(), facts.names_of("left_out")
         self.above, self.found = {}, {}
+        self.caught = [name for name in sorted(uses.caught) if name not in folder]
+        self.named = [name for name in sorted(uses.named) if name not in folder and not name.startswith("[")]
 
     # ---- classes
 
@@ -48,6 +59,9 @@ class Closure:
         """Describes a class and those above it. Whether it is there."""
         if name in self.folder or name in self.base or name in self.classes:
             return True
+        if name in self.models:
+            self.adopt(name)
+            return True
         if self.get(name) is None:
             self.missing.add(name)
             return False
@@ -55,6 +69,13 @@ class Closure:
         for above in self.get(name).supers():
             self.need(above)
         return True
+
+    def adopt(self, name):
+        """Takes a model into the folder, and the ones above it."""
+        self.folder[name] = self.adopted[name] = self.models[name]
+        self.waiting.append(self.models[name])
+        for above in self.models[name].supers():
+            self.need(above)
 
     def library_supers(self, name):
         """The supertypes that the library, or the folder, gives a class, from the nearest on."""
@@ -130,13 +151,17 @@ class Closure:
         ways = [each for each in [name] + self.program_supers(name) if each in self.base]
         return next(each for each in ways if declaring in self.library_supers(each))
 
+    def said(self, listed, owner, key):
+        """What a list of tools/facts says of a method."""
+        return facts.nearest(listed, [owner, *self.library_supers(owner)], key, lambda each: self.get(each) and key in self.get(each).methods)
+
     def is_described(self, name, key):
         """Whether the stub file or the base stubs describe a method in this class."""
         return key in self.methods.get(name, {}) or (name in self.base and key in self.base[name].methods)
 
     def describe(self, name, key, member):
         """Describes a method of a class, and the classes that its description mentions."""
-        if key in LEFT_OUT:
+        if key in LEFT_OUT or name in self.not_described:
             self.left_out.add((name,) + key)
         elif not self.is_described(name, key):
             self.methods.setdefault(name, {})[key] = member
@@ -162,8 +187,12 @@ class Closure:
         if declaring is None:
             if name not in POLYMORPHIC and name not in self.folder:
                 self.missing_members.add((name,) + key)
-        elif declaring not in self.folder:
+        elif not self.has_body(name, declaring):
             self.describe(self.place(name, declaring), key, self.get(declaring).methods[key])
+
+    def has_body(self, name, declaring):
+        """Whether the folder has the class where the library declares a method, and the program has it above another one."""
+        return declaring in self.folder and (declaring == name or declaring in self.program_supers(name))
 
     def field_named(self, name, key):
         """Takes a field that the folder names."""
@@ -175,6 +204,9 @@ class Closure:
                 self.base_fields.add((declaring,) + key)
             return
         member = self.get(declaring).fields[key]
+        if not member.has(STATIC) and key[1][0] in "L[":
+            self.object_fields.add((declaring,) + key)
+            return
         self.fields.setdefault(declaring, {})[key] = member
         if member.has(STATIC):
             self.need_object(result_class(key[1]))
@@ -183,19 +215,35 @@ class Closure:
 
     def collect(self):
         """Takes what the folder names, and then the overrides of it, until nothing is new."""
-        for each in self.folder.values():
+        for each in list(self.folder.values()):
+            for name in each.supers():
+                self.need(name)
+        for name in self.named:
+            self.need_object(name)
+        self.names_of_folder()
+        self.base_again()
+        while self.overrides():
+            self.names_of_folder()
+
+    def names_of_folder(self):
+        """Takes what classes of the folder name that were not asked yet."""
+        while self.waiting:
+            each = self.waiting.pop()
             for name in filter(None, map(element_class, each.classes_named)):
                 self.need(name)
-        for each in self.folder.values():
             for name, *key in each.fields_named:
                 self.field_named(name, tuple(key))
             for name, *key in each.methods_named:
                 self.method_named(name, tuple(key))
             self.natives(each)
-        for name in self.handed_out:
-            self.need_object(name)
-        while self.overrides():
-            pass
+
+    def base_again(self):
+        """Describes methods of the base stubs anew that give what may be of another class in the folder, or keep too little: an enum's
+        constant can be got by its name."""
+        for name, *key in GIVE_ELEMENTS if self.named else ():
+            self.methods.setdefault(name, {})[tuple(key)] = self.get(name).methods[tuple(key)]
+        if any(each.super_class == ENUM for each in self.folder.values()):
+            self.methods.setdefault(ENUM, {})[ENUM_START] = self.get(ENUM).methods[ENUM_START]
 
     def without_supers(self):
         """The classes of the folder that have a supertype which is nowhere, each with the first one."""
@@ -218,7 +266,7 @@ class Closure:
         for name in sorted(self.classes) + list(self.base):
             if name not in self.folder:
                 self.overrides_in(name)
-        for name, found in self.folder.items():
+        for name, found in [*self.own.items(), *self.adopted.items()]:
             if not found.has(INTERFACE):
                 self.overrides_for(name)
         for name in sorted(self.made):
@@ -231,6 +279,8 @@ class Closure:
         for each in supers:
             found.update((key, None) for key, member in self.methods.get(each, {}).items() if not member.has(STATIC))
             found.update((key, None) for key in (self.base[each].methods if each in self.base else {}))
+            found.update((key, None) for key, member in (self.adopted[each].methods if each in self.adopted else {}).items()
+                         if not member.has(STATIC) and not member.has(PRIVATE))
         return [key for key in found if not key[0].startswith("<")]
 
     def base_is_abstract(self, name, key):
@@ -252,7 +302,7 @@ class Closure:
         """Describes the body that a class has for a method from above: there, or in the class itself where the base stubs leave
         the class of the body out, or leave it abstract."""
         declaring = self.find_method(name, key)
-        if not declaring or declaring in self.folder or self.get(declaring).methods[key].has(ABSTRACT):
+        if not declaring or self.has_body(name, declaring) or self.get(declaring).methods[key].has(ABSTRACT):
             return
         member = self.get(declaring).methods[key]
         if declaring not in supers:

@@ -9,6 +9,8 @@ import zipfile
 
 from class_file import BadClassFile, parse
 
+BASE_DOCUMENT = os.path.join(os.path.dirname(os.path.realpath(__file__)), "..", "docs", "BASE_STUBS.md")
+
 
 class Unusable(Exception):
     """What a user named cannot be used; the text says what to do."""
@@ -136,12 +138,14 @@ def read_folder(folder):
 
 
 class BaseClass:
-    """A class that the base stubs describe: its supertypes, its methods, each with whether it is abstract, and which are static."""
+    """A class that the base stubs describe: its supertypes, its methods, each with whether it is abstract, which are static, and the new
+    objects that they give."""
 
     def __init__(self, supers, is_interface):
         self.supers = supers
         self.is_interface = is_interface
         self.methods = {}
+        self.returns = {}
         self.statics = set()
         self.fields = set()
 
@@ -185,6 +189,7 @@ def base_line(base, current, line):
     elif current and METHOD.match(line):
         is_static, name, descriptor, says = METHOD.match(line).groups()
         current.methods[name, descriptor] = says.startswith("abstract")
+        current.returns[name, descriptor] = re.findall(r"new:[^ ,]+", says)
         current.statics.update([(name, descriptor)] if is_static else [])
     return current
 

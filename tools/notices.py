@@ -27,6 +27,10 @@ def tell_undescribed(closure: Closure) -> None:
                                                      "files were made for"),
         (set(map(spelled, closure.base_fields)), "fields of classes of the base stubs, to which a stub file adds none; code that "
                                                  "names one is refused as NoStub"),
+        (set(map(spelled, closure.object_fields)), "fields of the library that hold objects, and of classes without a model; code that names "
+                                                   "one is refused as NoStub"),
+        ({name for name in closure.not_described if name in closure.classes}, "classes of which no description could be true, so that none of "
+                                                                               "their methods is described (tools/facts/left_out)"),
         (set(closure.folder) & set(closure.base), "classes of the folder that are base stubs too, which linking refuses; take "
                                                   "them out"),
     ]:

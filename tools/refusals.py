@@ -95,13 +95,13 @@ class Finder:
 
     def __init__(self, closure: Closure):
         self.closure = closure
-        self.undescribed = closure.missing_members | closure.base_fields | closure.left_out
+        self.undescribed = closure.missing_members | closure.base_fields | closure.left_out | closure.object_fields
 
     def all(self) -> list[Use]:
         """What is refused in all methods of the folder, class by class."""
         found: list[Use] = []
-        for name in sorted(self.closure.folder):
-            each = self.closure.folder[name]
+        for name in sorted(self.closure.own):
+            each = self.closure.own[name]
             with open(each.path, "rb") as file:
                 data = file.read()
             for key, member in each.methods.items():
@@ -190,8 +190,8 @@ class Finder:
 def natives(closure: Closure) -> list[str]:
     """The native methods of the folder: a stub has to describe them."""
     is_native = lambda member: isinstance(member, Member) and member.has(NATIVE)
-    return [visible(f"{name}.{key[0]}{key[1]}") for name in sorted(closure.folder)
-            for key, member in closure.folder[name].methods.items() if is_native(member)]
+    return [visible(f"{name}.{key[0]}{key[1]}") for name in sorted(closure.own)
+            for key, member in closure.own[name].methods.items() if is_native(member)]
 
 
 def named_at(found: ClassFile, code: bytes, at: int) -> str:

@@ -8,6 +8,7 @@ SCHEMA = "https://docs.oasis-open.org/sarif/sarif/v2.1.0/errata01/os/schemas/sar
 
 RULES: dict[str, str] = {
     "safe": "No order of the events that objects made at this place may meet breaks the protocol.",
+    "safe-if": "If what is assumed of the library holds, no order of the events that objects made at this place may meet breaks the protocol.",
     "unproved": "Some order of the events that objects made at this place may meet would break the protocol. That need not be a fault.",
     "limit": "The analysis met its limit of facts at this place. That need not be a fault.",
     "refused": "The input was refused, so that nothing was analysed.",
@@ -38,13 +39,14 @@ def location(finding: Finding) -> dict:
 
 
 def result(finding: Finding) -> dict:
-    """A finding as a result: a safe place passes; any other is a warning, so that systems that read the file show it."""
-    safe = finding.rule == "safe"
+    """A finding as a result: a safe place passes; one that rests on assumptions is to be reviewed, as a note; any other is a warning, so that
+    systems that read the file show it."""
+    level = {"safe": "none", "safe-if": "note", "refused": "error"}.get(finding.rule, "warning")
     found = {
         "ruleId": finding.rule,
         "ruleIndex": list(RULES).index(finding.rule),
-        "kind": "pass" if safe else "fail",
-        "level": "none" if safe else "error" if finding.rule == "refused" else "warning",
+        "kind": "pass" if finding.rule == "safe" else "fail",
+        "level": level,
         "message": {"text": finding.text},
     }
     place = location(finding)

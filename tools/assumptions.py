@@ -1,0 +1,338 @@
+"""What a verdict rests on besides the proof: each assumption on the library, in what may run, that could make a `safe` wrong. A list of
+them has a line for each: its kind, what it is about, and the source line; a file with such lines names those that somebody takes over."""
+
+import os
+from collections.abc import Iterator
+from dataclasses import dataclass
+
+import facts
+from bodies import CALLS, CAST, GETSTATIC, INSTANCE, INVOKE_STATIC, NULL, OBJECT, PUTFIELD, PUTSTATIC, Key, Use, named_type, parameter_types, result_type
+from class_file import element_class
+from effects import VALUES, Declared, Effects, arguments, read_protocol
+from library import Unusable, jdk_folder, open_jdk
+from program import Program
+from reach import LibraryCall, Method, Reach, entry_methods
+from source_lines import Sources
+from words import java_name, qualified
+
+KINDS: dict[str, str] = {
+    "call-back": "a method of the library may call methods of the program's objects, or of those of the protocol, and no description says so",
+    "contents": "what the library puts into an array or a container, or takes out of one, is not followed",
+    "cached": "an object that the library gives may be one that it gave before",
+    "held": "an object that the library gives may be closed or used by the library itself later",
+    "exceptions": "a handler catches an exception of the library that the stub file does not list",
+    "supertype": "a class is used in place of one below it, and the base stubs do not have it above that one",
+    "reflection": "the library may make objects of the program's classes by their names, and run their code",
+    "static": "the library may write a static field of its own",
+    "native": "a native method of the program does what its description says",
+    "values": "objects of the classes in tools/value_classes that the library gives back are not followed",
+}
+MAKES_OBJECTS = "makes_objects"
+CONTAINERS = ("java/lang/Iterable", "java/util/Map", "java/util/Iterator", "java/util/Enumeration", "java/util/Map$Entry")
+ANY = ("any", "java/lang/Throwable", "java/lang/Exception")
+UNCHECKED = ("java/lang/RuntimeException", "java/lang/Error")
+OF_THE_MACHINE = ("java/lang/VirtualMachineError", "java/lang/LinkageError", "java/lang/ThreadDeath")
+
+
+@dataclass(frozen=True)
+class Assumption:
+    """An assumption: its kind, what it is about, where, and why, as texts. `place` is the method and offset of the place that it bears on,
+    or None where it bears on each one."""
+    kind: str
+    about: str
+    where: str
+    why: str = ""
+    place: tuple[Method, int] | None = None
+
+    @property
+    def line(self) -> str:
+        """The assumption as a line names it."""
+        return f"{self.kind} {self.about}" + (f" at {self.where}" if self.where else "")
+
+    @property
+    def spelled(self) -> str:
+        """The line as it is printed."""
+        return self.line + (f": {self.why}" if self.why else "")
+
+
+@dataclass
+class RunWords:
+    """What a run was given beside the folder: the names of the property file and of the stub file in the folder, the entry, and the JDK."""
+    property: str
+    stubs: str = ""
+    entry: str = ""
+    jdk: str | None = None
+
+
+class Finder:
+    """Finds the assumptions of a run."""
+
+    def __init__(self, reach: Reach, effects: Effects, sources: Sources):
+        self.reach, self.effects, self.sources, self.program = reach, effects, sources, reach.program
+        self.protocol = effects.protocol
+        self.calls = [each for each in reach.library.values() if each.use.owner != "library/Library"]
+        self.taken = {id(each): arguments(reach.methods[each.method], each.use, self.program) for each in self.calls}
+        self.leaked = self.leaks()
+
+    def all(self) -> list[Assumption]:
+        """All of them, by kind, and then by place."""
+        found = dict.fromkeys(each for part in (self.of_calls, self.of_handlers, self.of_supertypes, self.of_natives, self.of_arrays, self.of_values)
+                              for each in part())
+        return sorted(found, key=lambda each: (list(KINDS).index(each.kind), each.line))
+
+    # ---- places in words
+
+    def where(self, method: Method, offset: int) -> str:
+        """The source file and line of an instruction, or its class where they are not known."""
+        file, line = self.sources.at(method[0], method[1], offset)
+        return f"{file}:{line}" if line else f"{java_name(method[0])}.{method[1][0]}:{offset}"
+
+    def called(self, call: LibraryCall) -> str:
+        """What is called."""
+        return qualified(call.owner, *call.key)
+
+    def at_call(self, kind: str, call: LibraryCall, why: str = "", here: bool = False) -> Assumption:
+        """An assumption on a call; `here` where it bears on the objects of this call alone."""
+        place = (call.method, call.use.offset) if here else None
+        return Assumption(kind, self.called(call), self.where(call.method, call.use.offset), why, place)
+
+    # ---- what the library has
+
+    def leaks(self) -> list[str]:
+        """The classes that the library has objects of: those that have a danger, and that are given to it to keep."""
+        kinds: dict[str, None] = {}
+        found: dict[str, None] = {}
+        for call in self.calls:
+            if not self.effects.keeps_nothing(call.owner, call.key):
+                found.update(dict.fromkeys(self.dangerous(call)))
+        for method, uses in self.reach.uses.items():
+            for use in uses:
+                if use.opcode in (PUTFIELD, PUTSTATIC) and self.program.declaring_field(use.owner, use.name) is None:
+                    kinds[element_class(named_type(use.descriptor) or NULL) or NULL] = None
+        for name in self.reach.made:
+            if name in self.program.code:
+                for key in self.effects.overrides(name):
+                    for each in self.program.selected(name, key):
+                        kinds.update(dict.fromkeys(filter(None, map(element_class, self.effects.gives(each, key)))))
+        kinds.pop(NULL, None)
+        found.update((name, None) for name in self.effects.dangers if any(self.program.is_below(name, kind) for kind in kinds))
+        return list(found)
+
+    # ---- calls of the library
+
+    def of_calls(self) -> Iterator[Assumption]:
+        """What is assumed of calls that may reach the library."""
+        for call in self.calls:
+            yield from self.call_backs(call)
+            yield from self.contents(call)
+            yield from self.results(call)
+            if call.owner == "java/lang/System" and call.use.name in ("setOut", "setErr", "setIn"):
+                yield self.at_call("static", call, f"System.{call.use.name[3:].lower()} is taken for what it was at the start")
+            if self.makes_objects(call):
+                yield self.at_call("reflection", call)
+
+    def makes_objects(self, call: LibraryCall) -> bool:
+        """Whether a call may make objects of classes by their names."""
+        if self.program.said(MAKES_OBJECTS, call.owner, call.key) is not None:
+            return True
+        given = call.use.opcode != INVOKE_STATIC and call.owner == "java/lang/Class"
+        return not given and "Ljava/lang/Class;" in parameter_types(call.use.descriptor) and self.effects.calls(call.owner, call.key) is None
+
+    def call_backs(self, call: LibraryCall) -> Iterator[Assumption]:
+        """What a call may call back."""
+        calls = self.effects.calls(call.owner, call.key)
+        if calls == []:
+            return
+        names = dict.fromkeys([*self.leaked, *self.dangerous(call)])
+        found = [(name, key[0]) for name in names for key in self.effects.dangers[name] if calls is None or self.allows(calls, name, key)]
+        if found:
+            told = list(dict.fromkeys(f"{name} of {java_name(owner)}" for owner, name in found))
+            more = f" and {len(told) - 2} more" if len(told) > 2 else ""
+            yield self.at_call("call-back", call, f"it may call {', '.join(told[:2])}{more}")
+
+    def dangerous(self, call: LibraryCall) -> list[str]:
+        """The classes with a danger of which a call may take objects. What an object of the library does with itself in a call that is an event
+        is that event."""
+        kinds = [each for each in map(element_class, self.taken[id(call)]) if each and each != NULL]
+        is_event = call.key in self.protocol.events and call.use.opcode != INVOKE_STATIC
+        found = [name for name in self.effects.dangers if any(self.program.is_below(name, kind) for kind in kinds[is_event:])]
+        if is_event and kinds:
+            found += [name for name in self.effects.dangers if name in self.program.code and self.program.is_below(name, kinds[0])]
+        return found
+
+    def allows(self, calls: list[str], name: str, key: Key) -> bool:
+        """Whether a method that may call these may call this one of an object of a class."""
+        for word in calls:
+            upper, _, method = word.partition(".")
+            if self.program.is_below(name, upper) and (not method or method == key[0]):
+                return True
+        return False
+
+    def contents(self, call: LibraryCall) -> Iterator[Assumption]:
+        """What a call may do with elements."""
+        if self.program.said("no_elements", call.owner, call.key) is not None:
+            return
+        outcome, after = named_type(result_type(call.use.descriptor)), call.use.after
+        arrays = [kind for kind in self.taken[id(call)] if self.has_elements(kind)]
+        given = after if after.startswith("[") else outcome
+        if after != "pop" and self.has_elements(given):
+            arrays.append(given)
+        if arrays:
+            yield self.at_call("contents", call, f"elements of {java_name(arrays[0])} are not followed")
+        elif self.gives_container(outcome, call):
+            yield self.at_call("contents", call, f"elements of its {java_name(outcome)} are taken for the program's own")
+
+    def has_elements(self, kind: str) -> bool:
+        """Whether a type is that of an array with elements that matter."""
+        return kind.startswith("[") and element_class(kind) not in VALUES | {None}
+
+    def gives_container(self, outcome: str, call: LibraryCall) -> bool:
+        """Whether a call gives a container of the library's own making that may hold objects of the protocol's class."""
+        if not any(self.program.is_below(outcome, upper) for upper in CONTAINERS) or self.protocol.class_name in self.program.code:
+            return False
+        return self.casts_to_tracked() and not self.is_fresh(call)
+
+    def casts_to_tracked(self) -> bool:
+        """Whether the program casts to a class whose objects may be of the protocol's class."""
+        if not hasattr(self, "casts"):
+            self.casts = any(use.opcode == CAST and use.owner != OBJECT and self.effects.is_related(use.owner)
+                             for method, uses in self.reach.uses.items() if method[0] not in self.program.models for use in uses)
+        return self.casts
+
+    def is_fresh(self, call: LibraryCall) -> bool:
+        """Whether a list says that what a call gives was never given before."""
+        return self.program.said("fresh_results", call.owner, call.key) is not None
+
+    def results(self, call: LibraryCall) -> Iterator[Assumption]:
+        """What a call gives, where it is an object of the protocol's class."""
+        outcome = named_type(result_type(call.use.descriptor))
+        if not outcome or outcome.startswith("[") or not self.effects.is_related(outcome):
+            return
+        news = {word[4:] for _, stub in self.program.described(call.owner, call.key) for word in stub.returns if word.startswith("new:")}
+        if not any(self.effects.is_tracked(name) for name in news):
+            return
+        said = self.program.said("fresh_results", call.owner, call.key)
+        if said is None:
+            yield self.at_call("cached", call, here=True)
+        elif "held" in said:
+            yield self.at_call("held", call, here=True)
+
+    # ---- other instructions
+
+    def of_arrays(self) -> Iterator[Assumption]:
+        """Static fields of the library that hold arrays."""
+        for method, use in self.all_uses():
+            is_ours = self.program.declaring_field(use.owner, use.name) is not None
+            if use.opcode == GETSTATIC and not is_ours and self.has_elements(named_type(use.descriptor)):
+                yield Assumption("contents", f"{java_name(use.owner)}.{use.name}", self.where(method, use.offset))
+
+    def all_uses(self) -> Iterator[tuple[Method, Use]]:
+        """The instructions that may run, and that are not in models."""
+        for method, uses in self.reach.uses.items():
+            if method[0] not in self.program.models:
+                yield from ((method, use) for use in uses)
+
+    def of_natives(self) -> Iterator[Assumption]:
+        """Native methods of the folder that may run."""
+        for name, key in self.reach.natives:
+            if name not in self.program.models:
+                yield Assumption("native", qualified(name, *key), "")
+
+    def of_supertypes(self) -> Iterator[Assumption]:
+        """Uses of a supertype that the base stubs leave out, where objects of a class below it are made."""
+        below: dict[str, list[str]] = {}
+        for name, uppers in facts.lines_of("cut_supertypes").items():
+            for upper in uppers if name in self.reach.made else ():
+                below.setdefault(upper, []).append(name)
+        for method, use in self.all_uses():
+            named = named_type(result_type(use.descriptor)) if use.opcode in CALLS else ""
+            for upper in (use.owner if use.opcode in CALLS or use.opcode in (CAST, INSTANCE) else "", named):
+                if upper in below:
+                    why = f"the base stub of {java_name(below[upper][0])} does not have it above itself"
+                    yield Assumption("supertype", java_name(upper), self.where(method, use.offset), why)
+
+    def of_values(self) -> Iterator[Assumption]:
+        """Whether the protocol is one of objects that are not followed through the library."""
+        above = next((name for name in sorted(VALUES) if self.program.is_below(name, self.protocol.class_name)), None)
+        if above:
+            yield Assumption("values", java_name(self.protocol.class_name), "", f"{java_name(above)} is such a class")
+
+    # ---- handlers
+
+    def of_handlers(self) -> Iterator[Assumption]:
+        """Exceptions of the library that are caught, and that a method of the stub file which is called does not list."""
+        stubs = {(name, call.key): stub.throws for call in self.calls for name, stub in self.program.described(call.owner, call.key)
+                 if not stub.is_base and not stub.is_abstract}
+        lacking = {each: self.lacking(each, stubs) for each in self.caught()}
+        for method, body in self.reach.methods.items():
+            for handler in body.handlers() if method[0] not in self.program.models else ():
+                name = "java/lang/RuntimeException" if handler.catches in ANY else handler.catches
+                if lacking.get(name):
+                    yield Assumption("exceptions", java_name(name), self.where(method, handler.target), f"as from {lacking[name]}")
+
+    def lacking(self, name: str, stubs: dict[Method, list[str]]) -> str:
+        """A method of the stub file that may throw an exception and does not list it, or an empty text."""
+        for (owner, key), throws in stubs.items():
+            if owner in self.program.models or any(self.program.is_below(each, name) for each in throws):
+                continue
+            listed = self.program.said("throws", owner, key)
+            if listed is None or any(self.program.is_below(name, each) or self.program.is_below(each, name) for each in listed):
+                return qualified(owner, *key)
+        return ""
+
+    def caught(self) -> set[str]:
+        """The unchecked exceptions of the library that the program catches."""
+        names = {handler.catches for method, body in self.reach.methods.items() if method[0] not in self.program.models
+                 for handler in body.handlers()}
+        names = {"java/lang/RuntimeException" if name in ANY else name for name in names}
+        return {name for name in names if self.program.is_library(name) and self.is_unchecked(name)}
+
+    def is_unchecked(self, name: str) -> bool:
+        """Whether an exception need not be declared, and comes not from the machine itself."""
+        return any(self.program.is_below(name, upper) for upper in UNCHECKED) and not any(self.program.is_below(name, upper) for upper in OF_THE_MACHINE)
+
+
+@dataclass
+class Resting:
+    """What the safe places of a run rest on: the assumptions that are open, and those that somebody took over. `looked` says whether
+    assumptions were looked for at all."""
+    open: list[Assumption]
+    taken: list[Assumption]
+    looked: bool = True
+
+    def bearing(self, method: Method, offset: int) -> list[Assumption]:
+        """The open assumptions that bear on a place."""
+        return [each for each in self.open if each.place in (None, (method, offset))]
+
+    def taken_for(self, method: Method, offset: int) -> list[Assumption]:
+        """Those that bear on a place and were taken over."""
+        return [each for each in self.taken if each.place in (None, (method, offset))]
+
+
+def resting_of(folder: str, words: RunWords, assumed: set[str]) -> Resting:
+    """What the safe places of a run rest on."""
+    program = Program(folder, [os.path.join(folder, words.stubs)] if words.stubs else [])
+    reach = Reach(program, entry_methods(program, words.entry))
+    try:
+        declared = Declared(open_jdk(jdk_folder(words.jdk)))
+    except Unusable:
+        declared = Declared(None)
+    effects = Effects(reach, read_protocol(os.path.join(folder, words.property)), declared)
+    found = Finder(reach, effects, Sources(folder)).all()
+    return Resting([each for each in found if not is_assumed(each, assumed)], [each for each in found if is_assumed(each, assumed)])
+
+
+def read_assumed(path: str) -> set[str]:
+    """The assumptions that a file takes over: a line each, as they are printed, with what follows a colon left out; without the part
+    from ` at ` on it stands for all places."""
+    try:
+        with open(path, encoding="utf-8") as file:
+            lines = [line.partition("#")[0].strip().partition(": ")[0] for line in file]
+    except (OSError, UnicodeDecodeError) as fault:
+        raise Unusable(f"{path} cannot be read ({fault}): name a file of lines as --assumptions prints them") from fault
+    return set(filter(None, lines))
+
+
+def is_assumed(assumption: Assumption, assumed: set[str]) -> bool:
+    """Whether an assumption is one of those that are taken over."""
+    return assumption.line in assumed or f"{assumption.kind} {assumption.about}" in assumed

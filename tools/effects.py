@@ -1,0 +1,266 @@
+"""What the library could do by calling methods of the program's objects: which methods it can call, and whether a call of one could matter.
+It matters where it may lead to an event of the protocol, writes an object into a field or an array, throws an exception of the program's
+own, or reaches what is not known. Of the library's own objects of the protocol's class each event matters."""
+
+import tomllib
+from dataclasses import dataclass
+
+import facts
+from bodies import (ARRAY_STORE, CALLS, FIELDS, GETFIELD, INVOKE_SPECIAL, INVOKE_STATIC, NEW, NULL, OBJECT, OBJECT_RETURN, PUTFIELD, PUTSTATIC, THROW, Body, Key,
+                    Use, named_type, parameter_types, result_type)
+from class_file import PRIVATE, BadClassFile, element_class, parse
+from library import Unusable
+from program import Program
+from reach import INITIALISER, Method, Reach
+
+VALUES = facts.VALUES
+LIBRARY = "library/Library"
+
+
+@dataclass
+class Protocol:
+    """A property: its class, and the names and descriptors of its events."""
+    class_name: str
+    events: set[Key]
+
+
+def read_protocol(path: str) -> Protocol:
+    """The property of a property file."""
+    try:
+        with open(path, "rb") as file:
+            table = tomllib.load(file)
+        return Protocol(table["class"], {(each["name"], each["descriptor"]) for each in table["event"]})
+    except (OSError, tomllib.TOMLDecodeError, KeyError, TypeError) as fault:
+        raise Unusable(f"{path} is no property file ({fault}): name the one of the run") from fault
+
+
+class Declared:
+    """The methods that classes of the library declare, by a JDK, or nothing where there is none."""
+
+    def __init__(self, jdk):
+        self.jdk = jdk
+        self.known: dict[str, set[Key] | None] = {}
+
+    def keys(self, name: str) -> set[Key] | None:
+        """The instance methods of a class of the JDK and of those above it that a class below could override; None where it is not known."""
+        if name not in self.known:
+            self.known[name] = self.look(name)
+        return self.known[name]
+
+    def look(self, name: str) -> set[Key] | None:
+        """Looks for them."""
+        try:
+            data = self.jdk.read(name) if self.jdk else None
+            found = parse(data) if data else None
+        except BadClassFile:
+            found = None
+        if found is None:
+            return None
+        keys = {key for key, each in found.methods.items() if not each.has(PRIVATE) and not each.has(8) and key[0] != "<init>"}
+        for above in found.supers():
+            keys |= self.keys(above) or set()
+        return keys
+
+
+class Effects:
+    """What calls of the library could do in a program of which this may run, under a protocol."""
+
+    def __init__(self, reach: Reach, protocol: Protocol, declared: Declared):
+        self.reach, self.program, self.protocol, self.declared = reach, reach.program, protocol, declared
+        self.harmless: set[Method] = set()
+        self.dangers: dict[str, dict[Key, str]] = {}
+        for name in reach.made:
+            found = self.dangers_of(name)
+            if found:
+                self.dangers[name] = found
+
+    # ---- what the library can call
+
+    def is_tracked(self, name: str) -> bool:
+        """Whether objects of a class are of the protocol's class."""
+        return self.program.is_below(name, self.protocol.class_name)
+
+    def is_related(self, name: str) -> bool:
+        """Whether a variable of this type may hold an object of the protocol's class."""
+        return self.is_tracked(name) or name == OBJECT or self.program.is_below(self.protocol.class_name, name)
+
+    def dangers_of(self, name: str) -> dict[Key, str]:
+        """The methods of objects of a class that the library can call, of which a call matters, each with why."""
+        if name not in self.program.code:
+            return dict.fromkeys(self.protocol.events, "an event") if self.is_tracked(name) else {}
+        found = {}
+        for key in self.overrides(name):
+            for each in self.program.selected(name, key):
+                why = self.why(name, each, key)
+                if why:
+                    found[key] = why
+        return found
+
+    def overrides(self, name: str) -> list[Key]:
+        """The methods of objects of a class of the folder that the library can call: those that a class of the library above it declares."""
+        ways = [name, *self.program.supers(name)]
+        keys = [self.declared.keys(each) for each in ways if each in self.program.stubs or each in self.program.models]
+        own = dict.fromkeys(key for each in ways if each in self.program.code for key in self.program.keys(each))
+        if any(each is None for each in keys):
+            return list(own)
+        return [key for key in own if any(key in each for each in keys)]
+
+    def why(self, name: str, declaring: str, key: Key) -> str:
+        """Why a call of a method on an object of a class matters, or an empty text."""
+        if self.is_tracked(name) and key in self.protocol.events:
+            return "an event"
+        if declaring not in self.program.code:
+            return ""
+        if declaring not in self.program.models and any(self.is_related(element_class(kind) or "") for kind in self.gives(declaring, key)):
+            return "it gives an object that may be one of the protocol's"
+        return self.harm(declaring, key)
+
+    def gives(self, name: str, key: Key) -> list[str]:
+        """The types of the objects that a method of the folder gives, but for those that hold nothing."""
+        body = self.program.body(name, key)
+        if body is None or named_type(result_type(key[1])) in VALUES | {""}:
+            return []
+        stacks = [body.takes(use.offset, self.program.join) for use in body.uses() if use.opcode == OBJECT_RETURN]
+        return [stack[-1] for stack in stacks if stack and stack[-1] not in VALUES | {NULL}]
+
+    # ---- whether a call matters
+
+    def harm(self, name: str, key: Key) -> str:
+        """Why what a method and all that it calls may do matters, or an empty text."""
+        made: dict[str, None] = {}
+        while True:
+            before = len(made)
+            found, seen = self.walk((name, key), made)
+            if found or len(made) == before:
+                if not found:
+                    self.harmless |= seen
+                return found
+
+    def walk(self, first: Method, made: dict[str, None]) -> tuple[str, set[Method]]:
+        """Goes through all that a method calls; `made` takes the classes of new objects that are made nowhere else."""
+        seen, ways = {first}, [first]
+        for method in ways:
+            if method in self.harmless:
+                continue
+            body = self.program.body(*method)
+            if body is None:
+                if self.program.is_native(*method) and method[0] not in self.program.models:
+                    return "it is native", seen
+                continue
+            if 186 in (opcode for _, opcode in body.instructions()):
+                return "it has an invokedynamic", seen
+            for use in body.uses():
+                found, called = self.of_use(method, body, use, made)
+                if found:
+                    return found, seen
+                ways.extend(each for each in called if each not in seen)
+                seen.update(called)
+        return "", seen
+
+    def of_use(self, method: Method, body: Body, use: Use, made: dict[str, None]) -> tuple[str, list[Method]]:
+        """Why an instruction matters, or else the methods of the folder that it calls."""
+        if use.opcode in CALLS:
+            return self.of_call(body, use, made)
+        if use.opcode == NEW and use.owner in self.program.code:
+            if use.owner not in self.reach.made:
+                made[use.owner] = None
+            return "", self.initialisers(use.owner)
+        stack = body.takes(use.offset, self.program.join)
+        if use.opcode == THROW and stack and stack[-1] in self.program.code and stack[-1] not in self.program.models:
+            return "it throws an exception of the program's own", []
+        if use.opcode in (PUTFIELD, PUTSTATIC) and self.writes(method, use, stack):
+            return "it writes a field", []
+        if use.opcode == ARRAY_STORE and stack and stack[-1] not in VALUES | {NULL}:
+            return "it writes an array", []
+        return "", self.initialisers(use.owner) if use.opcode in FIELDS and use.opcode not in (GETFIELD, PUTFIELD) else []
+
+    def writes(self, method: Method, use: Use, stack: list[str]) -> bool:
+        """Whether an instruction writes an object into a field, other than a constructor into its own object."""
+        kind = named_type(use.descriptor)
+        if not kind or kind in VALUES or not stack or stack[-1] == NULL:
+            return False
+        return not (use.opcode == PUTFIELD and method[1][0] == "<init>" and len(stack) > 1 and stack[-2] == method[0])
+
+    def initialisers(self, name: str) -> list[Method]:
+        """The initialisers that run where a class is used first, and that do not run otherwise."""
+        return [(each, INITIALISER) for each in [name, *self.program.supers(name)]
+                if each not in self.reach.started and self.program.body(each, INITIALISER)]
+
+    def of_call(self, body: Body, use: Use, made: dict[str, None]) -> tuple[str, list[Method]]:
+        """Why a call matters, or else the methods of the folder that it calls."""
+        key = use.name, use.descriptor
+        if use.owner == LIBRARY:
+            return "", []
+        if key in self.protocol.events and self.is_related(use.owner) and use.opcode != INVOKE_STATIC:
+            return f"it may lead to the event {use.name}", []
+        found = self.program.declaring(use.owner, key)
+        called = self.initialisers(use.owner) if use.opcode == INVOKE_STATIC else []
+        if found in self.program.code and use.opcode in (INVOKE_STATIC, INVOKE_SPECIAL):
+            return "", [*called, (found, key)]
+        selected = self.selects(use.owner, key, made) if use.opcode not in (INVOKE_STATIC, INVOKE_SPECIAL) else []
+        called += [(each, key) for each in selected if each in self.program.code]
+        met = [each for each in selected if each not in self.program.code] + ([use.owner] if found not in self.program.code else [])
+        for owner in dict.fromkeys(met):
+            why, more = self.of_library(body, use, owner, made)
+            if why:
+                return why, []
+            called += more
+        return "", called
+
+    def selects(self, owner: str, key: Key, made: dict[str, None]) -> list[str]:
+        """The classes whose method a call may select."""
+        names = [*self.reach.answering.get(key, ()), *made]
+        found = [each for name in dict.fromkeys(names) if self.program.is_below(name, owner) for each in self.program.selected(name, key)]
+        return list(dict.fromkeys(found))
+
+    def of_library(self, body: Body, use: Use, owner: str, made: dict[str, None]) -> tuple[str, list[Method]]:
+        """Why a call of a described method matters, or else the methods of the folder that it may call in turn."""
+        calls = self.calls(owner, (use.name, use.descriptor))
+        if calls is None:
+            return f"it calls {owner.replace('/', '.')}.{use.name}", []
+        if not self.keeps_nothing(owner, (use.name, use.descriptor)):
+            kinds = arguments(body, use, self.program)
+            if any((element_class(kind) or "") not in VALUES | {NULL, ""} for kind in kinds):
+                return f"it gives an object to {owner.replace('/', '.')}.{use.name}", []
+        called = []
+        for word in calls:
+            upper, _, name = word.partition(".")
+            for key, classes in self.reach.answering.items():
+                if not name or key[0] == name:
+                    below = [each for each in [*classes, *made] if each in self.program.code and self.program.is_below(each, upper)]
+                    called += [(each, key) for one in below for each in self.program.selected(one, key) if each in self.program.code]
+        return "", list(dict.fromkeys(called))
+
+    # ---- what the lists say
+
+    def calls(self, owner: str, key: Key) -> list[str] | None:
+        """What a described method may call: a list of `CLASS.METHOD` or `CLASS`; None where that is not known."""
+        found = self.program.said("calls", owner, key)
+        return None if found is None else [word for word in found if word != "nothing"]
+
+    def keeps_nothing(self, owner: str, key: Key) -> bool:
+        """Whether a described method keeps none of its arguments."""
+        return self.program.said("keeps_nothing", owner, key) is not None
+
+
+def arguments(body: Body, use: Use, program: Program) -> list[str]:
+    """The types of the objects that a call takes, the receiver first."""
+    stack = body.takes(use.offset, program.join)
+    kinds = ([] if use.opcode == INVOKE_STATIC else ["L" + use.owner + ";"]) + parameter_types(use.descriptor)
+    count = sum(2 if kind in "JD" else 1 for kind in kinds)
+    found, at = [], len(stack) - count
+    for kind in kinds:
+        if kind[0] in "L[":
+            seen = stack[at] if 0 <= at < len(stack) else ""
+            found.append(nearer(seen, named_type(kind), program))
+        at += 2 if kind in "JD" else 1
+    return found
+
+
+def nearer(seen: str, declared: str, program: Program) -> str:
+    """The narrower one of the type that is seen on the operand stack and of the declared one."""
+    if seen == NULL:
+        return NULL
+    if not seen or seen in "12":
+        return declared
+    return declared if program.is_below(declared, seen) and declared != OBJECT else seen
