@@ -193,13 +193,13 @@ class Effects:
             return "", []
         if key in self.protocol.events and self.is_related(use.owner) and use.opcode != INVOKE_STATIC:
             return f"it may lead to the event {use.name}", []
-        found = self.program.declaring(use.owner, key)
         called = self.initialisers(use.owner) if use.opcode == INVOKE_STATIC else []
-        if found in self.program.code and use.opcode in (INVOKE_STATIC, INVOKE_SPECIAL):
-            return "", [*called, (found, key)]
-        selected = self.selects(use.owner, key, made) if use.opcode not in (INVOKE_STATIC, INVOKE_SPECIAL) else []
+        if use.opcode in (INVOKE_STATIC, INVOKE_SPECIAL):
+            selected = [self.program.declaring(use.owner, key) or use.owner]
+        else:
+            selected = self.selects(use.owner, key, made)
         called += [(each, key) for each in selected if each in self.program.code]
-        met = [each for each in selected if each not in self.program.code] + ([use.owner] if found not in self.program.code else [])
+        met = [each for each in selected if each not in self.program.code]
         for owner in dict.fromkeys(met):
             why, more = self.of_library(body, use, owner, made)
             if why:

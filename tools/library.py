@@ -1,5 +1,6 @@
 """The library as the tools know it: the classes of a JDK, those of a folder, and what the base stubs describe."""
 
+import functools
 import mmap
 import os
 import re
@@ -37,6 +38,7 @@ def jdk_version(path):
     return found.group(1) if found else path
 
 
+@functools.cache
 def open_jdk(path):
     """The classes of a JDK: those of its image, or up to version 8 those of its jars."""
     image = os.path.join(path, "lib", "modules")

@@ -9,6 +9,9 @@ from program import Program
 
 Method = tuple[str, Key]
 INITIALISER = ("<clinit>", "()V")
+# The classes of objects that no instruction `new` and no description makes: constants, and what instructions throw (JVMS 6.5, 2.10).
+OF_THE_MACHINE = [f"java/lang/{name}" for name in ("String", "Class", "NullPointerException", "ArithmeticException", "ClassCastException", "ArrayStoreException",
+                  "NegativeArraySizeException", "ArrayIndexOutOfBoundsException", "NoClassDefFoundError", "ExceptionInInitializerError")]
 
 
 @dataclass
@@ -45,7 +48,7 @@ class Reach:
 
     def follow(self, entry: list[Method]) -> None:
         """Takes methods until there are no new ones."""
-        for each in [holds for stub in self.program.stubs.values() for holds in stub.holds]:
+        for each in [*OF_THE_MACHINE, *(holds for stub in self.program.stubs.values() for holds in stub.holds)]:
             self.make(each)
         for name, key in entry:
             self.start(name)
@@ -111,14 +114,14 @@ class Reach:
     def call(self, method: Method, use: Use) -> None:
         """Takes a call."""
         key = use.name, use.descriptor
-        found = self.program.declaring(use.owner, key)
-        if found is None or found not in self.program.code:
-            self.meet(method, use, found if found and use.owner in self.program.code else use.owner)
         if use.opcode in (INVOKE_STATIC, INVOKE_SPECIAL):
             self.start(use.owner if use.opcode == INVOKE_STATIC else "")
+            found = self.program.declaring(use.owner, key)
             if found in self.program.code:
                 self.run(found, key)
                 self.give(found, key)
+            else:
+                self.meet(method, use, found if found and use.owner in self.program.code else use.owner)
             return
         owner = use.owner
         self.callers[key, owner].append((method, use))

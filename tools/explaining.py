@@ -1,0 +1,194 @@
+"""Puts a report of the verifier into words: each line with its source line, what the verdicts mean, and what safe places rest on."""
+
+import os
+import textwrap
+from dataclasses import dataclass
+
+from advice import ADVICE, OTHERS
+from assumptions import KINDS, Assumption, Resting, RunWords, read_assumed, resting_of
+from library import Unusable
+from report import Ending, Place, read_report, status_of
+from sarif import Finding, document
+from source_lines import Sources
+from words import java_method, java_name, qualified
+
+# The status where all places are safe, some of them if assumptions hold.
+RESTS = 67
+MEANING: dict[str, str] = {
+    "safe": "safe: no order of the property's events that may happen to the objects made there leads to the error "
+            "state, on any way through the code. This rests on what the base stubs and the stub file say of the "
+            "library, and on a program without errors of the machine itself, as for want of memory; README.md "
+            "says under \"What is proved\" what is proved of the verifier.",
+    "unproved": "unproved: nothing is said against the program. What is built of the analysis is its first stage. "
+                "It asks only which of the property's events may happen to the objects made there, not in which "
+                "order; and some order of these leads to the error state. A program that keeps the order, as one "
+                "that reads first and closes then, is unproved too. Look at the place: which calls reach these "
+                "objects, and can they come in the forbidden order? Objects that are kept in a collection, or "
+                "that the library keeps, are taken for one another.",
+    "limit": "limit: the analysis stopped at this place, since it met its limit of facts. Nothing is said against "
+             "the program; a higher --fact-limit may decide it.",
+}
+
+
+class Telling:
+    """Puts lines of a report into words."""
+
+    def __init__(self, sources: Sources, below: str, resting: Resting):
+        self.sources, self.below, self.resting = sources, below, resting
+
+    def source(self, owner: str, key: tuple[str, str], offset: int) -> tuple[str, int]:
+        """The source file, below the folder of the sources, and the line."""
+        file, line = self.sources.at(owner, key, offset)
+        return (os.path.join(self.below, file) if file else ""), line
+
+    def place(self, place: Place) -> Finding:
+        """A place of a report."""
+        key = (place.method, place.descriptor)
+        made = "made here" if self.sources.makes(place.class_name, key, place.offset) else "which the library gives here"
+        made = f"{java_name(place.made)} {made}"
+        bearing = self.resting.bearing((place.class_name, key), place.offset) if place.verdict == "safe" else []
+        if bearing or (place.verdict == "safe" and not self.resting.looked):
+            return self.safe_if(place, made, bearing)
+        says = {
+            "safe": f"safe by stage {place.stage}: no order of the events that a {made} may meet breaks the protocol"
+                    + self.taken((place.class_name, key), place.offset),
+            "unproved": f"unproved, which need not be a fault: some order of the events that a {made} may meet would break "
+                        "the protocol",
+            "limit": f"not decided: stage {place.stage} met its limit of facts for a {made}",
+        }
+        return self.at_place(place, place.verdict, says[place.verdict])
+
+    def safe_if(self, place: Place, made: str, bearing: list[Assumption]) -> Finding:
+        """A place that is safe if assumptions hold."""
+        counts = {kind: sum(each.kind == kind for each in bearing) for kind in KINDS}
+        told = ", ".join(f"{kind} {count}" for kind, count in counts.items() if count) or "they were not looked for"
+        says = f"safe if what is assumed holds ({told}): then, by stage {place.stage}, no order of the events that a {made} may meet breaks the protocol"
+        return self.at_place(place, "safe-if", says)
+
+    def taken(self, method: tuple[str, tuple[str, str]], offset: int) -> str:
+        """What was taken over for a place, as the end of a sentence."""
+        taken = self.resting.taken_for(method, offset)
+        return f"; assumed, since somebody took it over: {'; '.join(each.line for each in taken)}" if taken else ""
+
+    def at_place(self, place: Place, rule: str, says: str) -> Finding:
+        """A finding at a place."""
+        key = (place.method, place.descriptor)
+        method = java_method(place.class_name, *key)
+        file, line = self.source(place.class_name, key, place.offset)
+        return Finding(rule, f"{says} (in {method}, offset {place.offset})", qualified(place.class_name, *key), file, line)
+
+    def ending(self, ending: Ending) -> Finding:
+        """A line that stands alone; only a refusal is a finding of a rule."""
+        if ending.kind == "none":
+            return Finding("", OTHERS["none"], "", "", 0)
+        if ending.kind != "refused":
+            return Finding("", f"{ending.kind} {ending.name}. {OTHERS[ending.kind]}", "", "", 0)
+        advice = ADVICE.get(ending.reason, "docs/REASONS.md says when this reason is told.")
+        found = self.sources.method_at(ending.name, ending.offset)
+        if not found:
+            where = "" if ending.name == "-" else f" in {ending.name}, byte {ending.offset}"
+            return Finding("refused", f"refused as {ending.reason}{where}. {advice}", "", "", 0)
+        owner, key, offset, named = found
+        at = f" at {java_name(named)}" if named else ""
+        method = java_method(owner, *key)
+        file, line = self.source(owner, key, offset)
+        text = f"refused as {ending.reason}{at} (in {method}, offset {offset}). {advice}"
+        return Finding("refused", text, qualified(owner, *key), file, line)
+
+
+def counted(findings: list[Finding]) -> str:
+    """How many places there are, and what was found of them."""
+    counts = {rule: sum(finding.rule == rule for finding in findings) for rule in ("safe", "safe-if", "unproved", "limit")}
+    if not findings:
+        return ("0 places: no method that may run makes an object of the property's class or of a class below it, so that "
+                "nothing was looked at. See that the property's class and the entry are the ones you mean.")
+    make = "1 place makes" if len(findings) == 1 else f"{len(findings)} places make"
+    safe_if = f"{counts['safe-if']} safe if what is assumed holds, " if counts["safe-if"] else ""
+    return (f"{make} objects of the property's class: {counts['safe']} safe, {safe_if}{counts['unproved']} unproved, "
+            f"{counts['limit']} not decided.")
+
+
+def write_resting(resting: Resting, places: list[Place], in_full: bool) -> None:
+    """Prints the assumptions that bear on safe places, a line for each kind or, in full, for each assumption."""
+    on_all = [each for each in resting.open if each.place is None]
+    safe = [((place.class_name, (place.method, place.descriptor)), place.offset) for place in places if place.verdict == "safe"]
+    bearing = list(dict.fromkeys(on_all + [each for each in resting.open if each.place in safe])) if safe or not places else []
+    if not resting.looked and (safe or not places):
+        print("\nNothing was looked for that a safe place rests on: name --property, --entry and, if the run had one, --stubs.")
+    if not bearing:
+        return
+    print("\n" + textwrap.fill("Assumed of the library beside what is proved; where one does not hold, `safe` may be wrong "
+                               "(--assumptions lists each one, --assume FILE takes some over):", 120))
+    for kind, says in KINDS.items():
+        of_kind = [each for each in bearing if each.kind == kind]
+        if of_kind and in_full:
+            print("", *(each.spelled for each in of_kind), sep="\n")
+        elif of_kind:
+            print(textwrap.fill(f"{kind} {len(of_kind)}: {says}; as {of_kind[0].spelled.partition(' ')[2]}", 120, subsequent_indent="  "))
+
+
+def write_words(findings: list[Finding], places: list[Place], resting: Resting, in_full: bool) -> None:
+    """Prints how many places there are and what was found of them, and then what the words mean."""
+    print(("\n" if places else "") + counted(findings))
+    write_resting(resting, places, in_full)
+    for verdict, meaning in MEANING.items():
+        if any(place.verdict == verdict for place in places):
+            print("\n" + textwrap.fill(meaning, 120))
+
+
+def write_findings(findings: list[Finding]) -> None:
+    """Prints the findings, a line each."""
+    for finding in findings:
+        where = f"{finding.file}:{finding.line or '?'}: " if finding.file else ""
+        print(f"{where}{finding.text}")
+
+
+@dataclass
+class Explaining:
+    """What an explanation is made of: the folder, the words of the run, or None where they are not known, the file of assumptions that are taken
+    over, the path before source files, the file for SARIF, and whether each assumption is listed."""
+    folder: str
+    run: RunWords | None
+    assume: str | None = None
+    sources: str = ""
+    sarif: str | None = None
+    in_full: bool = False
+
+
+def look_for_assumptions(asked: Explaining, places: list[Place], ending: Ending | None) -> Resting:
+    """What the safe places rest on; it is looked for where there is one, or where no place is there at all."""
+    if ending or (places and all(place.verdict != "safe" for place in places)):
+        return Resting([], [])
+    if asked.run is None:
+        return Resting([], [], looked=False)
+    return resting_of(asked.folder, asked.run, read_assumed(asked.assume) if asked.assume else set())
+
+
+def explain(report: str, asked: Explaining) -> int:
+    """Explains a report, and gives the exit status."""
+    places, ending = read_report(report)
+    resting = look_for_assumptions(asked, places, ending)
+    telling = Telling(Sources(asked.folder), asked.sources, resting)
+    findings = [telling.ending(ending)] if ending else [telling.place(place) for place in places]
+    if asked.sarif:
+        write_sarif(asked.sarif, findings, ending)
+    write_findings(findings)
+    if not ending:
+        write_words(findings, places, resting, asked.in_full)
+    return status_with(resting, [] if ending else findings, status_of(places, ending))
+
+
+def status_with(resting: Resting, findings: list[Finding], status: int) -> int:
+    """The exit status: that of the verifier, but where all is safe if assumptions hold."""
+    bears = any(finding.rule == "safe-if" for finding in findings) or (not findings and (resting.open or not resting.looked))
+    return RESTS if status == 0 and bears else status
+
+
+def write_sarif(path: str, findings: list[Finding], ending: Ending | None) -> None:
+    """Writes the findings as SARIF."""
+    trouble = findings[0].text if ending else ""
+    try:
+        with open(path, "w", encoding="utf-8", errors="backslashreplace") as file:
+            file.write(document(findings, trouble))
+    except OSError as fault:
+        raise Unusable(f"{path} cannot be written ({fault.strerror}): name another file") from fault
