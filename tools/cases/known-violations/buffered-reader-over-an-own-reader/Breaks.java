@@ -18,7 +18,7 @@ public final class Breaks {
     public static void main(String[] args) throws IOException {
         FileReader file = new FileReader(path());
         BufferedReader lines = new BufferedReader(new Upper(file));
-        System.out.println(lines.readLine());
+        lines.mark(8);
         lines.close();
         System.out.println(file.read());  // errs here
     }

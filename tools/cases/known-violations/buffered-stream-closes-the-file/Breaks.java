@@ -11,7 +11,7 @@ public final class Breaks {
     public static void main(String[] args) throws IOException {
         FileInputStream file = new FileInputStream(path());
         BufferedInputStream buffered = new BufferedInputStream(file);
-        System.out.println(buffered.read());
+        System.out.println(buffered.markSupported());
         buffered.close();
         System.out.println(file.read());  // errs here
     }

@@ -20,8 +20,8 @@ public final class Keeps {
     public static void main(String[] args) throws IOException {
         FileOutputStream file = new FileOutputStream(path());
         Checked checked = new Checked(file);
-        GZIPOutputStream zipped = new GZIPOutputStream(checked);
-        zipped.write(65);
+        DataOutputStream zipped = new DataOutputStream(new GZIPOutputStream(checked));
+        zipped.writeInt(65);
         file.write(checked.sum);
         zipped.close();
     }

@@ -1,4 +1,4 @@
-// The end of a try closes a BufferedWriter, and with it the own writer below.
+// The end of a try closes a PrintWriter, and with it the own writer below.
 import java.io.*;
 
 public final class Keeps {
@@ -15,9 +15,8 @@ public final class Keeps {
 
     public static void main(String[] args) throws IOException {
         FileWriter file = new FileWriter(path());
-        try (BufferedWriter lines = new BufferedWriter(new Indented(file))) {
-            lines.write("first");
-            file.write("zero");
+        try (PrintWriter lines = new PrintWriter(new BufferedWriter(new Indented(file)))) {
+            file.write("second");
         }
         System.out.println("end");
     }

@@ -1,4 +1,4 @@
-// The end of a try closes a BufferedWriter, and with it the own writer below.
+// The end of a try closes a PrintWriter, and with it the own writer below.
 import java.io.*;
 
 public final class Breaks {
@@ -15,9 +15,8 @@ public final class Breaks {
 
     public static void main(String[] args) throws IOException {
         FileWriter file = new FileWriter(path());
-        try (BufferedWriter lines = new BufferedWriter(new Indented(file))) {
-            lines.write("first");
-            lines.newLine();
+        try (PrintWriter lines = new PrintWriter(new BufferedWriter(new Indented(file)))) {
+            lines.println("first");
         }
         file.write("second");  // errs here
     }
