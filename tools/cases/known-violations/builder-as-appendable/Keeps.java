@@ -1,0 +1,23 @@
+// A StringBuilder is held as Appendable.
+import java.io.IOException;
+
+public final class Keeps {
+    static class F {
+        boolean closed;
+        void read() { if (closed) throw new IllegalStateException("read after close"); }
+        void close() { closed = true; }
+    }
+
+    static void print(F file, Appendable to) throws IOException {
+        to.append("text");
+        file.close();
+    }
+
+    public static void main(String[] args) throws IOException {
+        F file = new F();
+        StringBuilder text = new StringBuilder();
+        file.read();
+        System.out.println(text.toString());
+        print(file, text);
+    }
+}

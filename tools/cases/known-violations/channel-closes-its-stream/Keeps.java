@@ -1,0 +1,17 @@
+// Closing the channel of a FileInputStream closes the stream (the call is the library's).
+import java.io.*;
+
+public final class Keeps {
+    static String path() throws IOException {
+        File made = File.createTempFile("known", ".tmp");
+        made.deleteOnExit();
+        return made.getPath();
+    }
+
+    public static void main(String[] args) throws IOException {
+        FileInputStream file = new FileInputStream(path());
+        System.out.println(file.getChannel().size());
+        System.out.println(file.read());
+        file.getChannel().close();
+    }
+}

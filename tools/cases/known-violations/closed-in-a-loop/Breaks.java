@@ -1,0 +1,20 @@
+// A stream is made before a loop, and closed in it.
+import java.io.*;
+
+public final class Breaks {
+    static String path() throws IOException {
+        File made = File.createTempFile("known", ".tmp");
+        made.deleteOnExit();
+        return made.getPath();
+    }
+
+    public static void main(String[] args) throws IOException {
+        FileInputStream file = new FileInputStream(path());
+        byte[] part = new byte[16];
+        for (int times = 0; times < 2; times++) {
+            int count = file.read(part);  // errs here
+            System.out.println(count);
+            file.close();
+        }
+    }
+}

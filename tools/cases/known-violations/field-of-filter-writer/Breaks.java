@@ -1,0 +1,24 @@
+// A subclass of FilterWriter writes to the field out, which the library wrote.
+import java.io.*;
+
+public final class Breaks {
+    static final class Marked extends FilterWriter {
+        Marked(Writer to) { super(to); }
+        void mark() throws IOException {
+            out.write("--");  // errs here
+        }
+    }
+
+    static String path() throws IOException {
+        File made = File.createTempFile("known", ".tmp");
+        made.deleteOnExit();
+        return made.getPath();
+    }
+
+    public static void main(String[] args) throws IOException {
+        FileWriter file = new FileWriter(path());
+        Marked marked = new Marked(file);
+        file.close();
+        marked.mark();
+    }
+}

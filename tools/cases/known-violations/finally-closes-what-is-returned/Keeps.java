@@ -1,0 +1,25 @@
+// A method returns a stream that its finally block closes.
+import java.io.*;
+
+public final class Keeps {
+    static String path() throws IOException {
+        File made = File.createTempFile("known", ".tmp");
+        made.deleteOnExit();
+        return made.getPath();
+    }
+
+    static InputStream open() throws IOException {
+        InputStream file = new FileInputStream(path());
+        try {
+            return file;
+        } finally {
+            System.out.println("opened");
+        }
+    }
+
+    public static void main(String[] args) throws IOException {
+        InputStream file = open();
+        System.out.println(file.read());
+        file.close();
+    }
+}

@@ -1,0 +1,19 @@
+// setValue of an entry changes the map.
+import java.util.*;
+
+public final class Keeps {
+    static class F {
+        boolean closed;
+        void read() { if (closed) throw new IllegalStateException("read after close"); }
+        void close() { closed = true; }
+    }
+
+    public static void main(String[] args) {
+        Map<String, F> files = new LinkedHashMap<String, F>();
+        files.put("a", new F());
+        F closed = new F();
+        files.get("a").read();
+        files.entrySet().iterator().next().setValue(closed);
+        closed.close();
+    }
+}

@@ -1,0 +1,18 @@
+// PrintWriter.close closes the FileWriter below it (the call is the library's).
+import java.io.*;
+
+public final class Breaks {
+    static String path() throws IOException {
+        File made = File.createTempFile("known", ".tmp");
+        made.deleteOnExit();
+        return made.getPath();
+    }
+
+    public static void main(String[] args) throws IOException {
+        FileWriter file = new FileWriter(path());
+        PrintWriter printer = new PrintWriter(file);
+        printer.println("a line");
+        printer.close();
+        file.write("the end");  // errs here
+    }
+}

@@ -1,0 +1,16 @@
+// Socket.getInputStream gives the same stream each time.
+import java.io.*;
+import java.net.*;
+
+public final class Breaks {
+    public static void main(String[] args) throws IOException {
+        ServerSocket server = new ServerSocket(0);
+        Socket client = new Socket("localhost", server.getLocalPort());
+        Socket peer = server.accept();
+        peer.getOutputStream().write(65);
+        InputStream one = client.getInputStream();
+        InputStream other = client.getInputStream();
+        one.close();
+        System.out.println(other.read());  // errs here
+    }
+}

@@ -1,0 +1,23 @@
+// String.valueOf(Object) calls toString, which reads what is closed.
+public final class Breaks {
+    static class F {
+        boolean closed;
+        void read() { if (closed) throw new IllegalStateException("read after close"); }
+        void close() { closed = true; }
+    }
+
+    static final class Body {
+        final F file = new F();
+        public String toString() {
+            file.read();  // errs here
+            return "body";
+        }
+    }
+
+    public static void main(String[] args) {
+        Body body = new Body();
+        body.file.close();
+        String text = String.valueOf(body);
+        System.out.println(text);
+    }
+}

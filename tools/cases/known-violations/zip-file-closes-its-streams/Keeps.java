@@ -1,0 +1,23 @@
+// ZipFile.close closes the streams that it gave (the call is the library's).
+import java.io.*;
+import java.util.zip.*;
+
+public final class Keeps {
+    static String zipped() throws IOException {
+        File made = File.createTempFile("known", ".zip");
+        made.deleteOnExit();
+        ZipOutputStream zip = new ZipOutputStream(new FileOutputStream(made.getPath()));
+        zip.putNextEntry(new ZipEntry("a.txt"));
+        zip.write(new byte[100], 0, 100);
+        zip.close();
+        return made.getPath();
+    }
+
+    public static void main(String[] args) throws IOException {
+        ZipFile zip = new ZipFile(zipped());
+        System.out.println(zip.getInputStream(zip.getEntry("a.txt")).read());
+        InputStream in = zip.getInputStream(zip.getEntry("a.txt"));
+        zip.close();
+        System.out.println("end");
+    }
+}
