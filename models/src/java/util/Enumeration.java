@@ -1,0 +1,8 @@
+package java.util;
+
+/** The elements of a container, one after another. */
+public interface Enumeration<E> {
+    boolean hasMoreElements();
+
+    E nextElement();
+}

@@ -1,0 +1,36 @@
+package library;
+
+import java.util.AbstractCollection;
+import java.util.Iterator;
+import java.util.Map;
+import java.util.Spliterator;
+
+/** The values of a map, as values gives them. */
+public class ValueView<V> extends AbstractCollection<V> {
+    private final Map<?, V> map;
+
+    public ValueView(Map<?, V> map) {
+        this.map = map;
+    }
+
+    @Override
+    public native Iterator<V> iterator();
+
+    @Override
+    public native Spliterator<V> spliterator();
+
+    @Override
+    public int size() {
+        return map.size();
+    }
+
+    @Override
+    public boolean contains(Object value) {
+        return map.containsValue(value);
+    }
+
+    @Override
+    public void clear() {
+        map.clear();
+    }
+}
