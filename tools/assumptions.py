@@ -11,6 +11,7 @@ from class_file import element_class
 from effects import VALUES, Declared, Effects, arguments, read_protocol
 from library import Unusable, jdk_folder, open_jdk
 from program import Program
+from report import Place
 from reach import LibraryCall, Method, Reach, entry_methods
 from source_lines import Sources
 from words import java_name, qualified
@@ -37,12 +38,13 @@ OF_THE_MACHINE = ("java/lang/VirtualMachineError", "java/lang/LinkageError", "ja
 @dataclass(frozen=True)
 class Assumption:
     """An assumption: its kind, what it is about, where, and why, as texts. `place` is the method and offset of the place that it bears on,
-    or None where it bears on each one."""
+    or None where it bears on each one; `stage` the first stage on whose verdicts it bears."""
     kind: str
     about: str
     where: str
     why: str = ""
     place: tuple[Method, int] | None = None
+    stage: int = 1
 
     @property
     def line(self) -> str:
@@ -101,10 +103,9 @@ class Finder:
     def leaks(self) -> list[str]:
         """The classes that the library has objects of: those that have a danger, and that are given to it to keep."""
         kinds: dict[str, None] = {}
-        found: dict[str, None] = {}
         for call in self.calls:
             if not self.effects.keeps_nothing(call.owner, call.key):
-                found.update(dict.fromkeys(self.dangerous(call)))
+                kinds.update(dict.fromkeys(filter(None, map(element_class, self.taken[id(call)]))))
         for method, uses in self.reach.uses.items():
             for use in uses:
                 if use.opcode in (PUTFIELD, PUTSTATIC) and self.program.declaring_field(use.owner, use.name) is None:
@@ -115,8 +116,7 @@ class Finder:
                     for each in self.program.selected(name, key):
                         kinds.update(dict.fromkeys(filter(None, map(element_class, self.effects.gives(each, key)))))
         kinds.pop(NULL, None)
-        found.update((name, None) for name in self.effects.dangers if any(self.program.is_below(name, kind) for kind in kinds))
-        return list(found)
+        return [name for name in self.effects.dangers if any(self.program.is_below(name, kind) for kind in kinds)]
 
     # ---- calls of the library
 
@@ -260,7 +260,8 @@ class Finder:
     # ---- handlers
 
     def of_handlers(self) -> Iterator[Assumption]:
-        """Exceptions of the library that are caught, and that a method of the stub file which is called does not list."""
+        """Exceptions of the library that are caught, and that a method of the stub file which is called does not list. The first stage looks at
+        a handler whatever comes there; so of one that catches all kinds only the order matters."""
         stubs = {(name, call.key): stub.throws for call in self.calls for name, stub in self.program.described(call.owner, call.key)
                  if not stub.is_base and not stub.is_abstract}
         lacking = {each: self.lacking(each, stubs) for each in self.caught()}
@@ -268,7 +269,8 @@ class Finder:
             for handler in body.handlers() if method[0] not in self.program.models else ():
                 name = "java/lang/RuntimeException" if handler.catches in ANY else handler.catches
                 if lacking.get(name):
-                    yield Assumption("exceptions", java_name(name), self.where(method, handler.target), f"as from {lacking[name]}")
+                    stage = 2 if handler.catches in (*ANY, "java/lang/RuntimeException") else 1
+                    yield Assumption("exceptions", java_name(name), self.where(method, handler.target), f"as from {lacking[name]}", stage=stage)
 
     def lacking(self, name: str, stubs: dict[Method, list[str]]) -> str:
         """A method of the stub file that may throw an exception and does not list it, or an empty text."""
@@ -300,13 +302,19 @@ class Resting:
     taken: list[Assumption]
     looked: bool = True
 
-    def bearing(self, method: Method, offset: int) -> list[Assumption]:
+    def bearing(self, place: Place) -> list[Assumption]:
         """The open assumptions that bear on a place."""
-        return [each for each in self.open if each.place in (None, (method, offset))]
+        return [each for each in self.open if bears(each, place)]
 
-    def taken_for(self, method: Method, offset: int) -> list[Assumption]:
+    def taken_for(self, place: Place) -> list[Assumption]:
         """Those that bear on a place and were taken over."""
-        return [each for each in self.taken if each.place in (None, (method, offset))]
+        return [each for each in self.taken if bears(each, place)]
+
+
+def bears(assumption: Assumption, place: Place) -> bool:
+    """Whether an assumption bears on a place."""
+    at = (place.class_name, (place.method, place.descriptor)), place.offset
+    return assumption.place in (None, at) and assumption.stage <= max(place.stage, 1)
 
 
 def resting_of(folder: str, words: RunWords, assumed: set[str]) -> Resting:

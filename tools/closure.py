@@ -12,6 +12,8 @@ LEFT_OUT = {("finalize", "()V"), ("fillInStackTrace", "()Ljava/lang/Throwable;")
 # Methods of the base stubs that give elements, or causes, which may be of the library's own making.
 GIVE_ELEMENTS = [("java/util/ArrayList", "get", "(I)Ljava/lang/Object;"), ("java/util/ArrayList$Itr", "next", "()Ljava/lang/Object;"),
                  ("java/lang/Throwable", "getCause", "()Ljava/lang/Throwable;")]
+# Methods of the base stubs without a body there, since the library's calls other methods of the same object: that is told as an assumption.
+BODIES = [(OBJECT, "toString", "()Ljava/lang/String;"), ("java/io/InputStream", "read", "([B)I"), ("java/io/OutputStream", "write", "([B)V")]
 ENUM, ENUM_START = "java/lang/Enum", ("<init>", "(Ljava/lang/String;I)V")
 POLYMORPHIC = {"java/lang/invoke/MethodHandle", "java/lang/invoke/VarHandle"}
 
@@ -238,9 +240,9 @@ class Closure:
             self.natives(each)
 
     def base_again(self):
-        """Describes methods of the base stubs anew that give what may be of another class in the folder, or keep too little: an enum's
-        constant can be got by its name."""
-        for name, *key in GIVE_ELEMENTS if self.named else ():
+        """Describes methods of the base stubs anew that have no body there, that give what may be of another class in the folder, or that keep too
+        little: an enum's constant can be got by its name."""
+        for name, *key in BODIES + (GIVE_ELEMENTS if self.named else []):
             self.methods.setdefault(name, {})[tuple(key)] = self.get(name).methods[tuple(key)]
         if any(each.super_class == ENUM for each in self.folder.values()):
             self.methods.setdefault(ENUM, {})[ENUM_START] = self.get(ENUM).methods[ENUM_START]

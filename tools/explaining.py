@@ -5,7 +5,7 @@ import textwrap
 from dataclasses import dataclass
 
 from advice import ADVICE, OTHERS
-from assumptions import KINDS, Assumption, Resting, RunWords, read_assumed, resting_of
+from assumptions import KINDS, Assumption, Resting, RunWords, bears, read_assumed, resting_of
 from library import Unusable
 from report import Ending, Place, read_report, status_of
 from sarif import Finding, document
@@ -30,6 +30,13 @@ MEANING: dict[str, str] = {
 }
 
 
+# What the tools add to the verifier's advice.
+MORE: dict[str, str] = {
+    "MissingField": " Or the field is one of a library class above it: only models have such fields (models/README.md).",
+    "NoStub": " Of some classes no description could be true, so that they are left out (tools/facts/left_out).",
+}
+
+
 class Telling:
     """Puts lines of a report into words."""
 
@@ -46,12 +53,12 @@ class Telling:
         key = (place.method, place.descriptor)
         made = "made here" if self.sources.makes(place.class_name, key, place.offset) else "which the library gives here"
         made = f"{java_name(place.made)} {made}"
-        bearing = self.resting.bearing((place.class_name, key), place.offset) if place.verdict == "safe" else []
+        bearing = self.resting.bearing(place) if place.verdict == "safe" else []
         if bearing or (place.verdict == "safe" and not self.resting.looked):
             return self.safe_if(place, made, bearing)
         says = {
             "safe": f"safe by stage {place.stage}: no order of the events that a {made} may meet breaks the protocol"
-                    + self.taken((place.class_name, key), place.offset),
+                    + self.taken(place),
             "unproved": f"unproved, which need not be a fault: some order of the events that a {made} may meet would break "
                         "the protocol",
             "limit": f"not decided: stage {place.stage} met its limit of facts for a {made}",
@@ -65,9 +72,9 @@ class Telling:
         says = f"safe if what is assumed holds ({told}): then, by stage {place.stage}, no order of the events that a {made} may meet breaks the protocol"
         return self.at_place(place, "safe-if", says)
 
-    def taken(self, method: tuple[str, tuple[str, str]], offset: int) -> str:
+    def taken(self, place: Place) -> str:
         """What was taken over for a place, as the end of a sentence."""
-        taken = self.resting.taken_for(method, offset)
+        taken = self.resting.taken_for(place)
         return f"; assumed, since somebody took it over: {'; '.join(each.line for each in taken)}" if taken else ""
 
     def at_place(self, place: Place, rule: str, says: str) -> Finding:
@@ -83,7 +90,7 @@ class Telling:
             return Finding("", OTHERS["none"], "", "", 0)
         if ending.kind != "refused":
             return Finding("", f"{ending.kind} {ending.name}. {OTHERS[ending.kind]}", "", "", 0)
-        advice = ADVICE.get(ending.reason, "docs/REASONS.md says when this reason is told.")
+        advice = ADVICE.get(ending.reason, "docs/REASONS.md says when this reason is told.") + MORE.get(ending.reason, "")
         found = self.sources.method_at(ending.name, ending.offset)
         if not found:
             where = "" if ending.name == "-" else f" in {ending.name}, byte {ending.offset}"
@@ -110,9 +117,8 @@ def counted(findings: list[Finding]) -> str:
 
 def write_resting(resting: Resting, places: list[Place], in_full: bool) -> None:
     """Prints the assumptions that bear on safe places, a line for each kind or, in full, for each assumption."""
-    on_all = [each for each in resting.open if each.place is None]
-    safe = [((place.class_name, (place.method, place.descriptor)), place.offset) for place in places if place.verdict == "safe"]
-    bearing = list(dict.fromkeys(on_all + [each for each in resting.open if each.place in safe])) if safe or not places else []
+    safe = [place for place in places if place.verdict == "safe"]
+    bearing = [each for each in resting.open if not places or any(bears(each, place) for place in safe)]
     if not resting.looked and (safe or not places):
         print("\nNothing was looked for that a safe place rests on: name --property, --entry and, if the run had one, --stubs.")
     if not bearing:

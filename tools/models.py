@@ -64,6 +64,9 @@ def compile_into(place):
         except OSError:
             if not place.is_dir():
                 raise
+    for other in place.parent.iterdir():
+        if other != place and other.name != os.path.basename(made):
+            shutil.rmtree(other, ignore_errors=True)
     return place
 
 
