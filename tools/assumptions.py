@@ -6,9 +6,9 @@ from collections.abc import Iterator
 from dataclasses import dataclass
 
 import facts
-from bodies import CALLS, CAST, GETSTATIC, INSTANCE, INVOKE_STATIC, NULL, OBJECT, PUTFIELD, PUTSTATIC, Key, Use, named_type, parameter_types, result_type
+from bodies import CALLS, CAST, CLASS_CONSTANT, GETSTATIC, INSTANCE, INVOKE_SPECIAL, INVOKE_STATIC, NULL, OBJECT, OBJECT_RETURN, PUTFIELD, PUTSTATIC, Key, Use, named_type, parameter_types, result_type
 from class_file import element_class
-from effects import VALUES, Declared, Effects, arguments, read_protocol
+from effects import LIBRARY, VALUES, Declared, Effects, arguments, read_protocol
 from library import Unusable, jdk_folder, open_jdk
 from program import Program
 from report import Place
@@ -24,7 +24,7 @@ KINDS: dict[str, str] = {
     "exceptions": "a handler catches an exception of the library that the stub file does not list",
     "supertype": "a class is used in place of one below it, and the base stubs do not have it above that one",
     "reflection": "the library may make objects of the program's classes by their names, and run their code",
-    "static": "the library may write a static field of its own",
+    "static": "what a static field of the library holds is that of the start, and no place of the report",
     "native": "a native method of the program does what its description says",
     "values": "objects of the classes in tools/value_classes that the library gives back are not followed",
 }
@@ -72,13 +72,14 @@ class Finder:
     def __init__(self, reach: Reach, effects: Effects, sources: Sources):
         self.reach, self.effects, self.sources, self.program = reach, effects, sources, reach.program
         self.protocol = effects.protocol
-        self.calls = [each for each in reach.library.values() if each.use.owner != "library/Library"]
+        self.calls = [each for each in reach.library.values() if each.use.owner != LIBRARY]
         self.taken = {id(each): arguments(reach.methods[each.method], each.use, self.program) for each in self.calls}
+        self.storing = self.storing_models()
         self.leaked = self.leaks()
 
     def all(self) -> list[Assumption]:
         """All of them, by kind, and then by place."""
-        found = dict.fromkeys(each for part in (self.of_calls, self.of_handlers, self.of_supertypes, self.of_natives, self.of_arrays, self.of_values)
+        found = dict.fromkeys(each for part in (self.of_calls, self.of_handlers, self.of_supertypes, self.of_natives, self.of_fields, self.of_enums, self.of_values)
                               for each in part())
         return sorted(found, key=lambda each: (list(KINDS).index(each.kind), each.line))
 
@@ -106,10 +107,12 @@ class Finder:
         for call in self.calls:
             if not self.effects.keeps_nothing(call.owner, call.key):
                 kinds.update(dict.fromkeys(filter(None, map(element_class, self.taken[id(call)]))))
-        for method, uses in self.reach.uses.items():
-            for use in uses:
-                if use.opcode in (PUTFIELD, PUTSTATIC) and self.program.declaring_field(use.owner, use.name) is None:
-                    kinds[element_class(named_type(use.descriptor) or NULL) or NULL] = None
+        for method, use in self.all_uses():
+            if use.opcode in (PUTFIELD, PUTSTATIC) and self.program.declaring_field(use.owner, use.name) is None:
+                kinds[element_class(named_type(use.descriptor) or NULL) or NULL] = None
+            elif use.opcode in CALLS and self.storing & self.targets(use):
+                taken = arguments(self.reach.methods[method], use, self.program)
+                kinds.update(dict.fromkeys(filter(None, map(element_class, taken))))
         for name in self.reach.made:
             if name in self.program.code:
                 for key in self.effects.overrides(name):
@@ -117,6 +120,20 @@ class Finder:
                         kinds.update(dict.fromkeys(filter(None, map(element_class, self.effects.gives(each, key)))))
         kinds.pop(NULL, None)
         return [name for name in self.effects.dangers if any(self.program.is_below(name, kind) for kind in kinds)]
+
+    def targets(self, use: Use) -> set[str]:
+        """The classes whose method a call may run."""
+        key = use.name, use.descriptor
+        if use.opcode in (INVOKE_STATIC, INVOKE_SPECIAL):
+            return {self.program.declaring(use.owner, key) or use.owner}
+        return self.reach.selects.get((key, use.owner), set())
+
+    def storing_models(self) -> set[str]:
+        """The models that put objects into the library's one store: they call its method, or name a helper of the models that does."""
+        named = {name: self.program.code[name].methods_named for name in self.program.models}
+        found = {name for name, members in named.items() if any(each[:2] == (LIBRARY, "keep") for each in members)}
+        helpers = {name for name in found if name.startswith("library/")}
+        return found | {name for name, members in named.items() if any(each[0] in helpers for each in members)}
 
     # ---- calls of the library
 
@@ -143,20 +160,21 @@ class Finder:
         calls = self.effects.calls(call.owner, call.key)
         if calls == []:
             return
-        names = dict.fromkeys([*self.leaked, *self.dangerous(call)])
-        found = [(name, key[0]) for name in names for key in self.effects.dangers[name] if calls is None or self.allows(calls, name, key)]
+        names = dict.fromkeys([*self.leaked, *self.dangerous(call, calls is not None)])
+        found = [(name, key) for name in names for key in self.effects.dangers[name] if calls is None or self.allows(calls, name, key)]
         if found:
-            told = list(dict.fromkeys(f"{name} of {java_name(owner)}" for owner, name in found))
-            more = f" and {len(told) - 2} more" if len(told) > 2 else ""
-            yield self.at_call("call-back", call, f"it may call {', '.join(told[:2])}{more}")
+            name, key = found[0]
+            others = len({(name, key[0]) for name, key in found}) - 1
+            more = f"; and {others} more" if others else ""
+            yield self.at_call("call-back", call, f"it may call {key[0]} of {java_name(name)}, and of that {self.effects.dangers[name][key]}{more}")
 
-    def dangerous(self, call: LibraryCall) -> list[str]:
-        """The classes with a danger of which a call may take objects. What an object of the library does with itself in a call that is an event
-        is that event."""
+    def dangerous(self, call: LibraryCall, is_listed: bool) -> list[str]:
+        """The classes with a danger of which a call may take objects. What an object of the library does with itself, in a call that is an event
+        or one that is listed, is that call."""
         kinds = [each for each in map(element_class, self.taken[id(call)]) if each and each != NULL]
-        is_event = call.key in self.protocol.events and call.use.opcode != INVOKE_STATIC
-        found = [name for name in self.effects.dangers if any(self.program.is_below(name, kind) for kind in kinds[is_event:])]
-        if is_event and kinds:
+        is_own = call.use.opcode != INVOKE_STATIC and (is_listed or call.key in self.protocol.events)
+        found = [name for name in self.effects.dangers if any(self.program.is_below(name, kind) for kind in kinds[is_own:])]
+        if is_own and kinds:
             found += [name for name in self.effects.dangers if name in self.program.code and self.program.is_below(name, kinds[0])]
         return found
 
@@ -219,12 +237,35 @@ class Finder:
 
     # ---- other instructions
 
-    def of_arrays(self) -> Iterator[Assumption]:
-        """Static fields of the library that hold arrays."""
+    def of_fields(self) -> Iterator[Assumption]:
+        """Static fields of the library that hold arrays, or objects of the protocol's class, of which no place is listed."""
+        taken = {kind for method, use in self.all_uses() for kind in self.moved(method, use)}
         for method, use in self.all_uses():
-            is_ours = self.program.declaring_field(use.owner, use.name) is not None
-            if use.opcode == GETSTATIC and not is_ours and self.has_elements(named_type(use.descriptor)):
-                yield Assumption("contents", f"{java_name(use.owner)}.{use.name}", self.where(method, use.offset))
+            if use.opcode != GETSTATIC or self.program.declaring_field(use.owner, use.name) is not None:
+                continue
+            kind = named_type(use.descriptor)
+            if self.has_elements(kind):
+                yield Assumption("contents", f"{java_name(use.owner)}.{use.name}", self.where(method, use.offset), "its elements are not followed")
+            elif kind and self.effects.is_tracked(kind) and any(self.program.is_below(each, kind) for each in taken):
+                yield Assumption("static", f"{java_name(use.owner)}.{use.name}", self.where(method, use.offset), "what it holds is no place of the report")
+
+    def moved(self, method: Method, use: Use) -> list[str]:
+        """The types of objects that are given on by an instruction: those of an event's receiver, of arguments in the program, and of fields."""
+        body = self.reach.methods[method]
+        if use.opcode in (PUTFIELD, PUTSTATIC, OBJECT_RETURN):
+            return body.takes(use.offset, self.program.join)[-1:]
+        if use.opcode not in CALLS:
+            return []
+        kinds = arguments(body, use, self.program)
+        is_event = (use.name, use.descriptor) in self.protocol.events
+        return kinds[use.opcode != INVOKE_STATIC and not is_event:]
+
+    def of_enums(self) -> Iterator[Assumption]:
+        """Objects of enum classes that nothing else initialises: the library may do so, and give the constants."""
+        for method, use in self.all_uses():
+            found = self.program.code.get(use.owner) if use.opcode == CLASS_CONSTANT else None
+            if found and found.super_class == "java/lang/Enum" and use.owner not in self.reach.started:
+                yield Assumption("reflection", java_name(use.owner), self.where(method, use.offset), "the library may initialise it")
 
     def all_uses(self) -> Iterator[tuple[Method, Use]]:
         """The instructions that may run, and that are not in models."""
@@ -242,7 +283,7 @@ class Finder:
         """Uses of a supertype that the base stubs leave out, where objects of a class below it are made."""
         below: dict[str, list[str]] = {}
         for name, uppers in facts.lines_of("cut_supertypes").items():
-            for upper in uppers if name in self.reach.made else ():
+            for upper in uppers if any(self.program.is_below(each, name) for each in self.reach.made) else ():
                 below.setdefault(upper, []).append(name)
         for method, use in self.all_uses():
             named = named_type(result_type(use.descriptor)) if use.opcode in CALLS else ""

@@ -15,6 +15,8 @@ ONE, TWO, NULL, NOTHING = "1", "2", "0", ""
 GETSTATIC, PUTSTATIC, GETFIELD, PUTFIELD = 178, 179, 180, 181
 INVOKE_VIRTUAL, INVOKE_SPECIAL, INVOKE_STATIC, INVOKE_INTERFACE = 182, 183, 184, 185
 NEW, NEW_ARRAY, OBJECT_ARRAY, THROW, CAST, INSTANCE, MANY_ARRAYS = 187, 188, 189, 191, 192, 193, 197
+# Each instruction that loads the object of a class, as one opcode.
+CLASS_CONSTANT = 18
 ARRAY_LOAD, ARRAY_STORE, OBJECT_RETURN, ACONST_NULL, POP = 50, 83, 176, 1, 87
 CALLS = {INVOKE_VIRTUAL, INVOKE_SPECIAL, INVOKE_STATIC, INVOKE_INTERFACE}
 FIELDS = {GETSTATIC, PUTSTATIC, GETFIELD, PUTFIELD}
@@ -146,6 +148,8 @@ class Body:
                 found.append(Use(offset, opcode, self.pool.class_name(self.index(offset))))
             elif opcode in (ARRAY_STORE, THROW, OBJECT_RETURN):
                 found.append(Use(offset, opcode))
+            elif opcode in LOADS_CONSTANT:
+                found += self.class_constant(offset, opcode)
         return found
 
     def instructions(self) -> Iterator[tuple[int, int]]:
@@ -155,6 +159,11 @@ class Body:
     def index(self, offset: int) -> int:
         """The index of the constant pool that an instruction has."""
         return struct.unpack_from(">H", self.code, offset + 1)[0]
+
+    def class_constant(self, offset: int, opcode: int) -> list[Use]:
+        """The instruction there, if it loads the object of a class."""
+        index = self.code[offset + 1] if opcode == 18 else self.index(offset)
+        return [Use(offset, CLASS_CONSTANT, self.pool.class_name(index))] if self.pool.pool[index][0] == 7 else []
 
     def use_of_result(self, offset: int, opcode: int) -> str:
         """What the instruction there does with what the one before gave."""

@@ -13,7 +13,8 @@ LEFT_OUT = {("finalize", "()V"), ("fillInStackTrace", "()Ljava/lang/Throwable;")
 GIVE_ELEMENTS = [("java/util/ArrayList", "get", "(I)Ljava/lang/Object;"), ("java/util/ArrayList$Itr", "next", "()Ljava/lang/Object;"),
                  ("java/lang/Throwable", "getCause", "()Ljava/lang/Throwable;")]
 # Methods of the base stubs without a body there, since the library's calls other methods of the same object: that is told as an assumption.
-BODIES = [(OBJECT, "toString", "()Ljava/lang/String;"), ("java/io/InputStream", "read", "([B)I"), ("java/io/OutputStream", "write", "([B)V")]
+BODIES = [(OBJECT, "toString", "()Ljava/lang/String;"), ("java/io/InputStream", "read", "([B)I"), ("java/io/OutputStream", "write", "([B)V"),
+          ("java/util/ArrayList", "equals", "(Ljava/lang/Object;)Z"), ("java/util/ArrayList", "hashCode", "()I")]
 ENUM, ENUM_START = "java/lang/Enum", ("<init>", "(Ljava/lang/String;I)V")
 POLYMORPHIC = {"java/lang/invoke/MethodHandle", "java/lang/invoke/VarHandle"}
 
@@ -41,7 +42,7 @@ class Closure:
         self.methods, self.fields = {}, {}
         self.missing, self.missing_members, self.base_fields, self.object_fields = set(), set(), set(), set()
         self.left_out, self.not_described = set(), facts.names_of("left_out")
-        self.above, self.found = {}, {}
+        self.above, self.library_above, self.found = {}, {}, {}
         self.caught = [name for name in sorted(uses.caught) if name not in folder]
         self.named = [name for name in sorted(uses.named) if name not in folder and not name.startswith("[")]
 
@@ -81,7 +82,9 @@ class Closure:
 
     def library_supers(self, name):
         """The supertypes that the library, or the folder, gives a class, from the nearest on."""
-        return self.walk(name, lambda each: self.get(each).supers() if self.get(each) else [])
+        if name not in self.library_above:
+            self.library_above[name] = self.walk(name, lambda each: self.get(each).supers() if self.get(each) else [])
+        return self.library_above[name]
 
     def program_supers(self, name):
         """The supertypes that the program gives it: those of the base stubs where they describe it."""

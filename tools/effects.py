@@ -87,7 +87,7 @@ class Effects:
     def dangers_of(self, name: str) -> dict[Key, str]:
         """The methods of objects of a class that the library can call, of which a call matters, each with why."""
         if name not in self.program.code:
-            return dict.fromkeys(self.protocol.events, "an event") if self.is_tracked(name) else {}
+            return dict.fromkeys(self.protocol.events, "it is an event") if self.is_tracked(name) else {}
         found = {}
         for key in self.overrides(name):
             for each in self.program.selected(name, key):
@@ -108,7 +108,7 @@ class Effects:
     def why(self, name: str, declaring: str, key: Key) -> str:
         """Why a call of a method on an object of a class matters, or an empty text."""
         if self.is_tracked(name) and key in self.protocol.events:
-            return "an event"
+            return "it is an event"
         if declaring not in self.program.code:
             return ""
         if declaring not in self.program.models and any(self.is_related(element_class(kind) or "") for kind in self.gives(declaring, key)):

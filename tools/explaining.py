@@ -33,6 +33,7 @@ MEANING: dict[str, str] = {
 # What the tools add to the verifier's advice.
 MORE: dict[str, str] = {
     "MissingField": " Or the field is one of a library class above it: only models have such fields (models/README.md).",
+    "MissingMethod": " Or the method is one of a library class, and of a later Java than 8: the model of that class does not have it.",
     "NoStub": " Of some classes no description could be true, so that they are left out (tools/facts/left_out).",
 }
 
