@@ -90,6 +90,9 @@ public class DataInputStream extends FilterInputStream implements DataInput {
         if (Library.any()) {
             this.in = new PushbackInputStream(in);
         }
+        if (in instanceof PushbackInputStream && Library.any()) {
+            ((PushbackInputStream) in).unread(Library.number());
+        }
         draw();
         return Library.any() ? null : Library.text();
     }

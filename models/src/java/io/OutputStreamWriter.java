@@ -85,9 +85,13 @@ public class OutputStreamWriter extends Writer {
         }
     }
 
+    /** Java 17 flushes the stream before. */
     public void close() throws IOException {
         try (OutputStream closed = Library.any() ? out : null) {
             pour();
+            if (out != null && Library.any()) {
+                out.flush();
+            }
         }
     }
 }

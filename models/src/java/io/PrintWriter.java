@@ -261,24 +261,29 @@ public class PrintWriter extends Writer {
         return this;
     }
 
-    /** What the formatter does: it appends, and takes texts and numbers from the arguments. */
+    /** What the formatter does: it appends, and takes texts and numbers from the arguments. It knows this writer as an Appendable. */
     private void formatAll(Object[] args) {
-        while (Library.any()) {
-            if (Library.any()) {
-                append(Library.text());
+        Appendable self = this;
+        try {
+            while (Library.any()) {
+                if (Library.any()) {
+                    self.append(Library.text());
+                }
+                if (Library.any()) {
+                    self.append(Library.text(), Library.number(), Library.number());
+                }
+                if (Library.any()) {
+                    self.append((char) Library.number());
+                }
+                if (args != null && Library.any()) {
+                    format(args[Library.number()]);
+                }
             }
-            if (Library.any()) {
-                append(Library.text(), Library.number(), Library.number());
+            if (out != null && Library.any()) {
+                out.flush();
             }
-            if (Library.any()) {
-                append((char) Library.number());
-            }
-            if (args != null && Library.any()) {
-                format(args[Library.number()]);
-            }
-        }
-        if (Library.any()) {
-            newLine();
+        } catch (IOException fault) {
+            return;
         }
     }
 

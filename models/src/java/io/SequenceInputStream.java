@@ -104,4 +104,50 @@ public class SequenceInputStream extends InputStream {
             }
         }
     }
+
+    /** Of Java 9 and later, as InputStream has it, which is only described; so are the four methods below. */
+    public byte[] readAllBytes() throws IOException {
+        return readNBytes(Library.number());
+    }
+
+    public byte[] readNBytes(int len) throws IOException {
+        while (Library.any()) {
+            read(new byte[Library.number()], 0, Library.number());
+        }
+        return new byte[Library.number()];
+    }
+
+    public int readNBytes(byte[] b, int off, int len) throws IOException {
+        while (Library.any()) {
+            read(b, off, len);
+        }
+        return Library.number();
+    }
+
+    public void skipNBytes(long n) throws IOException {
+        Library.mayFail();
+        while (Library.any()) {
+            if (Library.any()) {
+                skip(n);
+            }
+            if (Library.any()) {
+                read();
+            }
+        }
+    }
+
+    public long transferTo(OutputStream out) throws IOException {
+        while (Library.any()) {
+            if (Library.any()) {
+                read(new byte[Library.number()], 0, Library.number());
+            }
+            if (Library.any()) {
+                out.write(new byte[Library.number()], 0, Library.number());
+            }
+            if (Library.any()) {
+                out.write(Library.number());
+            }
+        }
+        return Library.number();
+    }
 }

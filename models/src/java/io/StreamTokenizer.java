@@ -21,6 +21,7 @@ public class StreamTokenizer {
             throw new NullPointerException();
         }
         this.input = is;
+        prepare();
     }
 
     public StreamTokenizer(Reader r) {
@@ -28,6 +29,16 @@ public class StreamTokenizer {
             throw new NullPointerException();
         }
         this.reader = r;
+        prepare();
+    }
+
+    /** Sets what the characters mean at first. */
+    private void prepare() {
+        wordChars('a', 'z');
+        whitespaceChars(0, ' ');
+        commentChar('/');
+        quoteChar('"');
+        parseNumbers();
     }
 
     public void resetSyntax() {

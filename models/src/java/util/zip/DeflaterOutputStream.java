@@ -110,10 +110,18 @@ public class DeflaterOutputStream extends FilterOutputStream {
     }
 
     protected void deflate() throws IOException {
-        if (def != null && Library.any()) {
-            def.deflate(buf, 0, Library.number());
-        }
+        deflate(def);
         pour(out);
+    }
+
+    /** Packs what there is: the first call is one of the second, in the body of Deflater, which is only described. */
+    static void deflate(Deflater def) {
+        if (def != null && Library.any()) {
+            def.deflate(new byte[Library.number()], 0, Library.number());
+        }
+        if (def != null && Library.any()) {
+            def.deflate(new byte[Library.number()], 0, Library.number(), Library.number());
+        }
     }
 
     public void flush() throws IOException {
@@ -122,9 +130,7 @@ public class DeflaterOutputStream extends FilterOutputStream {
             if (def != null && Library.any()) {
                 def.finished();
             }
-            if (def != null && Library.any()) {
-                def.deflate(buf, 0, Library.number(), Library.number());
-            }
+            deflate(def);
             pour(out);
         }
         if (out != null && Library.any()) {

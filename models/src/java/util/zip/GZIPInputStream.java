@@ -28,6 +28,18 @@ public class GZIPInputStream extends InflaterInputStream {
             if (in != null && Library.any()) {
                 in.available();
             }
+            if (inf != null && Library.any()) {
+                inf.getRemaining();
+            }
+            if (inf != null && Library.any()) {
+                inf.getBytesWritten();
+            }
+            if (inf != null && Library.any()) {
+                inf.reset();
+            }
+            if (crc != null && Library.any()) {
+                crc.update(buf, off, len);
+            }
             if (Library.any()) {
                 draw(in);
             }

@@ -36,6 +36,9 @@ public class GZIPOutputStream extends DeflaterOutputStream {
 
     public void write(byte[] buf, int off, int len) throws IOException {
         super.write(buf, off, len);
+        if (crc != null && Library.any()) {
+            crc.update(buf, off, len);
+        }
     }
 
     public void finish() throws IOException {
@@ -47,9 +50,7 @@ public class GZIPOutputStream extends DeflaterOutputStream {
             if (def != null && Library.any()) {
                 def.finished();
             }
-            if (def != null && Library.any()) {
-                def.deflate(buf, 0, Library.number());
-            }
+            deflate(def);
             end();
         }
     }

@@ -44,21 +44,28 @@ public class InflaterInputStream extends FilterInputStream {
         } while (Library.any());
     }
 
-    /** What is done with the inflater; a user's class may be below it. */
-    private void inflate(byte[] b, int off, int len) throws IOException {
-        try {
-            inf.inflate(b, off, len);
-        } catch (DataFormatException fault) {
-            Library.mayFail();
-        }
-        if (Library.any()) {
-            inf.finished();
-        }
-        if (Library.any()) {
-            inf.needsDictionary();
-        }
-        if (Library.any()) {
-            inf.needsInput();
+    /** What is done with an inflater; a user's class may be below it. */
+    static void inflate(Inflater inf, byte[] b, int off, int len) throws IOException {
+        while (inf != null && Library.any()) {
+            if (Library.any()) {
+                inf.setInput(new byte[Library.number()], 0, Library.number());
+            }
+            if (Library.any()) {
+                try {
+                    inf.inflate(b, off, len);
+                } catch (DataFormatException fault) {
+                    Library.mayFail();
+                }
+            }
+            if (Library.any()) {
+                inf.finished();
+            }
+            if (Library.any()) {
+                inf.needsDictionary();
+            }
+            if (Library.any()) {
+                inf.needsInput();
+            }
         }
     }
 
@@ -73,9 +80,7 @@ public class InflaterInputStream extends FilterInputStream {
     public int read(byte[] b, int off, int len) throws IOException {
         do {
             Library.mayFail();
-            if (inf != null && Library.any()) {
-                inflate(b, off, len);
-            }
+            inflate(inf, b, off, len);
             if (Library.any()) {
                 fill();
             }

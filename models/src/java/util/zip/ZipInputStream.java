@@ -17,9 +17,7 @@ public class ZipInputStream extends InflaterInputStream implements ZipConstants 
 
     public ZipInputStream(InputStream in, Charset charset) {
         this(in);
-        if (charset == null) {
-            throw new NullPointerException();
-        }
+        charset.newDecoder();
     }
 
     public ZipEntry getNextEntry() throws IOException {
@@ -28,6 +26,9 @@ public class ZipInputStream extends InflaterInputStream implements ZipConstants 
             closeEntry();
         }
         draw(in);
+        if (inf != null && Library.any()) {
+            inf.reset();
+        }
         ZipEntry entry = null;
         if (Library.any()) {
             entry = createZipEntry(Library.text());
@@ -53,6 +54,15 @@ public class ZipInputStream extends InflaterInputStream implements ZipConstants 
             super.read(b, off, len);
         }
         draw(in);
+        if (inf != null && Library.any()) {
+            inf.getRemaining();
+        }
+        if (inf != null && Library.any()) {
+            inf.getBytesRead();
+        }
+        if (inf != null && Library.any()) {
+            inf.getBytesWritten();
+        }
         return Library.number();
     }
 

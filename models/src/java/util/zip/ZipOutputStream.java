@@ -16,9 +16,7 @@ public class ZipOutputStream extends DeflaterOutputStream implements ZipConstant
 
     public ZipOutputStream(OutputStream out, Charset charset) {
         this(out);
-        if (charset == null) {
-            throw new NullPointerException();
-        }
+        charset.newEncoder();
     }
 
     public void setComment(String comment) {
@@ -55,6 +53,15 @@ public class ZipOutputStream extends DeflaterOutputStream implements ZipConstant
             deflate();
         }
         pour(out);
+        if (def != null && Library.any()) {
+            def.finished();
+        }
+        if (def != null && Library.any()) {
+            def.getBytesRead();
+        }
+        if (def != null && Library.any()) {
+            def.getBytesWritten();
+        }
         if (def != null && Library.any()) {
             def.reset();
         }
