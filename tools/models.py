@@ -1,5 +1,6 @@
 """The models of library classes: they are compiled at first use, and put into the folder of a run."""
 
+import fcntl
 import hashlib
 import os
 import pathlib
@@ -46,7 +47,9 @@ def compiled():
     for place in places:
         try:
             place.parent.mkdir(parents=True, exist_ok=True)
-            return compile_into(place)
+            with open(place.parent / "lock", "w", encoding="utf-8") as lock:
+                fcntl.flock(lock, fcntl.LOCK_EX)
+                return place if place.is_dir() else compile_into(place)
         except OSError:
             continue
     raise Unusable(f"neither {places[0]} nor {places[1]} can be written: the models of library classes go there")
@@ -65,7 +68,7 @@ def compile_into(place):
             if not place.is_dir():
                 raise
     for other in place.parent.iterdir():
-        if other != place and other.name != os.path.basename(made):
+        if other != place and other.is_dir():
             shutil.rmtree(other, ignore_errors=True)
     return place
 
