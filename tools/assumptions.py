@@ -26,7 +26,7 @@ KINDS: dict[str, str] = {
     "reflection": "the library may make objects of the program's classes by their names, and run their code",
     "static": "what a static field of the library holds is that of the start, and no place of the report",
     "native": "a native method of the program does what its description says",
-    "values": "objects of the classes in tools/value_classes that the library gives back are not followed",
+    "values": "objects of the classes in tools/facts/value_classes that the library gives back are not followed",
 }
 MAKES_OBJECTS = "makes_objects"
 CONTAINERS = ("java/lang/Iterable", "java/util/Map", "java/util/Iterator", "java/util/Enumeration", "java/util/Map$Entry")
@@ -73,8 +73,7 @@ class Finder:
         self.reach, self.effects, self.sources, self.program = reach, effects, sources, reach.program
         self.protocol = effects.protocol
         self.calls = [each for each in reach.library.values() if each.use.owner != LIBRARY]
-        self.taken = {id(each): arguments(reach.methods[each.method], each.use, self.program) for each in self.calls}
-        self.storing = self.storing_models()
+        self.taken = {id(each): arguments(reach.methods[each.method], each.use, self.program, each.owner) for each in self.calls}
         self.leaked = self.leaks()
 
     def all(self) -> list[Assumption]:
@@ -110,7 +109,7 @@ class Finder:
         for method, use in self.all_uses():
             if use.opcode in (PUTFIELD, PUTSTATIC) and self.program.declaring_field(use.owner, use.name) is None:
                 kinds[element_class(named_type(use.descriptor) or NULL) or NULL] = None
-            elif use.opcode in CALLS and self.storing & self.targets(use):
+            elif use.opcode in CALLS and self.effects.storing & self.targets(use):
                 taken = arguments(self.reach.methods[method], use, self.program)
                 kinds.update(dict.fromkeys(filter(None, map(element_class, taken))))
         for name in self.reach.made:
@@ -127,13 +126,6 @@ class Finder:
         if use.opcode in (INVOKE_STATIC, INVOKE_SPECIAL):
             return {self.program.declaring(use.owner, key) or use.owner}
         return self.reach.selects.get((key, use.owner), set())
-
-    def storing_models(self) -> set[str]:
-        """The models that put objects into the library's one store: they call its method, or name a helper of the models that does."""
-        named = {name: self.program.code[name].methods_named for name in self.program.models}
-        found = {name for name, members in named.items() if any(each[:2] == (LIBRARY, "keep") for each in members)}
-        helpers = {name for name in found if name.startswith("library/")}
-        return found | {name for name, members in named.items() if any(each[0] in helpers for each in members)}
 
     # ---- calls of the library
 

@@ -12,6 +12,7 @@ from class_file import PRIVATE, BadClassFile, element_class, parse
 from library import Unusable
 from program import Program
 from reach import INITIALISER, Method, Reach
+from words import java_name
 
 VALUES = facts.VALUES
 LIBRARY = "library/Library"
@@ -68,6 +69,8 @@ class Effects:
     def __init__(self, reach: Reach, protocol: Protocol, declared: Declared):
         self.reach, self.program, self.protocol, self.declared = reach, reach.program, protocol, declared
         self.harmless: set[Method] = set()
+        self.storing = storing_models(self.program)
+        self.above_code = {OBJECT} | {above for name in reach.made if name in self.program.code for above in [name, *self.program.supers(name)]}
         self.dangers: dict[str, dict[Key, str]] = {}
         for name in reach.made:
             found = self.dangers_of(name)
@@ -170,7 +173,7 @@ class Effects:
             return "it throws an exception of the program's own", []
         if use.opcode in (PUTFIELD, PUTSTATIC) and self.writes(method, use, stack):
             return "it writes a field", []
-        if use.opcode == ARRAY_STORE and stack and stack[-1] not in VALUES | {NULL}:
+        if use.opcode == ARRAY_STORE and stack and stack[-1] not in VALUES | {NULL} and not self.is_own_work(method, body):
             return "it writes an array", []
         return "", self.initialisers(use.owner) if use.opcode in FIELDS and use.opcode not in (GETFIELD, PUTFIELD) else []
 
@@ -179,7 +182,13 @@ class Effects:
         kind = named_type(use.descriptor)
         if not kind or kind in VALUES or not stack or stack[-1] == NULL:
             return False
+        if method[0] in self.program.models and stack[-1] in self.program.models:
+            return False
         return not (use.opcode == PUTFIELD and method[1][0] == "<init>" and len(stack) > 1 and stack[-2] == method[0])
+
+    def is_own_work(self, method: Method, body: Body) -> bool:
+        """Whether a method is one of a model that works on an array of its own, or of who calls it: none that a program calls to write an array."""
+        return method[0] in self.program.models and (not body.is_static or method[0].startswith("library/"))
 
     def initialisers(self, name: str) -> list[Method]:
         """The initialisers that run where a class is used first, and that do not run otherwise."""
@@ -200,6 +209,9 @@ class Effects:
             selected = self.selects(use.owner, key, made)
         called += [(each, key) for each in selected if each in self.program.code]
         met = [each for each in selected if each not in self.program.code]
+        is_model = body.found.name in self.program.models
+        if not is_model and self.storing & set(selected) and self.gives_objects(body, use):
+            return f"it gives an object to {java_name(selected[0])}.{use.name}", []
         for owner in dict.fromkeys(met):
             why, more = self.of_library(body, use, owner, made)
             if why:
@@ -217,11 +229,11 @@ class Effects:
         """Why a call of a described method matters, or else the methods of the folder that it may call in turn."""
         calls = self.calls(owner, (use.name, use.descriptor))
         if calls is None:
-            return f"it calls {owner.replace('/', '.')}.{use.name}", []
-        if not self.keeps_nothing(owner, (use.name, use.descriptor)):
-            kinds = arguments(body, use, self.program)
-            if any((element_class(kind) or "") not in VALUES | {NULL, ""} for kind in kinds):
-                return f"it gives an object to {owner.replace('/', '.')}.{use.name}", []
+            return f"it calls {java_name(owner)}.{use.name}", []
+        is_model = body.found.name in self.program.models
+        if not is_model and not self.keeps_nothing(owner, (use.name, use.descriptor)):
+            if any(self.matters(kind) for kind in arguments(body, use, self.program, owner)):
+                return f"it gives an object to {java_name(owner)}.{use.name}", []
         called = []
         for word in calls:
             upper, _, name = word.partition(".")
@@ -230,6 +242,15 @@ class Effects:
                     below = [each for each in [*classes, *made] if each in self.program.code and self.program.is_below(each, upper)]
                     called += [(each, key) for one in below for each in self.program.selected(one, key) if each in self.program.code]
         return "", list(dict.fromkeys(called))
+
+    def gives_objects(self, body: Body, use: Use) -> bool:
+        """Whether a call has an argument, beside the receiver, that matters."""
+        return any(self.matters(kind) for kind in arguments(body, use, self.program)[use.opcode != INVOKE_STATIC:])
+
+    def matters(self, kind: str) -> bool:
+        """Whether a type may have objects of classes of the folder, or of the protocol's."""
+        name = element_class(kind) or ""
+        return name not in VALUES | {NULL, ""} and (name in self.above_code or self.is_related(name))
 
     # ---- what the lists say
 
@@ -243,10 +264,18 @@ class Effects:
         return self.program.said("keeps_nothing", owner, key) is not None
 
 
-def arguments(body: Body, use: Use, program: Program) -> list[str]:
-    """The types of the objects that a call takes, the receiver first."""
+def storing_models(program: Program) -> set[str]:
+    """The models that put objects into the library's one store: they call its method, or name a helper of the models that does."""
+    named = {name: program.code[name].methods_named for name in program.models}
+    found = {name for name, members in named.items() if any(each[:2] == (LIBRARY, "keep") for each in members)}
+    helpers = {name for name in found if name.startswith("library/")}
+    return found | {name for name, members in named.items() if any(each[0] in helpers for each in members)}
+
+
+def arguments(body: Body, use: Use, program: Program, owner: str = "") -> list[str]:
+    """The types of the objects that a call takes, the receiver first; its class is below that of the method that is called, if that is known."""
     stack = body.takes(use.offset, program.join)
-    kinds = ([] if use.opcode == INVOKE_STATIC else ["L" + use.owner + ";"]) + parameter_types(use.descriptor)
+    kinds = ([] if use.opcode == INVOKE_STATIC else ["L" + (owner or use.owner) + ";"]) + parameter_types(use.descriptor)
     count = sum(2 if kind in "JD" else 1 for kind in kinds)
     found, at = [], len(stack) - count
     for kind in kinds:

@@ -48,6 +48,5 @@ def nearest(name: str, owners: Sequence[str], key: tuple[str, str], has: Callabl
     return None
 
 
-# Classes whose objects hold nothing that a program could get back, and call nothing: tools/value_classes.
-with open(os.path.join(os.path.dirname(FOLDER), "value_classes"), encoding="utf-8") as listed:
-    VALUES = {line.split("#")[0].strip() for line in listed} - {""}
+# Classes whose objects hold nothing that a program could get back, and call nothing.
+VALUES = names_of("value_classes")

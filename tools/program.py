@@ -189,7 +189,12 @@ class Program:
 
     def said(self, listed: str, owner: str, key: Key) -> facts.Words | None:
         """What a list of tools/facts says of a method of the library."""
-        return facts.nearest(listed, [owner, *self.supers(owner)], key, lambda each: each in self.stubs and key in self.stubs[each].methods)
+        return facts.nearest(listed, [owner, *self.supers(owner)], key, lambda each: self.has(each, key))
+
+    def has(self, name: str, key: Key) -> bool:
+        """Whether a class of the library has a method itself, by a description or in its model."""
+        return name in self.stubs and key in self.stubs[name].methods or name in self.models and key in self.code[name].methods
+
 
 
 def stub_of(table: dict) -> Stub:
