@@ -13,6 +13,7 @@ sys.path.append(str(ROOT / "tools"))
 from closure import Closure  # noqa: E402
 from driver import Driver  # noqa: E402
 from library import jdk_folder, open_jdk, read_base, read_folder  # noqa: E402
+from named import Named  # noqa: E402
 
 STUBS = "stubs.toml"
 
@@ -28,7 +29,8 @@ def run_tool(*words: str) -> str:
 def drop_classes_without_supers(folder: str) -> int:
     """Takes out the class files of which a supertype is nowhere. How many."""
     base = read_base(ROOT / "docs/BASE_STUBS.md")
-    closure = Closure(open_jdk(jdk_folder(None)), read_folder(folder), base, set())
+    classes = read_folder(folder)
+    closure = Closure(open_jdk(jdk_folder(None)), classes, base, Named(), {}, set(classes))
     closure.collect()
     without = closure.without_supers()
     for name in without:

@@ -28,12 +28,13 @@ def result_class(descriptor):
 class Closure:
     """What is described: `classes` are names of classes of the library, `methods` and `fields` stand by class and by
     name and descriptor, and `made` are the abstract types of which results and fields hold objects of a class of their own. `folder` are
-    the classes of the folder, with the models that it needs, which are `adopted` too; `named` the classes of the library that it
+    the classes of the folder, with the models that it needs, which are `adopted` too; `wanted` are described in any case; `named` the classes of the library that it
     names in casts, tests and handlers, and `caught` those of handlers."""
 
-    def __init__(self, jdk, folder, base, uses, models, running):
+    def __init__(self, jdk, folder, base, uses, models, running, wanted=()):
         self.jdk, self.base = jdk, base
         self.folder = dict(folder)
+        self.wanted = wanted
         self.own = {name: folder[name] for name in running}
         self.models = {name: each for name, each in models.items() if name not in folder and name not in base}
         self.adopted, self.waiting = {}, list(self.own.values())
@@ -223,6 +224,8 @@ class Closure:
         for each in list(self.folder.values()):
             for name in each.supers():
                 self.need(name)
+        for name in self.wanted:
+            self.need(name)
         for name in self.named:
             self.need_object(name)
         self.names_of_folder()

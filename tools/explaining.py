@@ -6,6 +6,7 @@ from dataclasses import dataclass
 
 from advice import ADVICE, OTHERS
 from assumptions import KINDS, Assumption, Resting, RunWords, bears, read_assumed, resting_of
+from facts import names_of
 from library import Unusable
 from report import Ending, Place, read_report, status_of
 from sarif import Finding, document
@@ -16,7 +17,7 @@ from words import java_method, java_name, qualified
 RESTS = 67
 MEANING: dict[str, str] = {
     "safe": "safe: no order of the property's events that may happen to the objects made there leads to the error "
-            "state, on any way through the code. This rests on what the base stubs and the stub file say of the "
+            "state, on any way through the code. This rests on what models, the base stubs and the stub file say of the "
             "library, and on a program without errors of the machine itself, as for want of memory; README.md "
             "says under \"What is proved\" what is proved of the verifier.",
     "unproved": "unproved: nothing is said against the program. What is built of the analysis is its first stage. "
@@ -34,8 +35,15 @@ MEANING: dict[str, str] = {
 MORE: dict[str, str] = {
     "MissingField": " Or the field is one of a library class above it: only models have such fields (models/README.md).",
     "MissingMethod": " Or the method is one of a library class, and of a later Java than 8: the model of that class does not have it.",
-    "NoStub": " Of some classes no description could be true, so that they are left out (tools/facts/left_out).",
 }
+
+
+def more(reason: str, named: str) -> str:
+    """What is added to the verifier's advice on a refusal of an instruction that names this."""
+    owner = named.partition(".")[0]
+    if reason == "NoStub" and owner in names_of("left_out"):
+        return f" {java_name(owner)} is left out, since no description of it could be true (tools/facts/left_out)."
+    return MORE.get(reason, "")
 
 
 class Telling:
@@ -91,7 +99,7 @@ class Telling:
             return Finding("", OTHERS["none"], "", "", 0)
         if ending.kind != "refused":
             return Finding("", f"{ending.kind} {ending.name}. {OTHERS[ending.kind]}", "", "", 0)
-        advice = ADVICE.get(ending.reason, "docs/REASONS.md says when this reason is told.") + MORE.get(ending.reason, "")
+        advice = ADVICE.get(ending.reason, "docs/REASONS.md says when this reason is told.")
         found = self.sources.method_at(ending.name, ending.offset)
         if not found:
             where = "" if ending.name == "-" else f" in {ending.name}, byte {ending.offset}"
@@ -100,7 +108,7 @@ class Telling:
         at = f" at {java_name(named)}" if named else ""
         method = java_method(owner, *key)
         file, line = self.source(owner, key, offset)
-        text = f"refused as {ending.reason}{at} (in {method}, offset {offset}). {advice}"
+        text = f"refused as {ending.reason}{at} (in {method}, offset {offset}). {advice}{more(ending.reason, named)}"
         return Finding("refused", text, qualified(owner, *key), file, line)
 
 

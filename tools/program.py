@@ -10,8 +10,8 @@ from bodies import OBJECT, Body, Key
 from class_file import ABSTRACT, NATIVE, STATIC, BadClassFile, ClassFile, parse
 from library import BASE_DOCUMENT, Unusable, read_base
 
-# The folder of the models, below the folder of a run.
-MODELS = "models"
+# The folder of the models, below the folder of a run; and how the names of classes begin that are made for abstract types of the library.
+MODELS, MADE = "models", "made/"
 
 
 @dataclass
@@ -188,7 +188,8 @@ class Program:
         return [(name, each) for name, each in found if self.is_below(name, owner) or self.is_below(owner, name)]
 
     def said(self, listed: str, owner: str, key: Key) -> facts.Words | None:
-        """What a list of tools/facts says of a method of the library."""
+        """What a list of tools/facts says of a method of the library; that of a class that is made stands at the type that it is made for."""
+        owner = owner.removeprefix(MADE)
         return facts.nearest(listed, [owner, *self.supers(owner)], key, lambda each: self.has(each, key))
 
     def has(self, name: str, key: Key) -> bool:

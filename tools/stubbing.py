@@ -39,12 +39,12 @@ class Stubbing:
     property: str | None = None
 
 
-def closure_of(words, jdk, models):
+def closure_of(words, jdk, models, wanted):
     """What the stub file has to describe. Class files that cannot be linked are deleted, if that is asked for."""
     folder = read_folder(words.folder)
     run = running(folder, words.entry.rpartition(".")[0])
     uses = named_in(folder[name] for name in run)
-    closure = Closure(open_jdk(jdk), folder, read_base(BASE_DOCUMENT), uses, models, run)
+    closure = Closure(open_jdk(jdk), folder, read_base(BASE_DOCUMENT), uses, models, run, wanted)
     closure.collect()
     alone = closure.without_supers()
     if not alone or not words.drop:
@@ -52,7 +52,7 @@ def closure_of(words, jdk, models):
     tell_dropped(closure, alone)
     for name in alone:
         os.remove(closure.folder[name].path)
-    return closure_of(words, jdk, models)
+    return closure_of(words, jdk, models, wanted)
 
 
 def models_for(words):
@@ -69,7 +69,7 @@ def stub_file(words):
     file that is named for it, if one is."""
     jdk = jdk_folder(words.jdk)
     protocol = read_protocol(words.property) if words.property else None
-    closure = closure_of(words, jdk, models_for(words))
+    closure = closure_of(words, jdk, models_for(words), [protocol.class_name] if protocol else [])
     put_models(closure.adopted, words.folder)
     tell_undescribed(closure)
     uses, native = Finder(closure).all(), natives(closure)
