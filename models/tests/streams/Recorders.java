@@ -182,6 +182,12 @@ class RecHash {
     public int hashCode() { Log.event("RecHash hashCode()I"); return 7; }
 }
 
+/** Has the text that every exception has, which calls the other methods. */
+class RecFault extends Exception {
+    public String getMessage() { Log.event("RecFault getMessage()Ljava/lang/String;"); return "m"; }
+    public String getLocalizedMessage() { Log.event("RecFault getLocalizedMessage()Ljava/lang/String;"); return getMessage(); }
+}
+
 class RecFormat implements Formattable {
     public void formatTo(Formatter formatter, int flags, int width, int precision) {
         Log.event("RecFormat formatTo(Ljava/util/Formatter;III)V");

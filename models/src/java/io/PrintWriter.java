@@ -150,12 +150,21 @@ public class PrintWriter extends Writer {
         }
     }
 
-    /** The text of an object, whose class may have hashCode and not toString. */
+    /** The text of an object. The bodies of Object and Throwable for it are only described, and call other methods of the object. */
     private static String text(Object object) {
-        if (object != null && Library.any()) {
+        if (object == null) {
+            return "null";
+        }
+        if (Library.any()) {
             object.hashCode();
         }
-        return object == null ? "null" : object.toString();
+        if (object instanceof Throwable && Library.any()) {
+            ((Throwable) object).getLocalizedMessage();
+        }
+        if (object instanceof Throwable && Library.any()) {
+            ((Throwable) object).getMessage();
+        }
+        return object.toString();
     }
 
     public void print(boolean b) {

@@ -197,7 +197,10 @@ public class Properties extends Hashtable<Object, Object> {
         if (value instanceof String && Library.any()) {
             return (String) value;
         }
-        return defaults != null && Library.any() ? defaults.getProperty(key) : null;
+        if (defaults != null && Library.any()) {
+            return defaults.getProperty(key);
+        }
+        return Library.any() ? null : Library.text();
     }
 
     public String getProperty(String key, String defaultValue) {
