@@ -33,7 +33,10 @@ public class ArrayDeque<E> extends AbstractCollection<E> implements Deque<E>, Cl
         if (Library.any()) {
             return super.addAll(other);
         }
+        size();
+        other.size();
         other.forEach(new Adder<E>(this));
+        size();
         return true;
     }
 
@@ -180,11 +183,13 @@ public class ArrayDeque<E> extends AbstractCollection<E> implements Deque<E>, Cl
 
     @Override
     public Object[] toArray() {
+        size();
         return Elements.array();
     }
 
     @Override
     public <T> T[] toArray(T[] into) {
+        size();
         return Elements.fill(into);
     }
 
