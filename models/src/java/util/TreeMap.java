@@ -552,16 +552,12 @@ public class TreeMap<K, V> extends AbstractMap<K, V> implements NavigableMap<K, 
 
         @Override
         public boolean isEmpty() {
-            return count() == 0;
+            inside(Library.kept());
+            return Library.any() ? Library.any() : map.isEmpty();
         }
 
         @Override
         public int size() {
-            return count();
-        }
-
-        /** How many entries lie between the bounds, with which the keys are compared. */
-        private int count() {
             inside(Library.kept());
             return Library.any() ? Library.number() : map.size();
         }
