@@ -34,7 +34,10 @@ public class KeyView<K> extends AbstractSet<K> {
         if (Library.any()) {
             return Elements.hashed(key);
         }
-        return map.containsKey(key) && map.remove(key) != null;
+        if (Library.any()) {
+            map.containsKey(key);
+        }
+        return map.remove(key) != null;
     }
 
     @Override

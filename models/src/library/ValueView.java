@@ -29,6 +29,12 @@ public class ValueView<V> extends AbstractCollection<V> {
         return map.containsValue(value);
     }
 
+    /** A tree asks its values, and others the argument. */
+    @Override
+    public boolean remove(Object value) {
+        return Library.any() ? super.remove(value) : Elements.equal(value);
+    }
+
     @Override
     public void clear() {
         map.clear();

@@ -76,7 +76,11 @@ public class WrappedCollection<E> implements Collection<E>, Bulk<E> {
     /** A copy of what a collection holds. */
     @SuppressWarnings("unchecked")
     final Collection<E> copy(Collection<? extends E> other) {
-        return (Collection<E>) Arrays.asList(other.toArray());
+        try {
+            return (Collection<E>) Arrays.asList(other.toArray(new Object[0]));
+        } catch (ArrayStoreException fault) {
+            return (Collection<E>) Arrays.asList(other.toArray());
+        }
     }
 
     @Override

@@ -124,9 +124,10 @@ public class WrappedMap<K, V> implements Map<K, V> {
         return Elements.text(map);
     }
 
+    /** A checked view has the default method. */
     @Override
     public V getOrDefault(Object key, V otherwise) {
-        return map.getOrDefault(key, otherwise);
+        return Library.any() ? map.getOrDefault(key, otherwise) : Map.super.getOrDefault(key, otherwise);
     }
 
     @Override

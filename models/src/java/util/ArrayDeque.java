@@ -4,7 +4,7 @@ import java.io.Serializable;
 import library.Elements;
 import library.Library;
 
-/** A queue with two ends in an array. */
+/** A queue with two ends in an array. Less than in later versions of the library: there, to make an iterator calls size. */
 public class ArrayDeque<E> extends AbstractCollection<E> implements Deque<E>, Cloneable, Serializable {
     public ArrayDeque() {
     }
@@ -14,7 +14,11 @@ public class ArrayDeque<E> extends AbstractCollection<E> implements Deque<E>, Cl
 
     public ArrayDeque(Collection<? extends E> other) {
         other.size();
-        addAll(other);
+        if (Library.any()) {
+            addAll(other);
+        } else {
+            addEach(other);
+        }
     }
 
     @Override
@@ -27,13 +31,17 @@ public class ArrayDeque<E> extends AbstractCollection<E> implements Deque<E>, Cl
         Library.keep(element);
     }
 
-    /** Later versions of the library hand a function to forEach of the other collection. */
     @Override
     public boolean addAll(Collection<? extends E> other) {
-        if (Library.any()) {
-            return super.addAll(other);
-        }
+        return Library.any() ? super.addAll(other) : addEach(other);
+    }
+
+    /** Later versions of the library hand a function to forEach of the other collection. */
+    private boolean addEach(Collection<? extends E> other) {
+        size();
+        other.size();
         other.forEach(new Adder<E>(this));
+        size();
         return true;
     }
 
@@ -180,11 +188,13 @@ public class ArrayDeque<E> extends AbstractCollection<E> implements Deque<E>, Cl
 
     @Override
     public Object[] toArray() {
+        size();
         return Elements.array();
     }
 
     @Override
     public <T> T[] toArray(T[] into) {
+        size();
         return Elements.fill(into);
     }
 

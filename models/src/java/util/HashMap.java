@@ -54,8 +54,10 @@ public class HashMap<K, V> extends AbstractMap<K, V> implements Map<K, V>, Clone
 
     @Override
     public void putAll(Map<? extends K, ? extends V> other) {
-        Elements.hashAll(other);
-        afterEntering();
+        other.size();
+        for (Map.Entry<? extends K, ? extends V> each : other.entrySet()) {
+            enter(each.getKey(), each.getValue());
+        }
     }
 
     @Override

@@ -206,7 +206,11 @@ public class LinkedList<E> extends AbstractSequentialList<E> implements List<E>,
     /** The library copies the object, so that it stands for its copy where it is of a class of the user. */
     @Override
     public Object clone() {
-        return Library.any() ? this : new LinkedList<E>();
+        LinkedList<E> copy = Library.any() ? this : new LinkedList<E>();
+        while (Library.any()) {
+            copy.add(Elements.<E>kept());
+        }
+        return copy;
     }
 
     @Override

@@ -91,6 +91,9 @@ public final class Optional<T> {
         return found;
     }
 
+    /** A new formatter of the library. */
+    private static native Formatter formatter();
+
     @Override
     public boolean equals(Object other) {
         return this == other || other instanceof Optional && Objects.equals(value(), ((Optional<?>) other).value());
@@ -103,6 +106,10 @@ public final class Optional<T> {
 
     @Override
     public String toString() {
-        return Elements.text(value());
+        T found = value();
+        if (found instanceof Formattable) {
+            ((Formattable) found).formatTo(formatter(), Library.number(), Library.number(), Library.number());
+        }
+        return Elements.text(found);
     }
 }

@@ -3,6 +3,7 @@ package java.util;
 import java.io.Serializable;
 import java.util.function.BiConsumer;
 import java.util.function.BiFunction;
+import java.util.function.Function;
 import library.Elements;
 import library.EntryView;
 import library.Library;
@@ -84,9 +85,22 @@ public class TreeMap<K, V> extends AbstractMap<K, V> implements NavigableMap<K, 
 
     @Override
     public V put(K key, V value) {
+        return enter(key, value);
+    }
+
+    /** Puts a key with a value. The value that it had. */
+    private V enter(K key, V value) {
         Library.keep(key);
         Library.keep(value);
         return search(key) ? Elements.<V>kept() : null;
+    }
+
+    /** Puts a value that was computed, or takes the key out where there is none. */
+    private V computed(K key, V value) {
+        if (value != null) {
+            enter(key, value);
+        }
+        return value;
     }
 
     @Override
@@ -257,6 +271,44 @@ public class TreeMap<K, V> extends AbstractMap<K, V> implements NavigableMap<K, 
             return Elements.kept();
         }
         return null;
+    }
+
+    /** Later versions of the library call no other method of the object. */
+    @Override
+    public V putIfAbsent(K key, V value) {
+        return Library.any() ? super.putIfAbsent(key, value) : enter(key, value);
+    }
+
+    @Override
+    public V computeIfAbsent(K key, Function<? super K, ? extends V> function) {
+        if (Library.any()) {
+            return super.computeIfAbsent(key, function);
+        }
+        return search(key) ? Elements.<V>kept() : computed(key, function.apply(key));
+    }
+
+    @Override
+    public V computeIfPresent(K key, BiFunction<? super K, ? super V, ? extends V> function) {
+        if (Library.any()) {
+            return super.computeIfPresent(key, function);
+        }
+        return search(key) ? computed(key, function.apply(key, Elements.<V>kept())) : null;
+    }
+
+    @Override
+    public V compute(K key, BiFunction<? super K, ? super V, ? extends V> function) {
+        if (Library.any()) {
+            return super.compute(key, function);
+        }
+        return computed(key, function.apply(key, search(key) ? Elements.<V>kept() : null));
+    }
+
+    @Override
+    public V merge(K key, V value, BiFunction<? super V, ? super V, ? extends V> function) {
+        if (Library.any()) {
+            return super.merge(key, value, function);
+        }
+        return computed(key, search(key) ? function.apply(Elements.<V>kept(), value) : value);
     }
 
     @Override
@@ -500,16 +552,12 @@ public class TreeMap<K, V> extends AbstractMap<K, V> implements NavigableMap<K, 
 
         @Override
         public boolean isEmpty() {
-            return count() == 0;
+            inside(Library.kept());
+            return Library.any() ? Library.any() : map.isEmpty();
         }
 
         @Override
         public int size() {
-            return count();
-        }
-
-        /** How many entries lie between the bounds, with which the keys are compared. */
-        private int count() {
             inside(Library.kept());
             return Library.any() ? Library.number() : map.size();
         }
@@ -539,7 +587,40 @@ public class TreeMap<K, V> extends AbstractMap<K, V> implements NavigableMap<K, 
 
         @Override
         public Comparator<? super K> comparator() {
-            return order;
+            return Library.any() ? order : map.comparator();
+        }
+
+        /** Later versions of the library call the method of the tree. */
+        @Override
+        public V putIfAbsent(K key, V value) {
+            inside(key);
+            return Library.any() ? map.putIfAbsent(key, value) : super.putIfAbsent(key, value);
+        }
+
+        @Override
+        public V computeIfAbsent(K key, Function<? super K, ? extends V> function) {
+            inside(key);
+            return Library.any() ? map.computeIfAbsent(key, function) : super.computeIfAbsent(key, function);
+        }
+
+        @Override
+        public V computeIfPresent(K key, BiFunction<? super K, ? super V, ? extends V> function) {
+            inside(key);
+            return Library.any() ? map.computeIfPresent(key, function) : super.computeIfPresent(key, function);
+        }
+
+        @Override
+        public V compute(K key, BiFunction<? super K, ? super V, ? extends V> function) {
+            if (!inside(key)) {
+                function.apply(key, null);
+            }
+            return Library.any() ? map.compute(key, function) : super.compute(key, function);
+        }
+
+        @Override
+        public V merge(K key, V value, BiFunction<? super V, ? super V, ? extends V> function) {
+            inside(key);
+            return Library.any() ? map.merge(key, value, function) : super.merge(key, value, function);
         }
 
         @Override
