@@ -2,9 +2,7 @@ package library;
 
 import java.math.BigDecimal;
 import java.math.BigInteger;
-import java.time.temporal.ChronoField;
 import java.time.temporal.TemporalAccessor;
-import java.time.temporal.TemporalQueries;
 import java.util.Calendar;
 import java.util.Date;
 import java.util.Formattable;
@@ -71,6 +69,6 @@ public final class Formats {
         each.isSupported(null);
         each.get(null);
         each.getLong(null);
-        each.query(TemporalQueries.zone());
+        each.query(null);
     }
 }

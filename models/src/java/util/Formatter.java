@@ -177,5 +177,8 @@ public final class Formatter implements Closeable, Flushable {
         if (Library.any()) {
             to.append((char) Library.number());
         }
+        if (to instanceof PrintStream && Library.any()) {
+            ((PrintStream) to).print(Library.text());
+        }
     }
 }

@@ -18,7 +18,8 @@ import library.Library;
 
 /**
  * Reads ahead from its source, whose exceptions it catches and tells. Each method that looks at the text may call each method of the
- * source that reads or asks, also those that the library's class does not. What it opens by the name of a file is not to be seen.
+ * source that reads or asks, also those that the library's class does not. What it opens by the name of a file is not to be seen; a path of
+ * the program's own class is not asked.
  */
 public final class Scanner implements Iterator<String>, Closeable {
     private InputStream in;
@@ -59,7 +60,6 @@ public final class Scanner implements Iterator<String>, Closeable {
     }
 
     public Scanner(Path source) throws IOException {
-        source.getFileSystem();
         Library.mayFail();
     }
 
@@ -119,9 +119,6 @@ public final class Scanner implements Iterator<String>, Closeable {
     private void drawBytes() throws IOException {
         if (Library.any()) {
             in.read(new byte[Library.number()], 0, Library.number());
-        }
-        if (Library.any()) {
-            in.read(new byte[Library.number()]);
         }
         if (Library.any()) {
             in.read();
