@@ -4,6 +4,7 @@ import sys
 
 from class_file import in_byte_order
 from closure import Closure
+from facts import lines_of
 
 
 def spelled(member: tuple[str, str, str]) -> str:
@@ -31,6 +32,8 @@ def tell_undescribed(closure: Closure) -> None:
                                                    "one is refused as NoStub"),
         ({name for name in closure.not_described if name in closure.classes}, "classes of which no description could be true, so that none of "
                                                                                "their methods is described (tools/facts/left_out)"),
+        ({upper for uppers in lines_of("cut_supertypes").values() for upper in uppers if any(upper in each.classes_named for each in closure.own.values())},
+         "classes that the library has above classes of the base stubs, and the base stubs have not; objects of those are then no objects of these"),
         (set(closure.folder) & set(closure.base), "classes of the folder that are base stubs too, which linking refuses; take "
                                                   "them out"),
     ]:
