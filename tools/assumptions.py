@@ -183,7 +183,8 @@ class Finder:
         if self.program.said("no_elements", call.owner, call.key) is not None:
             return
         outcome, after = named_type(result_type(call.use.descriptor)), call.use.after
-        arrays = [kind for kind in self.taken[id(call)] if self.has_elements(kind)]
+        is_copy = (call.owner, call.use.name) == ("java/lang/System", "arraycopy")
+        arrays = [kind for kind in self.taken[id(call)] if self.has_elements(kind) or is_copy and kind == OBJECT]
         given = after if after.startswith("[") else outcome
         if after != "pop" and self.has_elements(given):
             arrays.append(given)

@@ -70,6 +70,8 @@ class Effects:
         self.reach, self.program, self.protocol, self.declared = reach, reach.program, protocol, declared
         self.harmless: set[Method] = set()
         self.storing = storing_models(self.program)
+        tracked = [name for name in [protocol.class_name, *reach.made] if self.is_tracked(name)]
+        self.above_tracked = {OBJECT} | {above for name in tracked for above in self.program.supers(name)}
         self.above_code = {OBJECT} | {above for name in reach.made if name in self.program.code for above in [name, *self.program.supers(name)]}
         self.dangers: dict[str, dict[Key, str]] = {}
         for name in reach.made:
@@ -84,8 +86,8 @@ class Effects:
         return self.program.is_below(name, self.protocol.class_name)
 
     def is_related(self, name: str) -> bool:
-        """Whether a variable of this type may hold an object of the protocol's class."""
-        return self.is_tracked(name) or name == OBJECT or self.program.is_below(self.protocol.class_name, name)
+        """Whether a variable of this type may hold an object of the protocol's class, or of one below it."""
+        return self.is_tracked(name) or name in self.above_tracked
 
     def dangers_of(self, name: str) -> dict[Key, str]:
         """The methods of objects of a class that the library can call, of which a call matters, each with why."""
