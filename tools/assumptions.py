@@ -351,9 +351,13 @@ def bears(assumption: Assumption, place: Place) -> bool:
     return assumption.place in (None, at) and assumption.stage <= max(place.stage, 1)
 
 
-def resting_of(folder: str, words: RunWords, assumed: set[str]) -> Resting:
+def program_of(folder: str, words: RunWords) -> Program:
+    """The program of a run."""
+    return Program(folder, [os.path.join(folder, words.stubs)] if words.stubs else [])
+
+
+def resting_of(program: Program, folder: str, words: RunWords, assumed: set[str]) -> Resting:
     """What the safe places of a run rest on."""
-    program = Program(folder, [os.path.join(folder, words.stubs)] if words.stubs else [])
     reach = Reach(program, entry_methods(program, words.entry))
     try:
         declared = Declared(open_jdk(jdk_folder(words.jdk)))

@@ -5,9 +5,11 @@ import textwrap
 from dataclasses import dataclass
 
 from advice import ADVICE, OTHERS
-from assumptions import KINDS, Assumption, Resting, RunWords, bears, read_assumed, resting_of
+from assumptions import KINDS, Assumption, Resting, RunWords, bears, program_of, read_assumed, resting_of
 from facts import names_of
 from library import Unusable
+from model_places import stay_inside
+from program import Program
 from report import Ending, Place, read_report, status_of
 from sarif import Finding, document
 from source_lines import Sources
@@ -170,27 +172,34 @@ class Explaining:
     in_full: bool = False
 
 
-def look_for_assumptions(asked: Explaining, places: list[Place], ending: Ending | None) -> Resting:
+def look_for_assumptions(asked: Explaining, program: Program | None, places: list[Place]) -> Resting:
     """What the safe places rest on; it is looked for where there is one, or where no place is there at all."""
-    if ending or (places and all(place.verdict != "safe" for place in places)):
+    if places and all(place.verdict != "safe" for place in places):
         return Resting([], [])
-    if asked.run is None:
+    if asked.run is None or program is None:
         return Resting([], [], looked=False)
-    return resting_of(asked.folder, asked.run, read_assumed(asked.assume) if asked.assume else set())
+    return resting_of(program, asked.folder, asked.run, read_assumed(asked.assume) if asked.assume else set())
 
 
 def explain(report: str, asked: Explaining) -> int:
     """Explains a report, and gives the exit status."""
     places, ending = read_report(report)
-    resting = look_for_assumptions(asked, places, ending)
-    telling = Telling(Sources(asked.folder), asked.sources, resting)
-    findings = [telling.ending(ending)] if ending else [telling.place(place) for place in places]
-    if asked.sarif:
+    if ending:
+        findings = [Telling(Sources(asked.folder), asked.sources, Resting([], [])).ending(ending)]
         write_sarif(asked.sarif, findings, ending)
+        write_findings(findings)
+        return status_of(places, ending)
+    program = program_of(asked.folder, asked.run) if asked.run else None
+    shown = [place for place in places if not (program and stay_inside(place, program))]
+    resting = look_for_assumptions(asked, program, shown)
+    telling = Telling(Sources(asked.folder), asked.sources, resting)
+    findings = [telling.place(place) for place in shown]
+    write_sarif(asked.sarif, findings, None)
     write_findings(findings)
-    if not ending:
-        write_words(findings, places, resting, asked.in_full)
-    return status_with(resting, [] if ending else findings, status_of(places, ending))
+    write_words(findings, shown, resting, asked.in_full)
+    if len(shown) < len(places):
+        print(f"\nLeft out: {len(places) - len(shown)} more in models of library classes, whose objects never leave the models.")
+    return status_with(resting, findings, status_of(shown, None))
 
 
 def status_with(resting: Resting, findings: list[Finding], status: int) -> int:
@@ -199,8 +208,10 @@ def status_with(resting: Resting, findings: list[Finding], status: int) -> int:
     return RESTS if status == 0 and bears else status
 
 
-def write_sarif(path: str, findings: list[Finding], ending: Ending | None) -> None:
-    """Writes the findings as SARIF."""
+def write_sarif(path: str | None, findings: list[Finding], ending: Ending | None) -> None:
+    """Writes the findings as SARIF, if a file is named."""
+    if path is None:
+        return
     trouble = findings[0].text if ending else ""
     try:
         with open(path, "w", encoding="utf-8", errors="backslashreplace") as file:
