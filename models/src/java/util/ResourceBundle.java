@@ -175,6 +175,13 @@ public abstract class ResourceBundle {
     /** An enumeration of names. */
     static native Enumeration<String> enumeration();
 
+    /** As that of java.lang.Object. */
+    @Override
+    public String toString() {
+        hashCode();
+        return Library.text();
+    }
+
     /** A bundle of the library's own, which has texts. */
     private static final class Texts extends ResourceBundle {
         @Override

@@ -1,6 +1,9 @@
 package java.util.logging;
 
-/** Writes records to System.err, which it does not close. It calls setOutputStream for that in the library; here it does not, since that closes what was there. */
+/**
+ * Writes records to System.err, which it does not close. In the library it gets that stream by setOutputStream, which it does not call here,
+ * since that closes the stream before.
+ */
 public class ConsoleHandler extends StreamHandler {
     public ConsoleHandler() {
         output = System.err;

@@ -89,4 +89,11 @@ public abstract class Handler {
         Filter asked = getFilter();
         return asked == null || Library.any() ? Library.any() : asked.isLoggable(record);
     }
+
+    /** As that of java.lang.Object. */
+    @Override
+    public String toString() {
+        hashCode();
+        return Library.text();
+    }
 }

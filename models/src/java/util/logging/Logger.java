@@ -345,4 +345,11 @@ public class Logger {
         }
         this.parent = parent;
     }
+
+    /** As that of java.lang.Object. */
+    @Override
+    public String toString() {
+        hashCode();
+        return Library.text();
+    }
 }
