@@ -14,7 +14,8 @@ public abstract class URLStreamHandler {
     protected void parseURL(URL u, String spec, int start, int limit) {
         Library.any();
         if (Library.any()) {
-            setURL(u, Library.text(), Library.text(), Library.number(), Library.text(), Library.text(), Library.text(), Library.text(), Library.text());
+            String part = Library.text();
+            setURL(u, part, part, Library.number(), part, part, part, part, part);
         }
     }
 
@@ -66,5 +67,12 @@ public abstract class URLStreamHandler {
     @Deprecated
     protected void setURL(URL u, String protocol, String host, int port, String file, String ref) {
         setURL(u, protocol, host, port, Library.text(), Library.text(), file, Library.text(), ref);
+    }
+
+    /** As that of java.lang.Object. */
+    @Override
+    public String toString() {
+        hashCode();
+        return Library.text();
     }
 }
