@@ -6,9 +6,10 @@ from collections.abc import Iterator
 from dataclasses import dataclass
 
 import facts
-from bodies import CALLS, CAST, CLASS_CONSTANT, GETSTATIC, INSTANCE, INVOKE_SPECIAL, INVOKE_STATIC, NULL, OBJECT, OBJECT_RETURN, PUTFIELD, PUTSTATIC, Key, Use, named_type, parameter_types, result_type
-from class_file import element_class
-from effects import LIBRARY, VALUES, Declared, Effects, arguments, read_protocol
+from bodies import CALLS, CAST, CLASS_CONSTANT, GETSTATIC, INSTANCE, INVOKE_SPECIAL, INVOKE_STATIC, NULL, OBJECT_RETURN, PUTFIELD, PUTSTATIC, Key, Use, named_type, parameter_types, result_type
+from class_file import OBJECT, element_class
+from effects import Declared, Effects, arguments, read_protocol
+from facts import LIBRARY, OF_THE_MACHINE, UNCHECKED, VALUES
 from library import Unusable, jdk_folder, open_jdk
 from program import Program
 from report import Place
@@ -31,8 +32,6 @@ KINDS: dict[str, str] = {
 MAKES_OBJECTS = "makes_objects"
 CONTAINERS = ("java/lang/Iterable", "java/util/Map", "java/util/Iterator", "java/util/Enumeration", "java/util/Map$Entry")
 ANY = ("any", "java/lang/Throwable", "java/lang/Exception")
-UNCHECKED = ("java/lang/RuntimeException", "java/lang/Error")
-OF_THE_MACHINE = ("java/lang/VirtualMachineError", "java/lang/LinkageError", "java/lang/ThreadDeath")
 
 
 @dataclass(frozen=True)

@@ -5,10 +5,10 @@ import struct
 from collections.abc import Callable, Iterator
 from dataclasses import dataclass, field
 
-from class_file import ClassFile
+from class_file import OBJECT, ClassFile
 from refusals import LOADS_CONSTANT, LOOKUP_SWITCH, TABLE_SWITCH, WIDE, Pool, instructions
 
-OBJECT, STRING, THROWABLE = "java/lang/Object", "java/lang/String", "java/lang/Throwable"
+STRING, THROWABLE = "java/lang/String", "java/lang/Throwable"
 # A type on the operand stack or in a local variable: a primitive value of one unit, a unit of one of two, null, or nothing that is
 # known; any other one is the name of a class, or the descriptor of an array.
 ONE, TWO, NULL, NOTHING = "1", "2", "0", ""

@@ -5,6 +5,7 @@ from dataclasses import dataclass, field
 
 STATIC, PRIVATE, FINAL, NATIVE = 0x0008, 0x0002, 0x0010, 0x0100
 INTERFACE, ABSTRACT, PUBLIC = 0x0200, 0x0400, 0x0001
+OBJECT = "java/lang/Object"
 
 # The sizes of the entries of a constant pool behind their tags (JVMS 4.4); that of a text follows its length.
 SIZES = {3: 4, 4: 4, 5: 8, 6: 8, 7: 2, 8: 2, 9: 4, 10: 4, 11: 4, 12: 4, 15: 3, 16: 2, 17: 4, 18: 4, 19: 2, 20: 2}

@@ -1,10 +1,10 @@
 """Finds which classes and members of the library stubs have to describe for the class files of a folder, and which models it needs."""
 
 import facts
-from class_file import ABSTRACT, INTERFACE, NATIVE, PRIVATE, STATIC, BadClassFile, Member, element_class, parse
+from class_file import ABSTRACT, INTERFACE, NATIVE, OBJECT, PRIVATE, STATIC, BadClassFile, Member, element_class, parse
 from library import Unusable
 
-OBJECT = "java/lang/Object"
+# How the names of classes begin that are made for abstract types of the library.
 MADE = "made/"
 # What the library calls by itself: each `new` of a class that declares one is refused, so that they stay undescribed.
 LEFT_OUT = {("finalize", "()V"), ("fillInStackTrace", "()Ljava/lang/Throwable;")}

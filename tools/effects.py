@@ -5,17 +5,15 @@ own, or reaches what is not known. Of the library's own objects of the protocol'
 import tomllib
 from dataclasses import dataclass
 
-import facts
-from bodies import (ARRAY_STORE, CALLS, FIELDS, GETFIELD, INVOKE_SPECIAL, INVOKE_STATIC, NEW, NULL, OBJECT, OBJECT_RETURN, PUTFIELD, PUTSTATIC, THROW, Body, Key,
+from bodies import (ARRAY_STORE, CALLS, FIELDS, GETFIELD, INVOKE_SPECIAL, INVOKE_STATIC, NEW, NULL, OBJECT_RETURN, PUTFIELD, PUTSTATIC, THROW, Body, Key,
                     Use, named_type, parameter_types, result_type)
-from class_file import PRIVATE, BadClassFile, element_class, parse
+from class_file import OBJECT, PRIVATE, BadClassFile, element_class, parse
+from facts import LIBRARY, VALUES
 from library import Unusable
 from program import Program
 from reach import INITIALISER, Method, Reach
 from words import java_name
 
-VALUES = facts.VALUES
-LIBRARY = "library/Library"
 
 
 @dataclass

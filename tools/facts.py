@@ -7,6 +7,11 @@ import functools
 import os
 from collections.abc import Callable, Sequence
 
+# The class of what models are made of.
+LIBRARY = "library/Library"
+# The unchecked exceptions (JLS 11.1.1), and those errors of the machine and of linking that are no matter of the library's (README.md).
+UNCHECKED = ("java/lang/RuntimeException", "java/lang/Error")
+OF_THE_MACHINE = ("java/lang/VirtualMachineError", "java/lang/LinkageError", "java/lang/ThreadDeath")
 FOLDER = os.path.join(os.path.dirname(os.path.realpath(__file__)), "facts")
 Words = tuple[str, ...]
 

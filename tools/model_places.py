@@ -1,9 +1,11 @@
 """Tells the places in models of library classes whose objects never leave the method that makes them: what a model does with an iterator of its
 own, say, is no matter of the program's."""
 
-from bodies import ARRAY_STORE, CALLS, INVOKE_STATIC, OBJECT, OBJECT_RETURN, PUTFIELD, PUTSTATIC, THROW, Body
+from bodies import ARRAY_STORE, CALLS, INVOKE_STATIC, OBJECT_RETURN, PUTFIELD, PUTSTATIC, THROW, Body
+from class_file import OBJECT
 from effects import arguments
-from program import MADE, Program
+from closure import MADE
+from program import Program
 from report import Place
 
 

@@ -6,12 +6,13 @@ import tomllib
 from dataclasses import dataclass, field
 
 import facts
-from bodies import OBJECT, Body, Key
-from class_file import ABSTRACT, NATIVE, STATIC, BadClassFile, ClassFile, parse
+from bodies import Body, Key
+from class_file import ABSTRACT, NATIVE, OBJECT, STATIC, BadClassFile, ClassFile, parse
+from closure import MADE
 from library import BASE_DOCUMENT, Unusable, read_base
 
-# The folder of the models, below the folder of a run; and how the names of classes begin that are made for abstract types of the library.
-MODELS, MADE = "models", "made/"
+# The folder of the models, below the folder of a run.
+MODELS = "models"
 
 
 @dataclass

@@ -4,10 +4,10 @@ import json
 from collections import Counter
 
 from bodies import parameter_types
-from class_file import ABSTRACT, INTERFACE, STATIC, in_byte_order
-from closure import MADE, OBJECT, result_class
+from class_file import ABSTRACT, INTERFACE, OBJECT, STATIC, in_byte_order
+from closure import MADE, result_class
+from facts import LIBRARY, OF_THE_MACHINE, UNCHECKED
 
-LIBRARY = "library/Library"
 KINDS = {
     "quiet": "it runs no code of the folder",
     "open": "nor that of these arguments, whose types have classes of the folder below them",
@@ -20,9 +20,6 @@ KINDS = {
     "keeps nothing": "it keeps no argument (tools/facts/keeps_nothing)",
     "values": "it does not keep objects of the value classes",
 }
-UNCHECKED = {"java/lang/RuntimeException", "java/lang/Error"}
-# Errors of the machine and of linking are no matter of the library's (README.md).
-OF_THE_MACHINE = {"java/lang/VirtualMachineError", "java/lang/LinkageError", "java/lang/ThreadDeath"}
 
 
 def text(value):
@@ -114,7 +111,7 @@ class Writer:
         ways = {name, *self.closure.library_supers(name)}
         if ways & set(declared):
             return True
-        if not ways & UNCHECKED or ways & OF_THE_MACHINE:
+        if not ways & set(UNCHECKED) or ways & set(OF_THE_MACHINE):
             return False
         return listed is None or any(each in ways or name in self.closure.library_supers(each) for each in listed)
 
