@@ -3,10 +3,10 @@ them has a line for each: its kind, what it is about, and the source line; a fil
 
 import os
 from collections.abc import Iterator
-from dataclasses import dataclass
+from dataclasses import dataclass, field
 
 import facts
-from bodies import CALLS, CAST, CLASS_CONSTANT, GETSTATIC, INSTANCE, INVOKE_SPECIAL, INVOKE_STATIC, NULL, OBJECT_RETURN, PUTFIELD, PUTSTATIC, Key, Use, named_type, parameter_types, result_type
+from bodies import CALLS, CAST, CLASS_CONSTANT, GETSTATIC, INSTANCE, INVOKE_INTERFACE, INVOKE_SPECIAL, INVOKE_STATIC, NULL, OBJECT_RETURN, PUTFIELD, PUTSTATIC, TEXT_CONSTANT, Key, Use, named_type, parameter_types, result_type
 from class_file import OBJECT, element_class
 from effects import Declared, Effects, arguments, read_protocol
 from facts import LIBRARY, OF_THE_MACHINE, UNCHECKED, VALUES
@@ -24,6 +24,8 @@ KINDS: dict[str, str] = {
     "held": "an object that the library gives may be closed or used by the library itself later",
     "exceptions": "a handler catches an exception of the library that the stub file does not list",
     "supertype": "a class is used in place of one below it, and the base stubs do not have it above that one",
+    "cast": "an object of one type of the library is none of another one that is neither above nor below it",
+    "selection": "a call by an interface selects a private method, as in Java 8",
     "reflection": "the library may make objects of the program's classes by their names, and run their code",
     "static": "what a static field of the library holds is that of the start, and no place of the report",
     "native": "a native method of the program does what its description says",
@@ -58,17 +60,20 @@ class Assumption:
 
 @dataclass
 class RunWords:
-    """What a run was given beside the folder: the names of the property file and of the stub file in the folder, the entry, and the JDK."""
+    """What a run was given beside the folder: the names of the property file and of the stub file in the folder, the entry, the JDK, and the
+    classes that the jars name below META-INF/services."""
     property: str
     stubs: str = ""
     entry: str = ""
     jdk: str | None = None
+    providers: list[str] = field(default_factory=list)
 
 
 class Finder:
     """Finds the assumptions of a run."""
 
-    def __init__(self, reach: Reach, effects: Effects, sources: Sources):
+    def __init__(self, reach: Reach, effects: Effects, sources: Sources, providers: list[str]):
+        self.providers = providers
         self.reach, self.effects, self.sources, self.program = reach, effects, sources, reach.program
         self.protocol = effects.protocol
         self.calls = [each for each in reach.library.values() if each.use.owner != LIBRARY]
@@ -77,7 +82,7 @@ class Finder:
 
     def all(self) -> list[Assumption]:
         """All of them, by kind, and then by place."""
-        found = dict.fromkeys(each for part in (self.of_calls, self.of_handlers, self.of_supertypes, self.of_natives, self.of_fields, self.of_enums, self.of_values)
+        found = dict.fromkeys(each for part in (self.of_calls, self.of_handlers, self.of_supertypes, self.of_natives, self.of_fields, self.of_enums, self.of_names, self.of_casts, self.of_private, self.of_values)
                               for each in part())
         return sorted(found, key=lambda each: (list(KINDS).index(each.kind), each.line))
 
@@ -149,15 +154,24 @@ class Finder:
     def call_backs(self, call: LibraryCall) -> Iterator[Assumption]:
         """What a call may call back."""
         calls = self.effects.calls(call.owner, call.key)
-        if calls == []:
-            return
-        names = dict.fromkeys([*self.leaked, *self.dangerous(call, calls is not None)])
-        found = [(name, key) for name in names for key in self.effects.dangers[name] if calls is None or self.allows(calls, name, key)]
+        found = self.on_receiver(call)
+        if calls != []:
+            names = dict.fromkeys([*self.leaked, *self.dangerous(call, calls is not None)])
+            found += [(name, key) for name in names for key in self.effects.dangers[name] if calls is None or self.allows(calls, name, key)]
         if found:
             name, key = found[0]
-            others = len({(name, key[0]) for name, key in found}) - 1
+            others = len({(each, member[0]) for each, member in found}) - 1
             more = f"; and {others} more" if others else ""
             yield self.at_call("call-back", call, f"it may call {key[0]} of {java_name(name)}, and of that {self.effects.dangers[name][key]}{more}")
+
+    def on_receiver(self, call: LibraryCall) -> list[Method]:
+        """The methods with a danger that a call may call on its own receiver, where that may be of a class of the program."""
+        if call.use.opcode == INVOKE_STATIC or not self.taken[id(call)] or self.effects.is_alone(call.owner, call.key):
+            return []
+        kind = self.taken[id(call)][0]
+        below = [name for name in self.effects.dangers if name in self.program.code and self.program.is_below(name, kind) and
+                 self.program.is_below(name, call.owner)]
+        return [(name, key) for name in below for key in self.effects.open_keys(name, call.owner) if key in self.effects.dangers[name]]
 
     def dangerous(self, call: LibraryCall, is_listed: bool) -> list[str]:
         """The classes with a danger of which a call may take objects. What an object of the library does with itself, in a call that is an event
@@ -284,6 +298,49 @@ class Finder:
                     why = f"the base stub of {java_name(below[upper][0])} does not have it above itself"
                     yield Assumption("supertype", java_name(upper), self.where(method, use.offset), why)
 
+    def of_names(self) -> Iterator[Assumption]:
+        """Classes of the program that a text names, or a list of providers in a jar: the library may make objects of them by that."""
+        for method, use in self.all_uses():
+            name = use.owner.replace(".", "/") if use.opcode == TEXT_CONSTANT else ""
+            if name in self.program.code and name not in self.program.models and self.could_matter(name):
+                yield Assumption("reflection", java_name(name), self.where(method, use.offset), "a text names it")
+        for name in self.providers:
+            if name in self.program.code and self.could_matter(name):
+                yield Assumption("reflection", java_name(name), "", "a file below META-INF/services names it")
+
+    def could_matter(self, name: str) -> bool:
+        """Whether some method of a class could matter if the library called it."""
+        ways = [each for each in [name, *self.program.supers(name)] if each in self.program.code and each not in self.program.models]
+        return any(self.effects.why(name, each, key) for each in ways for key in self.program.code[each].methods)
+
+    def of_casts(self) -> Iterator[Assumption]:
+        """Casts and tests that lead from one type of the library to one that is neither above nor below it, where no object that is described
+        is of both."""
+        for method, use in self.all_uses():
+            if use.opcode not in (CAST, INSTANCE) or use.owner.startswith("[") or use.owner in self.program.code.keys() - self.program.models:
+                continue
+            seen = self.reach.methods[method].takes(use.offset, self.program.join)[-1:]
+            kind = seen[0] if seen else ""
+            if self.is_across(kind, use.owner):
+                why = f"no {java_name(kind)} that is described is one"
+                yield Assumption("cast", java_name(use.owner), self.where(method, use.offset), why)
+
+    def is_across(self, kind: str, upper: str) -> bool:
+        """Whether objects of two types may be the same in the library, and none that is made is of both."""
+        if kind in VALUES | {NULL, "", OBJECT} or kind[0] in "[12" or kind in self.program.code.keys() - self.program.models:
+            return False
+        if self.program.is_below(kind, upper) or self.program.is_below(upper, kind):
+            return False
+        return not any(self.program.is_library(name) and self.program.is_below(name, kind) and self.program.is_below(name, upper) for name in self.reach.made)
+
+    def of_private(self) -> Iterator[Assumption]:
+        """Calls by an interface that select a private method in Java 8: a later Java selects another one."""
+        for method, use in self.all_uses():
+            key = use.name, use.descriptor
+            hidden = [name for name in self.targets(use) if self.program.is_private(name, key)] if use.opcode == INVOKE_INTERFACE else []
+            if hidden:
+                yield Assumption("selection", qualified(hidden[0], *key), self.where(method, use.offset), "it is private")
+
     def of_values(self) -> Iterator[Assumption]:
         """Whether the protocol is one of objects that are not followed through the library."""
         above = next((name for name in sorted(VALUES) if self.program.is_below(name, self.protocol.class_name)), None)
@@ -363,7 +420,7 @@ def resting_of(program: Program, folder: str, words: RunWords, assumed: set[str]
     except Unusable:
         declared = Declared(None)
     effects = Effects(reach, read_protocol(os.path.join(folder, words.property)), declared)
-    found = Finder(reach, effects, Sources(folder)).all()
+    found = Finder(reach, effects, Sources(folder), words.providers).all()
     return Resting([each for each in found if not is_assumed(each, assumed)], [each for each in found if is_assumed(each, assumed)])
 
 

@@ -15,8 +15,8 @@ ONE, TWO, NULL, NOTHING = "1", "2", "0", ""
 GETSTATIC, PUTSTATIC, GETFIELD, PUTFIELD = 178, 179, 180, 181
 INVOKE_VIRTUAL, INVOKE_SPECIAL, INVOKE_STATIC, INVOKE_INTERFACE = 182, 183, 184, 185
 NEW, NEW_ARRAY, OBJECT_ARRAY, THROW, CAST, INSTANCE, MANY_ARRAYS = 187, 188, 189, 191, 192, 193, 197
-# Each instruction that loads the object of a class, as one opcode.
-CLASS_CONSTANT = 18
+# Each instruction that loads the object of a class, as one opcode, and each one that loads a text.
+CLASS_CONSTANT, TEXT_CONSTANT = 18, 19
 ARRAY_LOAD, ARRAY_STORE, OBJECT_RETURN, ACONST_NULL, POP = 50, 83, 176, 1, 87
 CALLS = {INVOKE_VIRTUAL, INVOKE_SPECIAL, INVOKE_STATIC, INVOKE_INTERFACE}
 FIELDS = {GETSTATIC, PUTSTATIC, GETFIELD, PUTFIELD}
@@ -149,7 +149,7 @@ class Body:
             elif opcode in (ARRAY_STORE, THROW, OBJECT_RETURN):
                 found.append(Use(offset, opcode))
             elif opcode in LOADS_CONSTANT:
-                found += self.class_constant(offset, opcode)
+                found += self.constant(offset, opcode)
         return found
 
     def instructions(self) -> Iterator[tuple[int, int]]:
@@ -160,10 +160,14 @@ class Body:
         """The index of the constant pool that an instruction has."""
         return struct.unpack_from(">H", self.code, offset + 1)[0]
 
-    def class_constant(self, offset: int, opcode: int) -> list[Use]:
-        """The instruction there, if it loads the object of a class."""
+    def constant(self, offset: int, opcode: int) -> list[Use]:
+        """The instruction there, if it loads the object of a class, or a text."""
         index = self.code[offset + 1] if opcode == 18 else self.index(offset)
-        return [Use(offset, CLASS_CONSTANT, self.pool.class_name(index))] if self.pool.pool[index][0] == 7 else []
+        kind = {7: CLASS_CONSTANT, 8: TEXT_CONSTANT}.get(self.pool.pool[index][0])
+        if kind is None:
+            return []
+        (text,) = struct.unpack(">H", self.pool.pool[index][1])
+        return [Use(offset, kind, self.pool.pool[text][1][2:].decode("utf-8", "replace"))]
 
     def use_of_result(self, offset: int, opcode: int) -> str:
         """What the instruction there does with what the one before gave."""

@@ -5,6 +5,7 @@ import shutil
 import subprocess
 import sys
 import tempfile
+import zipfile
 from dataclasses import dataclass
 
 from advice import ADVICE
@@ -90,6 +91,18 @@ def unpack(place: str, jars: list[str]) -> None:
     say(lines[-1].strip())
 
 
+def providers(jars: list[str]) -> list[str]:
+    """The classes that jars name below META-INF/services, for the library to make objects of."""
+    found: dict[str, None] = {}
+    for jar in jars:
+        with zipfile.ZipFile(jar) as entries:
+            for name in entries.namelist():
+                if name.startswith("META-INF/services/") and not name.endswith("/"):
+                    lines = entries.read(name).decode("utf-8", "replace").splitlines()
+                    found.update((line.partition("#")[0].strip().replace(".", "/"), None) for line in lines)
+    return list(filter(None, found))
+
+
 def make_stubs(place: str, asked: Asked) -> None:
     """Puts the stub file into the folder: the one that is named, or one that is written for the folder, with models."""
     folder = os.path.join(place, "folder")
@@ -130,7 +143,7 @@ def run(place: str, asked: Asked) -> int:
 
 def explain_it(place: str, report: str, asked: Asked) -> int:
     """Explains a report. The status."""
-    words = RunWords("property.toml", "stubs.toml", asked.entry, asked.jdk)
+    words = RunWords("property.toml", "stubs.toml", asked.entry, asked.jdk, providers(asked.jars))
     wanted = Explaining(os.path.join(place, "folder"), words, asked.assume, "", os.path.join(place, "report.sarif"), asked.assumptions)
     try:
         return explain(report, wanted)

@@ -7,6 +7,7 @@ from dataclasses import dataclass
 
 from bodies import (ARRAY_STORE, CALLS, FIELDS, GETFIELD, INVOKE_SPECIAL, INVOKE_STATIC, NEW, NULL, OBJECT_RETURN, PUTFIELD, PUTSTATIC, THROW, Body, Key,
                     Use, named_type, parameter_types, result_type)
+from closure import MADE
 from class_file import OBJECT, PRIVATE, BadClassFile, element_class, parse
 from facts import LIBRARY, VALUES
 from library import Unusable
@@ -68,9 +69,11 @@ class Effects:
         self.reach, self.program, self.protocol, self.declared = reach, reach.program, protocol, declared
         self.harmless: set[Method] = set()
         self.storing = storing_models(self.program)
-        tracked = [name for name in [protocol.class_name, *reach.made] if self.is_tracked(name)]
+        own = [name for name in self.program.code if name not in self.program.models]
+        tracked = [name for name in [protocol.class_name, *reach.made, *own] if self.is_tracked(name)]
         self.above_tracked = {OBJECT} | {above for name in tracked for above in self.program.supers(name)}
-        self.above_code = {OBJECT} | {above for name in reach.made if name in self.program.code for above in [name, *self.program.supers(name)]}
+        self.above_code = {OBJECT} | {above for name in [*own, *(each for each in reach.made if each in self.program.code)]
+                                      for above in [name, *self.program.supers(name)]}
         self.dangers: dict[str, dict[Key, str]] = {}
         for name in reach.made:
             found = self.dangers_of(name)
@@ -114,8 +117,8 @@ class Effects:
             return "it is an event"
         if declaring not in self.program.code:
             return ""
-        if declaring not in self.program.models and any(self.is_related(element_class(kind) or "") for kind in self.gives(declaring, key)):
-            return "it gives an object that may be one of the protocol's"
+        if declaring not in self.program.models and any(self.matters(kind) for kind in self.gives(declaring, key)):
+            return "it gives an object of the program"
         return self.harm(declaring, key)
 
     def gives(self, name: str, key: Key) -> list[str]:
@@ -241,7 +244,19 @@ class Effects:
                 if not name or key[0] == name:
                     below = [each for each in [*classes, *made] if each in self.program.code and self.program.is_below(each, upper)]
                     called += [(each, key) for one in below for each in self.program.selected(one, key) if each in self.program.code]
-        return "", list(dict.fromkeys(called))
+        return "", list(dict.fromkeys(called + self.of_receiver(use, owner, made)))
+
+    def of_receiver(self, use: Use, owner: str, made: dict[str, None]) -> list[Method]:
+        """The methods of the folder that a described method may call on its own receiver."""
+        if use.opcode == INVOKE_STATIC or self.is_alone(owner, (use.name, use.descriptor)):
+            return []
+        below = [name for name in [*self.reach.made, *made] if name in self.program.code and self.program.is_below(name, owner)]
+        return [(each, key) for name in below for key in self.open_keys(name, owner) for each in self.program.selected(name, key) if each in self.program.code]
+
+    def open_keys(self, name: str, owner: str) -> list[Key]:
+        """The methods of a class of the folder that override one which a class of the library above it declares."""
+        declared = self.declared.keys(owner.removeprefix(MADE))
+        return [key for key in self.overrides(name) if declared is None or key in declared]
 
     def gives_objects(self, body: Body, use: Use) -> bool:
         """Whether a call has an argument, beside the receiver, that matters."""
@@ -257,7 +272,12 @@ class Effects:
     def calls(self, owner: str, key: Key) -> list[str] | None:
         """What a described method may call: a list of `CLASS.METHOD` or `CLASS`; None where that is not known."""
         found = self.program.said("calls", owner, key)
-        return None if found is None else [word for word in found if word != "nothing"]
+        return None if found is None else [word for word in found if word not in ("nothing", "alone", "only")]
+
+    def is_alone(self, owner: str, key: Key) -> bool:
+        """Whether a described method calls no method of its own receiver; what is not known is not told twice."""
+        found = self.program.said("calls", owner, key)
+        return found is None or key[0] == "<init>" or "alone" in found
 
     def keeps_nothing(self, owner: str, key: Key) -> bool:
         """Whether a described method keeps none of its arguments."""

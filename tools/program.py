@@ -7,7 +7,7 @@ from dataclasses import dataclass, field
 
 import facts
 from bodies import Body, Key
-from class_file import ABSTRACT, NATIVE, OBJECT, STATIC, BadClassFile, ClassFile, parse
+from class_file import ABSTRACT, NATIVE, OBJECT, PRIVATE, STATIC, BadClassFile, ClassFile, parse
 from closure import MADE
 from library import BASE_DOCUMENT, Unusable, read_base
 
@@ -164,11 +164,18 @@ class Program:
 
     def selected(self, name: str, key: Key) -> list[str]:
         """The classes whose method may run at a call on an object of a class: that of the first superclass which has one, and else
-        those of the interfaces with a body."""
+        those of the interfaces with a body. A private one counts, and what is found behind it too: Java 8 and later ones differ."""
+        hidden = []
         for each in self.superclasses(name):
-            if self.keys(each).get(key) is False:
-                return [each]
-        return [each for each in self.supers(name) if self.keys(each).get(key) is False]
+            if self.keys(each).get(key) is False and not self.is_private(each, key):
+                return [each, *hidden]
+            if self.is_private(each, key):
+                hidden.append(each)
+        return hidden + [each for each in self.supers(name) if each not in hidden and self.keys(each).get(key) is False]
+
+    def is_private(self, name: str, key: Key) -> bool:
+        """Whether a method of the folder is private."""
+        return name in self.code and key in self.code[name].methods and self.code[name].methods[key].has(PRIVATE)
 
     def body(self, name: str, key: Key) -> Body | None:
         """The code of a method of the folder, if it has some."""

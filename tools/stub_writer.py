@@ -73,7 +73,15 @@ class Writer:
         is_fresh = self.is_fresh(name, key)
         wide = self.wide(name, key, given)
         kinds = ["fresh"] * is_fresh + ["wide"] + ["made"] * any(each in self.closure.made for each in [given] + wide)
-        return ["kept"] * (not is_fresh) + ["null"] + ["new:" + self.class_of(each) for each in [given] + wide], kinds
+        same = [] if is_fresh else self.unkept(name, key, arguments, given)
+        return same + ["kept"] * (not is_fresh) + ["null"] + ["new:" + self.class_of(each) for each in [given] + wide], kinds
+
+    def unkept(self, name, key, arguments, given):
+        """The arguments that a method which keeps nothing may give back: those whose type may have objects of the result's."""
+        if self.said("keeps_nothing", name, key) is None:
+            return []
+        supers = self.closure.library_supers
+        return [word for word, kind in arguments if kind[0] == "L" and (kind[1:-1] in [given, *supers(given)] or given in supers(kind[1:-1]))]
 
     def is_fresh(self, name, key):
         """Whether what a method gives is a new object each time: of a model's native method, by what models promise."""

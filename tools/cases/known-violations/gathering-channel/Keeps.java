@@ -1,0 +1,12 @@
+// The byte channel of a file is a GatheringByteChannel too.
+import java.nio.ByteBuffer;
+import java.nio.channels.*;
+import java.nio.file.*;
+
+public final class Keeps {
+    public static void main(String[] args) throws Exception {
+        SeekableByteChannel channel = Files.newByteChannel(Paths.get("/dev/null"), StandardOpenOption.WRITE);
+        GatheringByteChannel gathering = (GatheringByteChannel) channel;
+        gathering.write(ByteBuffer.allocate(1));
+    }
+}

@@ -1,0 +1,22 @@
+// A SAXException asks the exception that it wraps for its message.
+import java.util.*;
+import org.xml.sax.SAXException;
+public final class Breaks {
+    static class F {
+        boolean closed;
+        void read() { if (closed) throw new IllegalStateException("read after close"); }
+        void close() { closed = true; }
+    }
+
+    static final class Fault extends Exception {
+        final F f;
+        Fault(F f) { this.f = f; }
+        public String getMessage() { f.close(); return "fault"; }
+    }
+
+    public static void main(String[] args) throws Exception {
+        F f = new F();
+        System.out.println(new SAXException(new Fault(f)).getMessage());
+        f.read();  // errs here
+    }
+}
