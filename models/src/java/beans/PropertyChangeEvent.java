@@ -41,6 +41,6 @@ public class PropertyChangeEvent extends EventObject {
         Elements.text(oldValue);
         Elements.text(newValue);
         Elements.text(propagationId);
-        return Elements.text(getSource());
+        return Elements.text(source);
     }
 }

@@ -100,7 +100,7 @@ public abstract class HttpURLConnection extends URLConnection {
     private static native void mayRefuse() throws ProtocolException;
 
     public String getRequestMethod() {
-        return method;
+        return method == null ? Library.text() : method;
     }
 
     public int getResponseCode() throws IOException {

@@ -19,8 +19,10 @@ public abstract class JarURLConnection extends URLConnection {
     }
 
     public URL getJarFileURL() {
-        return file;
+        return file == null ? found() : file;
     }
+
+    private static native URL found();
 
     public String getEntryName() {
         return Library.any() ? null : Library.text();

@@ -22,7 +22,7 @@ public final class URL implements Serializable {
 
     public URL(String protocol, String host, int port, String file, URLStreamHandler handler) throws MalformedURLException {
         mayFail();
-        this.handler = handler == null ? own() : handler;
+        this.handler = handler;
     }
 
     public URL(String spec) throws MalformedURLException {
@@ -36,15 +36,24 @@ public final class URL implements Serializable {
     public URL(URL context, String spec, URLStreamHandler handler) throws MalformedURLException {
         mayFail();
         this.handler = handler;
-        if (handler == null) {
-            this.handler = context != null && Library.any() ? context.handler : own();
+        if (handler == null && context != null && Library.any()) {
+            this.handler = context.handler();
         }
-        if (this.handler != null && Library.any()) {
-            this.handler.parseURL(this, spec, Library.number(), Library.number());
+        URLStreamHandler parser = handler();
+        if (parser != null && Library.any()) {
+            parser.parseURL(this, spec, Library.number(), Library.number());
         }
     }
 
     private static native void mayFail() throws MalformedURLException;
+
+    /** The handler: the one that was given, one of the program's factory, or null for one of the library. */
+    private URLStreamHandler handler() {
+        if (handler == null) {
+            handler = own();
+        }
+        return handler;
+    }
 
     /** A handler that the program's factory makes, or made. */
     private static URLStreamHandler own() {
@@ -78,7 +87,7 @@ public final class URL implements Serializable {
     }
 
     public int getDefaultPort() {
-        return handler == null || Library.any() ? Library.number() : handler.getDefaultPort();
+        return handler() == null || Library.any() ? Library.number() : handler.getDefaultPort();
     }
 
     public String getProtocol() {
@@ -101,15 +110,15 @@ public final class URL implements Serializable {
         if (!(obj instanceof URL)) {
             return false;
         }
-        return handler == null || Library.any() ? Library.any() : handler.equals(this, (URL) obj);
+        return handler() == null || Library.any() ? Library.any() : handler.equals(this, (URL) obj);
     }
 
     public synchronized int hashCode() {
-        return handler == null || Library.any() ? Library.number() : handler.hashCode(this);
+        return handler() == null || Library.any() ? Library.number() : handler.hashCode(this);
     }
 
     public boolean sameFile(URL other) {
-        return handler == null || Library.any() ? Library.any() : handler.sameFile(this, other);
+        return handler() == null || Library.any() ? Library.any() : handler.sameFile(this, other);
     }
 
     public String toString() {
@@ -121,7 +130,7 @@ public final class URL implements Serializable {
     }
 
     private String form() {
-        return handler == null || Library.any() ? Library.text() : handler.toExternalForm(this);
+        return handler() == null || Library.any() ? Library.text() : handler.toExternalForm(this);
     }
 
     public URI toURI() throws URISyntaxException {
@@ -137,21 +146,32 @@ public final class URL implements Serializable {
 
     private URLConnection open() throws IOException {
         Library.mayFail();
-        if (handler != null && Library.any()) {
+        if (handler() != null && Library.any()) {
             return handler.openConnection(this);
         }
-        return Library.any() ? new HttpURLConnection.Web(this) : connection();
+        return made();
     }
 
     public URLConnection openConnection(Proxy proxy) throws IOException {
         Library.mayFail();
-        if (handler != null && Library.any()) {
+        if (handler() != null && Library.any()) {
             return handler.openConnection(this, proxy);
         }
-        return Library.any() ? new HttpURLConnection.Web(this) : connection();
+        return made();
     }
 
-    /** A connection of another kind, or of HTTP. */
+    /** A connection of HTTP, or of another kind. */
+    private URLConnection made() {
+        if (Library.any()) {
+            return new HttpURLConnection.Web(this);
+        }
+        URLConnection made = connection();
+        if (made != null) {
+            made.url = this;
+        }
+        return made;
+    }
+
     private native URLConnection connection();
 
     public final InputStream openStream() throws IOException {

@@ -77,8 +77,13 @@ public abstract class URLConnection {
     }
 
     public URL getURL() {
+        if (url == null) {
+            url = found();
+        }
         return url;
     }
+
+    private static native URL found();
 
     public int getContentLength() {
         getContentLengthLong();

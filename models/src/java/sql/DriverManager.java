@@ -5,6 +5,7 @@ import java.io.PrintWriter;
 import java.util.Enumeration;
 import java.util.Properties;
 import library.Library;
+import library.sql.LibraryConnection;
 import library.sql.LibraryDriver;
 
 /**
@@ -23,6 +24,22 @@ public class DriverManager {
         Registered(Driver driver, DriverAction action) {
             this.driver = driver;
             this.action = action;
+        }
+
+        Connection connect(String url, Properties info) throws SQLException {
+            return driver == null ? null : driver.connect(url, info == null ? new Properties() : info);
+        }
+
+        void leave() {
+            if (action != null && Library.any()) {
+                action.deregister();
+            }
+        }
+
+        void accept(String url) throws SQLException {
+            if (driver != null && Library.any()) {
+                driver.acceptsURL(url);
+            }
         }
 
         @Override
@@ -65,46 +82,51 @@ public class DriverManager {
     }
 
     public static Connection getConnection(String url, Properties info) throws SQLException {
+        if (info != null && Library.any()) {
+            info.getProperty(Library.text());
+        }
         return connect(url, info);
     }
 
     public static Connection getConnection(String url, String user, String password) throws SQLException {
-        return connect(url, new Properties());
+        return connect(url, null);
     }
 
     public static Connection getConnection(String url) throws SQLException {
-        return connect(url, new Properties());
+        return connect(url, null);
     }
 
     private static Connection connect(String url, Properties info) throws SQLException {
         Connection found = null;
         while (Library.any()) {
+            mayFail();
             print();
-            Driver driver = driver(url);
-            if (driver != null) {
-                found = driver.connect(url, info);
+            Registered registered = registered(url);
+            if (registered != null) {
+                found = registered.connect(url, info);
             }
         }
-        return found == null || Library.any() ? new LibraryDriver().connect(url, info) : found;
+        return found == null || Library.any() ? new LibraryConnection() : found;
     }
 
+    private static native void mayFail() throws SQLException;
+
     /** A driver that was registered, if there is one, which is asked whether it takes an address. */
-    private static Driver driver(String url) throws SQLException {
+    private static Registered registered(String url) throws SQLException {
         Object kept = Library.kept();
         if (!(kept instanceof Registered)) {
             return null;
         }
-        Driver driver = ((Registered) kept).driver;
-        if (driver != null && Library.any()) {
-            driver.acceptsURL(url);
-        }
-        return driver;
+        Registered registered = (Registered) kept;
+        registered.accept(url);
+        return registered;
     }
 
     public static Driver getDriver(String url) throws SQLException {
+        mayFail();
         print();
-        Driver found = driver(url);
-        return found == null || Library.any() ? new LibraryDriver() : found;
+        Registered registered = registered(url);
+        return registered == null || Library.any() ? new LibraryDriver() : registered.driver;
     }
 
     public static synchronized void registerDriver(Driver driver) throws SQLException {
@@ -121,13 +143,11 @@ public class DriverManager {
     }
 
     public static synchronized void deregisterDriver(Driver driver) throws SQLException {
+        mayFail();
         print();
         Object kept = Library.kept();
         if (kept instanceof Registered) {
-            DriverAction action = ((Registered) kept).action;
-            if (action != null && Library.any()) {
-                action.deregister();
-            }
+            ((Registered) kept).leave();
         }
     }
 

@@ -1,6 +1,8 @@
 package java.util;
 
-/** Holds a listener. */
+import library.Elements;
+
+/** Holds a listener, which is among what was kept where a class that is described stands between. */
 public abstract class EventListenerProxy<T extends EventListener> implements EventListener {
     private final T listener;
 
@@ -9,6 +11,6 @@ public abstract class EventListenerProxy<T extends EventListener> implements Eve
     }
 
     public T getListener() {
-        return listener;
+        return listener == null ? Elements.<T>kept() : listener;
     }
 }

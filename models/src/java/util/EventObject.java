@@ -2,6 +2,7 @@ package java.util;
 
 import java.io.Serializable;
 import library.Elements;
+import library.Library;
 
 /** An event, which holds the object where it came up, and asks it for its text. */
 public class EventObject implements Serializable {
@@ -14,8 +15,9 @@ public class EventObject implements Serializable {
         this.source = source;
     }
 
+    /** The source is among what was kept where a class that is described stands between. */
     public Object getSource() {
-        return source;
+        return source == null ? Library.kept() : source;
     }
 
     public String toString() {

@@ -106,6 +106,9 @@ public final class Formatter implements Closeable, Flushable {
     }
 
     private Appendable destination() {
+        if (made == null && to == null) {
+            to = new StringBuilder();
+        }
         return made == null ? to : made;
     }
 

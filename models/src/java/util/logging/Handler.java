@@ -26,6 +26,9 @@ public abstract class Handler {
     }
 
     public Formatter getFormatter() {
+        if (formatter == null && Library.any()) {
+            formatter = new SimpleFormatter();
+        }
         return formatter;
     }
 
@@ -37,7 +40,7 @@ public abstract class Handler {
     private static native void mayRefuse() throws UnsupportedEncodingException;
 
     public String getEncoding() {
-        return encoding;
+        return encoding == null && Library.any() ? Library.text() : encoding;
     }
 
     public synchronized void setFilter(Filter newFilter) throws SecurityException {

@@ -22,7 +22,7 @@ public class LogRecord implements Serializable {
     }
 
     public String getLoggerName() {
-        return loggerName;
+        return loggerName == null && Library.any() ? Library.text() : loggerName;
     }
 
     public void setLoggerName(String loggerName) {
@@ -38,7 +38,7 @@ public class LogRecord implements Serializable {
     }
 
     public String getResourceBundleName() {
-        return resourceBundleName;
+        return resourceBundleName == null && Library.any() ? Library.text() : resourceBundleName;
     }
 
     public void setResourceBundleName(String resourceBundleName) {
@@ -46,8 +46,10 @@ public class LogRecord implements Serializable {
     }
 
     public Level getLevel() {
-        return level;
+        return level == null && Library.any() ? found() : level;
     }
+
+    private static native Level found();
 
     public void setLevel(Level level) {
         this.level = level;
@@ -77,7 +79,7 @@ public class LogRecord implements Serializable {
     }
 
     public String getMessage() {
-        return message;
+        return message == null && Library.any() ? Library.text() : message;
     }
 
     public void setMessage(String message) {

@@ -282,7 +282,7 @@ public class Logger {
     }
 
     public Level getLevel() {
-        return level;
+        return level == null && Library.any() ? level() : level;
     }
 
     public boolean isLoggable(Level level) {
@@ -290,7 +290,7 @@ public class Logger {
     }
 
     public String getName() {
-        return name;
+        return name == null && Library.any() ? Library.text() : name;
     }
 
     public void addHandler(Handler handler) throws SecurityException {

@@ -68,7 +68,7 @@ public class StreamHandler extends Handler {
     }
 
     public boolean isLoggable(LogRecord record) {
-        return output != null && record != null && super.isLoggable(record);
+        return record != null && Library.any() && super.isLoggable(record);
     }
 
     public synchronized void flush() {

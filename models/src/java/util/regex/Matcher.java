@@ -41,6 +41,9 @@ public final class Matcher implements MatchResult {
     }
 
     public Pattern pattern() {
+        if (pattern == null) {
+            pattern = Pattern.compile(Library.text());
+        }
         return pattern;
     }
 
