@@ -129,21 +129,6 @@ public final class Elements {
         return Library.any();
     }
 
-    /** Keeps keys and values of a map, which may be one of the user. */
-    public static void takeAll(Map<?, ?> from) {
-        while (Library.any()) {
-            if (Library.any()) {
-                from.size();
-            } else if (Library.any()) {
-                from.isEmpty();
-            } else {
-                for (Map.Entry<?, ?> each : from.entrySet()) {
-                    take(each);
-                }
-            }
-        }
-    }
-
     /** Takes a map into a hash table. */
     public static void hashAll(Map<?, ?> from) {
         from.size();

@@ -200,6 +200,9 @@ public class HashMap<K, V> extends AbstractMap<K, V> implements Map<K, V>, Clone
     }
 
     /** What a class below this one does after a key was put. */
-    void afterEntering() {
+    private void afterEntering() {
+        if (this instanceof LinkedHashMap) {
+            LinkedHashMap.dropEldest((LinkedHashMap<K, V>) this);
+        }
     }
 }

@@ -78,10 +78,10 @@ public class LinkedHashMap<K, V> extends HashMap<K, V> implements Map<K, V> {
         return Library.any() ? other : new LinkedHashMap<K, V>();
     }
 
-    @Override
-    void afterEntering() {
+    /** After a key was put: asks whether the eldest entry is to go. */
+    static <K, V> void dropEldest(LinkedHashMap<K, V> map) {
         while (Library.any()) {
-            if (removeEldestEntry(new library.Entry<K, V>())) {
+            if (map.removeEldestEntry(new library.Entry<K, V>())) {
                 Elements.hashed(Library.kept());
             }
         }

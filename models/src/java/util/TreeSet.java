@@ -175,7 +175,7 @@ public class TreeSet<E> extends AbstractSet<E> implements NavigableSet<E>, Clone
     }
 
     /** Looks for an element. */
-    boolean search(Object element) {
+    private boolean search(Object element) {
         return Elements.ordered(order, element);
     }
 
@@ -202,21 +202,26 @@ public class TreeSet<E> extends AbstractSet<E> implements NavigableSet<E>, Clone
             super(order);
         }
 
+        /** Compares elements with the bounds. */
+        private void compare() {
+            Elements.ordered(comparator(), Library.kept());
+        }
+
         @Override
         public Iterator<E> iterator() {
-            search(Library.kept());
+            compare();
             return super.iterator();
         }
 
         @Override
         public Iterator<E> descendingIterator() {
-            search(Library.kept());
+            compare();
             return super.descendingIterator();
         }
 
         @Override
         public int size() {
-            search(Library.kept());
+            compare();
             return super.size();
         }
 
@@ -227,7 +232,7 @@ public class TreeSet<E> extends AbstractSet<E> implements NavigableSet<E>, Clone
 
         @Override
         public E first() {
-            search(Library.kept());
+            compare();
             return super.first();
         }
 
@@ -248,7 +253,7 @@ public class TreeSet<E> extends AbstractSet<E> implements NavigableSet<E>, Clone
 
         @Override
         public void clear() {
-            search(Library.kept());
+            compare();
         }
     }
 }
