@@ -8,7 +8,7 @@ from dataclasses import dataclass, field
 import facts
 from bodies import CALLS, CAST, CLASS_CONSTANT, GETSTATIC, INSTANCE, INVOKE_INTERFACE, INVOKE_SPECIAL, INVOKE_STATIC, NULL, OBJECT_RETURN, PUTFIELD, PUTSTATIC, TEXT_CONSTANT, Key, Use, named_type, parameter_types, result_type
 from class_file import OBJECT, element_class
-from effects import Declared, Effects, arguments, read_protocol
+from effects import CONTAINERS, Declared, Effects, arguments, read_protocol
 from facts import LIBRARY, OF_THE_MACHINE, UNCHECKED, VALUES
 from library import Unusable, jdk_folder, open_jdk
 from program import Program
@@ -32,7 +32,6 @@ KINDS: dict[str, str] = {
     "values": "objects of the classes in tools/facts/value_classes that the library gives back are not followed",
 }
 MAKES_OBJECTS = "makes_objects"
-CONTAINERS = ("java/lang/Iterable", "java/util/Map", "java/util/Iterator", "java/util/Enumeration", "java/util/Map$Entry")
 ANY = ("any", "java/lang/Throwable", "java/lang/Exception")
 
 
@@ -82,7 +81,7 @@ class Finder:
 
     def all(self) -> list[Assumption]:
         """All of them, by kind, and then by place."""
-        found = dict.fromkeys(each for part in (self.of_calls, self.of_handlers, self.of_supertypes, self.of_natives, self.of_fields, self.of_enums, self.of_names, self.of_casts, self.of_private, self.of_values)
+        found = dict.fromkeys(each for part in (self.of_calls, self.of_handlers, self.of_supertypes, self.of_natives, self.of_fields, self.of_enums, self.of_models, self.of_names, self.of_casts, self.of_private, self.of_values)
                               for each in part())
         return sorted(found, key=lambda each: (list(KINDS).index(each.kind), each.line))
 
@@ -156,7 +155,8 @@ class Finder:
         calls = self.effects.calls(call.owner, call.key)
         found = self.on_receiver(call)
         if calls != []:
-            names = dict.fromkeys([*self.leaked, *self.dangerous(call, calls is not None)])
+            had = self.effects.dangers if self.effects.is_of_any(call.owner, call.key) else self.leaked
+            names = dict.fromkeys([*had, *self.dangerous(call, calls is not None)])
             found += [(name, key) for name in names for key in self.effects.dangers[name] if calls is None or self.allows(calls, name, key)]
         if found:
             name, key = found[0]
@@ -173,6 +173,23 @@ class Finder:
                  self.program.is_below(name, call.owner)]
         return [(name, key) for name in below for key in self.effects.open_keys(name, call.owner) if key in self.effects.dangers[name]]
 
+    def of_models(self) -> Iterator[Assumption]:
+        """What models may call on their own objects, where these are of a class of the program below them, and the model was not compared with the
+        library in this."""
+        compared = facts.names_of("own_calls")
+        for method, use in self.all_uses():
+            if use.opcode not in CALLS or use.opcode == INVOKE_STATIC or use.name == "<init>":
+                continue
+            kind = arguments(self.reach.methods[method], use, self.program)[0]
+            for model in (self.targets(use) & self.program.models) - compared:
+                below = [name for name in self.effects.dangers if name not in self.program.models and name in self.program.code
+                         and self.program.is_below(name, kind) and self.program.is_below(name, model)]
+                found = [(name, key) for name in below for key in self.effects.open_keys(name, model) if key in self.effects.dangers[name]]
+                if found:
+                    name, key = found[0]
+                    why = f"it may call {key[0]} of {java_name(name)}, and of that {self.effects.dangers[name][key]}"
+                    yield Assumption("call-back", qualified(model, use.name, use.descriptor), self.where(method, use.offset), why)
+
     def dangerous(self, call: LibraryCall, is_listed: bool) -> list[str]:
         """The classes with a danger of which a call may take objects. What an object of the library does with itself, in a call that is an event
         or one that is listed, is that call."""
@@ -187,9 +204,13 @@ class Finder:
         """Whether a method that may call these may call this one of an object of a class."""
         for word in calls:
             upper, _, method = word.partition(".")
-            if self.program.is_below(name, upper) and (not method or method == key[0]):
+            if self.program.is_below(name, upper) and (key[0] == method or not method and self.is_declared(name, key, upper)):
                 return True
         return False
+
+    def is_declared(self, name: str, key: Key, upper: str) -> bool:
+        """Whether a class of the library declares a method, of an object of a class of the folder or of the library."""
+        return name not in self.program.code or key in self.effects.open_keys(name, upper)
 
     def contents(self, call: LibraryCall) -> Iterator[Assumption]:
         """What a call may do with elements."""

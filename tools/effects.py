@@ -8,13 +8,17 @@ from dataclasses import dataclass
 from bodies import (ARRAY_STORE, CALLS, FIELDS, GETFIELD, INVOKE_SPECIAL, INVOKE_STATIC, NEW, NULL, OBJECT_RETURN, PUTFIELD, PUTSTATIC, THROW, Body, Key,
                     Use, named_type, parameter_types, result_type)
 from closure import MADE
-from class_file import OBJECT, PRIVATE, BadClassFile, element_class, parse
-from facts import LIBRARY, VALUES
+from class_file import INTERFACE, OBJECT, PRIVATE, STATIC, BadClassFile, element_class, parse
+from facts import LIBRARY, VALUES, WORDS
 from library import Unusable
 from program import Program
 from reach import INITIALISER, Method, Reach
 from words import java_name
 
+
+# Supertypes that say nothing of what a class may do with an object of the same one.
+WITHOUT_KIN = (OBJECT, "java/io/Serializable", "java/lang/Cloneable", "java/lang/Comparable")
+CONTAINERS = ("java/lang/Iterable", "java/util/Map", "java/util/Iterator", "java/util/Enumeration", "java/util/Map$Entry")
 
 
 @dataclass
@@ -67,13 +71,17 @@ class Effects:
 
     def __init__(self, reach: Reach, protocol: Protocol, declared: Declared):
         self.reach, self.program, self.protocol, self.declared = reach, reach.program, protocol, declared
-        self.harmless: set[Method] = set()
+        self.harmless: dict[bool, set[Method]] = {False: set(), True: set()}
+        self.giving = True
+        self.overriding: dict[str, list[Key]] = {}
+        self.opened: dict[tuple[str, str], list[Key]] = {}
+        self.mattering: dict[str, bool] = {}
         self.storing = storing_models(self.program)
         own = [name for name in self.program.code if name not in self.program.models]
         tracked = [name for name in [protocol.class_name, *reach.made, *own] if self.is_tracked(name)]
         self.above_tracked = {OBJECT} | {above for name in tracked for above in self.program.supers(name)}
-        self.above_code = {OBJECT} | {above for name in [*own, *(each for each in reach.made if each in self.program.code)]
-                                      for above in [name, *self.program.supers(name)]}
+        self.own = own
+        self.above_code = self.above_what_matters()
         self.dangers: dict[str, dict[Key, str]] = {}
         for name in reach.made:
             found = self.dangers_of(name)
@@ -104,6 +112,12 @@ class Effects:
 
     def overrides(self, name: str) -> list[Key]:
         """The methods of objects of a class of the folder that the library can call: those that a class of the library above it declares."""
+        if name not in self.overriding:
+            self.overriding[name] = self.look_for_overrides(name)
+        return self.overriding[name]
+
+    def look_for_overrides(self, name: str) -> list[Key]:
+        """Looks for them."""
         ways = [name, *self.program.supers(name)]
         keys = [self.declared.keys(each) for each in ways if each in self.program.stubs or each in self.program.models]
         own = dict.fromkeys(key for each in ways if each in self.program.code for key in self.program.keys(each))
@@ -129,6 +143,35 @@ class Effects:
         stacks = [body.takes(use.offset, self.program.join) for use in body.uses() if use.opcode == OBJECT_RETURN]
         return [stack[-1] for stack in stacks if stack and stack[-1] not in VALUES | {NULL}]
 
+    # ---- which objects matter
+
+    def above_what_matters(self) -> set[str]:
+        """The types that may have objects of classes of the folder with which a program could do something that matters: they have a field for such
+        an object, or a method that matters by itself."""
+        self.giving = False
+        found = {above for name in self.own if self.class_matters(name) for above in [name, *self.program.supers(name)]}
+        self.giving = True
+        return found | {OBJECT}
+
+    def class_matters(self, name: str) -> bool:
+        """Whether objects of a class of the folder matter."""
+        if name not in self.mattering:
+            self.mattering[name] = False
+            found = self.program.code[name]
+            self.mattering[name] = (self.is_tracked(name) or any(self.field_matters(key[1]) for key, each in found.fields.items() if not each.has(STATIC))
+                                    or any(self.harm(name, key) for key in found.methods if key[0] not in ("<init>", "<clinit>"))
+                                    or found.super_class in self.own and self.class_matters(found.super_class))
+        return self.mattering[name]
+
+    def field_matters(self, descriptor: str) -> bool:
+        """Whether a field of this type may hold an object that matters. What containers hold, others may give too."""
+        kind = element_class(named_type(descriptor) or NULL) or NULL
+        if kind in VALUES | {NULL}:
+            return False
+        if kind in self.program.code and kind not in self.program.models:
+            return True if self.program.code[kind].has(INTERFACE) else self.class_matters(kind)
+        return self.is_related(kind) or not any(self.program.is_below(kind, upper) for upper in CONTAINERS)
+
     # ---- whether a call matters
 
     def harm(self, name: str, key: Key) -> str:
@@ -139,14 +182,14 @@ class Effects:
             found, seen = self.walk((name, key), made)
             if found or len(made) == before:
                 if not found:
-                    self.harmless |= seen
+                    self.harmless[self.giving] |= seen
                 return found
 
     def walk(self, first: Method, made: dict[str, None]) -> tuple[str, set[Method]]:
         """Goes through all that a method calls; `made` takes the classes of new objects that are made nowhere else."""
         seen, ways = {first}, [first]
         for method in ways:
-            if method in self.harmless:
+            if method in self.harmless[self.giving]:
                 continue
             body = self.program.body(*method)
             if body is None:
@@ -213,7 +256,7 @@ class Effects:
         called += [(each, key) for each in selected if each in self.program.code]
         met = [each for each in selected if each not in self.program.code]
         is_model = body.found.name in self.program.models
-        if not is_model and self.storing & set(selected) and self.gives_objects(body, use):
+        if self.giving and not is_model and self.storing & set(selected) and self.gives_objects(body, use):
             return f"it gives an object to {java_name(selected[0])}.{use.name}", []
         for owner in dict.fromkeys(met):
             why, more = self.of_library(body, use, owner, made)
@@ -234,16 +277,15 @@ class Effects:
         if calls is None:
             return f"it calls {java_name(owner)}.{use.name}", []
         is_model = body.found.name in self.program.models
-        if not is_model and not self.keeps_nothing(owner, (use.name, use.descriptor)):
+        if self.giving and not is_model and not self.keeps_nothing(owner, (use.name, use.descriptor)):
             if any(self.matters(kind) for kind in arguments(body, use, self.program, owner)):
                 return f"it gives an object to {java_name(owner)}.{use.name}", []
         called = []
         for word in calls:
             upper, _, name = word.partition(".")
-            for key, classes in self.reach.answering.items():
-                if not name or key[0] == name:
-                    below = [each for each in [*classes, *made] if each in self.program.code and self.program.is_below(each, upper)]
-                    called += [(each, key) for one in below for each in self.program.selected(one, key) if each in self.program.code]
+            for below in [each for each in [*self.reach.made, *made] if each in self.program.code and self.program.is_below(each, upper)]:
+                keys = [key for key in self.open_keys(below, upper) if not name or key[0] == name]
+                called += [(each, key) for key in keys for each in self.program.selected(below, key) if each in self.program.code]
         return "", list(dict.fromkeys(called + self.of_receiver(use, owner, made)))
 
     def of_receiver(self, use: Use, owner: str, made: dict[str, None]) -> list[Method]:
@@ -255,8 +297,10 @@ class Effects:
 
     def open_keys(self, name: str, owner: str) -> list[Key]:
         """The methods of a class of the folder that override one which a class of the library above it declares."""
-        declared = self.declared.keys(owner.removeprefix(MADE))
-        return [key for key in self.overrides(name) if declared is None or key in declared]
+        if (name, owner) not in self.opened:
+            declared = self.declared.keys(owner.removeprefix(MADE))
+            self.opened[name, owner] = [key for key in self.overrides(name) if declared is None or key in declared]
+        return self.opened[name, owner]
 
     def gives_objects(self, body: Body, use: Use) -> bool:
         """Whether a call has an argument, beside the receiver, that matters."""
@@ -272,7 +316,14 @@ class Effects:
     def calls(self, owner: str, key: Key) -> list[str] | None:
         """What a described method may call: a list of `CLASS.METHOD` or `CLASS`; None where that is not known."""
         found = self.program.said("calls", owner, key)
-        return None if found is None else [word for word in found if word not in ("nothing", "alone", "only")]
+        if found is None:
+            return None
+        kin = [each for each in [owner, *self.program.supers(owner)] if each not in WITHOUT_KIN] if "kin" in found else []
+        return [word for word in found if word not in WORDS] + kin
+
+    def is_of_any(self, owner: str, key: Key) -> bool:
+        """Whether what a described method calls may be of an object that was not given to the library to keep."""
+        return "any" in (self.program.said("calls", owner, key) or ())
 
     def is_alone(self, owner: str, key: Key) -> bool:
         """Whether a described method calls no method of its own receiver; what is not known is not told twice."""

@@ -12,6 +12,8 @@ LIBRARY = "library/Library"
 # The unchecked exceptions (JLS 11.1.1), and those errors of the machine and of linking that are no matter of the library's (README.md).
 UNCHECKED = ("java/lang/RuntimeException", "java/lang/Error")
 OF_THE_MACHINE = ("java/lang/VirtualMachineError", "java/lang/LinkageError", "java/lang/ThreadDeath")
+# Words in the list `calls` that name nothing.
+WORDS = ("nothing", "alone", "kin", "any")
 FOLDER = os.path.join(os.path.dirname(os.path.realpath(__file__)), "facts")
 Words = tuple[str, ...]
 
@@ -45,12 +47,9 @@ def of_method(name: str, owner: str, key: tuple[str, str], whole: bool) -> Words
 
 def nearest(name: str, owners: Sequence[str], key: tuple[str, str], has: Callable[[str], bool]) -> Words | None:
     """What a list says of a method of the first of these classes: the line of the nearest one that has a line, or None. A line on all
-    methods of a class counts for the first one, and for one that has the method, and one with the word `only` for the first one. A constructor is that
-    of its own class alone."""
+    methods of a class counts for the first one, and for one that has the method. A constructor is that of its own class alone."""
     for each in owners:
         found = of_method(name, each, key, each == owners[0] or has(each))
-        if found is not None and each != owners[0] and "only" in found:
-            continue
         if found is not None or key[0] == "<init>":
             return found
     return None
