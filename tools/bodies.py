@@ -182,6 +182,10 @@ class Body:
         return self.typed.get(offset, [])
 
 
+class This(str):
+    """The class of the object that a constructor makes, as the type of just this object."""
+
+
 class Typing:
     """Follows the types of local variables and the operand stack through a method, until nothing is new."""
 
@@ -213,7 +217,8 @@ class Typing:
 
     def first(self) -> dict[int, str]:
         """The local variables at the start."""
-        found, at = ({} if self.body.is_static else {0: self.body.found.name}), 0 if self.body.is_static else 1
+        own = This(self.body.found.name) if self.body.key[0] == "<init>" else self.body.found.name
+        found, at = ({} if self.body.is_static else {0: own}), 0 if self.body.is_static else 1
         for kind in parameter_types(self.body.key[1]):
             found[at] = named_type(kind) or ONE
             at += 2 if kind in "JD" else 1
@@ -265,7 +270,9 @@ class Typing:
 
     def join(self, one: str, other: str) -> str:
         """A type that has the values of both."""
-        if one == other or other == NULL:
+        if one == other:
+            return one if isinstance(other, This) else other
+        if other == NULL:
             return one
         if one == NULL:
             return other

@@ -5,17 +5,20 @@ own, or reaches what is not known. Of the library's own objects of the protocol'
 import tomllib
 from dataclasses import dataclass
 
-from bodies import (ARRAY_STORE, CALLS, FIELDS, GETFIELD, INVOKE_SPECIAL, INVOKE_STATIC, NEW, NULL, OBJECT_RETURN, PUTFIELD, PUTSTATIC, THROW, Body, Key,
+from bodies import (ARRAY_STORE, CALLS, FIELDS, GETFIELD, CLASS_CONSTANT, INVOKE_SPECIAL, INVOKE_STATIC, NEW, NULL, OBJECT_RETURN, PUTFIELD, PUTSTATIC, THROW, THROWABLE, Body, Key, This,
                     Use, named_type, parameter_types, result_type)
 from closure import MADE
-from class_file import INTERFACE, OBJECT, PRIVATE, STATIC, BadClassFile, element_class, parse
+from class_file import OBJECT, PRIVATE, BadClassFile, element_class, parse
 from facts import LIBRARY, VALUES, WORDS
 from library import Unusable
 from program import Program
+from refusals import FREE_OF_CLASS
 from reach import INITIALISER, Method, Reach
 from words import java_name
 
 
+# Classes of reflection and threads: the verifier refuses code that runs and calls them.
+REFUSED = ("java/lang/reflect/", "java/lang/invoke/", "java/util/concurrent/", "java/lang/Thread")
 # Supertypes that say nothing of what a class may do with an object of the same one.
 WITHOUT_KIN = (OBJECT, "java/io/Serializable", "java/lang/Cloneable", "java/lang/Comparable")
 CONTAINERS = ("java/lang/Iterable", "java/util/Map", "java/util/Iterator", "java/util/Enumeration", "java/util/Map$Entry")
@@ -71,17 +74,15 @@ class Effects:
 
     def __init__(self, reach: Reach, protocol: Protocol, declared: Declared):
         self.reach, self.program, self.protocol, self.declared = reach, reach.program, protocol, declared
-        self.harmless: dict[bool, set[Method]] = {False: set(), True: set()}
-        self.giving = True
+        self.harmless: set[Method] = set()
         self.overriding: dict[str, list[Key]] = {}
         self.opened: dict[tuple[str, str], list[Key]] = {}
-        self.mattering: dict[str, bool] = {}
         self.storing = storing_models(self.program)
         own = [name for name in self.program.code if name not in self.program.models]
         tracked = [name for name in [protocol.class_name, *reach.made, *own] if self.is_tracked(name)]
         self.above_tracked = {OBJECT} | {above for name in tracked for above in self.program.supers(name)}
-        self.own = own
-        self.above_code = self.above_what_matters()
+        self.above_code = {OBJECT} | {above for name in own for above in [name, *self.program.supers(name)]}
+        self.thrown = [name for name in own if self.program.is_below(name, THROWABLE)]
         self.dangers: dict[str, dict[Key, str]] = {}
         for name in reach.made:
             found = self.dangers_of(name)
@@ -143,35 +144,6 @@ class Effects:
         stacks = [body.takes(use.offset, self.program.join) for use in body.uses() if use.opcode == OBJECT_RETURN]
         return [stack[-1] for stack in stacks if stack and stack[-1] not in VALUES | {NULL}]
 
-    # ---- which objects matter
-
-    def above_what_matters(self) -> set[str]:
-        """The types that may have objects of classes of the folder with which a program could do something that matters: they have a field for such
-        an object, or a method that matters by itself."""
-        self.giving = False
-        found = {above for name in self.own if self.class_matters(name) for above in [name, *self.program.supers(name)]}
-        self.giving = True
-        return found | {OBJECT}
-
-    def class_matters(self, name: str) -> bool:
-        """Whether objects of a class of the folder matter."""
-        if name not in self.mattering:
-            self.mattering[name] = False
-            found = self.program.code[name]
-            self.mattering[name] = (self.is_tracked(name) or any(self.field_matters(key[1]) for key, each in found.fields.items() if not each.has(STATIC))
-                                    or any(self.harm(name, key) for key in found.methods if key[0] not in ("<init>", "<clinit>"))
-                                    or found.super_class in self.own and self.class_matters(found.super_class))
-        return self.mattering[name]
-
-    def field_matters(self, descriptor: str) -> bool:
-        """Whether a field of this type may hold an object that matters. What containers hold, others may give too."""
-        kind = element_class(named_type(descriptor) or NULL) or NULL
-        if kind in VALUES | {NULL}:
-            return False
-        if kind in self.program.code and kind not in self.program.models:
-            return True if self.program.code[kind].has(INTERFACE) else self.class_matters(kind)
-        return self.is_related(kind) or not any(self.program.is_below(kind, upper) for upper in CONTAINERS)
-
     # ---- whether a call matters
 
     def harm(self, name: str, key: Key) -> str:
@@ -181,15 +153,15 @@ class Effects:
             before = len(made)
             found, seen = self.walk((name, key), made)
             if found or len(made) == before:
-                if not found:
-                    self.harmless[self.giving] |= seen
+                if not found and not made:
+                    self.harmless |= seen
                 return found
 
     def walk(self, first: Method, made: dict[str, None]) -> tuple[str, set[Method]]:
         """Goes through all that a method calls; `made` takes the classes of new objects that are made nowhere else."""
         seen, ways = {first}, [first]
         for method in ways:
-            if method in self.harmless[self.giving]:
+            if method in self.harmless:
                 continue
             body = self.program.body(*method)
             if body is None:
@@ -215,8 +187,10 @@ class Effects:
                 made[use.owner] = None
             return "", self.initialisers(use.owner)
         stack = body.takes(use.offset, self.program.join)
-        if use.opcode == THROW and stack and stack[-1] in self.program.code and stack[-1] not in self.program.models:
-            return "it throws an exception of the program's own", []
+        if use.opcode == THROW and any(not stack or self.program.is_below(name, stack[-1] or THROWABLE) for name in self.thrown):
+            return "it may throw an exception of the program's own", []
+        if use.opcode == CLASS_CONSTANT and use.owner in self.program.code:
+            return "", self.initialisers(use.owner)
         if use.opcode in (PUTFIELD, PUTSTATIC) and self.writes(method, use, stack):
             return "it writes a field", []
         if use.opcode == ARRAY_STORE and stack and stack[-1] not in VALUES | {NULL} and not self.is_own_work(method, body):
@@ -228,9 +202,9 @@ class Effects:
         kind = named_type(use.descriptor)
         if not kind or kind in VALUES or not stack or stack[-1] == NULL:
             return False
-        if method[0] in self.program.models and stack[-1] in self.program.models:
-            return False
-        return not (use.opcode == PUTFIELD and method[1][0] == "<init>" and len(stack) > 1 and stack[-2] == method[0])
+        if method[0] in self.program.models and stack[-1] in self.program.models and ("$" in stack[-1] or stack[-1].startswith("library/")):
+            return any(self.program.is_below(name, stack[-1]) for name in self.above_code if name in self.program.code and name not in self.program.models)
+        return not (use.opcode == PUTFIELD and len(stack) > 1 and isinstance(stack[-2], This))
 
     def is_own_work(self, method: Method, body: Body) -> bool:
         """Whether a method is one of a model that works on an array of its own, or of who calls it: none that a program calls to write an array."""
@@ -256,7 +230,7 @@ class Effects:
         called += [(each, key) for each in selected if each in self.program.code]
         met = [each for each in selected if each not in self.program.code]
         is_model = body.found.name in self.program.models
-        if self.giving and not is_model and self.storing & set(selected) and self.gives_objects(body, use):
+        if not is_model and self.storing & set(selected) and self.gives_objects(body, use):
             return f"it gives an object to {java_name(selected[0])}.{use.name}", []
         for owner in dict.fromkeys(met):
             why, more = self.of_library(body, use, owner, made)
@@ -273,11 +247,16 @@ class Effects:
 
     def of_library(self, body: Body, use: Use, owner: str, made: dict[str, None]) -> tuple[str, list[Method]]:
         """Why a call of a described method matters, or else the methods of the folder that it may call in turn."""
-        calls = self.calls(owner, (use.name, use.descriptor))
-        if calls is None:
+        key = use.name, use.descriptor
+        calls = self.calls(owner, key)
+        if calls is None or self.is_reflective(owner, key):
             return f"it calls {java_name(owner)}.{use.name}", []
+        if any(self.is_event_of_library(word) for word in calls):
+            return f"{java_name(owner)}.{use.name} may call an event", []
         is_model = body.found.name in self.program.models
-        if self.giving and not is_model and not self.keeps_nothing(owner, (use.name, use.descriptor)):
+        if not is_model and self.copies_elements(body, use, owner):
+            return f"{java_name(owner)}.{use.name} may write an array", []
+        if not is_model and not self.keeps_nothing(owner, key):
             if any(self.matters(kind) for kind in arguments(body, use, self.program, owner)):
                 return f"it gives an object to {java_name(owner)}.{use.name}", []
         called = []
@@ -287,6 +266,26 @@ class Effects:
                 keys = [key for key in self.open_keys(below, upper) if not name or key[0] == name]
                 called += [(each, key) for key in keys for each in self.program.selected(below, key) if each in self.program.code]
         return "", list(dict.fromkeys(called + self.of_receiver(use, owner, made)))
+
+    def is_reflective(self, owner: str, key: Key) -> bool:
+        """Whether a described method may make objects of classes of the program, or is refused in code that runs as reflection or for threads."""
+        if owner.startswith(REFUSED) or owner == "java/lang/Class" and key[0] not in FREE_OF_CLASS:
+            return True
+        return "Ljava/lang/Class;" in parameter_types(key[1]) or self.program.said("makes_objects", owner, key) is not None
+
+    def is_event_of_library(self, word: str) -> bool:
+        """Whether a word of `calls` allows an event of an object that the library has of the protocol's class."""
+        upper, _, name = word.partition(".")
+        tracked = any(each not in self.program.code and self.is_tracked(each) and self.program.is_below(each, upper) for each in self.reach.made)
+        return tracked and (not name or any(name == key[0] for key in self.protocol.events))
+
+    def copies_elements(self, body: Body, use: Use, owner: str) -> bool:
+        """Whether a described method gets an array with elements that matter, and may write there."""
+        if self.program.said("no_elements", owner, (use.name, use.descriptor)) is not None:
+            return False
+        is_copy = (owner, use.name) == ("java/lang/System", "arraycopy")
+        kinds = arguments(body, use, self.program, owner)
+        return any(kind.startswith("[") and self.matters(kind) or is_copy and kind == OBJECT for kind in kinds)
 
     def of_receiver(self, use: Use, owner: str, made: dict[str, None]) -> list[Method]:
         """The methods of the folder that a described method may call on its own receiver."""
@@ -307,7 +306,8 @@ class Effects:
         return any(self.matters(kind) for kind in arguments(body, use, self.program)[use.opcode != INVOKE_STATIC:])
 
     def matters(self, kind: str) -> bool:
-        """Whether a type may have objects of classes of the folder, or of the protocol's."""
+        """Whether a type may have objects of classes of the folder, or of the protocol's: what a program does with such an object that came
+        back is not known."""
         name = element_class(kind) or ""
         return name not in VALUES | {NULL, ""} and (name in self.above_code or self.is_related(name))
 
@@ -336,11 +336,14 @@ class Effects:
 
 
 def storing_models(program: Program) -> set[str]:
-    """The models that put objects into the library's one store: they call its method, or name a helper of the models that does."""
+    """The models that put objects into the library's one store: they call its method, or name a model that does."""
     named = {name: program.code[name].methods_named for name in program.models}
     found = {name for name, members in named.items() if any(each[:2] == (LIBRARY, "keep") for each in members)}
-    helpers = {name for name in found if name.startswith("library/")}
-    return found | {name for name, members in named.items() if any(each[0] in helpers for each in members)}
+    while True:
+        more = {name for name, members in named.items() if name not in found and any(each[0] in found for each in members)}
+        if not more:
+            return found
+        found |= more
 
 
 def arguments(body: Body, use: Use, program: Program, owner: str = "") -> list[str]:
