@@ -19,6 +19,8 @@ from words import java_name
 
 # Classes of reflection and threads: the verifier refuses code that runs and calls them.
 REFUSED = ("java/lang/reflect/", "java/lang/invoke/", "java/util/concurrent/", "java/lang/Thread")
+# Methods of class objects that are called as those of any object.
+OF_EACH_OBJECT = {"toString", "equals", "hashCode"}
 # Supertypes that say nothing of what a class may do with an object of the same one.
 WITHOUT_KIN = (OBJECT, "java/io/Serializable", "java/lang/Cloneable", "java/lang/Comparable")
 CONTAINERS = ("java/lang/Iterable", "java/util/Map", "java/util/Iterator", "java/util/Enumeration", "java/util/Map$Entry")
@@ -269,7 +271,7 @@ class Effects:
 
     def is_reflective(self, owner: str, key: Key) -> bool:
         """Whether a described method may make objects of classes of the program, or is refused in code that runs as reflection or for threads."""
-        if owner.startswith(REFUSED) or owner == "java/lang/Class" and key[0] not in FREE_OF_CLASS:
+        if owner.startswith(REFUSED) or owner == "java/lang/Class" and key[0] not in FREE_OF_CLASS | OF_EACH_OBJECT:
             return True
         return "Ljava/lang/Class;" in parameter_types(key[1]) or self.program.said("makes_objects", owner, key) is not None
 
