@@ -330,7 +330,7 @@ class Effects:
     def is_alone(self, owner: str, key: Key) -> bool:
         """Whether a described method calls no method of its own receiver; what is not known is not told twice."""
         found = self.program.said("calls", owner, key)
-        return found is None or key[0] == "<init>" or "alone" in found
+        return found is None or key[0] == "<init>" or owner == OBJECT or "alone" in found
 
     def keeps_nothing(self, owner: str, key: Key) -> bool:
         """Whether a described method keeps none of its arguments."""

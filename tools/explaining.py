@@ -6,6 +6,7 @@ from dataclasses import dataclass
 
 from advice import ADVICE, OTHERS
 from assumptions import KINDS, Assumption, Resting, RunWords, bears, program_of, read_assumed, resting_of
+from closure import MADE
 from facts import names_of
 from library import Unusable
 from model_places import stay_inside
@@ -63,7 +64,7 @@ class Telling:
         """A place of a report."""
         key = (place.method, place.descriptor)
         made = "made here" if self.sources.makes(place.class_name, key, place.offset) else "which the library gives here"
-        made = f"{java_name(place.made)} {made}"
+        made = f"{java_name(place.made.removeprefix(MADE))} {made}"
         bearing = self.resting.bearing(place) if place.verdict == "safe" else []
         if bearing or (place.verdict == "safe" and not self.resting.looked):
             return self.safe_if(place, made, bearing)
