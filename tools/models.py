@@ -15,7 +15,7 @@ from program import MODELS
 TOP = pathlib.Path(__file__).resolve().parent.parent
 SOURCES, COMPILED = TOP / "models" / "src", TOP / "models" / "out"
 # The compiler's words: models of classes of java.base compile as code for Java 8, which has no modules.
-COMPILE = ["javac", "--release", "8", "-g:source,lines", "-proc:none", "-nowarn", "-Xlint:none"]
+COMPILE = ["--release", "8", "-g:source,lines", "-proc:none", "-nowarn", "-Xlint:none"]
 
 
 def read_models():
@@ -41,25 +41,34 @@ def compiled():
     for place in places:
         if place.is_dir():
             return place
-    if not shutil.which("javac"):
-        raise Unusable("the models of library classes have to be compiled once, and no javac is there: install a JDK, as by 'apt-get install "
-                       "default-jdk-headless'")
+    command = javac()
     for place in places:
         try:
             place.parent.mkdir(parents=True, exist_ok=True)
             with open(place.parent / "lock", "w", encoding="utf-8") as lock:
                 fcntl.flock(lock, fcntl.LOCK_EX)
-                return place if place.is_dir() else compile_into(place)
+                return place if place.is_dir() else compile_into(place, command)
         except OSError:
             continue
     raise Unusable(f"neither {places[0]} nor {places[1]} can be written: the models of library classes go there")
 
 
-def compile_into(place):
+def javac():
+    """The compiler: that of JAVA_HOME, or the command."""
+    home = os.environ.get("JAVA_HOME")
+    found = shutil.which(os.path.join(home, "bin", "javac")) if home else None
+    found = found or shutil.which("javac")
+    if not found:
+        raise Unusable("the models of library classes have to be compiled once, and no javac is there: install a JDK, as by 'apt-get install "
+                       "default-jdk-headless', or set JAVA_HOME")
+    return found
+
+
+def compile_into(place, command):
     """Compiles the models into a folder, which is there only when it is whole."""
     with tempfile.TemporaryDirectory(dir=place.parent) as made:
         out = os.path.join(made, "out")
-        ran = subprocess.run([*COMPILE, "-d", out, *map(str, sources())], capture_output=True, text=True, check=False)
+        ran = subprocess.run([command, *COMPILE, "-d", out, *map(str, sources())], capture_output=True, text=True, check=False)
         if ran.returncode:
             raise Unusable(f"the models of library classes do not compile: {ran.stderr[-2000:]}")
         try:
