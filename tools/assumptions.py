@@ -214,9 +214,11 @@ class Finder:
 
     def contents(self, call: LibraryCall) -> Iterator[Assumption]:
         """What a call may do with elements."""
-        if self.program.said("no_elements", call.owner, call.key) is not None:
-            return
         outcome, after = named_type(result_type(call.use.descriptor)), call.use.after
+        if self.program.said("no_elements", call.owner, call.key) is not None:
+            if outcome.startswith("[") and self.effects.is_tracked(element_class(outcome) or ""):
+                yield self.at_call("contents", call, f"elements of {java_name(outcome)} are not followed")
+            return
         is_copy = (call.owner, call.use.name) == ("java/lang/System", "arraycopy")
         arrays = [kind for kind in self.taken[id(call)] if self.has_elements(kind) or is_copy and kind == OBJECT]
         given = after if after.startswith("[") else outcome
