@@ -47,7 +47,7 @@ class More {
 
     static class OwnPush extends PushbackInputStream {
         OwnPush(InputStream in) { super(in); }
-        public void unread(int b) throws IOException { Log.event("More$OwnPush unread(I)V"); super.unread(b); }
+        public void unread(int b) throws IOException { new Hit("More$OwnPush unread(I)V"); super.unread(b); }
     }
 
     /** A decorator of an application. */
