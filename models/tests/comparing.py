@@ -57,23 +57,27 @@ class Methods:
             read = api.get(each)
             if each == "java/lang/Object" or not read:
                 continue
-            for key, member in read.methods.items():
-                if not key[0].startswith("<") and not member.flags & BRIDGE and member.flags & (PUBLIC | PROTECTED):
-                    self.found.setdefault(key, member)
+            self.add({key: member for key, member in read.methods.items()
+                      if not key[0].startswith("<") and not member.flags & BRIDGE and member.flags & (PUBLIC | PROTECTED)})
             if each not in roots:
                 todo += [above for above in read.supers() if above not in todo]
+
+    def add(self, more):
+        """Takes the methods of a class further up, but for those that are there: with the same types, or with those that erasure leaves."""
+        there = [(name, types(descriptor)[0]) for name, descriptor in self.found]
+        for (name, descriptor), member in more.items():
+            kinds, _ = types(descriptor)
+            if not any(name == other and len(kinds) == len(own) and all(one in (two, "Ljava/lang/Object;") for one, two in zip(kinds, own))
+                       for other, own in there):
+                self.found[name, descriptor] = member
 
     def called(self):
         """Those that scenarios call."""
         return {key: member for key, member in self.found.items() if member.flags & PUBLIC}
 
     def overridden(self):
-        """Those that a class below may override, each its own once: of two that differ in the result alone the first."""
-        first = {}
-        for (name, descriptor), member in self.found.items():
-            if not member.flags & STATIC and name != "finalize":
-                first.setdefault((name, descriptor[:descriptor.index(")")]), ((name, descriptor), member))
-        return {key: member for key, member in first.values() if not member.flags & FINAL}
+        """Those that a class below may override."""
+        return {key: member for key, member in self.found.items() if not member.flags & (FINAL | STATIC) and key[0] != "finalize"}
 
 
 def given(result, kinds):
@@ -107,10 +111,10 @@ def below(own, name, constructors, methods, above="super"):
     return lines + [f"    public void back() {{ new Hit(\"{own} back()V\"); }}", "}"]
 
 
-def run(words, **more):
-    """Runs a command that has to succeed; gives its output."""
+def run(words, allowed=(0,), **more):
+    """Runs a command that has to end with one of these statuses; gives its output."""
     ran = subprocess.run(words, stdout=subprocess.PIPE, stderr=subprocess.PIPE, text=True, check=False, **more)
-    if ran.returncode:
+    if ran.returncode not in allowed:
         print(f"compare: {' '.join(words[:3])} .. failed:\n{ran.stderr[-3000:]}", file=sys.stderr)
         sys.exit(2)
     return ran.stdout
@@ -135,10 +139,14 @@ def events(printed):
 
 
 def observed(java, folder, runner, scenarios, **more):
-    """Runs scenarios, each a class, a method and what the data are, on a JVM: how each one ended, and the calls that were recorded."""
-    lines = "".join(f"{one} {two} {data}\n" for one, two, data in scenarios)
-    path = os.path.realpath(folder) + os.pathsep + os.path.realpath(runner)
-    return events(run([os.path.join(java, "bin", "java"), "-XX:TieredStopAtLevel=1", "-cp", path, "Run"], input=lines, **more))
+    """Runs scenarios, each a class, a method and what the data are, on a JVM: how each one ended, and the calls that were recorded. Behind
+    one that does not end in time another JVM goes on."""
+    path, seen, left = os.path.realpath(folder) + os.pathsep + os.path.realpath(runner), {}, scenarios
+    while left:
+        lines = "".join(f"{one} {two} {data}\n" for one, two, data in left)
+        seen.update(events(run([os.path.join(java, "bin", "java"), "-XX:TieredStopAtLevel=1", "-cp", path, "Run", *(["files"] if "cwd" in more else [])], allowed=(0, 3), input=lines, **more)))
+        left = [each for each in left if each[:2] not in seen]
+    return seen
 
 
 def describe(folder, jdk):

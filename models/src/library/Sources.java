@@ -10,11 +10,13 @@ public final class Sources {
     private Sources() {
     }
 
-    /** Reads some of a stream, or nothing. The library's classes read no whole array. */
+    /** Reads some of a stream, or nothing. */
     public static void read(InputStream in) throws IOException {
         while (in != null && Library.any()) {
             if (Library.any()) {
                 in.read();
+            } else if (Library.any()) {
+                in.read(new byte[Library.number()]);
             } else if (Library.any()) {
                 in.read(new byte[Library.number()], 0, Library.number());
             } else if (Library.any()) {

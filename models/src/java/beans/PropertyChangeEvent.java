@@ -38,9 +38,10 @@ public class PropertyChangeEvent extends EventObject {
     }
 
     public String toString() {
-        Elements.text(oldValue);
-        Elements.text(newValue);
-        Elements.text(propagationId);
-        return Elements.text(source);
+        getPropertyName();
+        Elements.text(getOldValue());
+        Elements.text(getNewValue());
+        Elements.text(getPropagationId());
+        return Elements.text(getSource());
     }
 }

@@ -18,8 +18,8 @@ import library.Library;
 
 /**
  * Reads ahead from its source, whose exceptions it catches and tells. Each method that looks at the text may call each method of the
- * source that reads or asks, also those that the library's class does not. What it opens by the name of a file is not to be seen; a path of
- * the program's own class is not asked.
+ * source that reads or asks, also those that the library's class does not. What it opens by the name of a file is not to be seen; a path gives
+ * the stream by its file system, which may be one of the program.
  */
 public final class Scanner implements Iterator<String>, Closeable {
     private InputStream in;
@@ -61,6 +61,7 @@ public final class Scanner implements Iterator<String>, Closeable {
 
     public Scanner(Path source) throws IOException {
         Library.mayFail();
+        this.in = source.getFileSystem().provider().newInputStream(source);
     }
 
     public Scanner(Path source, String charsetName) throws IOException {
