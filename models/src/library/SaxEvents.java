@@ -175,4 +175,27 @@ public final class SaxEvents {
             Sources.take(from.resolveEntity(Library.text(), Library.text()));
         }
     }
+
+    /** Takes an exception of a handler into one of the parser's own, and back: it is asked for its message and its cause, and this may come out in its place. */
+    public static void pass(SAXException fault) throws SAXException, IOException {
+        if (Library.any()) {
+            fault.getMessage();
+        }
+        Exception cause = Library.any() ? fault.getException() : null;
+        if (cause == null) {
+            return;
+        }
+        if (Library.any()) {
+            cause.getMessage();
+        }
+        if (cause instanceof IOException && Library.any()) {
+            throw (IOException) cause;
+        }
+        if (cause instanceof SAXException && Library.any()) {
+            throw (SAXException) cause;
+        }
+        if (Library.any()) {
+            throw new SAXException(cause);
+        }
+    }
 }

@@ -128,6 +128,16 @@ public final class SaxReader implements XMLReader, Parser {
     }
 
     private void run(InputSource input) throws IOException, SAXException {
+        try {
+            tell(input);
+        } catch (SAXException fault) {
+            SaxEvents.pass(fault);
+            throw fault;
+        }
+    }
+
+    /** Reads the input, and calls the handlers. */
+    private void tell(InputSource input) throws IOException, SAXException {
         ContentHandler validator = validator();
         do {
             Library.mayFail();
