@@ -148,6 +148,7 @@ public abstract class ResourceBundle {
     public abstract Enumeration<String> getKeys();
 
     public boolean containsKey(String key) {
+        handleKeySet();
         return handleGetObject(key) != null || parent != null && parent.containsKey(key);
     }
 
