@@ -194,7 +194,9 @@ public final class Matcher implements MatchResult {
         return this;
     }
 
+    /** It has the part that was found last. */
     public String toString() {
+        part();
         return Library.text();
     }
 
