@@ -2,7 +2,7 @@
 them has a line for each: its kind, what it is about, and the source line; a file with such lines names those that somebody takes over."""
 
 import os
-from collections.abc import Iterator
+from collections.abc import Iterable, Iterator
 from dataclasses import dataclass, field
 
 import facts
@@ -38,13 +38,15 @@ ANY = ("any", "java/lang/Throwable", "java/lang/Exception")
 @dataclass(frozen=True)
 class Assumption:
     """An assumption: its kind, what it is about, where, and why, as texts. `place` is the method and offset of the place that it bears on,
-    or None where it bears on each one; `stage` the first stage on whose verdicts it bears."""
+    or None where it bears on each one; `stage` the first stage on whose verdicts it bears; `calls` the methods that may be called, each with its
+    class and what may come of that."""
     kind: str
     about: str
     where: str
     why: str = ""
     place: tuple[Method, int] | None = None
     stage: int = 1
+    calls: tuple[tuple[str, str, str], ...] = field(default=(), compare=False)
 
     @property
     def line(self) -> str:
@@ -96,10 +98,14 @@ class Finder:
         """What is called."""
         return qualified(call.owner, *call.key)
 
-    def at_call(self, kind: str, call: LibraryCall, why: str = "", here: bool = False) -> Assumption:
-        """An assumption on a call; `here` where it bears on the objects of this call alone."""
+    def at_call(self, kind: str, call: LibraryCall, why: str = "", here: bool = False, found: Iterable[Method] = ()) -> Assumption:
+        """An assumption on a call; `here` where it bears on the objects of this call alone; `found` are the methods that may be called."""
         place = (call.method, call.use.offset) if here else None
-        return Assumption(kind, self.called(call), self.where(call.method, call.use.offset), why, place)
+        return Assumption(kind, self.called(call), self.where(call.method, call.use.offset), why, place, calls=self.spelled_calls(found))
+
+    def spelled_calls(self, found: Iterable[Method]) -> tuple[tuple[str, str, str], ...]:
+        """Methods with a danger, each with its class and what may come of it."""
+        return tuple((name, key[0], self.effects.dangers[name][key]) for name, key in found)
 
     # ---- what the library has
 
@@ -162,7 +168,7 @@ class Finder:
             name, key = found[0]
             others = len({(each, member[0]) for each, member in found}) - 1
             more = f"; and {others} more" if others else ""
-            yield self.at_call("call-back", call, f"it may call {key[0]} of {java_name(name)}, and of that {self.effects.dangers[name][key]}{more}")
+            yield self.at_call("call-back", call, f"it may call {key[0]} of {java_name(name)}, and of that {self.effects.dangers[name][key]}{more}", found=found)
 
     def on_receiver(self, call: LibraryCall) -> list[Method]:
         """The methods with a danger that a call may call on its own receiver, where that may be of a class of the program."""
@@ -188,7 +194,8 @@ class Finder:
                 if found:
                     name, key = found[0]
                     why = f"it may call {key[0]} of {java_name(name)}, and of that {self.effects.dangers[name][key]}"
-                    yield Assumption("call-back", qualified(model, use.name, use.descriptor), self.where(method, use.offset), why)
+                    yield Assumption("call-back", qualified(model, use.name, use.descriptor), self.where(method, use.offset), why,
+                                     calls=self.spelled_calls(found))
 
     def dangerous(self, call: LibraryCall, is_listed: bool) -> list[str]:
         """The classes with a danger of which a call may take objects. What an object of the library does with itself, in a call that is an event

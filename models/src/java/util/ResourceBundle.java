@@ -214,11 +214,11 @@ public abstract class ResourceBundle {
         protected Control() {
         }
 
-        /** It compares the list with its own; the lists of the library call nothing then. */
+        /** It compares the list with its own. */
         public static final Control getControl(List<String> formats) {
             formats.size();
-            if (formats instanceof AbstractList && Library.any()) {
-                ((AbstractList<String>) formats).equals(FORMAT_DEFAULT);
+            if (Library.any()) {
+                formats.equals(FORMAT_DEFAULT);
             }
             return new Control();
         }

@@ -67,8 +67,11 @@ public class LogManager {
                 ((Handler) kept).close();
             }
             if (kept instanceof Logger) {
+                Handler[] all = ((Logger) kept).getHandlers();
+                if (all != null) {
+                    ((Logger) kept).removeHandler(all[Library.number()]);
+                }
                 ((Logger) kept).setLevel(null);
-                ((Logger) kept).getHandlers();
             }
         }
     }

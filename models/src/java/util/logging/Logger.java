@@ -109,6 +109,7 @@ public class Logger {
         }
         ResourceBundle found = own == null || Library.any() ? bundle : own;
         if (found != null) {
+            found.getBaseBundleName();
             record.setResourceBundle(found);
         }
         log(record);
