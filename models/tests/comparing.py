@@ -144,7 +144,8 @@ def observed(java, folder, runner, scenarios, **more):
     path, seen, left = os.path.realpath(folder) + os.pathsep + os.path.realpath(runner), {}, scenarios
     while left:
         lines = "".join(f"{one} {two} {data}\n" for one, two, data in left)
-        seen.update(events(run([os.path.join(java, "bin", "java"), "-XX:TieredStopAtLevel=1", "-cp", path, "Run", *(["files"] if "cwd" in more else [])], allowed=(0, 3), input=lines, **more)))
+        words = [os.path.join(java, "bin", "java"), "-XX:TieredStopAtLevel=1", "-cp", path, "Run", *(["files"] if "cwd" in more else [])]
+        seen.update(events(run(words, allowed=(0, 3), input=lines, **more)))
         left = [each for each in left if each[:2] not in seen]
     return seen
 
