@@ -47,8 +47,10 @@ public final class Matcher implements MatchResult {
         return pattern;
     }
 
+    /** The result holds the whole text, or the part with what was found. */
     public MatchResult toMatchResult() {
         replaced();
+        part();
         return result();
     }
 
