@@ -12,7 +12,7 @@ HERE = os.path.dirname(os.path.realpath(__file__))
 MODELS = os.path.join(HERE, "..")
 TOP = os.path.join(MODELS, "..")
 sys.path.insert(0, os.path.join(TOP, "tools"))
-from class_file import ABSTRACT, INTERFACE, STATIC
+from class_file import ABSTRACT, STATIC
 
 BRIDGE, FINAL, PUBLIC, PROTECTED = 0x0040, 0x0010, 0x0001, 0x0004
 PRIMITIVES = {"I": "int", "J": "long", "C": "char", "Z": "boolean", "F": "float", "D": "double", "S": "short", "B": "byte", "V": "void"}
