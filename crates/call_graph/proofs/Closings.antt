@@ -14,10 +14,10 @@ use Rattle.points_to.proofs.ItemPlaces.{last_or_before, last_there, before_there
 use Rattle.slot_names.specs.Branches.{Extends}
 use Rattle.slot_names.proofs.ListPlaces.{stands_below}
 use Rattle.call_graph.specs.declared.edges.Edge.{Edge}
-use Rattle.call_graph.specs.declared.ground.FieldWrite.{FieldWrite}
-use Rattle.call_graph.specs.Added.{AreAdded, OfOne}
+use Rattle.ground.specs.declared.lists.FieldWrite.{FieldWrite}
+use Rattle.ground.specs.Added.{AreAdded, OfOne}
 use Rattle.call_graph.specs.Closing.{AreCallers, AreClosed, IsWriteOfOne, MayWrite, by_itself, by_callee}
-use Rattle.call_graph.proofs.Adding.{added_as}
+use Rattle.ground.proofs.Adding.{added_as}
 
 -- ---- callers
 

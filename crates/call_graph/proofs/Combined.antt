@@ -12,9 +12,11 @@ use Rattle.least_sets.proofs.Least.{least_in_closed}
 use Rattle.points_to_rules.specs.Facts.{Fact, may_hold, may_run, may_call, may_write}
 use Rattle.points_to_rules.specs.Rules.{IsNodeOf, MayStart, before_entry, at_node, Instance, entry_runs, entry_called, entry_argument, entry_strings, keep, move, enter, handle, load, load_element, load_static, make, make_array, get_constant, cast, store, store_element, store_static, nest, begin_static, call_chosen, call_selected, target_runs, pass, return, receive, keep_argument, give_argument, give_new, give_kept, throw, raise, target_throws, described_throws, initialiser_throws, initialiser_runs, keep_thrown}
 use Rattle.points_to_rules.specs.Writes.{AnyInstance, write, target_writes, initialiser_writes}
-use Rattle.points_to.specs.Solutions.{AreRunning}
-use Rattle.points_to.specs.declared.solution.RunningMethod.{RunningMethod}
-use Rattle.call_graph.specs.Grounds.{GroundInstance, gives_listed, nodes_of}
+use Rattle.points_to_rules.specs.Solutions.{AreRunning}
+use Rattle.points_to_rules.specs.declared.running_method.RunningMethod.{RunningMethod}
+use Rattle.ground.specs.Findings.{gives_listed}
+use Rattle.ground.specs.Lists.{nodes_of}
+use Rattle.call_graph.specs.Grounds.{GroundInstance}
 use Rattle.class_index.proofs.ListPlaces.{map_at, at_map}
 use Rattle.slot_names.proofs.ListPlaces.{contains_at, place_in}
 

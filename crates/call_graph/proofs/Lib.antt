@@ -1,10 +1,9 @@
-mod KeySets
-mod ExactKeys
-mod Adding
-mod SetsTaken
-mod NodeEdges
-mod Closings
-mod FoundFacts
-mod GroundFacts
-mod Reading
+pub mod Closings
 pub mod Combined
+pub mod ExactEdges
+pub mod FoundFacts
+pub mod GroundFacts
+pub mod NodeEdges
+pub mod ReadSites
+pub mod SetsTaken
+pub mod SolutionLists

@@ -15,15 +15,15 @@ use Rattle.node_machine.specs.Nodes.{IsCodedInitialiser}
 use Rattle.op_model.specs.declared.lowered.LoweredMethod.{LoweredMethod}
 use Rattle.op_model.specs.declared.node.Node.{Node}
 use Rattle.op_model.specs.declared.op.Op.TheVariants.{Store}
-use Rattle.points_to.specs.declared.solution.RunningMethod.{RunningMethod}
+use Rattle.points_to_rules.specs.declared.running_method.RunningMethod.{RunningMethod}
 use Rattle.points_to_rules.specs.Rules.{StartsAt}
 use Rattle.call_graph.specs.declared.edges.Edge.{Edge}
-use Rattle.call_graph.specs.declared.ground.FieldWrite.{FieldWrite}
+use Rattle.ground.specs.declared.lists.FieldWrite.{FieldWrite}
 use Rattle.call_graph.specs.declared.sets.Sets.{Sets}
-use Rattle.call_graph.specs.Added.{AreAdded, OfOne}
+use Rattle.ground.specs.Added.{AreAdded, OfOne}
 use Rattle.call_graph.specs.Edges.{AreEdges, AreStores, IsEdgeFrom, IsEdgeOf, IsNodeThere, IsStoreOf, GoesTo, LeadsTo, OfRunning}
-use Rattle.call_graph.specs.Grounds.{nodes_of}
-use Rattle.call_graph.proofs.Adding.{added_alone, added_as, added_both}
+use Rattle.ground.specs.Lists.{nodes_of}
+use Rattle.ground.proofs.Adding.{added_alone, added_as, added_both}
 
 -- ---- what is added for callees
 

@@ -13,25 +13,25 @@ use Rattle.points_to_items.specs.Items.{CallSite}
 use Rattle.points_to_tables.specs.declared.item.Item.{Item}
 use Rattle.points_to_tables.specs.declared.item.Item.TheVariants.{Holds, Runs, Calls, Uses}
 use Rattle.points_to_tables.specs.declared.keys.CallNo.{CallNo}
-use Rattle.points_to_tables.specs.declared.keys.PlaceNo.{PlaceNo}
+use Rattle.points_to_rules.specs.declared.place.PlaceNo.{PlaceNo}
 use Rattle.points_to_tables.specs.declared.keys.UserNo.{UserNo}
 use Rattle.points_to_tables.specs.Numbered.{Numbered}
 use Rattle.points_to_tables.proofs.AddedKeys.{IsAdded}
-use Rattle.call_graph.specs.declared.ground.CallKey.{CallKey}
+use Rattle.op_model.specs.declared.node.NodeRef.{NodeRef}
 use Rattle.call_graph.specs.declared.sets.Sets.{Sets}
-use Rattle.call_graph.specs.Added.{AreAdded}
-use Rattle.call_graph.specs.Sets.{AddsTarget, AreListed, AreSetsOf, IsCalled, IsTarget, TakesItem, key_of}
+use Rattle.ground.specs.Added.{AreAdded}
+use Rattle.call_graph.specs.Sets.{AddsTarget, AreListed, AreSetsOf, IsCalled, IsTarget, TakesItem}
 
 -- ---- a target more
 
-module _ (old new : Sets) (call : CallKey) (target : MethodNo) (number : ℕ) (calls : IsAdded old.calls.keys new.calls.keys call number) (apart : IsWithoutDoubles new.calls.keys)
+module _ (old new : Sets) (call : NodeRef) (target : MethodNo) (number : ℕ) (calls : IsAdded old.calls.keys new.calls.keys call number) (apart : IsWithoutDoubles new.calls.keys)
     (put : IsPut old.targets.groups.items new.targets.groups.items number target) where
   -- what was a target is one
-  target_stays : (key : CallKey) (m : MethodNo) → IsTarget old key m → IsTarget new key m
+  target_stays : (key : NodeRef) (m : MethodNo) → IsTarget old key m → IsTarget new key m
   target_stays key m (at, stands, there) = (at, calls.longer at key stands, put_keeps old.targets.groups.items new.targets.groups.items number target put at m there)
 
   -- a target was one, or is that of the call
-  target_cases : AreListed old → (key : CallKey) (m : MethodNo) → IsTarget new key m → IsTarget old key m ⊎ ((key ≡ call) × (m ≡ target))
+  target_cases : AreListed old → (key : NodeRef) (m : MethodNo) → IsTarget new key m → IsTarget old key m ⊎ ((key ≡ call) × (m ≡ target))
   target_cases listed key m (at, stands, there) = elim (put_cases old.targets.groups.items new.targets.groups.items number target put at m there) [
     | inl before ↦
         let (k, stood) = listed at m before in
@@ -46,7 +46,7 @@ module _ (old new : Sets) (call : CallKey) (target : MethodNo) (number : ℕ) (c
     | inr last ↦ (call, ap (λ (k : ℕ). slice_get new.calls.keys k) (sym last.0) ∙ calls.stands)
   ]
 
-  new_target : (key : CallKey) (m : MethodNo) → (key ≡ call) × (m ≡ target) → IsTarget new key m
+  new_target : (key : NodeRef) (m : MethodNo) → (key ≡ call) × (m ≡ target) → IsTarget new key m
   new_target key m (same_call, same) = (
     number,
     calls.stands ∙ ap Some (sym same_call),
@@ -67,7 +67,7 @@ module _ (old new : Sets) (call : CallKey) (target : MethodNo) (number : ℕ) (c
 other_item : (items : List Item) (item x : Item) → (item ≡ x → ⊥) → Contains (items ++ item ∷ []) x → Contains items x
 other_item items item x differs there = elim (Contains-push_cases items item x there) [ inl before ↦ before | inr last ↦ absurd (differs last) ]
 
-called_after : (n : Numbered) (items : List Item) (item : Item) (key : CallKey) (m : MethodNo) → IsCalled n items key m → IsCalled n (items ++ item ∷ []) key m
+called_after : (n : Numbered) (items : List Item) (item : Item) (key : NodeRef) (m : MethodNo) → IsCalled n items key m → IsCalled n (items ++ item ∷ []) key m
 called_after n items item key m (call, site, there, at, is) = (call, site, Contains-append_left items (item ∷ []) _ there, at, is)
 
 module _ (n : Numbered) (item : Item) (old new : Sets) (items : List Item) (sets : AreSetsOf n items old) where
@@ -91,20 +91,20 @@ module _ (n : Numbered) (item : Item) (old new : Sets) (items : List Item) (sets
   listed_stay : new.calls.keys ≡ old.calls.keys → new.targets ≡ old.targets → AreListed new
   listed_stay calls same number m there =
       let (key, stands) = sets.listed number m (subst (λ (g : Groups MethodNo). Contains (values_at g.groups.items number) m) same there) in
-      (key, ap (λ (ks : List CallKey). slice_get ks number) calls ∙ stands)
+      (key, ap (λ (ks : List NodeRef). slice_get ks number) calls ∙ stands)
 
   targets_stay : ((call : CallNo) (m : MethodNo) → item ≡ Calls call m → ⊥) → new.calls.keys ≡ old.calls.keys → new.targets ≡ old.targets
-      → (key : CallKey) (m : MethodNo) → IsTarget new key m ↔ IsCalled n (items ++ item ∷ []) key m
+      → (key : NodeRef) (m : MethodNo) → IsTarget new key m ↔ IsCalled n (items ++ item ∷ []) key m
   targets_stay none calls same key m = (
     λ target. called_after n items item key m ((sets.targets key m).0 (
       target.0,
-      sym (ap (λ (ks : List CallKey). slice_get ks target.0) calls) ∙ target.1,
+      sym (ap (λ (ks : List NodeRef). slice_get ks target.0) calls) ∙ target.1,
       subst (λ (g : Groups MethodNo). Contains (values_at g.groups.items target.0) m) same target.2,
     )),
     λ called.
         let before = (sets.targets key m).1 (called.0, called.1, other_item items item _ (none called.0 m) called.2, called.3, called.4) in (
           before.0,
-          ap (λ (ks : List CallKey). slice_get ks before.0) calls ∙ before.1,
+          ap (λ (ks : List NodeRef). slice_get ks before.0) calls ∙ before.1,
           subst (λ (g : Groups MethodNo). Contains (values_at g.groups.items before.0) m) (sym same) before.2,
         ),
   )
@@ -158,7 +158,7 @@ run_taken n method old new added sites calls targets = record {
 }
 
 -- a call
-pub call_taken : (n : Numbered) (call : CallNo) (target : MethodNo) (site : CallSite) (key : CallKey) (old new : Sets) → slice_get n.calls call.0 ≡ Some site → key ≡ key_of site.at
+pub call_taken : (n : Numbered) (call : CallNo) (target : MethodNo) (site : CallSite) (key : NodeRef) (old new : Sets) → slice_get n.calls call.0 ≡ Some site → key ≡ site.at
     → AddsTarget key target old new → TakesItem n (Calls call target) old new
 call_taken n call target site key old new stands of_node adds = record {
   goes = λ items sets. record {
@@ -181,7 +181,7 @@ call_taken n call target site key old new stands of_node adds = record {
             let calls : call ≡ called.0 = cc in
             let targets : target ≡ m = cc in
             let sites : site ≡ called.1 = same_Some site called.1 (sym stands ∙ ap (λ (c : CallNo). slice_get n.calls c.0) calls ∙ called.3) in
-            (adds.targets sets.listed k m).1 (inr (called.4 ∙ sym (ap (λ (c : CallSite). key_of c.at) sites) ∙ sym of_node, sym targets))
+            (adds.targets sets.listed k m).1 (inr (called.4 ∙ sym (ap (λ (c : CallSite). c.at) sites) ∙ sym of_node, sym targets))
       ],
     );
     listed = adds.listed sets.listed;

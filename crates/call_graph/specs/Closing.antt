@@ -7,7 +7,7 @@ use Rattle.jvm_model.specs.declared.number.FieldNo.{FieldNo}
 use Rattle.jvm_model.specs.declared.number.MethodNo.{MethodNo}
 use Rattle.grouped_lists.specs.Groups.{values_at}
 use Rattle.call_graph.specs.declared.edges.Edge.{Edge}
-use Rattle.call_graph.specs.declared.ground.FieldWrite.{FieldWrite}
+use Rattle.ground.specs.declared.lists.FieldWrite.{FieldWrite}
 
 pub data MayWrite (own : List FieldWrite) (edges : List Edge) : MethodNo → FieldNo → Type 0 where
   by_itself : (m : MethodNo) (field : FieldNo) → Contains own (record { method = m; field = field }) → MayWrite own edges m field

@@ -9,9 +9,9 @@ use Rattle.op_model.specs.declared.node.Node.{Node}
 use Rattle.op_model.specs.declared.op.Op.TheVariants.{Store}
 use Rattle.points_to_rules.specs.Rules.{StartsAt}
 use Rattle.call_graph.specs.declared.edges.Edge.{Edge}
-use Rattle.call_graph.specs.declared.ground.FieldWrite.{FieldWrite}
+use Rattle.ground.specs.declared.lists.FieldWrite.{FieldWrite}
 use Rattle.call_graph.specs.declared.sets.Sets.{Sets}
-use Rattle.call_graph.specs.Added.{OfOne}
+use Rattle.ground.specs.Added.{OfOne}
 use Rattle.call_graph.specs.Sets.{IsTarget}
 
 -- ---- what a node does

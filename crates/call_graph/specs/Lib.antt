@@ -1,6 +1,5 @@
 pub mod Grounds
 pub mod Sets
-pub mod Added
 pub mod Edges
 pub mod Closing
 pub mod Written

@@ -4,7 +4,7 @@ use Rattle.std.specs.Prelude.{List}
 use Rattle.jvm_model.specs.Programs.{Program}
 use Rattle.op_model.specs.declared.lowered.LoweredMethod.{LoweredMethod}
 use Rattle.call_graph.specs.declared.edges.Edge.{Edge}
-use Rattle.call_graph.specs.declared.ground.FieldWrite.{FieldWrite}
+use Rattle.ground.specs.declared.lists.FieldWrite.{FieldWrite}
 use Rattle.call_graph.specs.declared.sets.Sets.{Sets}
 use Rattle.call_graph.specs.Closing.{AreClosed}
 use Rattle.call_graph.specs.Edges.{AreEdges, AreStores}

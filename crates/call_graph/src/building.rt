@@ -1,72 +1,96 @@
 //! A ground is made of a solution.
 
-ghost use Rattle.std.specs.Prelude.{◌≡◌, List, map, Contains, IfOk};
-ghost use Rattle.points_to_items.specs.MethodNumbers.{IsMethodIn};
-ghost use Rattle.points_to_rules.specs.Facts.{Fact};
-ghost use Rattle.points_to.specs.declared.solution.RunningMethod.{RunningMethod};
+ghost use Rattle.std.specs.Prelude.{◌≡◌, ◌<◌, ◌^◌, ℕ, List, map, length, Contains, IfOk, Some, slice_get};
+ghost use Rattle.least_sets.specs.Rules.{IsWithoutDoubles};
+ghost use Rattle.slot_names.specs.KeptNames.{name_table};
+ghost use Rattle.slot_names.specs.Tables.{AreNames};
+ghost use Rattle.points_to_rules.specs.declared.place.Place.{Place};
+ghost use Rattle.points_to_rules.specs.declared.running_method.RunningMethod.{RunningMethod};
+ghost use Rattle.points_to_rules.specs.Facts.{Fact, Holder};
+ghost use Rattle.points_to_rules.specs.Places.{IsHolderIn, holder_from};
+ghost use Rattle.points_to_rules.specs.WholeMethods.{IsMethodIn};
 ghost use Rattle.points_to.specs.Solutions.{AreFactsOf};
-ghost use Rattle.call_graph.specs.Grounds.{IsGround, nodes_of};
+ghost use Rattle.ground.specs.Lists.{nodes_of};
+ghost use Rattle.call_graph.specs.Grounds.{HaveTargets, IsGround};
 ghost use Rattle.call_graph.specs.Sets.{AreSetsOf};
 ghost use Rattle.call_graph.specs.Written.{AreWrites};
 
 use crate::edges::edges_of;
-use crate::ground::{FieldWrite, Ground};
 use crate::sets::{Sets, sets_of};
+use crate::sites::sites_of;
 use crate::stores::stores_of;
 use crate::writes::close_writes;
+use ground::{FieldWrite, Ground, Lists};
 use indexmap::IndexSet;
+use jvm_model::Site;
 use linked_program::program::Program;
-use points_to::{RunningMethod, Solution};
+use points_to::Solution;
+use points_to_rules::RunningMethod;
 use std::alloc::{AllocError, Global};
 
 /// The ground of a solution: its sets, with the instance fields that each method may write, by itself, its targets, and the initialisers that it may
 /// start.
-pub fn ground_of(alloc: Global, program: &Program, solution: Solution) -> Result<Ground, AllocError>
-    requires facts { (found : List Fact) × AreFactsOf solution.tables solution.items.items.keys found }
+pub fn ground_of(
+    alloc: Global,
+    program: &Program,
+    solution: Solution,
+) -> Result<Ground<'_>, AllocError>
+    requires facts { (found : List Fact) × AreFactsOf solution.tables solution.items.items.keys found × HaveTargets program.now found }
     requires methods { (m : RunningMethod) → Contains solution.methods.items m → IsMethodIn program.now m.method.method.0 m.method }
-    ensures methods { IfOk result (λ g. g.methods.items ≡ solution.methods.items) }
-    ensures tables { IfOk result (λ g. g.tables ≡ solution.tables) }
-    ensures ground { IfOk result (λ g. (found : List Fact) → AreFactsOf solution.tables solution.items.items.keys found → IsGround program.now found g) }
+    requires names { (m : RunningMethod) → Contains solution.methods.items m → AreNames m.method (name_table m.names) }
+    ensures methods { IfOk result (λ g. g.methods ≡ map nodes_of solution.methods.items) }
+    ensures facts { IfOk result (λ g. (found : List Fact) → AreFactsOf solution.tables solution.items.items.keys found → IsGround program.now found g) }
 {
+    solution.tables.apart();
     let found = found_in(alloc, program, &solution)?;
-    Ok(joined(solution, found))
+    Ok(Ground::of(program, joined(solution, found)))
 }
 
-/// What is found of a solution: its sets, and the instance fields that each method may write.
+/// What is found of a solution: its sets, its sites, and the instance fields that each method may write.
 #[derive(Drop)]
 struct Found {
     sets: Sets,
+    sites: Vec<Site>,
     writes: IndexSet<FieldWrite>,
 }
 
-/// The sets of a solution, and the instance fields that each method may write.
+/// The sets and the sites of a solution, and the instance fields that each method may write.
 fn found_in(alloc: Global, program: &Program, solution: &Solution) -> Result<Found, AllocError>
     requires facts { (found : List Fact) × AreFactsOf solution.now.tables solution.now.items.items.keys found }
     requires methods { (m : RunningMethod) → Contains solution.now.methods.items m → IsMethodIn program.now m.method.method.0 m.method }
     ensures sets { IfOk result (λ found. AreSetsOf solution.now.tables solution.now.items.items.keys found.sets) }
+    ensures sites { IfOk result (λ found. found.sites.items ≡ solution.now.tables.sites) }
     ensures writes { IfOk result (λ found. AreWrites program.now (map nodes_of solution.now.methods.items) found.sets found.writes.keys) }
 {
     let sets = sets_of(alloc, &solution.tables, solution.items.items.as_slice())?;
+    let sites = sites_of(alloc, &solution.tables)?;
     let writes = writes_of(alloc, program, &solution.methods, &sets)?;
-    Ok(Found { sets, writes })
+    Ok(Found {
+        sets,
+        sites,
+        writes,
+    })
 }
 
-/// The ground of a solution, of which this is found.
-fn joined(solution: Solution, found: Found) -> Ground
-    ensures { result ≡ record {
-      tables = solution.tables;
-      methods = solution.methods;
-      sites = found.sets.sites;
-      running = found.sets.running;
-      calls = found.sets.calls;
-      targets = found.sets.targets;
-      writes = found.writes;
-    } }
+/// The lists of a solution, of which this is found.
+fn joined(solution: Solution, found: Found) -> Lists
+    ensures methods { result.methods ≡ solution.methods }
+    ensures sites { result.sites ≡ found.sites }
+    ensures held { result.held ≡ found.sets.sites }
+    ensures running { result.running ≡ found.sets.running }
+    ensures calls { result.calls ≡ found.sets.calls }
+    ensures targets { result.targets ≡ found.sets.targets }
+    ensures writes { result.writes ≡ found.writes }
+    ensures holders { map (holder_from solution.tables.sites) result.places.keys ≡ solution.tables.holders }
+    ensures stand { (number : ℕ) (place : Place) → slice_get result.places.keys number ≡ Some place → (h : Holder) × IsHolderIn solution.tables.sites place h }
+    ensures apart { IsWithoutDoubles result.places.keys }
+    ensures few { length result.places.keys < 2 ^ 32 }
 {
-    Ground {
-        tables: solution.tables,
+    Lists {
         methods: solution.methods,
-        sites: found.sets.sites,
+        sites: found.sites,
+        places: solution.tables.into_places(),
+        held: found.sets.sites,
         running: found.sets.running,
         calls: found.sets.calls,
         targets: found.sets.targets,

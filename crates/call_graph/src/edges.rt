@@ -3,22 +3,21 @@
 ghost use Rattle.std.specs.Prelude.{◌≡◌, map, All, Contains, Some, IfOk, OnOk};
 ghost use Rattle.jvm_model.specs.declared.number.ClassNo.{ClassNo};
 ghost use Rattle.linked_program.specs.Numbers.{IsClassNumber};
-ghost use Rattle.points_to.specs.declared.solution.RunningMethod.{RunningMethod};
-ghost use Rattle.points_to_items.specs.MethodNumbers.{IsMethodIn, NamesNumbers};
+ghost use Rattle.points_to_rules.specs.declared.running_method.RunningMethod.{RunningMethod};
+ghost use Rattle.points_to_rules.specs.WholeMethods.{IsMethodIn, NamesNumbers};
 ghost use Rattle.points_to_rules.specs.Rules.{StartsAt};
-ghost use Rattle.call_graph.specs.Added.{AreAdded, OfOne};
+ghost use Rattle.ground.specs.Added.{AreAdded, OfOne};
 ghost use Rattle.call_graph.specs.Edges.{AreEdges, GoesTo, IsEdgeFrom, IsEdgeOf, OfRunning};
-ghost use Rattle.call_graph.specs.Grounds.{nodes_of};
+ghost use Rattle.ground.specs.Lists.{nodes_of};
 
-use crate::calls::call_number;
-use crate::ground::CallKey;
 use crate::sets::Sets;
 use class_initialisers::coded_initialisers;
+use ground::call_number;
 use indexmap::IndexSet;
 use jvm_model::MethodNo;
 use linked_program::program::Program;
-use op_model::{LoweredMethod, Node};
-use points_to::RunningMethod;
+use op_model::{LoweredMethod, Node, NodeRef};
+use points_to_rules::RunningMethod;
 use std::alloc::{AllocError, Global};
 
 /// A method, and one that calls or starts it.
@@ -97,7 +96,7 @@ fn add_targets(
 ) -> Result<(), AllocError>
     ensures { OnOk result (AreAdded (IsEdgeFrom method (GoesTo sets.now method node.now)) edges.old.keys edges.new.keys) }
 {
-    let call = CallKey {
+    let call = NodeRef {
         method: Some(method),
         offset: node.offset,
     };

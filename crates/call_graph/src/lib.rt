@@ -1,14 +1,12 @@
-//! What the layers above read of the points-to analysis: which sites each place may refer to, which methods may run and which calls go to them, and
-//! which instance fields each method may write.
+//! What methods may write: the ground of a solution of the points-to analysis, which has its sets, and what each method may write by itself or by what
+//! it calls and starts.
 #![tactic(auto)]
 
 mod building;
-mod calls;
 mod edges;
-mod ground;
 mod sets;
+mod sites;
 mod stores;
 mod writes;
 
 pub use building::ground_of;
-pub use ground::{CallKey, FieldWrite, Ground};

@@ -6,11 +6,10 @@ ghost use Rattle.points_to_tables.specs.declared.item.Item.{Item};
 ghost use Rattle.points_to_tables.specs.Steps.{IsItemAt};
 ghost use Rattle.call_graph.specs.Sets.{AddsTarget, AreSetsOf, TakesItem};
 
-use crate::calls::call_at;
-use crate::ground::CallKey;
 use grouped_lists::Groups;
 use indexmap::IndexSet;
 use jvm_model::{MethodNo, SiteNo};
+use op_model::NodeRef;
 use points_to_tables::{Item, Tables};
 use std::alloc::{AllocError, Global};
 
@@ -19,7 +18,7 @@ use std::alloc::{AllocError, Global};
 pub(crate) struct Sets {
     pub(crate) sites: Groups<SiteNo>,
     pub(crate) running: IndexSet<MethodNo>,
-    pub(crate) calls: IndexSet<CallKey>,
+    pub(crate) calls: IndexSet<NodeRef>,
     pub(crate) targets: Groups<MethodNo>,
 }
 
@@ -51,13 +50,13 @@ fn add_item(tables: &Tables, sets: &mut Sets, item: Item) -> Result<(), AllocErr
             sets.running.insert(method)?;
             Ok(())
         }
-        Item::Calls(call, target) => add_target(sets, call_at(tables.call_of(call).at), target),
+        Item::Calls(call, target) => add_target(sets, tables.call_of(call).at, target),
         Item::Uses(_, _) => Ok(()),
     }
 }
 
 /// Adds a target of a call.
-fn add_target(sets: &mut Sets, call: CallKey, target: MethodNo) -> Result<(), AllocError>
+fn add_target(sets: &mut Sets, call: NodeRef, target: MethodNo) -> Result<(), AllocError>
     ensures { OnOk result (AddsTarget call target sets.old sets.new) }
 {
     let (number, _) = sets.calls.insert_full(call)?;

@@ -1,15 +1,15 @@
 //! What methods that may run write by themselves.
 
 ghost use Rattle.std.specs.Prelude.{map, IfOk, OnOk};
-ghost use Rattle.call_graph.specs.Added.{AreAdded, OfOne};
+ghost use Rattle.ground.specs.Added.{AreAdded, OfOne};
 ghost use Rattle.call_graph.specs.Edges.{AreStores, IsStoreOf, OfRunning};
-ghost use Rattle.call_graph.specs.Grounds.{nodes_of};
+ghost use Rattle.ground.specs.Lists.{nodes_of};
 
-use crate::ground::FieldWrite;
+use ground::FieldWrite;
 use indexmap::IndexSet;
 use jvm_model::MethodNo;
 use op_model::{LoweredMethod, Node, Op};
-use points_to::RunningMethod;
+use points_to_rules::RunningMethod;
 use std::alloc::{AllocError, Global};
 
 /// The instance fields that the nodes of methods store to, of those that may run.

@@ -2,11 +2,11 @@
 
 ghost use Rattle.std.specs.Prelude.{IfOk, OnOk};
 ghost use Rattle.slot_names.specs.Branches.{Extends};
-ghost use Rattle.call_graph.specs.Added.{AreAdded};
+ghost use Rattle.ground.specs.Added.{AreAdded};
 ghost use Rattle.call_graph.specs.Closing.{AreCallers, AreClosed, IsWriteOfOne};
 
 use crate::edges::Edge;
-use crate::ground::FieldWrite;
+use ground::FieldWrite;
 use grouped_lists::Groups;
 use indexmap::IndexSet;
 use jvm_model::{FieldNo, MethodNo};

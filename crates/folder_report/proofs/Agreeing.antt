@@ -1,24 +1,24 @@
--- Two suppliers that give the same nodes of methods that may run: the same sites are tracked, and the same of them are pruned.
-use Rattle.std.proofs.Common.{◌≡◌, ◌↔◌, ℕ, List, map, Contains, Ok, refl, sym, ap, ◌∙◌, subst}
-use Rattle.class_index.proofs.ListPlaces.{map_at, at_map}
+-- Two suppliers that give the same nodes of methods that may run: the same sites are tracked, and each has the same verdict.
+use Rattle.std.proofs.Common.{◌≡◌, ℕ, List, Contains, Ok, refl, sym, ap, ◌∙◌, subst}
 use Rattle.jvm_model.specs.declared.automaton.Automaton.{Automaton}
 use Rattle.jvm_model.specs.declared.automaton.Event.{Event}
 use Rattle.jvm_model.specs.declared.number.MethodNo.{MethodNo}
 use Rattle.jvm_model.specs.declared.site.Site.{Site}
 use Rattle.jvm_model.specs.Programs.{Program}
-use Rattle.least_sets.proofs.Places.{place_of, contains_at}
 use Rattle.op_model.specs.declared.lowered.LoweredMethod.{LoweredMethod}
 use Rattle.op_model.specs.declared.node.Node.{Node}
 use Rattle.op_model.specs.Supplies.{GivenAs}
 use Rattle.points_to_rules.specs.Facts.{Fact, may_run}
 use Rattle.points_to_rules.specs.Rules.{IsNodeOf}
-use Rattle.points_to.specs.declared.solution.RunningMethod.{RunningMethod}
-use Rattle.points_to.specs.Solutions.{AreRunning}
-use Rattle.call_graph.specs.Grounds.{gives_listed, nodes_of}
-use Rattle.report_rules.specs.Pruning.{IsPruned, MayOccur}
+use Rattle.ground.specs.Findings.{gives_listed}
+use Rattle.folder_report.specs.Analyses.{AreListed}
+use Rattle.prune_stage.specs.Pruning.{IsPruned, MayOccur}
 use Rattle.site_report.specs.declared.tracked_site.TrackedSite.{TrackedSite}
 use Rattle.site_report.specs.Sites.{site_in}
+use Rattle.site_report.specs.declared.verdict.Verdict.{Verdict}
 use Rattle.report_rules.specs.Tracked.{Allocates, AreTracked, IsTracked, makes, is_given}
+use Rattle.report_rules.specs.Verdicts.{Asked, AtLimitBy, IsVerdict, SafeBy, by_events}
+use Rattle.report_rules.proofs.FirstStages.{verdict_over}
 
 -- Each node that the one gives of a method that may run, the other gives.
 abbrev pub GivesNodes : (Fact → Type 0) → GivenAs → GivenAs → Type 0
@@ -53,8 +53,11 @@ module _ (p : Program) (S : Fact → Type 0) (from to : GivenAs) (over : GivesNo
     holds = o.holds;
   }
 
-  pub pruned_over : (a : Automaton) (s : Site) → IsPruned to S a s → IsPruned from S a s
+  pruned_over : (a : Automaton) (s : Site) → IsPruned to S a s → IsPruned from S a s
   pruned_over a s pruned = record { no_word = λ word all. pruned.no_word word (λ k d l. occurs_over a s _ (all k d l)) }
+
+  pub safe_over : (a : Automaton) (s : Site) (stage : ℕ) → SafeBy to S a s stage → SafeBy from S a s stage
+  safe_over a s stage (by_events first pruned) = by_events first (pruned_over a s pruned)
 
 -- ---- both ways
 
@@ -68,31 +71,27 @@ module _ (p : Program) (S : Fact → Type 0) (one other : GivenAs) (there : Give
     order = are.order;
   }
 
-  pub pruned_both : (a : Automaton) (s : Site) → IsPruned one S a s ↔ IsPruned other S a s
-  pruned_both a s = (pruned_over p S other one back a s, pruned_over p S one other there a s)
+  pub verdict_both : (w : Asked) (t : TrackedSite) (v : Verdict) → IsVerdict p one S w t v → IsVerdict p other S w t v
+  verdict_both w t v is =
+      let s = site_in p t in
+      let a = w.property in
+      verdict_over (SafeBy one S a s) (SafeBy other S a s) (AtLimitBy one S a s) (AtLimitBy other S a s) (safe_over p S other one back a s)
+      (safe_over p S one other there a s) (λ stage none. none) (λ stage none. none) w.stages v is
 
 -- ---- the listed methods
 
-module _ (gives : GivenAs) (S : Fact → Type 0) (methods : List RunningMethod) (running : AreRunning gives S methods) where
+module _ (gives : GivenAs) (S : Fact → Type 0) (methods : List LoweredMethod) (listed : AreListed gives S methods) where
   -- a listed method is given
-  pub listed_is_given : GivesNodes S (gives_listed (map nodes_of methods)) gives
+  pub listed_is_given : GivesNodes S (gives_listed methods) gives
   listed_is_given m l n runs node =
       let (x, among, number, answer) = node.given in
       let same : l ≡ x = cc in
-      let (k, at) = place_of (map nodes_of methods) x among in
-      let (r, stands, is) = map_at nodes_of methods k x at in
-      let given = (running.only r (contains_at methods k r stands)).1 in
-      let as_listed = subst (λ (y : LoweredMethod). gives y.method.0 (Ok y)) (is ∙ sym same) given in
+      let as_listed = subst (λ (y : LoweredMethod). gives y.method.0 (Ok y)) (sym same) (listed.only x among).1 in
       let own : l.method.0 ≡ m.0 = ap (λ (y : LoweredMethod). y.method.0) same ∙ number in
       record { given = subst (λ (k : ℕ). gives k (Ok l)) own as_listed; stands = node.stands }
 
   -- and what is given of a method that may run is listed
-  pub given_is_listed : ((number : ℕ) (l : LoweredMethod) → gives number (Ok l) → l.method ≡ record { 0 = number })
-      → GivesNodes S gives (gives_listed (map nodes_of methods))
+  pub given_is_listed : ((number : ℕ) (l : LoweredMethod) → gives number (Ok l) → l.method ≡ record { 0 = number }) → GivesNodes S gives (gives_listed methods)
   given_is_listed whole m l n runs node =
-      let (r, there, same) = running.all m l runs node.given in
-      let (k, at) = place_of methods r there in
-      let place = contains_at (map nodes_of methods) k r.method (at_map nodes_of methods k r at) in
-      let listed = subst (λ (y : LoweredMethod). Contains (map nodes_of methods) y) same place in
       let own = ap (λ (number : MethodNo). number.0) (whole m.0 l node.given) in
-      record { given = (l, listed, own, refl); stands = node.stands }
+      record { given = (l, listed.all m l runs node.given, own, refl); stands = node.stands }

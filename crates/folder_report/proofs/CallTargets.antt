@@ -1,5 +1,5 @@
 -- A target of a call is a method of the program, in the least facts of a supplier of methods of the program: each rule that tells a target tells one.
-use Rattle.std.proofs.Common.{◌≡◌, inl, inr, ℕ, List, Contains, Result, Ok, refl, sym, ◌∙◌, subst}
+use Rattle.std.proofs.Common.{◌≡◌, ℕ, List, Contains, Result, Ok, refl, sym, ◌∙◌, subst}
 use Rattle.std.proofs.lemmas.List.Elements.{All-contains}
 use Rattle.std.proofs.lemmas.Option.{slice_get_within}
 use Rattle.jvm_model.specs.declared.number.MethodNo.{MethodNo}
@@ -19,8 +19,7 @@ use Rattle.least_sets.proofs.Least.{least_in_closed}
 use Rattle.points_to_rules.specs.Calls.{SelectsFor}
 use Rattle.points_to_rules.specs.Facts.{Fact, may_hold, may_run, may_call, may_write}
 use Rattle.points_to_rules.specs.Rules.{Instance, entry_runs, entry_called, entry_argument, entry_strings, keep, move, enter, handle, load, load_element, load_static, make, make_array, get_constant, cast, store, store_element, store_static, nest, begin_static, call_chosen, call_selected, target_runs, pass, return, receive, keep_argument, give_argument, give_new, give_kept, throw, raise, target_throws, described_throws, initialiser_throws, initialiser_runs, keep_thrown}
-use Rattle.points_to_rules.specs.Writes.{AnyInstance, write, target_writes, initialiser_writes}
-use Rattle.points_to_items.specs.MethodNumbers.{IsMethodIn, NamesNumbers}
+use Rattle.points_to_rules.specs.WholeMethods.{IsMethodIn, NamesNumbers}
 
 -- The target, if it is a fact of a call, is a method of the program.
 abbrev IsInRange : Program → Fact → Type 0
@@ -88,14 +87,11 @@ module _ (p : Program) (gives : GivenAs) (entry : MethodNo) (within : IsMethodNu
   each_in premises fact (initialiser_runs started i starts) = tt
   each_in premises fact (keep_thrown started i s starts) = tt
 
-  in_range_is_closed : IsClosedSet (AnyInstance p gives entry) (IsInRange p)
-  in_range_is_closed premises fact (inl rule) hold = each_in premises fact rule
-  in_range_is_closed premises fact (inr (write m l n object value field is is_op)) hold = tt
-  in_range_is_closed premises fact (inr (target_writes m l n target field is)) hold = tt
-  in_range_is_closed premises fact (inr (initialiser_writes m l n i field is starts)) hold = tt
+  in_range_is_closed : IsClosedSet (Instance p gives entry) (IsInRange p)
+  in_range_is_closed premises fact rule hold = each_in premises fact rule
 
-  pub targets_in : (facts : List Fact) → IsLeast (AnyInstance p gives entry) facts → (call : NodeRef) (target : MethodNo)
-      → Contains facts (may_call call target) → IsMethodNumber p target.0
-  targets_in facts least call target there =
-      let all = least_in_closed (AnyInstance p gives entry) (IsInRange p) facts least in_range_is_closed in
-      All-contains (IsInRange p) facts (may_call call target) all there
+  pub targets_in : (found : List Fact) → IsLeast (Instance p gives entry) found → (call : NodeRef) (target : MethodNo)
+      → Contains found (may_call call target) → IsMethodNumber p target.0
+  targets_in found least call target there =
+      let all = least_in_closed (Instance p gives entry) (IsInRange p) found least in_range_is_closed in
+      All-contains (IsInRange p) found (may_call call target) all there

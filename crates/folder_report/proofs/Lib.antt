@@ -1,16 +1,7 @@
 pub mod Analysed
+pub mod OwnProgram
 pub mod Objects
-mod Adding
-mod HeldFacts
-mod ClassSites
-mod SiteOrder
-mod FoundSites
-mod Marking
-mod EventNumbers
-mod OrderedSites
-mod NumberedPlaces
-mod MarkedCalls
-mod PrunedSites
+mod StageVerdicts
 mod FoundLines
 mod CallTargets
 mod KnownSites

@@ -5,14 +5,17 @@ ghost use Rattle.jvm_model.specs.Programs.{Class, object_name};
 ghost use Rattle.jvm_model.specs.Subtypes.{class_named};
 ghost use Rattle.linked_program.specs.Numbers.{IsMethodNumber};
 ghost use Rattle.folder_supply.specs.Supplied.{IsSupplied};
-ghost use Rattle.points_to.specs.Solutions.{IsSolved, IsSolveEnd};
+ghost use Rattle.points_to.specs.Solutions.{IsSolved};
+ghost use Rattle.points_to_rules.specs.Solutions.{IsSolveEnd};
 ghost use Rattle.folder_report.specs.Analyses.{IsAnalysis};
 
-use call_graph::{Ground, ground_of};
+use call_graph::ground_of;
 use folder_supply::{FolderSupply, laws};
+use ground::Ground;
 use jvm_model::MethodNo;
 use linked_program::program::Program;
-use points_to::{Solution, SolveFailure, solve};
+use points_to::{Solution, solve};
+use points_to_rules::SolveFailure;
 use std::alloc::Global;
 use supply_laws::supplied_methods_are_whole;
 
@@ -42,7 +45,7 @@ pub fn analyse(
     program: &Program,
     entry: MethodNo,
     pair_limit: u64,
-) -> Result<Ground, SolveFailure>
+) -> Result<Ground<'_>, SolveFailure>
     requires entry { IsMethodNumber program.now entry.0 }
     requires object { (object : Class) × (class_named program.now object_name ≡ Some object) }
     ensures ground { IfOk result (IsAnalysis program.now (IsSupplied program.now) entry pair_limit) }

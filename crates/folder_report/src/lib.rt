@@ -4,22 +4,9 @@
 #![tactic(auto)]
 
 mod analysis;
-mod answers;
-mod calls;
-mod event_set;
-mod marks;
-mod nodes;
-mod order;
-mod places;
-mod pruning;
-mod reading;
 mod report;
-mod sites;
-mod targets;
-mod tracking;
+mod verdicts;
 mod writing;
 
 pub use analysis::{analyse, has_object, solve_folder};
-pub use pruning::prune;
 pub use report::{Report, report_of};
-pub use tracking::tracked;

@@ -1,23 +1,20 @@
 //! The report on an analysis.
 
-ghost use Rattle.std.specs.Prelude.{◌≡◌, ℕ, List, map, Contains, IfOk};
+ghost use Rattle.std.specs.Prelude.{◌≡◌, ◌≤◌, ℕ, map, Contains, IfOk};
 ghost use Rattle.jvm_model.specs.Automata.{IsAutomaton};
 ghost use Rattle.jvm_model.specs.declared.number.MethodNo.{MethodNo as RuleMethodNo};
 ghost use Rattle.folder_report.specs.Analyses.{IsAnalysis};
 ghost use Rattle.folder_supply.specs.Supplied.{IsSupplied};
-ghost use Rattle.linked_program.specs.Numbers.{name_at, IsClassNumber, IsMethodNumber};
-ghost use Rattle.points_to_rules.specs.Facts.{Fact};
-ghost use Rattle.call_graph.specs.Grounds.{HasFacts};
+ghost use Rattle.linked_program.specs.Numbers.{name_at, IsClassNumber};
 ghost use Rattle.report_rules.specs.Reports.{IsReport};
 
-use crate::pruning::prune;
-use crate::tracking::tracked;
+use crate::verdicts::verdicts_of;
 use crate::writing::written;
-use call_graph::Ground;
+use ground::Ground;
 use jvm_model::{Automaton, ClassNo};
-use linked_program::program::Program;
 use std::alloc::{AllocError, Global};
 use supply_laws::supplied_methods_are_whole;
+use tracked_sites::tracked;
 
 /// The lines of a report, each with its newline, and whether each site is safe.
 #[derive(Drop)]
@@ -26,24 +23,29 @@ pub struct Report {
     pub all_safe: bool,
 }
 
-/// The report of the first stage on an analysis of the program: a line for each tracked site, and the summary. `upper` is the property's class.
+/// The report on an analysis of the program, whatever the last stage is that is asked for: a line for each tracked site with its verdict, and the summary.
+/// `upper` is the property's class.
 pub fn report_of(
     alloc: Global,
-    program: &Program,
-    ground: &Ground,
+    ground: &Ground<'_>,
     automaton: &Automaton,
     upper: ClassNo,
 ) -> Result<Report, AllocError>
     requires automaton { IsAutomaton automaton.now }
-    requires upper { IsClassNumber program.now upper.0 }
-    requires class { name_at program.now upper.0 ≡ automaton.now.class_name }
-    requires analysis { (entry : RuleMethodNo) × (limit : ℕ) × IsMethodNumber program.now entry.0
-        × IsAnalysis program.now (IsSupplied program.now) entry limit ground.now }
-    ensures { IfOk result (λ r. (facts : List Fact) → HasFacts ground.now facts
-        → IsReport program.now (IsSupplied program.now) (Contains facts) automaton.now (map (λ line. line.items) r.lines.items) r.all_safe) }
+    requires upper { IsClassNumber ground.now.program upper.0 }
+    requires class { name_at ground.now.program upper.0 ≡ automaton.now.class_name }
+    requires analysis { (entry : RuleMethodNo) × (limit : ℕ) × IsAnalysis ground.now.program (IsSupplied ground.now.program) entry limit ground.now }
+    ensures { IfOk result (λ r. (stages : ℕ) → 1 ≤ stages
+        → IsReport ground.now.program (IsSupplied ground.now.program) (Contains ground.now.facts) (record { property = automaton.now; stages = stages })
+        (map (λ line. line.items) r.lines.items) r.all_safe) }
 {
     supplied_methods_are_whole();
-    let sites = tracked(alloc, program, ground, upper)?;
-    let answers = prune(alloc, program, ground, automaton, sites.as_slice())?;
-    written(alloc, program, sites.as_slice(), answers.as_slice())
+    let sites = tracked(alloc, ground, upper)?;
+    let verdicts = verdicts_of(alloc, ground, automaton, sites.as_slice())?;
+    written(
+        alloc,
+        ground.program(),
+        sites.as_slice(),
+        verdicts.as_slice(),
+    )
 }

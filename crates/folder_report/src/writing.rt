@@ -1,32 +1,42 @@
-//! The lines of a report, by the sites and by which of them the first stage proves safe.
+//! The lines of a report, by the sites and their verdicts.
 
 ghost use Rattle.std.specs.Prelude.{◌≡◌, ◌↔◌, All, Contains, IfOk, IsTrue, count_by, length, map};
 ghost use Rattle.site_report.specs.declared.tracked_site.TrackedSite.{TrackedSite as RuleSite};
 ghost use Rattle.site_report.specs.Sites.{IsKnownSite};
-ghost use Rattle.folder_report.specs.Written.{IsWritten, lines_of, summary_of, verdict_of};
+ghost use Rattle.report_rules.specs.Reports.{is_limit, is_safe};
+ghost use Rattle.folder_report.specs.Written.{AreCounts, IsWritten, lines_of};
 
 use crate::report::Report;
 use linked_program::program::Program;
 use site_report::{TrackedSite, Verdict, summary_line, verdict_line};
 use std::alloc::{AllocError, Global};
 
+/// How many sites have each verdict.
+#[derive(Clone, Copy)]
+pub(crate) struct Counts {
+    pub(crate) safe: u32,
+    pub(crate) unproved: u32,
+    pub(crate) limit: u32,
+}
+
 /// The report on the sites: the line of each, and the summary.
 pub(crate) fn written(
     alloc: Global,
     program: &Program,
     sites: &[TrackedSite],
-    answers: &[bool],
+    verdicts: &[Verdict],
 ) -> Result<Report, AllocError>
-    requires pairs { length answers.now ≡ length sites.now }
+    requires pairs { length verdicts.now ≡ length sites.now }
     requires known { (t : RuleSite) → Contains sites.now t → IsKnownSite program.now t }
-    ensures { IfOk result (λ r. IsWritten program.now sites.now answers.now (map (λ line. line.items) r.lines.items) r.all_safe) }
+    ensures { IfOk result (λ r. IsWritten program.now sites.now verdicts.now (map (λ line. line.items) r.lines.items) r.all_safe) }
 {
-    let mut lines = site_lines(alloc, program, sites, answers)?;
-    let summary = summary_of_all(alloc, answers)?;
+    let mut lines = site_lines(alloc, program, sites, verdicts)?;
+    let counts = counts_of(verdicts)?;
+    let summary = summary_line(alloc, counts.safe, counts.unproved, counts.limit)?;
     lines.push(summary)?;
     Ok(Report {
         lines,
-        all_safe: are_all_safe(answers),
+        all_safe: are_all_safe(verdicts),
     })
 }
 
@@ -35,52 +45,78 @@ fn site_lines(
     alloc: Global,
     program: &Program,
     sites: &[TrackedSite],
-    answers: &[bool],
+    verdicts: &[Verdict],
 ) -> Result<Vec<Vec<u8>>, AllocError>
-    requires pairs { length answers.now ≡ length sites.now }
+    requires pairs { length verdicts.now ≡ length sites.now }
     requires known { (t : RuleSite) → Contains sites.now t → IsKnownSite program.now t }
-    ensures { IfOk result (λ lines. map (λ line. line.items) lines.items ≡ lines_of program.now sites.now answers.now) }
+    ensures { IfOk result (λ lines. map (λ line. line.items) lines.items ≡ lines_of program.now sites.now verdicts.now) }
 {
     let mut lines = Vec::new(alloc);
     for (place, site) in sites.iter().enumerate() {
-        let line = verdict_line(alloc, program, *site, stage_verdict(answers[place]))?;
+        let line = verdict_line(alloc, program, *site, verdicts[place])?;
         lines.push(line)?;
     }
     Ok(lines)
 }
 
-/// What the first stage finds of a site, by whether it proves it safe.
-fn stage_verdict(is_pruned: bool) -> Verdict
-    ensures { result ≡ verdict_of is_pruned }
+/// How many sites have each verdict: it is as if memory ran out where there are too many for the summary.
+fn counts_of(verdicts: &[Verdict]) -> Result<Counts, AllocError>
+    ensures { IfOk result (AreCounts verdicts.now) }
 {
-    if is_pruned {
-        Verdict::Safe(1)
-    } else {
-        Verdict::Unproved
-    }
-}
-
-/// The line that tells how many sites are safe, and how many are not.
-fn summary_of_all(alloc: Global, answers: &[bool]) -> Result<Vec<u8>, AllocError>
-    ensures { IfOk result (λ line. line.items ≡ summary_of answers.now) }
-{
-    let all = number(answers.len())?;
-    let safe = number(safe_count(answers))?;
-    summary_line(alloc, safe, all - safe, 0)
+    let all = number(verdicts.len())?;
+    let safe = number(safe_count(verdicts))?;
+    let limit = number(limit_count(verdicts))?;
+    Ok(Counts {
+        safe,
+        unproved: all - safe - limit,
+        limit,
+    })
 }
 
 /// How many sites are safe.
-fn safe_count(answers: &[bool]) -> usize
-    ensures { result ≡ count_by (λ answer. answer) answers.now }
+fn safe_count(verdicts: &[Verdict]) -> usize
+    ensures { result ≡ count_by is_safe verdicts.now }
 {
-    answers.iter().filter(|answer| **answer).count()
+    verdicts.iter().filter(|verdict| is_safe(**verdict)).count()
+}
+
+/// At how many sites a stage came to its limit.
+fn limit_count(verdicts: &[Verdict]) -> usize
+    ensures { result ≡ count_by is_limit verdicts.now }
+{
+    verdicts
+        .iter()
+        .filter(|verdict| is_limit(**verdict))
+        .count()
 }
 
 /// Whether each site is safe.
-fn are_all_safe(answers: &[bool]) -> bool
-    ensures { IsTrue result ↔ All (λ answer. IsTrue answer) answers.now }
+fn are_all_safe(verdicts: &[Verdict]) -> bool
+    ensures { IsTrue result ↔ All (λ verdict. IsTrue (is_safe verdict)) verdicts.now }
 {
-    answers.iter().all(|answer| *answer)
+    verdicts.iter().all(|verdict| is_safe(*verdict))
+}
+
+/// Whether a stage proves a site safe.
+fn is_safe(verdict: Verdict) -> bool
+    ensures { result ≡ is_safe verdict }
+{
+    match verdict {
+        Verdict::Safe(_) => true,
+        Verdict::Unproved => false,
+        Verdict::Limit(_) => false,
+    }
+}
+
+/// Whether a stage came to its limit at a site.
+fn is_limit(verdict: Verdict) -> bool
+    ensures { result ≡ is_limit verdict }
+{
+    match verdict {
+        Verdict::Safe(_) => false,
+        Verdict::Unproved => false,
+        Verdict::Limit(_) => true,
+    }
 }
 
 /// A count as a number of 32 bits.

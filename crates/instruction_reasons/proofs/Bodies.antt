@@ -4,12 +4,11 @@ use Rattle.std.specs.Prelude.{IsTrue, slice_get}
 use Rattle.std.proofs.lemmas.Bool.{false≢true}
 use Rattle.jvm_model.specs.declared.access.AccessFlag.TheVariants.{Native}
 use Rattle.jvm_model.specs.Access.{has_flag}
-use Rattle.jvm_model.specs.Programs.{Body, in_file, described, Method, Program}
+use Rattle.jvm_model.specs.Programs.{Body, in_file, described, Method, Program, IsUndescribed}
 use Rattle.linked_program.specs.Bodies.{IsBodyView}
 use Rattle.linked_program.specs.declared.method_body.MethodBody.{MethodBody}
 use Rattle.linked_program.specs.declared.method_body.MethodBody.TheVariants.{InFile, Described}
 use Rattle.instruction_reasons.specs.Looked.{is_in_file}
-use Rattle.instruction_reasons.specs.Reasons.{IsUndescribed}
 
 abbrev is_file_view : MethodBody → Bool
 is_file_view (InFile f n) = true

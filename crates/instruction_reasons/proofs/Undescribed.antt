@@ -5,7 +5,8 @@ use Rattle.jvm_model.specs.declared.reason.Reason.TheVariants as reasons
 use Rattle.jvm_model.specs.Lookups.{MemberReference}
 use Rattle.jvm_model.specs.Soundness.{is_array}
 use Rattle.instruction_reasons.specs.Looked.{HasSuch}
-use Rattle.instruction_reasons.specs.Reasons.{Judged, Accesses, Calls, Names, HasTarget, IsNotThere, IsUndescribed, LacksStub, of_class, of_array_field, of_array_method, of_field, of_method, of_target, LooksUpField, LooksUpMethod}
+use Rattle.instruction_reasons.specs.Reasons.{Judged, Accesses, Calls, Names, HasTarget, IsNotThere, LacksStub, of_class, of_array_field, of_array_method, of_field, of_method, of_target, LooksUpField, LooksUpMethod}
+use Rattle.jvm_model.specs.Programs.{IsUndescribed}
 
 -- The class of the member that is named is an array.
 abbrev pub NamesArray : (MemberReference → Type 0) → Type 0

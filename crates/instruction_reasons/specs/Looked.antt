@@ -7,13 +7,13 @@ use Rattle.jvm_model.specs.declared.pool.PoolEntry.TheVariants.{Utf8, Integer, F
 use Rattle.jvm_model.specs.declared.reason.Reason.{Reason}
 use Rattle.jvm_model.specs.declared.reason.Reason.TheVariants as reasons
 use Rattle.jvm_model.specs.Lookups.{MemberReference, Signature, entry_at}
-use Rattle.jvm_model.specs.Programs.{Body, in_file, described, Class as ProgramClass, Method, Program, is_private, is_static}
+use Rattle.jvm_model.specs.Programs.{Body, in_file, described, Class as ProgramClass, Method, Program, is_private, is_static, IsUndescribed}
 use Rattle.jvm_model.specs.Resolution.{Declares, HasSignature}
 use Rattle.jvm_model.specs.Selection.{SelectsSpecial}
 use Rattle.jvm_model.specs.Soundness.{is_array}
 use Rattle.jvm_model.specs.Subtypes.{class_named, IsChain}
 use Rattle.jvm_model.specs.Table.{Action, load_constant, invoke_special, invoke_interface}
-use Rattle.instruction_reasons.specs.Reasons.{Judged, Calls, Accesses, IsByInterface, IsFinalizer, LooksUpField, LooksUpMethod, IsMismatched, HasTarget, IsUndescribed, wants_static}
+use Rattle.instruction_reasons.specs.Reasons.{Judged, Calls, Accesses, IsByInterface, IsFinalizer, LooksUpField, LooksUpMethod, IsMismatched, HasTarget, wants_static}
 use Rattle.instruction_reasons.specs.declared.lookups.Lookups.{Lookups}
 use Rattle.linked_program.specs.Numbers.{field_number, method_number}
 

@@ -2,17 +2,13 @@
 -- Why an instruction has no node: what it names is not there, or is of another kind (JVMS 5.4.3, 6.5), or is something that the
 -- analysis does not follow.
 use Rattle.std.specs.Prelude.{codes, ◌≡◌, ◌≢◌, ◌⊎◌, ℕ, ◌+◌, Bool, true, false, List, [], ◌∷◌, ◌++◌, replicate, option_and_then, Option, Some, None, Result, Ok, Err, slice_get, Contains, IsTrue}
-use Rattle.jvm_model.specs.declared.access.AccessFlag.TheVariants.{Native}
-use Rattle.jvm_model.specs.declared.class_file.ClassFile.{ClassFile}
-use Rattle.jvm_model.specs.declared.class_file.Member.{Member}
 use Rattle.jvm_model.specs.declared.pool.PoolEntry.{PoolEntry}
 use Rattle.jvm_model.specs.declared.pool.PoolEntry.TheVariants.{Utf8, Integer, Float, Long, Double, Class, Str, Fieldref, Methodref, InterfaceMethodref, NameAndType, MethodHandle, MethodType, InvokeDynamic, Taken}
 use Rattle.jvm_model.specs.declared.reason.Reason.{Reason}
 use Rattle.jvm_model.specs.declared.reason.Reason.TheVariants as reasons
-use Rattle.jvm_model.specs.Access.{has_flag}
 use Rattle.jvm_model.specs.Instructions.{member_at}
 use Rattle.jvm_model.specs.Lookups.{MemberReference, Signature, entry_at, text_at, class_name_at}
-use Rattle.jvm_model.specs.Programs.{Class as ProgramClass, Method, Program, in_file, is_abstract, is_private, is_static}
+use Rattle.jvm_model.specs.Programs.{Class as ProgramClass, Method, Program, IsUndescribed, is_abstract, is_private, is_static}
 use Rattle.jvm_model.specs.Resolution.{Declares, FieldResolution, MethodResolution}
 use Rattle.jvm_model.specs.Selection.{SelectsSpecial}
 use Rattle.jvm_model.specs.Soundness.{is_array}
@@ -167,16 +163,6 @@ pub data HasTarget (j : Judged) (target : ℕ) : Type 0 where
   special : (number : ℕ) → j.action ≡ invoke_special → (l : LooksUpMethod j (Ok number)) → (IsMismatched j → ⊥)
       → SelectsSpecial j.program j.current l.method target → HasTarget j target
   static : j.action ≡ invoke_static → LooksUpMethod j (Ok target) → (IsMismatched j → ⊥) → HasTarget j target
-
--- The method is a native one that no stub describes.
-pub record IsUndescribed (p : Program) (number : ℕ) : Type 0 where
-  pub method : Method
-  pub stands : slice_get p.methods number ≡ Some method
-  pub native : IsTrue (has_flag method.flags Native)
-  pub file : ClassFile
-  pub place : ℕ
-  pub member : Member
-  pub of_file : method.body ≡ in_file file place member
 
 -- A special call finds no method, or several; or what a special or a static call goes to is abstract.
 pub data LacksTarget (j : Judged) : Type 0 where

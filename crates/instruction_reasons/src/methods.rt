@@ -2,11 +2,10 @@
 
 ghost use Rattle.std.specs.Prelude.{◌≡◌, ◌↔◌, Some, slice_get, IsTrue};
 ghost use Rattle.jvm_model.specs.Access.{has_flag};
-ghost use Rattle.jvm_model.specs.Programs.{Method, is_abstract, is_private, is_static};
+ghost use Rattle.jvm_model.specs.Programs.{Method, is_abstract, is_private, is_static, IsUndescribed};
 ghost use Rattle.jvm_model.specs.declared.access.AccessFlag.TheVariants.{Native};
 ghost use Rattle.linked_program.specs.Numbers.{IsMethodNumber};
 ghost use Rattle.instruction_reasons.specs.Looked.{is_in_file};
-ghost use Rattle.instruction_reasons.specs.Reasons.{IsUndescribed};
 
 use jvm_model::{AccessFlag, MethodNo};
 use linked_program::method_body::MethodBody;

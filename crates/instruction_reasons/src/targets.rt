@@ -4,7 +4,8 @@ ghost use Rattle.std.specs.Prelude.{◌≡◌, ◌↔◌, ℕ, option_map, Some,
 ghost use Rattle.linked_program.specs.Numbers.{IsClassNumber, method_number};
 ghost use Rattle.instruction_reasons.specs.Judgements.{judged};
 ghost use Rattle.instruction_reasons.specs.Looked.{AreLookups, IsOnly, SelectsCalled, HasSuch, WantsTarget};
-ghost use Rattle.instruction_reasons.specs.Reasons.{HasTarget, IsMismatched, IsUndescribed, LacksTarget, LooksUpMethod};
+ghost use Rattle.instruction_reasons.specs.Reasons.{HasTarget, IsMismatched, LacksTarget, LooksUpMethod};
+ghost use Rattle.jvm_model.specs.Programs.{IsUndescribed};
 
 use crate::judgement::JudgedInstruction;
 use crate::lookups::Lookups;

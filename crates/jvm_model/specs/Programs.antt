@@ -1,8 +1,8 @@
 -- Public contracts rest on this module.
 -- A program as the machine and the analysis see it: classes, methods and fields.
-use Rattle.std.specs.Prelude.{codes, ℕ, Bool, true, ◌&&◌, ◌||◌, List, [], map, Option, None, unwrap_or}
+use Rattle.std.specs.Prelude.{codes, ◌≡◌, ℕ, Bool, true, ◌&&◌, ◌||◌, List, [], map, Option, Some, None, unwrap_or, slice_get, IsTrue}
 use Rattle.std.specs.Str.{bytes_eq}
-use Rattle.jvm_model.specs.declared.access.AccessFlag.TheVariants.{Public, Private, Static, Interface, Abstract}
+use Rattle.jvm_model.specs.declared.access.AccessFlag.TheVariants.{Public, Private, Static, Native, Interface, Abstract}
 use Rattle.jvm_model.specs.declared.class_file.ClassFile.{ClassFile}
 use Rattle.jvm_model.specs.declared.class_file.Member.{Member}
 use Rattle.jvm_model.specs.declared.pool.PoolEntry.{PoolEntry}
@@ -96,3 +96,15 @@ method_of c m = record { class = name_of c; signature = signature_of c.pool m.1;
 
 abbrev pub field_of : ClassFile → Member → Field
 field_of c m = record { class = name_of c; signature = signature_of c.pool m; flags = m.flags; holds = None }
+
+-- ---- methods that nothing describes
+
+-- The method is a native one of a class file, which no stub describes (JVMS 4.6).
+pub record IsUndescribed (p : Program) (number : ℕ) : Type 0 where
+  pub method : Method
+  pub stands : slice_get p.methods number ≡ Some method
+  pub native : IsTrue (has_flag method.flags Native)
+  pub file : ClassFile
+  pub place : ℕ
+  pub member : Member
+  pub of_file : method.body ≡ in_file file place member

@@ -24,7 +24,7 @@ pub struct Node {
 }
 
 /// A node of a method, by its offset; without a method, one of the start of the program.
-#[derive(Clone, Copy, Debug, PartialEq, Eq)]
+#[derive(Clone, Copy, Debug, PartialEq, Eq, Hash)]
 pub struct NodeRef {
     pub method: Option<MethodNo>,
     pub offset: u32,

@@ -22,16 +22,16 @@ use Rattle.points_to_tables.specs.Numbered.{Numbered, AreApart}
 use Rattle.points_to_tables.specs.Steps.{IsItemAt, Adds}
 use Rattle.points_to_tables.proofs.Adding.{adds_same}
 use Rattle.points_to.specs.declared.refusals.RefusedMethod.{RefusedMethod}
-use Rattle.points_to.specs.declared.solution.RunningMethod.{RunningMethod}
-use Rattle.points_to.specs.declared.solve_failure.SolveFault.{SolveFault}
-use Rattle.points_to.specs.declared.solve_failure.SolveFault.TheVariants.{PairLimit, Refused}
+use Rattle.points_to_rules.specs.declared.running_method.RunningMethod.{RunningMethod}
+use Rattle.points_to_rules.specs.declared.solve_fault.SolveFault.{SolveFault}
+use Rattle.points_to_rules.specs.declared.solve_fault.SolveFault.TheVariants.{PairLimit, Refused}
 use Rattle.points_to.specs.declared.closing.Working.{Working}
 use Rattle.points_to.specs.Closing.{IsClosingEnd}
 use Rattle.points_to.specs.Concluding.{SitesBy, UsersBy, IsKnownIndex, IsKnownItem, ResolvesIn, FollowsFrom, RefusedBy, AddsCallsBy, AddsMethodsBy}
 use Rattle.grouped_lists.specs.Groups.{values_at}
 use Rattle.points_to.specs.Passing.{IsKnownUser, NotesMethods}
 use Rattle.points_to.specs.Queues.{IsQueueEnd}
-use Rattle.points_to.specs.Solutions.{IsSupplyOf}
+use Rattle.points_to_rules.specs.Solutions.{IsSupplyOf}
 use Rattle.points_to.specs.Taking.{IsStarted, IsTakenIn, IsTakingEnd}
 use Rattle.points_to.proofs.ItemPlaces.{front_rule}
 use Rattle.points_to.proofs.Noting.{those_same}

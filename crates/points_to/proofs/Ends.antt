@@ -13,13 +13,14 @@ use Rattle.points_to_tables.specs.declared.item.Item.{Item}
 use Rattle.points_to_tables.specs.Numbered.{Numbered}
 use Rattle.points_to.specs.declared.refusals.RefusedCall.{RefusedCall}
 use Rattle.points_to.specs.declared.refusals.RefusedMethod.{RefusedMethod}
-use Rattle.points_to.specs.declared.solution.RunningMethod.{RunningMethod}
+use Rattle.points_to_rules.specs.declared.running_method.RunningMethod.{RunningMethod}
 use Rattle.points_to.specs.declared.solution.Solution.{Solution}
-use Rattle.points_to.specs.declared.solve_failure.SolveFault.{SolveFault}
-use Rattle.points_to.specs.declared.solve_failure.SolveFault.TheVariants.{PairLimit, Refused}
+use Rattle.points_to_rules.specs.declared.solve_fault.SolveFault.{SolveFault}
+use Rattle.points_to_rules.specs.declared.solve_fault.SolveFault.TheVariants.{PairLimit, Refused}
 use Rattle.points_to.specs.Closing.{KnownIn, IsClosed}
 use Rattle.points_to.specs.Refusing.{IsNamed, IsRefusing}
-use Rattle.points_to.specs.Solutions.{IsSupplyOf, IsSolveEnd, IsSolved, EndsRefused}
+use Rattle.points_to_rules.specs.Solutions.{IsSupplyOf, IsSolveEnd, EndsRefused}
+use Rattle.points_to.specs.Solutions.{IsSolved}
 use Rattle.points_to.proofs.GivenMethods.{GivesOne}
 use Rattle.points_to.proofs.NamedRefusals.{least_below, named_none, named_some}
 use Rattle.points_to.proofs.PairedFacts.{fact_there, known_there}

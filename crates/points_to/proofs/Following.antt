@@ -18,11 +18,12 @@ use Rattle.points_to_rules.specs.Facts.{Holder, may_hold, may_run, may_call}
 use Rattle.points_to_rules.specs.Rules.{IsNodeOf}
 use Rattle.points_to_items.specs.CallItems.{CallItem}
 use Rattle.points_to_items.specs.Items.{CallSite, User as ItemUser, Item as RuleItem, known, used}
-use Rattle.points_to_items.specs.ItemRules.{Passed, ItemInstance, of_start, of_node, of_call, of_user, AreMethodsOf}
+use Rattle.points_to_items.specs.ItemRules.{Passed, ItemInstance, of_start, of_node, of_call, of_user}
+use Rattle.points_to_rules.specs.WholeMethods.{AreMethodsOf}
 use Rattle.points_to_items.specs.NodeItems.{NodeItem, IsCallSite}
 use Rattle.points_to_tables.specs.declared.item.Item.{Item}
 use Rattle.points_to_tables.specs.declared.item.Item.TheVariants.{Holds, Runs, Calls, Uses}
-use Rattle.points_to_tables.specs.declared.keys.PlaceNo.{PlaceNo}
+use Rattle.points_to_rules.specs.declared.place.PlaceNo.{PlaceNo}
 use Rattle.points_to_tables.specs.declared.keys.UserNo.{UserNo}
 use Rattle.points_to_tables.specs.Numbered.{Numbered, AreApart}
 use Rattle.points_to_tables.specs.Steps.{IsItemAt}

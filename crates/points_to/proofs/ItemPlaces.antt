@@ -14,7 +14,7 @@ use Rattle.points_to_items.proofs.Holders.{zip_place}
 use Rattle.points_to_tables.specs.declared.item.Item.{Item}
 use Rattle.points_to_tables.specs.declared.item.Item.TheVariants.{Holds, Runs, Calls, Uses}
 use Rattle.points_to_tables.specs.declared.keys.CallNo.{CallNo}
-use Rattle.points_to_tables.specs.declared.keys.PlaceNo.{PlaceNo}
+use Rattle.points_to_rules.specs.declared.place.PlaceNo.{PlaceNo}
 use Rattle.points_to_tables.specs.declared.keys.UserNo.{UserNo}
 use Rattle.points_to_tables.specs.Numbered.{Numbered, Grows}
 use Rattle.points_to_tables.specs.Steps.{IsItemAt}

@@ -19,12 +19,12 @@ use Rattle.points_to_tables.specs.declared.item.Item.{Item}
 use Rattle.points_to_tables.specs.Numbered.{Numbered}
 use Rattle.points_to.specs.declared.refusals.RefusedCall.{RefusedCall}
 use Rattle.points_to.specs.declared.refusals.RefusedMethod.{RefusedMethod}
-use Rattle.points_to.specs.declared.solution.RunningMethod.{RunningMethod}
+use Rattle.points_to_rules.specs.declared.running_method.RunningMethod.{RunningMethod}
 use Rattle.points_to.specs.Closing.{IsLackIn, IsRefusedAmong, HasFirstCall, HasFirstMethod, IsClosed}
 use Rattle.points_to.specs.Firsts.{IsNoLaterCall, IsFirstCall, IsFirstMethod, LeadsMethod, TrailsMethod}
 use Rattle.points_to.specs.Firsts as firsts
 use Rattle.points_to.specs.Refusing.{IsCallRefusal, IsNamed, IsOfCoded, refusal_of}
-use Rattle.points_to.specs.Solutions.{IsSupplyOf, AreLeastBelow}
+use Rattle.points_to_rules.specs.Solutions.{IsSupplyOf, AreLeastBelow}
 use Rattle.points_to.proofs.CodeStarts.{one_start, lack_reason, no_later}
 use Rattle.points_to.proofs.GivenMethods.{GivesOne}
 use Rattle.points_to.proofs.PairedFacts.{known_there, fact_there, pairs_counted}

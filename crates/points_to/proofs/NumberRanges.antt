@@ -26,10 +26,10 @@ use Rattle.points_to_items.specs.CallItems as call_items
 use Rattle.points_to_items.specs.Items.{CallSite, User, pass_to, pass_fitting, read_field, write_field, read_elements, write_elements, throw_at, land_at, select, Item as RuleItem, known, used}
 use Rattle.points_to_items.specs.ItemRules.{StartItem, Passed, ItemInstance, of_start, of_node, of_call, of_user}
 use Rattle.points_to_items.specs.ItemRules as item_rules
-use Rattle.points_to_items.specs.MethodNumbers.{NamesNumbers}
+use Rattle.points_to_rules.specs.WholeMethods.{NamesNumbers}
 use Rattle.points_to_items.specs.NodeItems.{NodeItem, FlowItem, OpItem, LoadStaticItem, NewArrayItem, CallNodeItem, TriggerItem}
 use Rattle.points_to_items.specs.NodeItems as node_items
-use Rattle.points_to.specs.Solutions.{IsSupplyOf}
+use Rattle.points_to_rules.specs.Solutions.{IsSupplyOf}
 
 -- The call whose target the user selects, if it selects one, is resolved to a method of the program.
 abbrev pub IsUserInRange : Program → User → Type 0

@@ -14,16 +14,16 @@ use Rattle.op_model.specs.Supplies.{GivenAs}
 use Rattle.least_sets.proofs.Growing.{back_to}
 use Rattle.points_to_rules.specs.Facts.{may_run}
 use Rattle.points_to_rules.specs.Rules.{start_call, node_of}
-use Rattle.points_to_items.specs.ItemRules.{AreMethodsOf}
+use Rattle.points_to_rules.specs.WholeMethods.{AreMethodsOf}
 use Rattle.points_to_items.specs.Items.{CallSite, Item as RuleItem, known}
-use Rattle.points_to_items.specs.MethodNumbers.{NamesNumbers}
+use Rattle.points_to_rules.specs.WholeMethods.{NamesNumbers}
 use Rattle.points_to_items.specs.NodeItems.{IsCallOf}
 use Rattle.points_to_methods.specs.NewCalls.{AddsCalls}
 use Rattle.points_to_tables.specs.declared.item.Item.{Item}
 use Rattle.points_to_tables.specs.declared.item.Item.TheVariants.{Holds, Runs, Calls, Uses}
 use Rattle.points_to_tables.specs.Numbered.{Numbered, Extends}
 use Rattle.points_to.specs.Concluding.{AddsCallsBy, ResolvesIn}
-use Rattle.points_to.specs.Solutions.{IsSupplyOf}
+use Rattle.points_to_rules.specs.Solutions.{IsSupplyOf}
 use Rattle.points_to.proofs.GivenMethods.{GivesOne}
 use Rattle.points_to.proofs.OneSite.{IsGivenCall, of_given}
 

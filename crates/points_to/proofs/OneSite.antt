@@ -14,7 +14,7 @@ use Rattle.slot_laws.proofs.Places.{same_node}
 use Rattle.slot_names.specs.Variables.{AreReachedNodes}
 use Rattle.points_to_rules.specs.Facts.{Holder}
 use Rattle.points_to_rules.specs.Rules.{IsNodeOf, IsSlotAt, node_of}
-use Rattle.points_to_items.specs.ItemRules.{AreMethodsOf}
+use Rattle.points_to_rules.specs.WholeMethods.{AreMethodsOf}
 use Rattle.points_to_items.specs.Items.{Arm, Landing, CallSite}
 use Rattle.points_to_items.specs.NodeItems.{IsArm, IsLanding, IsUnitHolder, AreResults, IsCallSite, IsCallOf}
 use Rattle.points_to_items.proofs.Holders.{same_holder, same_holder_at}

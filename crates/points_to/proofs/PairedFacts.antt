@@ -22,7 +22,7 @@ use Rattle.points_to_tables.specs.declared.item.Item.TheVariants.{Holds, Runs, C
 use Rattle.points_to_tables.specs.Numbered.{Numbered, AreApart}
 use Rattle.points_to_tables.specs.Steps.{IsItemAt}
 use Rattle.points_to.specs.Queues.{weight_of, pairs_among}
-use Rattle.points_to.specs.Solutions.{pair_of, pairs_in}
+use Rattle.points_to_rules.specs.Solutions.{pair_of, pairs_in}
 use Rattle.points_to.proofs.ItemPlaces.{holding, running, calling, zip_back}
 
 -- ---- the facts among items

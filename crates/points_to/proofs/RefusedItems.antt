@@ -11,7 +11,7 @@ use Rattle.points_to_rules.specs.Facts.{may_hold, may_run}
 use Rattle.points_to_items.specs.Items.{User as ItemUser, select, Item as RuleItem, known, used}
 use Rattle.points_to_tables.specs.declared.item.Item.{Item}
 use Rattle.points_to_tables.specs.declared.item.Item.TheVariants.{Holds, Runs, Calls, Uses}
-use Rattle.points_to_tables.specs.declared.keys.PlaceNo.{PlaceNo}
+use Rattle.points_to_rules.specs.declared.place.PlaceNo.{PlaceNo}
 use Rattle.points_to_tables.specs.declared.keys.UserNo.{UserNo}
 use Rattle.points_to_tables.specs.Numbered.{Numbered}
 use Rattle.points_to_tables.specs.Steps.{IsItemAt}

@@ -26,7 +26,8 @@ use Rattle.points_to_rules.specs.Rules.{IsNodeOf, IsSlot, node_of}
 use Rattle.points_to_items.specs.CallItems.{CallItem, SelectItem, GivesUnit}
 use Rattle.points_to_items.specs.CallItems as call_items
 use Rattle.points_to_items.specs.Items.{CallSite, User, pass_to, pass_fitting, read_field, write_field, read_elements, write_elements, throw_at, land_at, select, Item as RuleItem, known, used, facts_of}
-use Rattle.points_to_items.specs.ItemRules.{StartItem, Passed, ItemInstance, of_start, of_node, of_call, of_user, IsMethodOf, AreMethodsOf}
+use Rattle.points_to_items.specs.ItemRules.{StartItem, Passed, ItemInstance, of_start, of_node, of_call, of_user}
+use Rattle.points_to_rules.specs.WholeMethods.{IsMethodOf, AreMethodsOf}
 use Rattle.points_to_items.specs.ItemRules as item_rules
 use Rattle.points_to_items.specs.NodeItems.{NodeItem, FlowItem, OpItem, LoadStaticItem, NewArrayItem, CallNodeItem, TriggerItem, IsUnitHolder, IsCallSite}
 use Rattle.points_to_items.specs.NodeItems as node_items

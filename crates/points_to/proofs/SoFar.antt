@@ -14,7 +14,8 @@ use Rattle.least_sets.proofs.Joined.{IsDerivation-append}
 use Rattle.least_sets.proofs.Places.{place_of, contains_at, in_front, nothing_in}
 use Rattle.points_to_rules.specs.Facts.{may_run}
 use Rattle.points_to_items.specs.Items.{Item as RuleItem, known}
-use Rattle.points_to_items.specs.ItemRules.{StartItem, ItemInstance, of_start, of_node, of_call, of_user, AreMethodsOf}
+use Rattle.points_to_items.specs.ItemRules.{StartItem, ItemInstance, of_start, of_node, of_call, of_user}
+use Rattle.points_to_rules.specs.WholeMethods.{AreMethodsOf}
 use Rattle.points_to_items.proofs.Holders.{zip_place}
 use Rattle.points_to_tables.specs.declared.item.Item.{Item}
 use Rattle.points_to_tables.specs.declared.item.Item.TheVariants.{Runs}
@@ -22,14 +23,14 @@ use Rattle.points_to_tables.specs.Numbered.{Numbered, Grows, AreApart}
 use Rattle.points_to_tables.specs.Steps.{IsItemAt, Adds}
 use Rattle.points_to.specs.declared.refusals.RefusedCall.{RefusedCall}
 use Rattle.points_to.specs.declared.refusals.RefusedMethod.{RefusedMethod}
-use Rattle.points_to.specs.declared.solution.RunningMethod.{RunningMethod}
+use Rattle.points_to_rules.specs.declared.running_method.RunningMethod.{RunningMethod}
 use Rattle.points_to.specs.Closing.{IsLackIn, IsRefusedAmong, HasFirstCall, HasFirstMethod, KnownIn, IsClosed}
 use Rattle.points_to.specs.Concluding.{SitesBy, UsersBy, IsIndex, FollowsFrom, LacksBy, RefusedBy, AddsCallsBy, AddsMethodsBy}
 use Rattle.grouped_lists.specs.Groups.{values_at}
 use Rattle.points_to.specs.Indexed.{SiteGroups, UserGroups, IsIndexed}
 use Rattle.points_to.specs.Passing.{NotesCalls, NotesMethods}
 use Rattle.points_to.specs.Queues.{Takes, pairs_among}
-use Rattle.points_to.specs.Solutions.{AreRunning, IsSupplyOf}
+use Rattle.points_to_rules.specs.Solutions.{AreRunning, IsSupplyOf}
 use Rattle.points_to.specs.Starting.{IsStartCall}
 use Rattle.points_to.proofs.Following.{IsPoppedAt, step_right, step_complete}
 use Rattle.points_to.proofs.GivenMethods.{GivesOne}

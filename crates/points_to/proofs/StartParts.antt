@@ -21,8 +21,8 @@ use Rattle.points_to_tables.specs.declared.item.Item.TheVariants.{Runs, Calls}
 use Rattle.points_to_tables.specs.declared.entries.Arm.{Arm}
 use Rattle.points_to_tables.specs.declared.keys.CallNo.{CallNo}
 use Rattle.points_to_tables.specs.declared.keys.LandingNo.{LandingNo}
-use Rattle.points_to_tables.specs.declared.keys.Place.{Place}
-use Rattle.points_to_tables.specs.declared.keys.PlaceNo.{PlaceNo}
+use Rattle.points_to_rules.specs.declared.place.Place.{Place}
+use Rattle.points_to_rules.specs.declared.place.PlaceNo.{PlaceNo}
 use Rattle.points_to_tables.specs.Numbered.{Numbered, Extends, Grows, IsHolderAt, IsArmAt, IsLandingAt, IsUnitAt, IsCallAt}
 use Rattle.points_to_tables.specs.Steps.{Adds, IsHoldingOf}
 use Rattle.points_to_tables.proofs.Adding.{OfOne, adds_both, adds_only, adds_same}

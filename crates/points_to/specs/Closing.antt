@@ -20,13 +20,13 @@ use Rattle.points_to_tables.specs.Numbered.{Numbered}
 use Rattle.points_to_tables.specs.Steps.{IsItemAt}
 use Rattle.points_to.specs.declared.refusals.RefusedCall.{RefusedCall}
 use Rattle.points_to.specs.declared.refusals.RefusedMethod.{RefusedMethod}
-use Rattle.points_to.specs.declared.solution.RunningMethod.{RunningMethod}
-use Rattle.points_to.specs.declared.solve_failure.SolveFault.{SolveFault}
-use Rattle.points_to.specs.declared.solve_failure.SolveFault.TheVariants.{PairLimit, Refused}
+use Rattle.points_to_rules.specs.declared.running_method.RunningMethod.{RunningMethod}
+use Rattle.points_to_rules.specs.declared.solve_fault.SolveFault.{SolveFault}
+use Rattle.points_to_rules.specs.declared.solve_fault.SolveFault.TheVariants.{PairLimit, Refused}
 use Rattle.points_to.specs.Firsts.{IsFirstCall, IsFirstMethod}
 use Rattle.points_to.specs.Passing.{AreThose}
 use Rattle.points_to.specs.Queues.{pairs_among}
-use Rattle.points_to.specs.Solutions.{AreRunning, pair_of}
+use Rattle.points_to_rules.specs.Solutions.{AreRunning, pair_of}
 
 -- ---- refusals in a set of items
 

@@ -13,14 +13,14 @@ use Rattle.points_to_items.specs.ItemRules.{MethodItem}
 use Rattle.points_to_methods.specs.NewCalls.{AddsCalls}
 use Rattle.points_to_tables.specs.declared.item.Item.{Item}
 use Rattle.points_to_tables.specs.declared.item.Item.TheVariants.{Holds, Runs, Calls, Uses}
-use Rattle.points_to_tables.specs.declared.keys.PlaceNo.{PlaceNo}
+use Rattle.points_to_rules.specs.declared.place.PlaceNo.{PlaceNo}
 use Rattle.points_to_tables.specs.declared.keys.UserNo.{UserNo}
 use Rattle.points_to_tables.specs.Numbered.{Numbered, IsNumbered}
 use Rattle.slot_names.specs.KeptNames.{name_table}
 use Rattle.slot_names.specs.Tables.{AreNames}
 use Rattle.points_to.specs.declared.refusals.RefusedCall.{RefusedCall}
 use Rattle.points_to.specs.declared.refusals.RefusedMethod.{RefusedMethod}
-use Rattle.points_to.specs.declared.solution.RunningMethod.{RunningMethod}
+use Rattle.points_to_rules.specs.declared.running_method.RunningMethod.{RunningMethod}
 use Rattle.points_to.specs.Passing.{IsKnownUser, PassesToSome, PassesSome, LacksForSome, LacksSome}
 
 -- ---- the sites and the users of each place

@@ -15,7 +15,7 @@ use Rattle.points_to_tables.specs.declared.keys.UserNo.{UserNo}
 use Rattle.points_to_tables.specs.Numbered.{Numbered, IsNumbered}
 use Rattle.points_to.specs.declared.refusals.RefusedCall.{RefusedCall}
 use Rattle.points_to.specs.declared.refusals.RefusedMethod.{RefusedMethod}
-use Rattle.points_to.specs.declared.solve_failure.SolveFault.{SolveFault}
+use Rattle.points_to_rules.specs.declared.solve_fault.SolveFault.{SolveFault}
 use Rattle.points_to.specs.Firsts.{IsFirstCall, IsFirstMethod}
 
 -- Memory ran out.

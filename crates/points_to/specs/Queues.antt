@@ -5,8 +5,8 @@ use Rattle.failure.specs.declared.Failure.{Failure}
 use Rattle.failure.specs.declared.Failure.TheVariants.{Cause, OutOfMemory}
 use Rattle.points_to_tables.specs.declared.item.Item.{Item}
 use Rattle.points_to_tables.specs.declared.item.Item.TheVariants.{Holds, Runs, Calls, Uses}
-use Rattle.points_to.specs.declared.solve_failure.SolveFault.{SolveFault}
-use Rattle.points_to.specs.declared.solve_failure.SolveFault.TheVariants.{PairLimit, Refused}
+use Rattle.points_to_rules.specs.declared.solve_fault.SolveFault.{SolveFault}
+use Rattle.points_to_rules.specs.declared.solve_fault.SolveFault.TheVariants.{PairLimit, Refused}
 
 -- 1 for a pair, and 0 for another item.
 abbrev pub weight_of : Item → ℕ

@@ -9,8 +9,8 @@ use Rattle.op_model.specs.Supplies.{IsCodedMethod}
 use Rattle.points_to_rules.specs.Refusals.{IsCodeStart}
 use Rattle.points_to.specs.declared.refusals.RefusedCall.{RefusedCall}
 use Rattle.points_to.specs.declared.refusals.RefusedMethod.{RefusedMethod}
-use Rattle.points_to.specs.declared.solve_failure.SolveFault.{SolveFault}
-use Rattle.points_to.specs.declared.solve_failure.SolveFault.TheVariants.{PairLimit, Refused}
+use Rattle.points_to_rules.specs.declared.solve_fault.SolveFault.{SolveFault}
+use Rattle.points_to_rules.specs.declared.solve_fault.SolveFault.TheVariants.{PairLimit, Refused}
 use Rattle.points_to.specs.Firsts.{LeadsMethod, TrailsMethod}
 
 -- The refusal of a call: in the file of its class, at the file offset of its node.

@@ -13,7 +13,7 @@ use Rattle.points_to_tables.specs.declared.item.Item.{Item}
 use Rattle.points_to_tables.specs.Numbered.{Numbered, AreApart, Grows}
 use Rattle.points_to_tables.specs.Steps.{Adds}
 use Rattle.points_to.specs.declared.closing.Working.{Working}
-use Rattle.points_to.specs.declared.solve_failure.SolveFault.{SolveFault}
+use Rattle.points_to_rules.specs.declared.solve_fault.SolveFault.{SolveFault}
 use Rattle.points_to.specs.Concluding.{AddsCallsBy, AddsMethodsBy, FollowsFrom, LacksBy, RefusedBy}
 use Rattle.points_to.specs.Indexed.{IsIndexed}
 use Rattle.points_to.specs.Passing.{NotesCalls, NotesMethods}

@@ -8,7 +8,7 @@ ghost use Rattle.op_model.specs.Supplies.{IsSameSupply};
 ghost use Rattle.points_to_calls.specs.KeptAnswers.{AreRight};
 ghost use Rattle.points_to_tables.specs.Numbered.{Grows, IsNumbered};
 ghost use Rattle.points_to_tables.specs.Steps.{Adds};
-ghost use Rattle.points_to.specs.Solutions.{IsSupplyOf};
+ghost use Rattle.points_to_rules.specs.Solutions.{IsSupplyOf};
 ghost use Rattle.grouped_lists.specs.Groups.{values_at};
 ghost use Rattle.points_to.specs.Indexed.{IsIndexed};
 ghost use Rattle.points_to.specs.Passing.{IsOutOfMemory, NotesCalls, NotesMethods};
@@ -17,8 +17,7 @@ ghost use Rattle.points_to.specs.Concluding.{AddsCallsBy, AddsGivenCalls, AddsMe
 use crate::found::Found;
 use crate::index::Index;
 use crate::refusals::RefusedMethod;
-use crate::solution::RunningMethod;
-use crate::solve_failure::{SolveFailure, no_room};
+use crate::solve_failure::no_room;
 use class_initialisers::is_coded;
 use failure::Failure;
 use jvm_model::MethodNo;
@@ -26,6 +25,7 @@ use linked_program::program::Program;
 use op_model::Supply;
 use points_to_calls::target_items;
 use points_to_methods::method_items;
+use points_to_rules::{RunningMethod, SolveFailure};
 use points_to_tables::{CallNo, Item};
 use std::alloc::Global;
 

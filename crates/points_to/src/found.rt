@@ -9,10 +9,11 @@ ghost use Rattle.points_to_tables.specs.Steps.{Adds};
 ghost use Rattle.points_to.specs.Passing.{IsKnownUser, IsOutOfMemory, IsPassed, IsLackOf, NotesCalls, NotesReason, PassesToSome, PassesSome, LacksForSome, LacksSome};
 
 use crate::refusals::{Refusals, RefusedCall};
-use crate::solve_failure::{SolveFailure, no_room};
+use crate::solve_failure::no_room;
 use jvm_model::{Reason, SiteNo};
 use linked_program::program::Program;
 use points_to_calls::{Answers, pass};
+use points_to_rules::SolveFailure;
 use points_to_tables::{Item, Tables, User, UserNo};
 use std::alloc::Global;
 

@@ -16,6 +16,5 @@ mod solver;
 mod start;
 
 pub use queue::Queue;
-pub use solution::{RunningMethod, Solution};
-pub use solve_failure::{SolveFailure, SolveFault};
+pub use solution::Solution;
 pub use solver::solve;

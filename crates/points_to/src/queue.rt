@@ -4,9 +4,9 @@ ghost use Rattle.std.specs.Prelude.{◌≡◌, ◌<◌, ◌^◌, [], ◌∷◌, 
 ghost use Rattle.least_sets.specs.Rules.{IsWithoutDoubles};
 ghost use Rattle.points_to.specs.Queues.{Takes, IsQueueEnd, pairs_among, weight_of};
 
-use crate::solve_failure::{SolveFailure, SolveFault};
 use failure::Failure;
 use indexmap::IndexSet;
+use points_to_rules::{SolveFailure, SolveFault};
 use points_to_tables::Item;
 use std::alloc::Global;
 

@@ -6,12 +6,12 @@ ghost use Rattle.points_to.specs.Passing.{IsOutOfMemory};
 ghost use Rattle.points_to.specs.Refusing.{IsCallRefusal, IsNamed, IsOfCoded, refusal_of};
 
 use crate::refusals::{Refusals, RefusedCall, RefusedMethod, leads_method};
-use crate::solve_failure::SolveFailure;
 use failure::Failure;
 use jvm_model::layout::code_place;
 use jvm_model::{Name, Refusal};
 use linked_program::method_body::MethodBody;
 use linked_program::program::Program;
+use points_to_rules::SolveFailure;
 use std::alloc::Global;
 
 /// Before a method's code stand the limits of the stack and of the local variables, and the code's length (JVMS 4.7.3).

@@ -6,17 +6,18 @@ ghost use Rattle.jvm_model.specs.Subtypes.{class_named};
 ghost use Rattle.linked_program.specs.Numbers.{IsMethodNumber};
 ghost use Rattle.op_model.specs.Supplies.{IsSameSupply};
 ghost use Rattle.points_to.specs.Refusing.{IsNamed, IsOfCoded, IsRefusing};
-ghost use Rattle.points_to.specs.Solutions.{IsSolved, IsSolveEnd, IsSupplyOf};
+ghost use Rattle.points_to.specs.Solutions.{IsSolved};
+ghost use Rattle.points_to_rules.specs.Solutions.{IsSolveEnd, IsSupplyOf};
 
 use crate::closing::{Closing, close};
 use crate::refusals::Refusals;
 use crate::refused::first_refusal;
 use crate::solution::Solution;
-use crate::solve_failure::{SolveFailure, SolveFault};
 use failure::Failure;
 use jvm_model::MethodNo;
 use linked_program::program::Program;
 use op_model::Supply;
+use points_to_rules::{SolveFailure, SolveFault};
 use std::alloc::Global;
 
 /// The least sets over what the supplier gives, from an entry method, where no method that may run and no call in one is refused, and there are

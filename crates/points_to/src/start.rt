@@ -9,12 +9,13 @@ ghost use Rattle.points_to.specs.Passing.{IsOutOfMemory};
 ghost use Rattle.points_to.specs.Starting.{ArgumentItem, EntryItem, IsArgument, IsNumberOfStart, IsStartCall};
 
 use crate::initialisers::initialiser_items;
-use crate::solve_failure::{SolveFailure, no_room};
+use crate::solve_failure::no_room;
 use class_index::index_failure::IndexFailure;
 use jvm_model::{MethodNo, Sequence};
 use linked_program::program::Program;
 use op_model::{CallKind, NodeRef};
-use points_to_tables::{CallNo, CallSite, Item, Landing, Place, Tables, add_holding, boot_site};
+use points_to_rules::{Place, SolveFailure};
+use points_to_tables::{CallNo, CallSite, Item, Landing, Tables, add_holding, boot_site};
 use slot_names::Variable;
 use std::alloc::Global;
 

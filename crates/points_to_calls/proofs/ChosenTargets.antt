@@ -11,11 +11,10 @@ use Rattle.jvm_model.specs.declared.site.Site.{Site}
 use Rattle.jvm_model.specs.declared.stub.StubMethod.{StubMethod}
 use Rattle.jvm_model.specs.declared.stub.StubResult.{StubResult}
 use Rattle.jvm_model.specs.declared.stub.StubResult.TheVariants.{Primitive, Void, Null, Given, New, Kept}
-use Rattle.jvm_model.specs.Programs.{Class, Program, Method, described, object_name}
+use Rattle.jvm_model.specs.Programs.{Class, Program, Method, described, object_name, IsUndescribed}
 use Rattle.jvm_model.specs.Soundness.{is_array}
 use Rattle.jvm_model.specs.Subtypes.{class_named, Fits, by_class, by_array, by_itself, by_elements}
 use Rattle.bytecode_machine.specs.Machine.{selecting_class}
-use Rattle.instruction_reasons.specs.Reasons.{IsUndescribed}
 use Rattle.jvm_model.specs.Selection.{Selection, selected, no_code, nothing, several, hidden}
 use Rattle.linked_program.specs.Numbers.{IsMethodNumber}
 use Rattle.op_model.specs.declared.op.CallKind.{CallKind}

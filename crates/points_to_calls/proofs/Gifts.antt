@@ -13,7 +13,7 @@ use Rattle.points_to_items.specs.Items.{CallSite, User as ItemUser, pass_to, pas
 use Rattle.points_to_tables.specs.declared.item.Item.{Item}
 use Rattle.points_to_tables.specs.declared.keys.User.{User}
 use Rattle.points_to_tables.specs.declared.keys.User.TheVariants as users
-use Rattle.points_to_tables.specs.declared.keys.PlaceNo.{PlaceNo}
+use Rattle.points_to_rules.specs.declared.place.PlaceNo.{PlaceNo}
 use Rattle.points_to_tables.specs.declared.keys.ClassNameNo.{ClassNameNo}
 use Rattle.points_to_tables.specs.Numbered.{Numbered, Grows, IsNumbered, IsUserAt}
 use Rattle.points_to_tables.proofs.Growing.{grows_same}

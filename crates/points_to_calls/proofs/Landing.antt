@@ -19,7 +19,7 @@ use Rattle.points_to_items.specs.CallItems.{LandsIn}
 use Rattle.points_to_items.specs.Items.{Arm as ItemArm, Landing as ItemLanding}
 use Rattle.points_to_tables.specs.declared.entries.Arm.{Arm}
 use Rattle.points_to_tables.specs.declared.entries.Landing.{Landing}
-use Rattle.points_to_tables.specs.declared.keys.PlaceNo.{PlaceNo}
+use Rattle.points_to_rules.specs.declared.place.PlaceNo.{PlaceNo}
 use Rattle.points_to_tables.specs.Numbered.{Numbered, IsArmAt, IsLandingAt}
 use Rattle.points_to_calls.specs.Parts.{GoesTo, IsLandingPlace}
 

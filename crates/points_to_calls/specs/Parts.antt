@@ -17,7 +17,7 @@ use Rattle.points_to_rules.specs.Facts.{Holder, variable, kept_objects, returned
 use Rattle.points_to_items.specs.CallItems.{LandsIn, call_allocates, is_passed, GivesUnit}
 use Rattle.points_to_items.specs.Items.{Landing, CallSite, User, pass_to, pass_fitting, land_at, Item as RuleItem, known, used}
 use Rattle.points_to_tables.specs.declared.entries.Arm.{Arm}
-use Rattle.points_to_tables.specs.declared.keys.PlaceNo.{PlaceNo}
+use Rattle.points_to_rules.specs.declared.place.PlaceNo.{PlaceNo}
 use Rattle.points_to_tables.specs.Numbered.{Numbered}
 use Rattle.points_to_calls.specs.declared.gift.Gift.{Gift}
 use Rattle.points_to_calls.specs.declared.gift.Gift.TheVariants as gifts

@@ -19,7 +19,8 @@ use crate::results::result_class;
 use class_index::index_failure::IndexFailure;
 use jvm_model::{Descriptor, SiteKind, SiteNo, StubArgument, StubMethod, StubResult};
 use linked_program::program::Program;
-use points_to_tables::{CallNo, Item, Place, SiteKey, Tables};
+use points_to_rules::Place;
+use points_to_tables::{CallNo, Item, SiteKey, Tables};
 use std::alloc::Global;
 
 /// A described method, its descriptor, and the object that selects it, if that is looked at alone.

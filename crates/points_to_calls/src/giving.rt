@@ -15,7 +15,8 @@ use class_index::index_failure::IndexFailure;
 use jvm_model::MethodNo;
 use linked_program::program::Program;
 use op_model::CallKind;
-use points_to_tables::{CallNo, Item, Place, PlaceNo, Tables, User, add_use};
+use points_to_rules::{Place, PlaceNo};
+use points_to_tables::{CallNo, Item, Tables, User, add_use};
 
 /// Adds that each object of a place goes to a user.
 pub(crate) fn add_use_at(

@@ -10,7 +10,8 @@ ghost use Rattle.points_to_tables.specs.Numbered.{IsNumbered};
 use jvm_model::ClassNo;
 use linked_program::program::Program;
 use op_model::NodeHandler;
-use points_to_tables::{Landing, LandingNo, PlaceNo, Tables};
+use points_to_rules::PlaceNo;
+use points_to_tables::{Landing, LandingNo, Tables};
 use type_fit::fits;
 
 /// Where an exception of a class goes: the place of the first handler that takes it, or else that outside of the method.

@@ -16,7 +16,8 @@ use crate::landings::lands;
 use class_index::index_failure::IndexFailure;
 use jvm_model::SiteNo;
 use linked_program::program::Program;
-use points_to_tables::{ClassNameNo, Item, LandingNo, Place, PlaceNo, Tables, User, add_use};
+use points_to_rules::{Place, PlaceNo};
+use points_to_tables::{ClassNameNo, Item, LandingNo, Tables, User, add_use};
 use type_fit::fits;
 
 /// The class of the objects of a site.

@@ -5,7 +5,8 @@ ghost use Rattle.points_to_calls.specs.Parts.{unit_in};
 ghost use Rattle.points_to_items.specs.Items.{CallSite as ItemCallSite};
 ghost use Rattle.points_to_tables.specs.Numbered.{IsNumbered, IsUnitAt};
 
-use points_to_tables::{CallNo, PlaceNo, Tables};
+use points_to_rules::PlaceNo;
+use points_to_tables::{CallNo, Tables};
 
 /// How many units of arguments a call has.
 pub(crate) fn argument_count(tables: &Tables, call: CallNo) -> usize

@@ -1,9 +1,8 @@
 //! What an object leads to that selects the target of a call.
 
 ghost use Rattle.std.specs.Prelude.{◌≡◌, ◌↔◌, Some, slice_get, IsTrue, IfOk, OnOk};
-ghost use Rattle.instruction_reasons.specs.Reasons.{IsUndescribed};
 ghost use Rattle.jvm_model.specs.declared.site.Site.{Site};
-ghost use Rattle.jvm_model.specs.Programs.{Class, object_name};
+ghost use Rattle.jvm_model.specs.Programs.{Class, object_name, IsUndescribed};
 ghost use Rattle.jvm_model.specs.Subtypes.{class_named};
 ghost use Rattle.linked_program.specs.Numbers.{IsMethodNumber};
 ghost use Rattle.points_to_calls.specs.Giving.{ResolvesIn};
@@ -24,7 +23,8 @@ use jvm_model::{AccessFlag, MethodNo, Reason, SiteNo};
 use linked_program::method_body::MethodBody;
 use linked_program::program::Program;
 use op_model::CallKind;
-use points_to_tables::{CallNo, Item, Place, Tables, add_holding};
+use points_to_rules::Place;
+use points_to_tables::{CallNo, Item, Tables, add_holding};
 use slot_names::Variable;
 use std::alloc::{AllocError, Global};
 

@@ -20,7 +20,8 @@ use jvm_model::MethodNo;
 use linked_program::method_body::MethodBody;
 use linked_program::program::Program;
 use op_model::CallKind;
-use points_to_tables::{CallNo, Item, Place, Tables, User, add_use};
+use points_to_rules::Place;
+use points_to_tables::{CallNo, Item, Tables, User, add_use};
 use slot_names::Variable;
 use std::alloc::Global;
 

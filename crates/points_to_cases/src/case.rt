@@ -6,14 +6,14 @@ ghost use Rattle.linked_program.specs.Numbers.{IsMethodNumber};
 use crate::request::{Amount, LIMIT};
 use crate::sets::{tell_counts, tell_sets};
 use anyhow::{Result, bail};
-use call_graph::Ground;
 use case_files::{CaseFailure, is_refusal, link_case, read_all_stubs, read_files};
 use case_names::{MemberName, Members, Names, members_of, method_of, method_text};
 use failure::Failure;
 use folder_report::{analyse, has_object};
+use ground::Ground;
 use jvm_model::{MethodNo, reason_word};
 use linked_program::program::Program;
-use points_to::{SolveFailure, SolveFault};
+use points_to_rules::{SolveFailure, SolveFault};
 use std::alloc::{AllocError, Global};
 use std::str;
 use ts_outside::Tree;
@@ -121,7 +121,7 @@ fn tell_solved<R: Print>(
     alloc: Global,
     program: &Program,
     members: &Members,
-    ground: &Ground,
+    ground: &Ground<'_>,
     amount: Amount,
 ) -> Result<()> {
     println!(rt; "end solved")?;
@@ -151,7 +151,7 @@ fn tell_end<R: Print>(rt: &R, failure: SolveFailure) -> Result<()> {
 fn tell_ground<R: Print>(
     rt: &R,
     alloc: Global,
-    ground: &Ground,
+    ground: &Ground<'_>,
     names: &Names,
     amount: Amount,
 ) -> Result<()> {

@@ -1,17 +1,24 @@
 //! The sets of a ground as lines of text.
 
+ghost use Rattle.std.specs.Prelude.{◌<◌, length, IfSome};
+
 use anyhow::Result;
-use call_graph::Ground;
 use case_names::{Names, shown, write_site};
+use ground::Ground;
 use jvm_model::{MethodNo, SiteNo};
 use op_model::NodeRef;
-use points_to_tables::{Place, PlaceNo, Tables};
+use points_to_rules::{Place, PlaceNo};
 use slot_names::Variable;
 use std::alloc::{AllocError, Global};
 
 /// Prints the sets: the methods that may run, the targets of calls, the sites of places, and the fields that methods write. The lines of one kind
 /// stand in byte order.
-pub fn tell_sets<R: Print>(rt: &R, alloc: Global, ground: &Ground, names: &Names) -> Result<()> {
+pub fn tell_sets<R: Print>(
+    rt: &R,
+    alloc: Global,
+    ground: &Ground<'_>,
+    names: &Names,
+) -> Result<()> {
     tell_lines(rt, reached_lines(alloc, ground, names)?)?;
     tell_lines(rt, target_lines(alloc, ground, names)?)?;
     tell_lines(rt, pair_lines(alloc, ground, names)?)?;
@@ -28,7 +35,11 @@ fn tell_lines<R: Print>(rt: &R, mut lines: Vec<String>) -> Result<()> {
 }
 
 /// A line for each method that may run.
-fn reached_lines(alloc: Global, ground: &Ground, names: &Names) -> Result<Vec<String>, AllocError> {
+fn reached_lines(
+    alloc: Global,
+    ground: &Ground<'_>,
+    names: &Names,
+) -> Result<Vec<String>, AllocError> {
     let mut lines = Vec::new(alloc);
     for method in ground.running() {
         let name = names.method(*method);
@@ -38,7 +49,11 @@ fn reached_lines(alloc: Global, ground: &Ground, names: &Names) -> Result<Vec<St
 }
 
 /// A line for each field that a method may write.
-fn write_lines(alloc: Global, ground: &Ground, names: &Names) -> Result<Vec<String>, AllocError> {
+fn write_lines(
+    alloc: Global,
+    ground: &Ground<'_>,
+    names: &Names,
+) -> Result<Vec<String>, AllocError> {
     let mut lines = Vec::new(alloc);
     for write in ground.writes() {
         let method = names.method(write.method);
@@ -49,7 +64,7 @@ fn write_lines(alloc: Global, ground: &Ground, names: &Names) -> Result<Vec<Stri
 }
 
 /// Prints how many methods may run, and how many targets, pairs and writes there are.
-pub fn tell_counts<R: Print>(rt: &R, ground: &Ground) -> Result<()> {
+pub fn tell_counts<R: Print>(rt: &R, ground: &Ground<'_>) -> Result<()> {
     let reached = ground.running().len();
     let targets = count_targets(ground);
     let pairs = count_pairs(ground);
@@ -62,61 +77,59 @@ pub fn tell_counts<R: Print>(rt: &R, ground: &Ground) -> Result<()> {
 }
 
 /// How many targets of calls there are.
-fn count_targets(ground: &Ground) -> usize {
+fn count_targets(ground: &Ground<'_>) -> usize {
     let mut count: usize = 0;
     for call in ground.calls() {
-        let at = NodeRef {
-            method: call.method,
-            offset: call.offset,
-        };
-        count = count.saturating_add(ground.targets_of(at).len());
+        count = count.saturating_add(ground.targets_of(*call).len());
     }
     count
 }
 
 /// How many pairs of a place and a site there are.
-fn count_pairs(ground: &Ground) -> usize {
+fn count_pairs(ground: &Ground<'_>) -> usize {
     let mut count: usize = 0;
-    for number in 0..ground.tables().place_count() {
-        count = count.saturating_add(sites_at(ground, number).len());
+    for number in 0..ground.place_count() {
+        count = count.saturating_add(count_sites(ground, number));
     }
     count
 }
 
-/// The sites of the place of a number.
-fn sites_at(ground: &Ground, number: usize) -> &[SiteNo] {
-    match place_at(ground.tables(), number) {
-        Some(place) => ground.sites_at(place),
-        None => &[],
+/// How many sites the place of a number has.
+fn count_sites(ground: &Ground<'_>, number: usize) -> usize {
+    match place_at(ground, number) {
+        Some(place) => ground.sites_at(place).len(),
+        None => 0,
     }
 }
 
 /// The place of a number; `None` for a number that no place has.
-fn place_at(tables: &Tables, number: usize) -> Option<Place> {
-    if number >= tables.place_count() {
+fn place_at(ground: &Ground<'_>, number: usize) -> Option<PlaceNo>
+    ensures { IfSome result (λ place. place.0 < length ground.now.holders) }
+{
+    if number >= ground.place_count() {
         return None;
     }
     match u32::try_from(number) {
-        Ok(number) => Some(tables.place_of(PlaceNo(number))),
+        Ok(number) => Some(PlaceNo(number)),
         Err(_) => None,
     }
 }
 
 /// A line for each target of a call.
-fn target_lines(alloc: Global, ground: &Ground, names: &Names) -> Result<Vec<String>, AllocError> {
+fn target_lines(
+    alloc: Global,
+    ground: &Ground<'_>,
+    names: &Names,
+) -> Result<Vec<String>, AllocError> {
     let mut lines = Vec::new(alloc);
     for call in ground.calls() {
-        let at = NodeRef {
-            method: call.method,
-            offset: call.offset,
-        };
-        let call = call_text(alloc, names, at)?;
+        let text = call_text(alloc, names, *call)?;
         add_targets(
             alloc,
             &mut lines,
             names,
-            call.as_str(),
-            ground.targets_of(at),
+            text.as_str(),
+            ground.targets_of(*call),
         )?;
     }
     Ok(lines)
@@ -150,10 +163,14 @@ fn call_text(alloc: Global, names: &Names, at: NodeRef) -> Result<String, AllocE
 }
 
 /// A line for each pair of a place and a site.
-fn pair_lines(alloc: Global, ground: &Ground, names: &Names) -> Result<Vec<String>, AllocError> {
+fn pair_lines(
+    alloc: Global,
+    ground: &Ground<'_>,
+    names: &Names,
+) -> Result<Vec<String>, AllocError> {
     let mut lines = Vec::new(alloc);
-    for number in 0..ground.tables().place_count() {
-        if let Some(place) = place_at(ground.tables(), number) {
+    for number in 0..ground.place_count() {
+        if let Some(place) = place_at(ground, number) {
             add_pairs(alloc, &mut lines, ground, names, place)?;
         }
     }
@@ -164,14 +181,15 @@ fn pair_lines(alloc: Global, ground: &Ground, names: &Names) -> Result<Vec<Strin
 fn add_pairs(
     alloc: Global,
     lines: &mut Vec<String>,
-    ground: &Ground,
+    ground: &Ground<'_>,
     names: &Names,
-    place: Place,
-) -> Result<(), AllocError> {
-    let tables = ground.tables();
-    let text = place_text(alloc, tables, names, place)?;
+    place: PlaceNo,
+) -> Result<(), AllocError>
+    requires { place.0 < length ground.now.holders }
+{
+    let text = place_text(alloc, ground, names, ground.place(place))?;
     for site in ground.sites_at(place) {
-        let site = site_text(alloc, tables, names, *site)?;
+        let site = site_text(alloc, ground, names, *site)?;
         lines.push(format!(in alloc; "holds {text} : {site}")?)?;
     }
     Ok(())
@@ -180,7 +198,7 @@ fn add_pairs(
 /// A place as a text.
 fn place_text(
     alloc: Global,
-    tables: &Tables,
+    ground: &Ground<'_>,
     names: &Names,
     place: Place,
 ) -> Result<String, AllocError> {
@@ -200,12 +218,12 @@ fn place_text(
             format!(in alloc; "at {method} {offset} {slot}")
         }
         Place::Field(site, field) => {
-            let site = site_text(alloc, tables, names, site)?;
+            let site = site_text(alloc, ground, names, site)?;
             let field = names.field(field);
             format!(in alloc; "field {site} {field}")
         }
         Place::Elements(site) => {
-            let site = site_text(alloc, tables, names, site)?;
+            let site = site_text(alloc, ground, names, site)?;
             format!(in alloc; "elements {site}")
         }
         Place::Static(field) => {
@@ -227,17 +245,17 @@ fn place_text(
 /// A site as a text; `?` for a number that no site has.
 fn site_text(
     alloc: Global,
-    tables: &Tables,
+    ground: &Ground<'_>,
     names: &Names,
     site: SiteNo,
 ) -> Result<String, AllocError> {
     let mut text = String::new(alloc);
-    if site.0 as usize >= tables.site_count() {
+    if site.0 as usize >= ground.site_count() {
         text.push_str("?")?;
         return Ok(text);
     }
-    let key = tables.site_of(site);
-    let class = shown(Some(tables.name_of(key.class)));
-    write_site(&mut text, names, key.kind, key.method, key.offset, class)?;
+    let at = ground.site(site);
+    let class = shown(Some(at.class.as_slice()));
+    write_site(&mut text, names, at.kind, at.method, at.offset, class)?;
     Ok(text)
 }

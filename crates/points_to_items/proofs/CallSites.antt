@@ -14,7 +14,7 @@ use Rattle.least_sets.proofs.Places.{place_of, contains_at, first, later}
 use Rattle.points_to_rules.specs.Facts.{Holder, thrown_by}
 use Rattle.points_to_rules.specs.Rules.{node_of, IsSlot, IsSlotAfter, IsSlotAt, Lands, caught, uncaught}
 use Rattle.points_to_items.specs.CallItems.{LandsIn}
-use Rattle.points_to_items.specs.ItemRules.{IsMethodOf}
+use Rattle.points_to_rules.specs.WholeMethods.{IsMethodOf}
 use Rattle.points_to_items.specs.Items.{Arm, Landing, CallSite}
 use Rattle.points_to_items.specs.NodeItems.{IsArm, IsLanding, IsUnitHolder, AreResults, IsCallSite}
 use Rattle.points_to_items.proofs.Holders.{zip_made, zip_place, same_holder, same_holder_at, holder_of, holder_at}

@@ -12,7 +12,8 @@ use Rattle.least_sets.specs.Rules.{Hold, IsClosedSet, IsDerivable, IsLeast}
 use Rattle.least_sets.proofs.Places.{All-from_contains, first_or_later, first, later, nothing_in}
 use Rattle.points_to_rules.specs.Facts.{Fact, may_run, may_call}
 use Rattle.points_to_rules.specs.Rules.{IsNodeOf, Instance, entry_runs, entry_called, entry_argument, entry_strings, keep, move, enter, handle, load, load_element, load_static, make, make_array, get_constant, cast, store, store_element, store_static, nest, begin_static, call_chosen, call_selected, target_runs, pass, return, receive, keep_argument, give_argument, give_new, give_kept, throw, raise, target_throws, described_throws, initialiser_throws, initialiser_runs, keep_thrown}
-use Rattle.points_to_items.specs.ItemRules.{StartItem, ItemInstance, AreMethodsOf}
+use Rattle.points_to_items.specs.ItemRules.{StartItem, ItemInstance}
+use Rattle.points_to_rules.specs.WholeMethods.{AreMethodsOf}
 use Rattle.points_to_items.specs.Items.{Item, known, used, facts_of}
 use Rattle.points_to_items.proofs.CalledNodes.{IsCallOf, call_comes_from}
 use Rattle.points_to_items.proofs.ClosedCalls.{call_chosen_closed, call_selected_closed, pass_closed, receive_closed, give_new_closed, give_kept_closed, keep_argument_closed, give_argument_closed, target_throws_closed, described_throws_closed, target_runs_closed}

@@ -15,7 +15,8 @@ use Rattle.least_sets.specs.Rules.{IsClosedSet}
 use Rattle.points_to_rules.specs.Facts.{Holder, may_hold, may_run, may_call}
 use Rattle.points_to_rules.specs.Rules.{IsNodeOf, node_of}
 use Rattle.points_to_items.specs.CallItems.{CallItem}
-use Rattle.points_to_items.specs.ItemRules.{StartItem, Passed, ItemInstance, of_start, of_node, of_call, of_user, IsMethodOf, AreMethodsOf}
+use Rattle.points_to_items.specs.ItemRules.{StartItem, Passed, ItemInstance, of_start, of_node, of_call, of_user}
+use Rattle.points_to_rules.specs.WholeMethods.{IsMethodOf, AreMethodsOf}
 use Rattle.points_to_items.specs.Items.{Landing, User, pass_to, Item, known, used}
 use Rattle.points_to_items.specs.NodeItems.{NodeItem, OpItem, operates, IsLanding}
 use Rattle.points_to_items.proofs.CallSites.{HasSite, site_at, is_site_at, landing_of, site_of_call}

@@ -12,7 +12,7 @@ use Rattle.slot_laws.proofs.EachVariable.{each_variable}
 use Rattle.least_sets.proofs.Places.{first as first_there, later}
 use Rattle.points_to_rules.specs.Facts.{Holder, variable}
 use Rattle.points_to_rules.specs.Rules.{IsSlot, IsSlotAfter, IsSlotAt}
-use Rattle.points_to_items.specs.ItemRules.{HasNodeAt}
+use Rattle.points_to_rules.specs.WholeMethods.{HasNodeAt}
 
 -- ---- two lists side by side
 

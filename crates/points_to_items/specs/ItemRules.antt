@@ -7,7 +7,6 @@ use Rattle.jvm_model.specs.Programs.{Program, Method}
 use Rattle.jvm_model.specs.Subtypes.{Fits}
 use Rattle.op_model.specs.declared.lowered.LoweredMethod.{LoweredMethod}
 use Rattle.op_model.specs.declared.node.Node.{Node}
-use Rattle.op_model.specs.declared.node.NodeHandler.{NodeHandler}
 use Rattle.op_model.specs.declared.op.Call.{Call as NodeCall}
 use Rattle.op_model.specs.declared.op.Op.TheVariants.{Call}
 use Rattle.op_model.specs.Supplies.{Given, GivenAs}
@@ -15,7 +14,6 @@ use Rattle.bytecode_machine.specs.Objects.{string_name}
 use Rattle.bytecode_machine.specs.Start.{boot_site}
 use Rattle.node_machine.specs.Nodes.{IsCodedInitialiser}
 use Rattle.slot_names.specs.declared.variable.Variable.TheVariants.{Parameter}
-use Rattle.slot_names.specs.Variables.{AreReachedNodes}
 use Rattle.points_to_rules.specs.Facts.{Holder, variable, field_of, elements_of, kept_objects, thrown_by, may_hold, may_run, may_call}
 use Rattle.points_to_rules.specs.Rules.{IsNodeOf, HasArguments, argument_site, start_call}
 use Rattle.points_to_items.specs.CallItems.{LandsIn, CallItem, SelectItem}
@@ -56,23 +54,6 @@ pub data ItemInstance (p : Program) (gives : GivenAs) (entry : MethodNo) (premis
       → IsNodeOf gives m l n → n.op ≡ Call c → IsCallSite m l n c site → CallItem p site target x → ItemInstance p gives entry premises x
   of_user : (from : Holder) (user : User) (s : Site) → premises ≡ used from user ∷ known (may_hold from s) ∷ [] → Passed p user s x
       → ItemInstance p gives entry premises x
-
--- There is a node at the offset.
-pub record HasNodeAt (l : LoweredMethod) (offset : ℕ) : Type 0 where
-  pub node : Node
-  pub stands : Contains l.nodes node
-  pub at : node.offset ≡ offset
-
--- A method as the solver takes it: it has the number that was asked for, its nodes are all reached, and nodes stand where a node goes on and
--- where a handler begins.
-pub record IsMethodOf (number : ℕ) (l : LoweredMethod) : Type 0 where
-  pub number_is : l.method ≡ record { 0 = number }
-  pub reached : AreReachedNodes l
-  pub successors : (n : Node) (offset : ℕ) → Contains l.nodes n → Contains n.successors offset → HasNodeAt l offset
-  pub handlers : (n : Node) (handler : NodeHandler) → Contains l.nodes n → Contains n.handlers handler → HasNodeAt l handler.target
-
-abbrev pub AreMethodsOf : GivenAs → Type 0
-AreMethodsOf gives = (number : ℕ) (l : LoweredMethod) → gives number (Ok l) → IsMethodOf number l
 
 -- The supplier that gives what a map has.
 abbrev pub by_map : Given → GivenAs

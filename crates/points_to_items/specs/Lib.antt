@@ -2,4 +2,3 @@ pub mod Items
 pub mod NodeItems
 pub mod CallItems
 pub mod ItemRules
-pub mod MethodNumbers

@@ -8,7 +8,8 @@ ghost use Rattle.least_sets.specs.Rules.{IsDerivable, IsLeast};
 ghost use Rattle.points_to_rules.specs.Facts.{Fact};
 ghost use Rattle.points_to_rules.specs.Rules.{Instance};
 ghost use Rattle.points_to_items.specs.Items.{Item, facts_of, known};
-ghost use Rattle.points_to_items.specs.ItemRules.{AreMethodsOf, ItemInstance, by_map};
+ghost use Rattle.points_to_rules.specs.WholeMethods.{AreMethodsOf};
+ghost use Rattle.points_to_items.specs.ItemRules.{ItemInstance, by_map};
 
 /// A fact that is derivable by items is derivable by the rules.
 pub fn derivable_by_items()

@@ -11,7 +11,7 @@ use Rattle.op_model.specs.declared.op.Call.{Call as NodeCall}
 use Rattle.op_model.specs.declared.op.Op.{Op}
 use Rattle.op_model.specs.declared.op.Op.TheVariants.{Assign, Load, Store, LoadElement, StoreElement, LoadStatic, StoreStatic, New, NewArray, Constant, Call, Return, Throw, Cast, Probe}
 use Rattle.points_to_items.specs.Items.{Item as RuleItem}
-use Rattle.points_to_items.specs.MethodNumbers.{IsMethodIn, NamesNumbers}
+use Rattle.points_to_rules.specs.WholeMethods.{IsMethodIn, NamesNumbers}
 use Rattle.points_to_items.specs.NodeItems.{FlowItem, EnterItem, HandleItem, OpItem, RaiseItem, TriggerItem, NodeItem, flows, enters, handles, operates, raises, triggers}
 use Rattle.points_to_methods.specs.NodeCalls.{AddsNode}
 use Rattle.points_to_nodes.specs.Operations.{IsSimple}

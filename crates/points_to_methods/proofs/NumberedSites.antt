@@ -12,12 +12,12 @@ use Rattle.slot_names.proofs.ListPlaces.{contains_at}
 use Rattle.points_to_rules.specs.Facts.{Holder}
 use Rattle.points_to_rules.specs.Rules.{IsSlot, IsSlotAt}
 use Rattle.points_to_items.specs.Items.{CallSite as ItemCallSite}
-use Rattle.points_to_items.specs.ItemRules.{HasNodeAt}
-use Rattle.points_to_items.specs.MethodNumbers.{IsMethodIn}
+use Rattle.points_to_rules.specs.WholeMethods.{HasNodeAt}
+use Rattle.points_to_rules.specs.WholeMethods.{IsMethodIn}
 use Rattle.points_to_items.specs.NodeItems.{AreResults, IsCallSite, IsUnitHolder}
 use Rattle.points_to_tables.specs.declared.entries.CallSite.{CallSite}
 use Rattle.points_to_tables.specs.declared.keys.LandingNo.{LandingNo}
-use Rattle.points_to_tables.specs.declared.keys.PlaceNo.{PlaceNo}
+use Rattle.points_to_rules.specs.declared.place.PlaceNo.{PlaceNo}
 use Rattle.points_to_tables.specs.Numbered.{Extends, Grows, IsCallAt, IsUnitAt, Numbered}
 use Rattle.points_to_tables.proofs.Growing.{grows_on}
 use Rattle.points_to_nodes.specs.Landings.{StandsForLanding}

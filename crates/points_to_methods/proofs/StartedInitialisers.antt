@@ -12,7 +12,7 @@ use Rattle.node_machine.specs.Nodes.{IsCodedInitialiser}
 use Rattle.op_model.specs.declared.lowered.LoweredMethod.{LoweredMethod}
 use Rattle.op_model.specs.declared.node.Node.{Node}
 use Rattle.points_to_items.specs.Items.{Item, Landing, land_at, used}
-use Rattle.points_to_items.specs.MethodNumbers.{IsMethodIn, NamesNumbers}
+use Rattle.points_to_rules.specs.WholeMethods.{IsMethodIn, NamesNumbers}
 use Rattle.points_to_items.specs.NodeItems.{IsLanding, TriggerItem, keeps_thrown, runs, throws}
 use Rattle.points_to_rules.specs.Facts.{thrown_by}
 use Rattle.points_to_rules.specs.Rules.{StartsAt}

@@ -7,7 +7,7 @@ use Rattle.op_model.specs.declared.node.Node.{Node}
 use Rattle.points_to_rules.specs.Facts.{Holder}
 use Rattle.points_to_rules.specs.Rules.{IsSlotAt}
 use Rattle.points_to_items.specs.NodeItems.{IsUnitHolder}
-use Rattle.points_to_tables.specs.declared.keys.PlaceNo.{PlaceNo}
+use Rattle.points_to_rules.specs.declared.place.PlaceNo.{PlaceNo}
 use Rattle.points_to_tables.specs.Numbered.{Grows, IsUnitAt, Numbered}
 
 -- What was numbered stays, no call is numbered, and what is numbered then has the property.

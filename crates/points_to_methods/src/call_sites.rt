@@ -4,7 +4,7 @@ ghost use Rattle.std.specs.Prelude.{◌≡◌, ◌+◌, length, Some, slice_get,
 ghost use Rattle.std.specs.List.{AllZip};
 ghost use Rattle.op_model.specs.declared.node.Node.{Node};
 ghost use Rattle.points_to_items.specs.Items.{CallSite as ItemCallSite};
-ghost use Rattle.points_to_items.specs.ItemRules.{HasNodeAt};
+ghost use Rattle.points_to_rules.specs.WholeMethods.{HasNodeAt};
 ghost use Rattle.points_to_items.specs.NodeItems.{IsCallSite};
 ghost use Rattle.points_to_methods.specs.CallEntries.{GrowsTo, StandsForUnit, StandsForResult, StandForResults};
 ghost use Rattle.points_to_nodes.specs.Known.{HasNode, IsNamed};
@@ -14,7 +14,8 @@ use class_index::index_failure::IndexFailure;
 use jvm_model::Sequence;
 use op_model::{Call, NodeRef};
 use points_to_nodes::{NamedMethod, key_of, landing_of, node_at, slot_place};
-use points_to_tables::{CallNo, CallSite, PlaceNo, Tables};
+use points_to_rules::PlaceNo;
+use points_to_tables::{CallNo, CallSite, Tables};
 use std::alloc::Global;
 
 /// The number of the call of a node, which is a new one.

@@ -2,7 +2,7 @@
 
 ghost use Rattle.std.specs.Prelude.{IfOk, OnOk};
 ghost use Rattle.points_to_items.specs.ItemRules.{MethodItem};
-ghost use Rattle.points_to_items.specs.MethodNumbers.{IsMethodIn};
+ghost use Rattle.points_to_rules.specs.WholeMethods.{IsMethodIn};
 ghost use Rattle.points_to_methods.specs.NewCalls.{AddsCalls};
 ghost use Rattle.points_to_tables.specs.Numbered.{Grows};
 ghost use Rattle.points_to_tables.specs.Steps.{Adds};

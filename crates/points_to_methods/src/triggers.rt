@@ -14,7 +14,8 @@ use class_index::index_failure::IndexFailure;
 use class_initialisers::coded_initialisers;
 use jvm_model::MethodNo;
 use points_to_nodes::{NamedMethod, landing_of};
-use points_to_tables::{Item, LandingNo, Place, Tables, User, add_use};
+use points_to_rules::Place;
+use points_to_tables::{Item, LandingNo, Tables, User, add_use};
 use std::alloc::Global;
 
 /// Adds that the initialisers run that a node may start; what they throw is kept, and is thrown on at the node.

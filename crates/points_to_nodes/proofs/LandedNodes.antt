@@ -8,8 +8,8 @@ use Rattle.op_model.specs.declared.lowered.LoweredMethod.{LoweredMethod}
 use Rattle.op_model.specs.declared.node.Node.{Node}
 use Rattle.op_model.specs.declared.node.NodeHandler.{NodeHandler}
 use Rattle.points_to_items.specs.Items.{Arm as ItemArm, Item, Landing as ItemLanding, used, throw_at}
-use Rattle.points_to_items.specs.ItemRules.{HasNodeAt}
-use Rattle.points_to_items.specs.MethodNumbers.{IsMethodIn}
+use Rattle.points_to_rules.specs.WholeMethods.{HasNodeAt}
+use Rattle.points_to_rules.specs.WholeMethods.{IsMethodIn}
 use Rattle.points_to_items.specs.NodeItems.{IsArm, IsLanding}
 use Rattle.points_to_nodes.specs.Known.{IsNamedMethod}
 use Rattle.points_to_nodes.specs.Landings.{StandsForArm}

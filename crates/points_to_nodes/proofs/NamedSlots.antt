@@ -1,5 +1,5 @@
 -- The slots of a method by its names: at the node of a place a slot has the name that the table has, and no other.
-use Rattle.std.proofs.Common.{◌≡◌, ℕ, zero, suc, ◌<◌, ◌≤◌, List, [], ◌∷◌, length, get_or, Some, refl, sym, ◌∙◌, ap, arith}
+use Rattle.std.proofs.Common.{◌≡◌, ℕ, zero, suc, ◌<◌, List, [], ◌∷◌, length, get_or, Some, refl, sym, ◌∙◌, ap, arith}
 use Rattle.std.specs.List.{slice_get}
 use Rattle.std.proofs.lemmas.Option.{slice_get_read, slice_get_within, same_Some}
 use Rattle.jvm_model.specs.Programs.{Program}
@@ -19,17 +19,6 @@ pub stands_below : {X : Type 0} (xs : List X) (k : ℕ) → k < length xs → (x
 stands_below [] k within = absurd (omega arith)
 stands_below (x ∷ xs) zero within = (x, refl)
 stands_below (x ∷ xs) (suc k) within = stands_below xs k (omega arith)
-
--- a node's place is at most its offset
-pub place_below : (l : LoweredMethod) → AreInOrder l → (k : ℕ) (n : Node) → slice_get l.nodes k ≡ Some n → k ≤ n.offset
-place_below l order zero n at = omega arith
-place_below l order (suc k) n at =
-    let within = slice_get_within l.nodes (suc k) n at in
-    let (m, before) = stands_below l.nodes k (omega (arith, within)) in
-    let less : k < suc k = omega arith in
-    let one = order.ascend k (suc k) m n less before at in
-    let rest = place_below l order k m before in
-    omega (arith, one, rest)
 
 -- the node that is read at a place is the one that stands there
 pub read_node : (nodes list : List Node) (place : ℕ) (n m : Node) → list ≡ nodes → place < length nodes → m ≡ get_or list place m → slice_get nodes place ≡ Some n → m ≡ n

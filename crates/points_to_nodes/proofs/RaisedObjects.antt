@@ -15,7 +15,7 @@ use Rattle.op_model.specs.declared.lowered.LoweredMethod.{LoweredMethod}
 use Rattle.op_model.specs.declared.node.Node.{Node}
 use Rattle.op_model.specs.declared.node.NodeHandler.{NodeHandler}
 use Rattle.points_to_items.specs.Items.{Item, known}
-use Rattle.points_to_items.specs.MethodNumbers.{IsMethodIn, NamesNumbers}
+use Rattle.points_to_rules.specs.WholeMethods.{IsMethodIn, NamesNumbers}
 use Rattle.points_to_items.specs.NodeItems.{RaiseItem}
 use Rattle.points_to_nodes.specs.Known.{IsNamedMethod}
 use Rattle.points_to_nodes.specs.Raises.{RaisesOf}

@@ -3,7 +3,7 @@
 use Rattle.std.specs.Prelude.{ℕ, ◌<◌, length}
 use Rattle.jvm_model.specs.Programs.{Program}
 use Rattle.op_model.specs.declared.lowered.LoweredMethod.{LoweredMethod}
-use Rattle.points_to_items.specs.MethodNumbers.{IsMethodIn}
+use Rattle.points_to_rules.specs.WholeMethods.{IsMethodIn}
 use Rattle.points_to_nodes.specs.declared.named.NamedMethod.{NamedMethod}
 use Rattle.slot_names.specs.KeptNames.{name_table}
 use Rattle.slot_names.specs.Tables.{AreNames, NameTable}

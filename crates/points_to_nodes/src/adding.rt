@@ -10,7 +10,8 @@ ghost use Rattle.points_to_tables.specs.Numbered.{Grows, IsHolderAt, IsNumbered,
 
 use class_index::index_failure::IndexFailure;
 use jvm_model::{FieldNo, MethodNo, SiteNo};
-use points_to_tables::{Item, Place, PlaceNo, Tables, User, add_holding, add_use};
+use points_to_rules::{Place, PlaceNo};
+use points_to_tables::{Item, Tables, User, add_holding, add_use};
 use slot_names::Variable;
 
 /// A place that stands for one thing whatever is numbered: it is not one of the objects of a site.

@@ -3,7 +3,7 @@
 ghost use Rattle.std.specs.Prelude.{◌≡◌, length, Some, slice_get, IfOk, OnOk};
 ghost use Rattle.std.specs.List.{AllZip};
 ghost use Rattle.op_model.specs.declared.node.Node.{Node};
-ghost use Rattle.points_to_items.specs.ItemRules.{HasNodeAt};
+ghost use Rattle.points_to_rules.specs.WholeMethods.{HasNodeAt};
 ghost use Rattle.points_to_nodes.specs.Fixed.{holder_of};
 ghost use Rattle.points_to_nodes.specs.Known.{HasNode, IsNamed};
 ghost use Rattle.points_to_nodes.specs.Landings.{StandsForArm, StandsForLanding};
@@ -16,7 +16,8 @@ use crate::named::{NamedMethod, node_at, slot_place};
 use class_index::index_failure::IndexFailure;
 use jvm_model::Sequence;
 use op_model::NodeHandler;
-use points_to_tables::{Arm, Landing, LandingNo, PlaceNo, Tables};
+use points_to_rules::PlaceNo;
+use points_to_tables::{Arm, Landing, LandingNo, Tables};
 use std::alloc::Global;
 
 /// The number of where the exceptions of a node go.

@@ -14,7 +14,8 @@ use crate::accesses::hold_after;
 use crate::named::NamedMethod;
 use class_index::index_failure::IndexFailure;
 use jvm_model::{Site, SiteNo};
-use points_to_tables::{Item, Place, SiteKey, Tables, add_holding};
+use points_to_rules::Place;
+use points_to_tables::{Item, SiteKey, Tables, add_holding};
 
 /// The number of a site.
 fn number_site(tables: &mut Tables, site: &Site) -> Result<SiteNo, IndexFailure>

@@ -1,17 +1,17 @@
 //! A method whose slots have names, and the names at its nodes. A node is named by its place among those of the method.
 
-ghost use Rattle.std.specs.Prelude.{◌≡◌, ◌+◌, ◌<◌, length, IfOk, IfSome};
+ghost use Rattle.std.specs.Prelude.{◌≡◌, ◌+◌, IfOk, IfSome};
 ghost use Rattle.points_to_nodes.specs.Fixed.{holder_of};
 ghost use Rattle.points_to_nodes.specs.Known.{HasNode, IsNamed, names_at};
 ghost use Rattle.points_to_nodes.specs.Slots.{slot_holder};
-ghost use Rattle.slot_names.specs.NodePlaces.{AreInOrder, IsPlaceOf};
+ghost use Rattle.slot_names.specs.NodePlaces.{IsPlaceOf};
 
 use crate::adding::FixedPlace;
 use class_index::index_failure::{IndexFailure, TooMany};
 use failure::Failure;
 use linked_program::program::Program;
 use op_model::LoweredMethod;
-use slot_names::{Names, place_of};
+use slot_names::{Names, place_number, place_of};
 
 /// A method of a program, and the variables of its slots.
 #[derive(Clone, Copy)]
@@ -19,16 +19,6 @@ pub struct NamedMethod<'a> {
     pub program: &'a Program,
     pub method: &'a LoweredMethod,
     pub names: &'a Names,
-}
-
-/// The place of a node, in 32 bits: no node stands after as many nodes as there are offsets.
-fn place_number(method: &LoweredMethod, node: usize) -> u32
-    requires order { AreInOrder method.now }
-    requires there { node < length method.now.nodes }
-    ensures { result ≡ node }
-{
-    let _offset = method.nodes.as_slice()[node].offset;
-    node as u32
 }
 
 /// The place of what a slot holds at a node.

@@ -10,9 +10,8 @@ use Rattle.jvm_model.specs.declared.reason.Reason.TheVariants.{NoStub, NoImpleme
 use Rattle.jvm_model.specs.declared.reason.Refusal.{Refusal}
 use Rattle.jvm_model.specs.declared.site.Site.{Site}
 use Rattle.jvm_model.specs.Layout.{IsCodePlace}
-use Rattle.jvm_model.specs.Programs.{Program, Class, Method, in_file}
+use Rattle.jvm_model.specs.Programs.{Program, Class, Method, in_file, IsUndescribed}
 use Rattle.jvm_model.specs.Subtypes.{class_named}
-use Rattle.instruction_reasons.specs.Reasons.{IsUndescribed}
 use Rattle.op_model.specs.declared.lowered.LoweredMethod.{LoweredMethod}
 use Rattle.op_model.specs.declared.node.Node.{Node}
 use Rattle.op_model.specs.declared.op.Call.{Call as NodeCall}

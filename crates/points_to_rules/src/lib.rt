@@ -1,6 +1,13 @@
 //! The rules of the points-to analysis over nodes, with the methods that may run, the targets of calls and the fields that methods may write:
-//! which fact follows from which. The solver, the checker of certificates and the theorems stand on these definitions. The crate has
-//! definitions, in specs/, and laws of them; it runs nothing.
+//! which fact follows from which; what is answered, and why there is no answer. The solver, the checker of certificates and the theorems stand on
+//! these definitions. The crate has definitions, in specs/, laws of them, and the types that they speak of; it runs nothing.
 #![tactic(auto)]
 
 pub mod laws;
+mod place;
+mod running_method;
+mod solve_fault;
+
+pub use place::{Place, PlaceNo};
+pub use running_method::RunningMethod;
+pub use solve_fault::{SolveFailure, SolveFault};

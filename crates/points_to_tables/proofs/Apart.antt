@@ -3,11 +3,12 @@ use Rattle.std.proofs.Common.{◌≡◌, Some, refl, sym, ◌∙◌, ap, subst}
 use Rattle.least_sets.specs.Rules.{IsWithoutDoubles}
 use Rattle.jvm_model.specs.declared.site.Site.{Site}
 use Rattle.points_to_rules.specs.Facts.{Holder}
+use Rattle.points_to_rules.specs.Places.{holder_from}
 use Rattle.points_to_tables.specs.declared.keys.SiteKey.{SiteKey}
-use Rattle.points_to_tables.specs.declared.keys.Place.{Place}
-use Rattle.points_to_tables.specs.declared.keys.Place.TheVariants as places
+use Rattle.points_to_rules.specs.declared.place.Place.{Place}
 use Rattle.points_to_tables.specs.Numbered.{Numbered, IsSiteAt, IsHolderAt, AreApart}
-use Rattle.points_to_tables.specs.Kept.{Kept, IsSound, numbered, site_from, holder_from, sites_of}
+use Rattle.points_to_tables.specs.Kept.{Kept, IsSound, numbered, site_from, sites_of}
+use Rattle.points_to_rules.proofs.PlaceHolders.{places_differ}
 use Rattle.points_to_tables.proofs.Standing.{site_stands, holder_stands}
 use Rattle.points_to_tables.proofs.KeptKeys.{apart_at}
 
@@ -20,26 +21,9 @@ one_key n apart a b s first second =
     let class = apart s.class a.class.0 b.class.0 first.class second.class in
     (λ i. record { kind = kind i; method = method i; offset = offset i; class = record { 0 = class i } })
 
--- a holder has one place: places of different kinds stand for holders of different kinds
-one_by_kind : (n : Numbered) → IsWithoutDoubles n.sites → (p q : Place) (h : Holder) → holder_from n.sites p ≡ holder_from n.sites q → IsHolderAt n p h → IsHolderAt n q h → p ≡ q
-one_by_kind n apart (places.Variable v) (places.Variable w) h e first second = cc
-one_by_kind n apart (places.Field a f) (places.Field b g) h e (s, at, first) (t, there, second) =
-    let sites : s ≡ t = cc (first, second) in
-    let fields : f ≡ g = cc (first, second) in
-    let numbers = apart s a.0 b.0 at (there ∙ ap Some (sym sites)) in
-    (λ i. places.Field (record { 0 = numbers i }) (fields i))
-one_by_kind n apart (places.Elements a) (places.Elements b) h e (s, at, first) (t, there, second) =
-    let sites : s ≡ t = cc (first, second) in
-    let numbers = apart s a.0 b.0 at (there ∙ ap Some (sym sites)) in
-    (λ i. places.Elements (record { 0 = numbers i }))
-one_by_kind n apart (places.Static f) (places.Static g) h e first second = cc
-one_by_kind n apart places.Kept places.Kept h e first second = refl
-one_by_kind n apart (places.Returned m) (places.Returned o) h e first second = cc
-one_by_kind n apart (places.Thrown m) (places.Thrown o) h e first second = cc
-one_by_kind _ _ _ _ _ e _ _ = absurd (cc e)
-
+-- a holder has one place
 pub one_place : (n : Numbered) → IsWithoutDoubles n.sites → (p q : Place) (h : Holder) → IsHolderAt n p h → IsHolderAt n q h → p ≡ q
-one_place n apart p q h first second = one_by_kind n apart p q h (holder_stands n p h first ∙ sym (holder_stands n q h second)) first second
+one_place n apart p q h first second = places_differ n.sites apart p q h first second
 
 are_apart : (k : Kept) → IsSound k → IsWithoutDoubles k.classes → AreApart (numbered k)
 unfolding numbered

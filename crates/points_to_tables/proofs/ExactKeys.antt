@@ -1,5 +1,5 @@
 -- `==` on the keys of the tables tells each two apart.
-use Rattle.std.proofs.Common.{◌≡◌, Bool, true, eqb, ◌&&◌, Option, Some, None, refl, ap}
+use Rattle.std.proofs.Common.{◌≡◌, Bool, true, eqb, ◌&&◌, Option, Some, None, refl}
 use Rattle.std.specs.Option.{option_eq}
 use Rattle.std.proofs.lemmas.Bool.{and_parts}
 use Rattle.std.proofs.lemmas.Map.Views.{exact_unsigned_eq}
@@ -7,26 +7,16 @@ use Rattle.jvm_model.specs.declared.number.MethodNo.{MethodNo}
 use Rattle.jvm_model.specs.declared.site.SiteKind.{SiteKind}
 use Rattle.jvm_model.specs.declared.site.SiteKind.TheVariants as kinds
 use Rattle.jvm_model.specs.contracts.site.SiteKindPartialEq.TheImpl as kind_block
-use Rattle.slot_names.specs.declared.variable.Variable.{Variable}
-use Rattle.slot_names.specs.declared.variable.Variable.TheVariants.{Parameter, At}
-use Rattle.slot_names.specs.contracts.variable.VariablePartialEq.TheImpl as variable_block
 use Rattle.points_to_tables.specs.declared.keys.SiteKey.{SiteKey}
-use Rattle.points_to_tables.specs.declared.keys.Place.{Place}
-use Rattle.points_to_tables.specs.declared.keys.Place.TheVariants as places
 use Rattle.points_to_tables.specs.declared.keys.User.{User}
 use Rattle.points_to_tables.specs.declared.keys.User.TheVariants as users
 use Rattle.points_to_tables.specs.contracts.keys.SiteKeyPartialEq.TheImpl as site_block
-use Rattle.points_to_tables.specs.contracts.keys.PlacePartialEq.TheImpl as place_block
 use Rattle.points_to_tables.specs.contracts.keys.UserPartialEq.TheImpl as user_block
 use Rattle.points_to_tables.specs.contracts.keys.SiteKeyEq.TheImpl.Laws as site_laws
-use Rattle.points_to_tables.specs.contracts.keys.PlaceEq.TheImpl.Laws as place_laws
 use Rattle.points_to_tables.specs.contracts.keys.UserEq.TheImpl.Laws as user_laws
 
 abbrev pub same_sites : SiteKey → SiteKey → Bool
 same_sites = (site_block.ghosts).eq
-
-abbrev pub same_places : Place → Place → Bool
-same_places = (place_block.ghosts).eq
 
 abbrev pub same_users : User → User → Bool
 same_users = (user_block.ghosts).eq
@@ -35,9 +25,6 @@ same_users = (user_block.ghosts).eq
 
 pub site_itself : (a : SiteKey) → same_sites a a ≡ true
 site_itself a = (site_laws.laws-law).refl a
-
-pub place_itself : (a : Place) → same_places a a ≡ true
-place_itself a = (place_laws.laws-law).refl a
 
 pub user_itself : (a : User) → same_users a a ≡ true
 user_itself a = (user_laws.laws-law).refl a
@@ -50,21 +37,6 @@ exact_kinds kinds.New kinds.New h = refl
 exact_kinds kinds.Result kinds.Result h = refl
 exact_kinds kinds.Thrown kinds.Thrown h = refl
 exact_kinds _ _ h = cc
-
-exact_variables : (a b : Variable) → (variable_block.ghosts).eq a b ≡ true → a ≡ b
-exact_variables (Parameter a c) (Parameter b d) h =
-    let parts = and_parts (eqb a.0 b.0) (eqb c d) h in
-    let methods = exact_unsigned_eq a.0 b.0 parts.0 in
-    let slots = exact_unsigned_eq c d parts.1 in
-    (λ i. Parameter (record { 0 = methods i }) (slots i))
-exact_variables (At a c e) (At b d f) h =
-    let parts = and_parts (eqb a.0 b.0) (eqb c d && eqb e f) h in
-    let rest = and_parts (eqb c d) (eqb e f) parts.1 in
-    let methods = exact_unsigned_eq a.0 b.0 parts.0 in
-    let offsets = exact_unsigned_eq c d rest.0 in
-    let slots = exact_unsigned_eq e f rest.1 in
-    (λ i. At (record { 0 = methods i }) (offsets i) (slots i))
-exact_variables _ _ h = cc
 
 abbrev same_maybe : Option MethodNo → Option MethodNo → Bool
 same_maybe = option_eq (λ (a b : MethodNo). eqb a.0 b.0)
@@ -84,20 +56,6 @@ exact_sites a b h =
     let offset = exact_unsigned_eq a.offset b.offset third.0 in
     let class = exact_unsigned_eq a.class.0 b.class.0 third.1 in
     (λ i. record { kind = kind i; method = method i; offset = offset i; class = record { 0 = class i } })
-
-pub exact_places : (a b : Place) → same_places a b ≡ true → a ≡ b
-exact_places (places.Variable a) (places.Variable b) h = ap (λ (v : Variable). places.Variable v) (exact_variables a b h)
-exact_places (places.Field a c) (places.Field b d) h =
-    let parts = and_parts (eqb a.0 b.0) (eqb c.0 d.0) h in
-    let sites = exact_unsigned_eq a.0 b.0 parts.0 in
-    let fields = exact_unsigned_eq c.0 d.0 parts.1 in
-    (λ i. places.Field (record { 0 = sites i }) (record { 0 = fields i }))
-exact_places (places.Elements a) (places.Elements b) h = let sites = exact_unsigned_eq a.0 b.0 h in (λ i. places.Elements (record { 0 = sites i }))
-exact_places (places.Static a) (places.Static b) h = let fields = exact_unsigned_eq a.0 b.0 h in (λ i. places.Static (record { 0 = fields i }))
-exact_places places.Kept places.Kept h = refl
-exact_places (places.Returned a) (places.Returned b) h = let methods = exact_unsigned_eq a.0 b.0 h in (λ i. places.Returned (record { 0 = methods i }))
-exact_places (places.Thrown a) (places.Thrown b) h = let methods = exact_unsigned_eq a.0 b.0 h in (λ i. places.Thrown (record { 0 = methods i }))
-exact_places _ _ h = cc
 
 pub exact_users : (a b : User) → same_users a b ≡ true → a ≡ b
 exact_users (users.PassTo a) (users.PassTo b) h = let to = exact_unsigned_eq a.0 b.0 h in (λ i. users.PassTo (record { 0 = to i }))

@@ -12,13 +12,15 @@ use Rattle.jvm_model.specs.declared.site.Site.{Site}
 use Rattle.points_to_rules.specs.Facts.{Holder}
 use Rattle.points_to_items.specs.Items.{User as ItemUser}
 use Rattle.points_to_tables.specs.declared.keys.SiteKey.{SiteKey}
-use Rattle.points_to_tables.specs.declared.keys.Place.{Place}
+use Rattle.points_to_rules.specs.declared.place.Place.{Place}
 use Rattle.points_to_tables.specs.declared.keys.User.{User}
 use Rattle.points_to_tables.specs.Numbered.{Numbered, IsSiteAt, IsHolderAt, IsUserAt, AreApart, AreSingle}
-use Rattle.points_to_tables.specs.Kept.{Kept, StandForEach, IsSound, numbered, site_from, holder_from, landing_from, user_from, sites_of, holders_of, landings_of, calls_of}
+use Rattle.points_to_tables.specs.Kept.{Kept, StandForEach, IsSound, numbered, site_from, landing_from, user_from, sites_of, holders_of, landings_of, calls_of}
+use Rattle.points_to_rules.specs.Places.{holder_from}
 use Rattle.points_to_tables.proofs.AddedKeys.{found, stands_somewhere}
 use Rattle.points_to_tables.proofs.Apart.{one_key, one_place}
-use Rattle.points_to_tables.proofs.ExactKeys.{same_sites, same_places, same_users, site_itself, place_itself, user_itself, exact_sites, exact_places, exact_users}
+use Rattle.points_to_tables.proofs.ExactKeys.{same_sites, same_users, site_itself, user_itself, exact_sites, exact_users}
+use Rattle.points_to_rules.proofs.ExactPlaces.{same_places, place_itself, exact_places}
 use Rattle.points_to_tables.proofs.KeptKeys.{at_number, key_at}
 use Rattle.points_to_tables.proofs.KnownPlaces.{sites_are, holders_are}
 use Rattle.points_to_tables.proofs.OneUser.{one_user_key}

@@ -5,7 +5,8 @@ use Rattle.std.proofs.lemmas.Option.{same_Some, slice_get_within}
 use Rattle.class_index.proofs.ListPlaces.{map_at, at_map}
 use Rattle.least_sets.specs.Rules.{IsWithoutDoubles}
 use Rattle.points_to_tables.specs.Numbered.{Extends, Grows, IsNumbered, IsSiteAt, IsHolderAt, IsLandingAt, IsCallAt, IsUserAt}
-use Rattle.points_to_tables.specs.Kept.{Kept, StandForEach, AreFew, IsSound, numbered, site_from, holder_from, landing_from, call_from, user_from, sites_of, holders_of, landings_of, calls_of}
+use Rattle.points_to_tables.specs.Kept.{Kept, StandForEach, AreFew, IsSound, numbered, site_from, landing_from, call_from, user_from, sites_of, holders_of, landings_of, calls_of}
+use Rattle.points_to_rules.specs.Places.{holder_from}
 use Rattle.points_to_tables.proofs.Standing.{site_stands, holder_stands, landing_stands, call_stands, user_stands}
 use Rattle.points_to_tables.proofs.Growing.{longer_site, longer_holder, longer_landing, longer_call, longer_user, grown_site, grown_holder, grown_landing, grown_call, grown_user}
 use Rattle.points_to_tables.proofs.AddedKeys.{IsAdded, extends_same, pushed_longer}

@@ -1,5 +1,5 @@
 -- The number of a place that is looked up, and how many things are numbered.
-use Rattle.std.proofs.Common.{◌≡◌, ◌≤◌, ◌<◌, ◌+◌, ℕ, zero, suc, true, false, Bool, cond, not, List, [], ◌∷◌, Some, None, length, get_or, refl, sym, ap, ◌∙◌, subst, arith}
+use Rattle.std.proofs.Common.{◌≡◌, ◌≤◌, ◌<◌, ◌+◌, ℕ, zero, suc, true, false, Bool, cond, not, List, [], ◌∷◌, map, Some, None, length, get_or, refl, sym, ap, ◌∙◌, subst, arith}
 use Rattle.std.specs.List.{slice_get, Contains, position, position_or_len}
 use Rattle.std.proofs.lemmas.Bool.{ltb-false}
 use Rattle.std.proofs.lemmas.List.{length-map}
@@ -7,11 +7,12 @@ use Rattle.std.proofs.lemmas.List.Quantifiers.{position-Some}
 use Rattle.std.proofs.lemmas.Option.{slice_get-get_or, slice_get_within, none-some, same_Some}
 use Rattle.least_sets.proofs.Places.{place_of}
 use Rattle.points_to_rules.specs.Facts.{Holder}
-use Rattle.points_to_tables.specs.declared.keys.Place.{Place}
+use Rattle.points_to_rules.specs.declared.place.Place.{Place}
 use Rattle.points_to_tables.specs.Numbered.{Numbered, IsHolderAt, AreApart}
-use Rattle.points_to_tables.specs.Kept.{Kept, IsSound, numbered, site_from, sites_of, holder_from}
+use Rattle.points_to_tables.specs.Kept.{Kept, IsSound, numbered, site_from, sites_of}
+use Rattle.points_to_rules.specs.Places.{holder_from}
 use Rattle.points_to_tables.proofs.Apart.{one_place}
-use Rattle.points_to_tables.proofs.ExactKeys.{same_places, exact_places, place_itself}
+use Rattle.points_to_rules.proofs.ExactPlaces.{same_places, exact_places, place_itself}
 use Rattle.points_to_tables.proofs.KeptKeys.{at_number, key_at}
 use Rattle.points_to_tables.proofs.Standing.{holder_stands}
 
@@ -76,3 +77,15 @@ module _ (k : Kept) (n : Numbered) (is : numbered k ≡ n) (sound : IsSound k) w
   pub holders_are : length k.places ≡ length n.holders
   unfolding numbered
   holders_are = sym (length-map k.places (holder_from (sites_of k))) ∙ ap (λ (o : Numbered). length o.holders) is
+
+-- ---- the places themselves
+
+pub holders_kept : (k : Kept) (n : Numbered) → numbered k ≡ n → map (holder_from n.sites) k.places ≡ n.holders
+unfolding numbered
+holders_kept k n is = subst (λ (o : Numbered). map (holder_from o.sites) k.places ≡ o.holders) is refl
+
+pub places_stand : (k : Kept) (n : Numbered) → numbered k ≡ n → IsSound k → (number : ℕ) (place : Place) → slice_get k.places number ≡ Some place
+    → (h : Holder) × IsHolderAt n place h
+places_stand k n is sound number place at =
+    let (h, stands) = sound.places number place at in
+    (h, subst (λ (o : Numbered). IsHolderAt o place h) is stands)

@@ -8,7 +8,7 @@ use Rattle.points_to_items.specs.Items.{User as ItemUser, Item as RuleItem, know
 use Rattle.points_to_tables.specs.declared.item.Item.{Item}
 use Rattle.points_to_tables.specs.Numbered.{Numbered, Grows, IsHolderAt, IsUserAt}
 use Rattle.points_to_tables.specs.Steps.{IsItemAt, Adds, Makes, IsUseOf, IsHoldingOf}
-use Rattle.points_to_tables.specs.declared.keys.Place.{Place}
+use Rattle.points_to_rules.specs.declared.place.Place.{Place}
 use Rattle.points_to_tables.specs.declared.keys.User.{User}
 use Rattle.points_to_tables.proofs.AddedItems.{adds_used, adds_held}
 use Rattle.points_to_tables.proofs.Adding.{adds_none, adds_only, adds_same, adds_both, OfOne, adds_start, adds_next, adds_all, OfOneBelow, adds_below_start, adds_below_next}

@@ -10,12 +10,13 @@ use Rattle.points_to_items.specs.Items.{Landing as ItemLanding, CallSite as Item
 use Rattle.points_to_tables.specs.declared.entries.Landing.{Landing}
 use Rattle.points_to_tables.specs.declared.entries.CallSite.{CallSite}
 use Rattle.points_to_tables.specs.declared.keys.SiteKey.{SiteKey}
-use Rattle.points_to_tables.specs.declared.keys.Place.{Place}
+use Rattle.points_to_rules.specs.declared.place.Place.{Place}
 use Rattle.points_to_tables.specs.declared.keys.User.{User}
 use Rattle.points_to_tables.specs.Numbered.{Numbered, Extends, Grows, IsNumbered, IsSiteAt, IsHolderAt, IsLandingAt, IsCallAt, IsUserAt}
 use Rattle.points_to_tables.specs.Kept.{Kept, IsSound, numbered, call_from, holders_of, landings_of}
 use Rattle.points_to_tables.proofs.AddedKeys.{inserted}
-use Rattle.points_to_tables.proofs.ExactKeys.{same_sites, same_places, same_users, site_itself, place_itself, user_itself, exact_sites, exact_places, exact_users}
+use Rattle.points_to_tables.proofs.ExactKeys.{same_sites, same_users, site_itself, user_itself, exact_sites, exact_users}
+use Rattle.points_to_rules.proofs.ExactPlaces.{same_places, place_itself, exact_places}
 use Rattle.points_to_tables.proofs.KeptKeys.{more_grows}
 use Rattle.points_to_tables.proofs.Taking.{IsTaken, taken_at, has_site, classes_more, site_taken, holder_taken, landing_taken, call_taken, user_taken}
 

@@ -3,19 +3,20 @@ use Rattle.std.proofs.Common.{◌≡◌, ℕ, List, [], ◌∷◌, map, Option, 
 use Rattle.std.specs.List.{slice_get, slice_index_or, AllZip}
 use Rattle.std.proofs.lemmas.Option.{get_or_from_slice_get}
 use Rattle.jvm_model.specs.declared.site.Site.{Site}
-use Rattle.points_to_rules.specs.Facts.{Holder, field_of, elements_of, kept_objects}
+use Rattle.points_to_rules.specs.Facts.{Holder, kept_objects}
+use Rattle.points_to_rules.specs.Places.{holder_from}
+use Rattle.points_to_rules.proofs.PlaceHolders.{place_stands}
 use Rattle.points_to_items.specs.Items.{Arm as ItemArm, Landing as ItemLanding, CallSite as ItemCallSite, User as ItemUser, pass_to, pass_fitting, read_field, write_field, read_elements, write_elements, throw_at, land_at, select}
 use Rattle.points_to_tables.specs.declared.entries.Arm.{Arm}
 use Rattle.points_to_tables.specs.declared.entries.Landing.{Landing}
 use Rattle.points_to_tables.specs.declared.entries.CallSite.{CallSite}
-use Rattle.points_to_tables.specs.declared.keys.PlaceNo.{PlaceNo}
+use Rattle.points_to_rules.specs.declared.place.PlaceNo.{PlaceNo}
 use Rattle.points_to_tables.specs.declared.keys.SiteKey.{SiteKey}
-use Rattle.points_to_tables.specs.declared.keys.Place.{Place}
-use Rattle.points_to_tables.specs.declared.keys.Place.TheVariants as places
+use Rattle.points_to_rules.specs.declared.place.Place.{Place}
 use Rattle.points_to_tables.specs.declared.keys.User.{User}
 use Rattle.points_to_tables.specs.declared.keys.User.TheVariants as users
 use Rattle.points_to_tables.specs.Numbered.{Numbered, IsSiteAt, IsHolderAt, IsArmAt, IsLandingAt, IsUnitAt, IsCallAt, IsUserAt}
-use Rattle.points_to_tables.specs.Kept.{any_site, any_landing, any_call, holder_at, site_from, holder_from, arm_from, landing_from, unit_from, call_from, user_from}
+use Rattle.points_to_tables.specs.Kept.{any_landing, any_call, holder_at, site_from, arm_from, landing_from, unit_from, call_from, user_from}
 
 -- things that stand for keys, one by one, are the things that each is turned into
 zip_map : {K X : Type 0} (R : K → X → Type 0) (f : K → X) → ((key : K) (x : X) → R key x → f key ≡ x) → (keys : List K) (xs : List X) → AllZip R keys xs → map f keys ≡ xs
@@ -32,9 +33,6 @@ module _ (n : Numbered) where
       let class = get_or_from_slice_get n.classes key.class.0 s.class [] is.class in
       (λ i. record { kind = sym is.kind i; method = sym is.method i; offset = sym is.offset i; class = class i })
 
-  site_at : (number : ℕ) (s : Site) → slice_get n.sites number ≡ Some s → slice_index_or n.sites number any_site ≡ s
-  site_at number s e = get_or_from_slice_get n.sites number s any_site e
-
   holder_stands_at : (place : PlaceNo) (h : Holder) → slice_get n.holders place.0 ≡ Some h → holder_at n.holders place ≡ h
   holder_stands_at place h e = get_or_from_slice_get n.holders place.0 h kept_objects e
 
@@ -42,13 +40,7 @@ module _ (n : Numbered) where
   landing_at number l e = get_or_from_slice_get n.landings number l any_landing e
 
   pub holder_stands : (place : Place) (h : Holder) → IsHolderAt n place h → holder_from n.sites place ≡ h
-  holder_stands (places.Variable v) h is = sym is
-  holder_stands (places.Field site field) h (s, at, is) = ap (λ (t : Site). field_of t field) (site_at site.0 s at) ∙ sym is
-  holder_stands (places.Elements site) h (s, at, is) = ap elements_of (site_at site.0 s at) ∙ sym is
-  holder_stands (places.Static field) h is = sym is
-  holder_stands places.Kept h is = sym is
-  holder_stands (places.Returned method) h is = sym is
-  holder_stands (places.Thrown method) h is = sym is
+  holder_stands place h is = place_stands n.sites place h is
 
   arm_stands : (entry : Arm) (a : ItemArm) → IsArmAt n entry a → arm_from n.holders entry ≡ a
   arm_stands entry a is = let to = holder_stands_at entry.to a.to is.to in (λ i. record { handler = sym is.handler i; to = to i })

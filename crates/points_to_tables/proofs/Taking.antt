@@ -8,10 +8,11 @@ use Rattle.points_to_items.specs.Items.{Landing as ItemLanding, CallSite as Item
 use Rattle.points_to_tables.specs.declared.entries.Landing.{Landing}
 use Rattle.points_to_tables.specs.declared.entries.CallSite.{CallSite}
 use Rattle.points_to_tables.specs.declared.keys.SiteKey.{SiteKey}
-use Rattle.points_to_tables.specs.declared.keys.Place.{Place}
+use Rattle.points_to_rules.specs.declared.place.Place.{Place}
 use Rattle.points_to_tables.specs.declared.keys.User.{User}
 use Rattle.points_to_tables.specs.Numbered.{Numbered, Extends, Grows, IsNumbered, IsSiteAt, IsHolderAt, IsLandingAt, IsCallAt, IsUserAt}
-use Rattle.points_to_tables.specs.Kept.{Kept, AreFew, IsSound, numbered, site_from, holder_from, landing_from, call_from, user_from, sites_of, holders_of, landings_of, calls_of}
+use Rattle.points_to_tables.specs.Kept.{Kept, AreFew, IsSound, numbered, site_from, landing_from, call_from, user_from, sites_of, holders_of, landings_of, calls_of}
+use Rattle.points_to_rules.specs.Places.{holder_from}
 use Rattle.points_to_tables.proofs.Standing.{site_stands, holder_stands, landing_stands, call_stands, user_stands}
 use Rattle.points_to_tables.proofs.Growing.{grown_site, grown_holder, grown_landing, grown_call, grown_user}
 use Rattle.points_to_tables.proofs.AddedKeys.{IsAdded, extends_same}

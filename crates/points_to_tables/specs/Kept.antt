@@ -2,18 +2,17 @@
 -- What the tables keep, and what it stands for: each number in a key or an entry is looked up.
 use Rattle.std.specs.Prelude.{◌≡◌, ◌<◌, ◌^◌, ℕ, List, [], length, map, Option, Some, None, slice_get, slice_index_or}
 use Rattle.jvm_model.specs.declared.site.Site.{Site}
-use Rattle.jvm_model.specs.declared.site.SiteKind.TheVariants.{Boot}
 use Rattle.op_model.specs.declared.op.CallKind.TheVariants.{Static}
 use Rattle.least_sets.specs.Rules.{IsWithoutDoubles}
-use Rattle.points_to_rules.specs.Facts.{Holder, variable, field_of, elements_of, static_field, kept_objects, returned_by, thrown_by}
+use Rattle.points_to_rules.specs.Facts.{Holder, kept_objects}
+use Rattle.points_to_rules.specs.Places.{any_site, holder_from}
 use Rattle.points_to_items.specs.Items.{Arm as ItemArm, Landing as ItemLanding, CallSite as ItemCallSite, User as ItemUser, pass_to, pass_fitting, read_field, write_field, read_elements, write_elements, throw_at, land_at, select}
 use Rattle.points_to_tables.specs.declared.entries.Arm.{Arm}
 use Rattle.points_to_tables.specs.declared.entries.Landing.{Landing}
 use Rattle.points_to_tables.specs.declared.entries.CallSite.{CallSite}
-use Rattle.points_to_tables.specs.declared.keys.PlaceNo.{PlaceNo}
+use Rattle.points_to_rules.specs.declared.place.PlaceNo.{PlaceNo}
 use Rattle.points_to_tables.specs.declared.keys.SiteKey.{SiteKey}
-use Rattle.points_to_tables.specs.declared.keys.Place.{Place}
-use Rattle.points_to_tables.specs.declared.keys.Place.TheVariants as places
+use Rattle.points_to_rules.specs.declared.place.Place.{Place}
 use Rattle.points_to_tables.specs.declared.keys.User.{User}
 use Rattle.points_to_tables.specs.declared.keys.User.TheVariants as users
 use Rattle.points_to_tables.specs.declared.tables.Tables.TheInside.{Inside}
@@ -33,9 +32,6 @@ kept t = record { classes = t.classes; sites = t.sites.keys; places = t.places.k
 
 -- ---- what stands for a number, or any one thing where nothing does
 
-abbrev pub any_site : Site
-any_site = record { kind = Boot; method = None; offset = 0; class = [] }
-
 abbrev pub any_landing : ItemLanding
 any_landing = record { arms = []; outside = kept_objects }
 
@@ -49,15 +45,6 @@ holder_at holders place = slice_index_or holders place.0 kept_objects
 
 abbrev pub site_from : List (List ℕ) → SiteKey → Site
 site_from classes key = record { kind = key.kind; method = key.method; offset = key.offset; class = slice_index_or classes key.class.0 [] }
-
-abbrev pub holder_from : List Site → Place → Holder
-holder_from sites (places.Variable v) = variable v
-holder_from sites (places.Field site field) = field_of (slice_index_or sites site.0 any_site) field
-holder_from sites (places.Elements site) = elements_of (slice_index_or sites site.0 any_site)
-holder_from sites (places.Static field) = static_field field
-holder_from sites places.Kept = kept_objects
-holder_from sites (places.Returned method) = returned_by method
-holder_from sites (places.Thrown method) = thrown_by method
 
 abbrev pub arm_from : List Holder → Arm → ItemArm
 arm_from holders arm = record { handler = arm.handler; to = holder_at holders arm.to }

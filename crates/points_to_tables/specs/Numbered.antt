@@ -4,15 +4,15 @@ use Rattle.std.specs.Prelude.{◌≡◌, ℕ, List, [], Option, Some, None, slic
 use Rattle.std.specs.List.{AllZip}
 use Rattle.jvm_model.specs.declared.site.Site.{Site}
 use Rattle.least_sets.specs.Rules.{IsWithoutDoubles}
-use Rattle.points_to_rules.specs.Facts.{Holder, variable, field_of, elements_of, static_field, kept_objects, returned_by, thrown_by}
+use Rattle.points_to_rules.specs.Facts.{Holder}
+use Rattle.points_to_rules.specs.Places.{IsHolderIn}
 use Rattle.points_to_items.specs.Items.{Arm as ItemArm, Landing as ItemLanding, CallSite as ItemCallSite, User as ItemUser, pass_to, pass_fitting, read_field, write_field, read_elements, write_elements, throw_at, land_at, select}
 use Rattle.points_to_tables.specs.declared.entries.Arm.{Arm}
 use Rattle.points_to_tables.specs.declared.entries.Landing.{Landing}
 use Rattle.points_to_tables.specs.declared.entries.CallSite.{CallSite}
-use Rattle.points_to_tables.specs.declared.keys.PlaceNo.{PlaceNo}
+use Rattle.points_to_rules.specs.declared.place.PlaceNo.{PlaceNo}
 use Rattle.points_to_tables.specs.declared.keys.SiteKey.{SiteKey}
-use Rattle.points_to_tables.specs.declared.keys.Place.{Place}
-use Rattle.points_to_tables.specs.declared.keys.Place.TheVariants as places
+use Rattle.points_to_rules.specs.declared.place.Place.{Place}
 use Rattle.points_to_tables.specs.declared.keys.User.{User}
 use Rattle.points_to_tables.specs.declared.keys.User.TheVariants as users
 
@@ -46,13 +46,7 @@ pub record IsSiteAt (n : Numbered) (key : SiteKey) (s : Site) : Type 0 where
   pub offset : s.offset ≡ key.offset
 
 abbrev pub IsHolderAt : Numbered → Place → Holder → Type 0
-IsHolderAt n (places.Variable v) h = h ≡ variable v
-IsHolderAt n (places.Field site field) h = (s : Site) × (slice_get n.sites site.0 ≡ Some s) × (h ≡ field_of s field)
-IsHolderAt n (places.Elements site) h = (s : Site) × (slice_get n.sites site.0 ≡ Some s) × (h ≡ elements_of s)
-IsHolderAt n (places.Static field) h = h ≡ static_field field
-IsHolderAt n places.Kept h = h ≡ kept_objects
-IsHolderAt n (places.Returned method) h = h ≡ returned_by method
-IsHolderAt n (places.Thrown method) h = h ≡ thrown_by method
+IsHolderAt n place h = IsHolderIn n.sites place h
 
 -- The thing is numbered: something stands for it.
 abbrev pub IsNumbered : {X : Type 0} → List X → ℕ → Type 0

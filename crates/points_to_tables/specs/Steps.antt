@@ -6,7 +6,7 @@ use Rattle.points_to_rules.specs.Facts.{Holder, may_hold, may_run, may_call}
 use Rattle.points_to_items.specs.Items.{CallSite, User as ItemUser, Item as RuleItem, known, used}
 use Rattle.points_to_tables.specs.declared.item.Item.{Item}
 use Rattle.points_to_tables.specs.declared.item.Item.TheVariants.{Holds, Runs, Calls, Uses}
-use Rattle.points_to_tables.specs.declared.keys.Place.{Place}
+use Rattle.points_to_rules.specs.declared.place.Place.{Place}
 use Rattle.points_to_tables.specs.declared.keys.User.{User}
 use Rattle.points_to_tables.specs.Numbered.{Numbered, Grows, IsHolderAt, IsUserAt}
 

@@ -1,8 +1,9 @@
 //! The entries of what is numbered and has lists of its own: landings and calls.
 
-use crate::keys::{LandingNo, PlaceNo};
+use crate::keys::LandingNo;
 use jvm_model::{MethodNo, Sequence};
 use op_model::{CallKind, NodeHandler, NodeRef};
+use points_to_rules::PlaceNo;
 
 /// A handler, and the place of what it takes.
 #[derive(Clone, Copy, Debug, PartialEq, Eq)]

@@ -1,7 +1,8 @@
 //! The items that the solver takes in, by numbers.
 
-use crate::keys::{CallNo, PlaceNo, UserNo};
+use crate::keys::{CallNo, UserNo};
 use jvm_model::{MethodNo, SiteNo};
+use points_to_rules::PlaceNo;
 
 /// What the solver takes in, each once.
 #[derive(Clone, Copy, Debug, PartialEq, Eq, Hash)]

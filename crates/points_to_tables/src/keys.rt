@@ -1,15 +1,11 @@
 //! The keys of what the solver numbers. A key names other things by their numbers, so that it is small and is copied.
 
-use jvm_model::{FieldNo, MethodNo, SiteKind, SiteNo};
-use slot_names::Variable;
+use jvm_model::{FieldNo, MethodNo, SiteKind};
+use points_to_rules::PlaceNo;
 
 /// The number of the name of a class or of an array.
 #[derive(Clone, Copy, Debug, PartialEq, Eq, Hash)]
 pub struct ClassNameNo(pub u32);
-
-/// The number of a place.
-#[derive(Clone, Copy, Debug, PartialEq, Eq, Hash)]
-pub struct PlaceNo(pub u32);
 
 /// The number of a landing: of where the exceptions of a node go.
 #[derive(Clone, Copy, Debug, PartialEq, Eq, Hash)]
@@ -30,19 +26,6 @@ pub struct SiteKey {
     pub method: Option<MethodNo>,
     pub offset: u32,
     pub class: ClassNameNo,
-}
-
-/// What may refer to objects: a variable; a field, or the elements, of the objects of a site; a static field; what the library keeps; what a
-/// method returns, and what it throws.
-#[derive(Clone, Copy, Debug, PartialEq, Eq, Hash)]
-pub enum Place {
-    Variable(Variable),
-    Field(SiteNo, FieldNo),
-    Elements(SiteNo),
-    Static(FieldNo),
-    Kept,
-    Returned(MethodNo),
-    Thrown(MethodNo),
 }
 
 /// What is done with each object of a place.

@@ -10,6 +10,6 @@ mod tables;
 
 pub use entries::{Arm, CallSite, Landing};
 pub use item::Item;
-pub use keys::{CallNo, ClassNameNo, LandingNo, Place, PlaceNo, SiteKey, User, UserNo};
+pub use keys::{CallNo, ClassNameNo, LandingNo, SiteKey, User, UserNo};
 pub use steps::{add_holding, add_use, boot_site};
 pub use tables::Tables;

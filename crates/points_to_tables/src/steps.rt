@@ -9,10 +9,11 @@ ghost use Rattle.points_to_tables.specs.Numbered.{Grows, IsNumbered, IsHolderAt,
 ghost use Rattle.points_to_tables.specs.Steps.{Adds, IsUseOf, IsHoldingOf};
 
 use crate::item::Item;
-use crate::keys::{Place, SiteKey, User};
+use crate::keys::{SiteKey, User};
 use crate::tables::Tables;
 use class_index::index_failure::IndexFailure;
 use jvm_model::{SiteKind, SiteNo};
+use points_to_rules::Place;
 
 /// Adds that each object of a place goes to a user.
 pub fn add_use(

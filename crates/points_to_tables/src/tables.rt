@@ -1,23 +1,27 @@
 //! The tables of what is numbered.
 
-ghost use Rattle.std.specs.Prelude.{◌≡◌, ◌↔◌, ◌+◌, ◌<◌, ◌^◌, true, false, length, Some, Err, slice_get, Contains, IfNone, IfOk, IfSome, OnOk, OnErr};
+ghost use Rattle.std.specs.Prelude.{◌≡◌, ◌↔◌, ◌+◌, ◌<◌, ◌^◌, ℕ, true, false, length, map, Some, Err, slice_get, Contains, IfNone, IfOk, IfSome, OnOk, OnErr};
 ghost use Rattle.std.specs.List.{list_any};
 ghost use Rattle.failure.specs.declared.Failure.TheVariants.{Cause};
 ghost use Rattle.class_index.specs.FirstPlaces.{StandsNowhere};
 ghost use Rattle.class_index.specs.Limits.{AreTooMany, too_many};
 ghost use Rattle.indexmap.specs.IndexSet.{insert_key};
 ghost use Rattle.jvm_model.specs.declared.site.Site.{Site};
+ghost use Rattle.least_sets.specs.Rules.{IsWithoutDoubles};
+ghost use Rattle.points_to_rules.specs.declared.place.Place.{Place as PlaceKey};
 ghost use Rattle.points_to_rules.specs.Facts.{Holder};
+ghost use Rattle.points_to_rules.specs.Places.{IsHolderIn, holder_from};
 ghost use Rattle.points_to_items.specs.Items.{Landing as ItemLanding, CallSite as ItemCallSite, User as ItemUser};
 ghost use Rattle.points_to_tables.specs.Numbered.{Grows, IsNumbered, IsSiteAt, IsHolderAt, IsUserAt, IsLandingAt, IsCallAt, AreApart, AreSingle, none_numbered};
 
 use crate::entries::{CallSite, Landing};
-use crate::keys::{CallNo, ClassNameNo, LandingNo, Place, PlaceNo, SiteKey, User, UserNo};
+use crate::keys::{CallNo, ClassNameNo, LandingNo, SiteKey, User, UserNo};
 use class_index::index_failure::{IndexFailure, TooMany};
 use class_index::text_index::{TextIndex, next_number};
 use failure::Failure;
 use indexmap::IndexSet;
 use jvm_model::SiteNo;
+use points_to_rules::{Place, PlaceNo};
 use std::alloc::Global;
 use std::hash::Hash;
 use std::marker::Model;
@@ -213,6 +217,16 @@ impl Tables {
         ensures { result ≡ length self.now.holders }
     {
         self.places.len()
+    }
+
+    /// The places, in the order of their numbers. All else is let go.
+    pub fn into_places(self) -> IndexSet<Place>
+        ensures holders { map (holder_from self.sites) result.keys ≡ self.holders }
+        ensures stand { (number : ℕ) (place : PlaceKey) → slice_get result.keys number ≡ Some place → (h : Holder) × IsHolderIn self.sites place h }
+        ensures apart { IsWithoutDoubles result.keys }
+        ensures few { length result.keys < 2 ^ 32 }
+    {
+        self.places
     }
 
     /// Names, sites and places are numbered once. It does nothing.

@@ -1,2 +1,5 @@
-pub mod Reaching
 pub mod StageOne
+pub mod Pruning
+pub mod Reaching
+pub mod Marks
+pub mod Places

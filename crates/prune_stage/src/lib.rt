@@ -1,8 +1,13 @@
-//! The first stage: which states the automaton of a property can reach by the events that occur, in whatever order and
-//! however often each. A site is safe where the error state is not among them. The stage looks at no code: which events
-//! occur is what its callers say (Fink et al., section 4.1).
+//! The first stage: which states the automaton of a property can reach by the events that may occur at the objects of a site, in whatever order and
+//! however often each (Fink et al., section 4.1). A site is safe where the error state is not among them. One walk over the calls tells it of all sites.
 #![tactic(auto)]
 
+mod answers;
+mod event_set;
+mod marks;
+mod places;
+mod pruning;
 mod stage_one;
 
+pub use pruning::prune;
 pub use stage_one::is_safe;

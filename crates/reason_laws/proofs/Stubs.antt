@@ -13,11 +13,11 @@ use Rattle.jvm_model.specs.declared.reason.Reason.TheVariants as reasons
 use Rattle.jvm_model.specs.Access.{has_flag}
 use Rattle.jvm_model.specs.LinkedPrograms.{IsProgram}
 use Rattle.jvm_model.specs.Lookups.{MemberReference}
-use Rattle.jvm_model.specs.Programs.{Body, Class, Method, Program, in_file, described}
+use Rattle.jvm_model.specs.Programs.{Body, Class, Method, Program, in_file, described, IsUndescribed}
 use Rattle.jvm_model.specs.Soundness.{is_array}
 use Rattle.jvm_model.specs.Subtypes.{class_named}
 use Rattle.instruction_reasons.specs.Looked.{HasSuch, IsBehindBrackets, IsClassDescriptor}
-use Rattle.instruction_reasons.specs.Reasons.{Judged, Names, Calls, Accesses, IsElementClass, IsNotThere, a_class, an_array, IsUndescribed, HasTarget, LooksUpField, LooksUpMethod, LacksStub, of_class, of_array_field, of_array_method, of_field, of_method, of_target}
+use Rattle.instruction_reasons.specs.Reasons.{Judged, Names, Calls, Accesses, IsElementClass, IsNotThere, a_class, an_array, HasTarget, LooksUpField, LooksUpMethod, LacksStub, of_class, of_array_field, of_array_method, of_field, of_method, of_target}
 use Rattle.instruction_reasons.proofs.ArrayElements.{elements}
 use Rattle.instruction_reasons.proofs.Only.{only_none, only_one}
 use Rattle.instruction_reasons.proofs.Undescribed.{NamesArray}

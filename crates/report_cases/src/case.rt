@@ -11,13 +11,13 @@ ghost use Rattle.linking.specs.LinkAnswers.{IsSoundFile};
 ghost use Rattle.linked_program.specs.Numbers.{name_at, IsClassNumber, IsMethodNumber};
 
 use anyhow::{Result, bail};
-use call_graph::Ground;
 use case_files::{CaseFailure, is_refusal, link_case, read_all_stubs, read_files};
 use entry_method::{find_entry, has_method_named};
 use folder_report::{Report, analyse, has_object, report_of};
+use ground::Ground;
 use jvm_model::{Automaton, ClassNo, MethodNo, NamedClass};
 use linked_program::program::Program;
-use points_to::SolveFailure;
+use points_to_rules::SolveFailure;
 use property_file::read_property;
 use std::alloc::Global;
 use std::str;
@@ -143,7 +143,7 @@ fn tell_analysis<R: Print>(
     requires named { name_at program.now class.0 ≡ automaton.now.class_name }
 {
     match analyse(alloc, program, entry, LIMIT) {
-        Ok(ground) => tell_report(rt, alloc, program, &ground, automaton, class),
+        Ok(ground) => tell_report(rt, alloc, &ground, automaton, class),
         Err(failure) => tell_end(rt, &failure),
     }
 }
@@ -158,18 +158,16 @@ fn tell_end<R: Print>(rt: &R, failure: &SolveFailure) -> Result<()> {
 fn tell_report<R: Print>(
     rt: &R,
     alloc: Global,
-    program: &Program,
-    ground: &Ground,
+    ground: &Ground<'_>,
     automaton: &Automaton,
     class: ClassNo,
 ) -> Result<()>
     requires automaton { IsAutomaton automaton.now }
-    requires class { IsClassNumber program.now class.0 }
-    requires named { name_at program.now class.0 ≡ automaton.now.class_name }
-    requires analysis { (entry : RuleMethodNo) × (limit : ℕ) × IsMethodNumber program.now entry.0
-        × IsAnalysis program.now (IsSupplied program.now) entry limit ground.now }
+    requires class { IsClassNumber ground.now.program class.0 }
+    requires named { name_at ground.now.program class.0 ≡ automaton.now.class_name }
+    requires analysis { (entry : RuleMethodNo) × (limit : ℕ) × IsAnalysis ground.now.program (IsSupplied ground.now.program) entry limit ground.now }
 {
-    let Report { lines, all_safe } = report_of(alloc, program, ground, automaton, class)?;
+    let Report { lines, all_safe } = report_of(alloc, ground, automaton, class)?;
     for line in &lines {
         print!(rt; "{}", str::from_utf8(line)?)?;
     }

@@ -1,3 +1,3 @@
 pub mod Tracked
-pub mod Pruning
+pub mod Verdicts
 pub mod Reports

@@ -1,7 +1,6 @@
 -- Public contracts rest on this module.
--- The verdict of each tracked site, and the report that tells them.
+-- The report that tells the verdict of each tracked site.
 use Rattle.std.specs.Prelude.{◌≡◌, ◌↔◌, ℕ, Bool, true, false, List, [], ◌∷◌, ◌++◌, map, count_by, All, IsTrue}
-use Rattle.jvm_model.specs.declared.automaton.Automaton.{Automaton}
 use Rattle.jvm_model.specs.Programs.{Program}
 use Rattle.op_model.specs.Supplies.{GivenAs}
 use Rattle.points_to_rules.specs.Facts.{Fact}
@@ -9,16 +8,10 @@ use Rattle.site_report.specs.declared.tracked_site.TrackedSite.{TrackedSite}
 use Rattle.site_report.specs.declared.verdict.Verdict.{Verdict}
 use Rattle.site_report.specs.declared.verdict.Verdict.TheVariants.{Safe, Unproved, Limit}
 use Rattle.site_report.specs.Lines.{verdict_line, summary_line}
-use Rattle.site_report.specs.Sites.{site_in}
 use Rattle.report_rules.specs.Tracked.{AreTracked}
-use Rattle.report_rules.specs.Pruning.{IsPruned}
+use Rattle.report_rules.specs.Verdicts.{Asked, IsVerdict}
 
--- The verdict of a site: the first stage that proves it safe; and that none does. The first stage has no limit.
-abbrev pub IsVerdict : Program → GivenAs → (Fact → Type 0) → Automaton → TrackedSite → Verdict → Type 0
-IsVerdict p gives S a t (Safe stage) = (stage ≡ 1) × IsPruned gives S a (site_in p t)
-IsVerdict p gives S a t Unproved = IsPruned gives S a (site_in p t) → ⊥
-IsVerdict p gives S a t (Limit stage) = ⊥
-
+-- What a verdict says.
 abbrev pub is_safe : Verdict → Bool
 is_safe (Safe stage) = true
 is_safe Unproved = false
@@ -46,10 +39,11 @@ report_lines p found =
     (count_by (λ (f : TrackedSite × Verdict). is_limit f.1) found)
     ∷ []
 
--- The report has one line for each tracked site, in the order of a report, with its verdict, and then the summary; and says whether all are safe.
-pub record IsReport (p : Program) (gives : GivenAs) (S : Fact → Type 0) (a : Automaton) (lines : List (List ℕ)) (all_safe : Bool) : Type 0 where
+-- The report on what is asked has one line for each tracked site, in the order of a report, with its verdict, and then the summary; and says whether all
+-- are safe.
+pub record IsReport (p : Program) (gives : GivenAs) (S : Fact → Type 0) (w : Asked) (lines : List (List ℕ)) (all_safe : Bool) : Type 0 where
   pub found : List (TrackedSite × Verdict)
-  pub tracked : AreTracked p gives S a.class_name (map (λ (f : TrackedSite × Verdict). f.0) found)
-  pub verdicts : All (λ (f : TrackedSite × Verdict). IsVerdict p gives S a f.0 f.1) found
+  pub tracked : AreTracked p gives S w.property.class_name (map (λ (f : TrackedSite × Verdict). f.0) found)
+  pub verdicts : All (λ (f : TrackedSite × Verdict). IsVerdict p gives S w f.0 f.1) found
   pub lines_are : lines ≡ report_lines p found
   pub safe : IsTrue all_safe ↔ All (λ (f : TrackedSite × Verdict). IsTrue (is_safe f.1)) found

@@ -2,7 +2,6 @@ pub mod OneRequest
 pub mod OneFolder
 pub mod OneEntry
 pub mod OneAnalysis
-pub mod OneReport
 pub mod Levels
 pub mod OneOutcome
 pub mod WholeInputs

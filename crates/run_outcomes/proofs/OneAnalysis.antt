@@ -15,7 +15,7 @@ use Rattle.points_to_rules.specs.Facts.{Fact, may_hold, may_run, may_call, may_w
 use Rattle.points_to_rules.specs.Refusals.{IsRefusedIn, of_method, of_call, IsRefusedCall, IsCodeStart, IsNoLater, call_reasons, ComesFirst, IsFirstRefusal, IsUnrefused}
 use Rattle.points_to_rules.specs.Refusals as refusals
 use Rattle.points_to_rules.specs.Rules.{Instance}
-use Rattle.points_to.specs.Solutions.{AreLeastBelow, EndsRefused, IsSolution, pair_of, pairs_in}
+use Rattle.points_to_rules.specs.Solutions.{AreLeastBelow, EndsRefused, IsSolution, pair_of, pairs_in}
 
 -- ---- pairs
 

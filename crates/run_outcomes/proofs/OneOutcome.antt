@@ -17,6 +17,8 @@ use Rattle.folder_supply.specs.OneAnswer.{one_answer}
 use Rattle.folder_supply.specs.Supplied.{IsSupplied}
 use Rattle.property_file.specs.Refusals.{IsBrokenFile}
 use Rattle.property_file.proofs.Broken.{IsNoDocument-not, IsNoDocument-not_broken, IsBrokenFile-not}
+use Rattle.report_rules.proofs.OneReport.{report_same}
+use Rattle.report_rules.proofs.SameFacts.{all_kept}
 use Rattle.stub_file.specs.declared.stub_failure.StubFault.TheVariants as stub_faults
 use Rattle.stub_file.specs.StubFile.{IsStubFile, IsStubRefusal}
 use Rattle.toml_tables.specs.Documents.{IsNoDocument}
@@ -24,11 +26,10 @@ use Rattle.run_outcomes.specs.declared.status.Status.{Status}
 use Rattle.run_outcomes.specs.declared.status.Status.TheVariants as statuses
 use Rattle.run_outcomes.specs.Inputs.{HaveDifferentNames}
 use Rattle.run_outcomes.specs.Lines.{missing_line, refused_line, usage_line}
-use Rattle.run_outcomes.specs.Outcomes.{EndsWith, Refuses, report_status, AnalysisOutcome, pair_limit, refused_method, reported, ClassOutcome, no_class, has_class, EntryOutcome, no_entry, other_shape, has_entry, LinkOutcome, unlinked, linked, FolderOutcome, refused_folder, has_classes, StubOutcome, no_stub_file, stubs_no_document, broken_stubs, no_stubs, has_stubs, PropertyOutcome, no_property, property_no_document, broken_property, has_property, Outcome, unusable, usable}
+use Rattle.run_outcomes.specs.Outcomes.{EndsWith, Refuses, asked_of, report_status, AnalysisOutcome, pair_limit, refused_method, reported, ClassOutcome, no_class, has_class, EntryOutcome, no_entry, other_shape, has_entry, LinkOutcome, unlinked, linked, FolderOutcome, refused_folder, has_classes, StubOutcome, no_stub_file, stubs_no_document, broken_stubs, no_stubs, has_stubs, PropertyOutcome, no_property, property_no_document, broken_property, has_property, Outcome, unusable, usable}
 use Rattle.run_outcomes.proofs.Levels.{past_class, past_entry, past_link, past_folder, past_stubs, past_property, past_words, linked_or_not, link_refusal_same, stubs_or_refused, document_or_broken}
 use Rattle.run_outcomes.proofs.OneAnalysis.{many_or_few, refusal_same, refused_or_solved, to_other, to_this}
 use Rattle.run_outcomes.proofs.OneFolder.{classes_or_refused, files_differ, IsRefusedFolder-same}
-use Rattle.run_outcomes.proofs.OneReport.{report_same}
 use Rattle.run_outcomes.proofs.OneRequest.{asked_or_wrong, UsageFault-same}
 
 bytes_same : (files : List File) (name other b c : List ℕ) → name ≡ other → file_at files name ≡ Some b → file_at files other ≡ Some c → b ≡ c
@@ -77,7 +78,8 @@ module _ (s t : Status) (l m : List (List ℕ)) where
     AnalysisOutcome-same (reported facts b is report si) (reported others c is2 report2 ti) =
         let to = to_other p (IsSupplied p) (one_answer p) entry w.pair_limit facts others is.least is2.least in
         let back = to_this p (IsSupplied p) (one_answer p) entry w.pair_limit facts others is.least is2.least in
-        let both = report_same p (IsSupplied p) a (Contains facts) (Contains others) to back l m b c report report2 in
+        let both = report_same p (IsSupplied p) (asked_of w a) (Contains facts) (Contains others) (all_kept (Contains facts) (Contains others) to)
+        (all_kept (Contains others) (Contains facts) back) l m b c report report2 in
         (si ∙ ap report_status both.1 ∙ sym ti, both.0)
 
     -- ---- the program

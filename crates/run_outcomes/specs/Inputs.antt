@@ -13,7 +13,7 @@ use Rattle.class_folder.specs.ClassFiles.{AreClassFiles}
 use Rattle.command_words.specs.Requests.{Wanted, AsksFor}
 use Rattle.entry_method.specs.Entries.{IsEntry}
 use Rattle.folder_supply.specs.Supplied.{IsSupplied}
-use Rattle.points_to.specs.Solutions.{IsSolution}
+use Rattle.points_to_rules.specs.Solutions.{IsSolution}
 use Rattle.points_to_rules.specs.Facts.{Fact}
 use Rattle.property_file.specs.PropertyFile.{IsPropertyFile}
 use Rattle.stub_file.specs.StubFile.{IsStubFile}

@@ -20,12 +20,13 @@ use Rattle.command_words.specs.declared.fault.UsageFault.{UsageFault}
 use Rattle.command_words.specs.Requests.{Wanted, AsksFor, IsUsageFault}
 use Rattle.entry_method.specs.Entries.{IsEntry, NamesMethod}
 use Rattle.folder_supply.specs.Supplied.{IsSupplied}
-use Rattle.points_to.specs.declared.solve_failure.SolveFault.TheVariants as solve_faults
-use Rattle.points_to.specs.Solutions.{IsSolution, IsSolveEnd}
+use Rattle.points_to_rules.specs.declared.solve_fault.SolveFault.TheVariants as solve_faults
+use Rattle.points_to_rules.specs.Solutions.{IsSolution, IsSolveEnd}
 use Rattle.points_to_rules.specs.Facts.{Fact}
 use Rattle.property_file.specs.PropertyFile.{IsPropertyFile}
 use Rattle.property_file.specs.Refusals.{IsBrokenFile}
 use Rattle.report_rules.specs.Reports.{IsReport}
+use Rattle.report_rules.specs.Verdicts.{Asked}
 use Rattle.stub_file.specs.BaseStubs.{base_classes}
 use Rattle.stub_file.specs.declared.stub_failure.StubFault.TheVariants as stub_faults
 use Rattle.stub_file.specs.StubFile.{IsStubFile, IsStubRefusal}
@@ -50,6 +51,10 @@ Misses status lines name = EndsWith status lines statuses.Usage (missing_line na
 
 -- ---- the analysis
 
+-- What the words ask of the property that they name: the stages up to the last one that they ask for.
+abbrev pub asked_of : Wanted → Automaton → Asked
+asked_of w a = record { property = a; stages = w.stages }
+
 -- The status where each tracked site is safe, and where not.
 abbrev pub report_status : Bool → Status
 report_status true = statuses.AllSafe
@@ -62,7 +67,7 @@ pub data AnalysisOutcome (w : Wanted) (a : Automaton) (p : Program) (entry : Met
   refused_method : (r : Refusal) → IsSolveEnd p (IsSupplied p) entry w.pair_limit (Cause (solve_faults.Refused r))
       → Refuses status lines r.file r.offset r.reason → AnalysisOutcome w a p entry status lines
   reported : (facts : List Fact) (all_safe : Bool) → IsSolution p (IsSupplied p) entry w.pair_limit facts
-      → IsReport p (IsSupplied p) (Contains facts) a lines all_safe → status ≡ report_status all_safe → AnalysisOutcome w a p entry status lines
+      → IsReport p (IsSupplied p) (Contains facts) (asked_of w a) lines all_safe → status ≡ report_status all_safe → AnalysisOutcome w a p entry status lines
 
 -- ---- the program
 

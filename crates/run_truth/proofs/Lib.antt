@@ -8,3 +8,5 @@ pub mod BuiltIn
 pub mod Reported
 pub mod LineForms
 pub mod Written
+pub mod MoreStages
+pub mod RunStages

@@ -1,5 +1,5 @@
 -- A run whose status is that of a report has passed each level: each other case of a level ends with a line and the status of a refusal or of usage.
-use Rattle.std.proofs.Common.{◌≡◌, ◌⊎◌, inl, inr, ℕ, Bool, List, [], Option, Some, Ok, Contains, refl, sym, ap, subst}
+use Rattle.std.proofs.Common.{◌≡◌, ◌⊎◌, inl, inr, ℕ, Bool, List, [], Option, Some, Ok, refl, sym, ap, subst}
 use Rattle.ts_outside.specs.Files.{File, file_at}
 use Rattle.jvm_model.specs.declared.automaton.Automaton.{Automaton}
 use Rattle.jvm_model.specs.declared.number.MethodNo.{MethodNo}
@@ -13,17 +13,15 @@ use Rattle.bytecode_machine.specs.Objects.{Subject}
 use Rattle.class_folder.specs.ClassFiles.{AreClassFiles}
 use Rattle.command_words.specs.Requests.{Wanted, AsksFor}
 use Rattle.entry_method.specs.Entries.{IsEntry, with_strings, plain}
-use Rattle.folder_supply.specs.Supplied.{IsSupplied}
-use Rattle.points_to.specs.Solutions.{IsSolution}
 use Rattle.points_to_rules.specs.Facts.{Fact}
 use Rattle.property_file.specs.PropertyFile.{IsPropertyFile}
-use Rattle.report_rules.specs.Reports.{IsReport}
 use Rattle.run_outcomes.specs.declared.status.Status.{Status}
 use Rattle.run_outcomes.specs.declared.status.Status.TheVariants.{AllSafe, SomeUnproved, Refused, Usage}
 use Rattle.run_outcomes.specs.Inputs.{AreStubs}
 use Rattle.run_outcomes.specs.Outcomes.{report_status, all_stubs, AnalysisOutcome, pair_limit, refused_method, reported, ClassOutcome, no_class, has_class, EntryOutcome, no_entry, other_shape, has_entry, LinkOutcome, unlinked, linked, FolderOutcome, refused_folder, has_classes, StubOutcome, no_stub_file, stubs_no_document, broken_stubs, no_stubs, has_stubs, PropertyOutcome, no_property, property_no_document, broken_property, has_property, Outcome, unusable, usable}
 use Rattle.simulation.specs.Simulation.{HasEntry, HasExceptions}
 use Rattle.run_outcomes.specs.RunSubjects.{IsRunOf}
+use Rattle.run_truth.specs.Truth.{IsReportOf}
 use Rattle.run_truth.proofs.BuiltIn.{has_exceptions}
 
 -- ---- the entry
@@ -40,15 +38,13 @@ abbrev subject : Program → Automaton → MethodNo → Subject
 subject p a entry = record { program = p; property = a; entry = entry.0 }
 
 -- the lines are the report on it by the least facts, and the status is that of the report
-abbrev HasReport : Subject → Status → List (List ℕ) → Type 0
-HasReport x status lines =
-    (facts : List Fact) × (limit : ℕ) × (all_safe : Bool) × IsSolution x.program (IsSupplied x.program) (record { 0 = x.entry }) limit facts
-    × IsReport x.program (IsSupplied x.program) (Contains facts) x.property lines all_safe × (status ≡ report_status all_safe)
+abbrev HasReport : Subject → ℕ → Status → List (List ℕ) → Type 0
+HasReport x stages status lines = (facts : List Fact) × (all_safe : Bool) × IsReportOf x stages facts lines all_safe × (status ≡ report_status all_safe)
 
 -- what the run is of, with its report
 abbrev IsReported : List (List ℕ) → List File → Status → List (List ℕ) → Type 0
 IsReported words files status lines =
-    (x : Subject) × IsRunOf words files x × IsProgram x.program × HasExceptions x.program × HasEntry x × HasReport x status lines
+    (x : Subject) × (run : IsRunOf words files x) × IsProgram x.program × HasExceptions x.program × HasEntry x × HasReport x run.w.stages status lines
 
 -- ---- the levels, from the last to the first
 
@@ -60,13 +56,14 @@ module _ (status : Status) (lines : List (List ℕ)) (ends : (status ≡ AllSafe
   never_usage is = elim ends [ inl safe ↦ cc | inr unproved ↦ cc ]
 
   of_analysis : (w : Wanted) (a : Automaton) (p : Program) (entry : MethodNo) → AnalysisOutcome w a p entry status lines
-      → HasReport (subject p a entry) status lines
+      → HasReport (subject p a entry) w.stages status lines
   of_analysis w a p entry (pair_limit many e) = absurd (never_refused e.status_is)
   of_analysis w a p entry (refused_method r is e) = absurd (never_refused e.status_is)
-  of_analysis w a p entry (reported facts all_safe solution report is) = (facts, w.pair_limit, all_safe, solution, report, is)
+  of_analysis w a p entry (reported facts all_safe solution report is) =
+      (facts, all_safe, record { limit = w.pair_limit; solution = solution; report = report }, is)
 
   of_class : (w : Wanted) (a : Automaton) (p : Program) (entry : MethodNo) → ClassOutcome w a p entry status lines
-      → HasReport (subject p a entry) status lines
+      → HasReport (subject p a entry) w.stages status lines
   of_class w a p entry (no_class none e) = absurd (never_refused e.status_is)
   of_class w a p entry (has_class class is next) = of_analysis w a p entry next
 

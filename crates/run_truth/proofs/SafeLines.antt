@@ -13,10 +13,10 @@ use Rattle.report_rules.specs.Reports.{is_safe, line_of}
 use Rattle.run_truth.specs.Truth.{IsReportedSite, IsTrueLine, SaysSafe}
 
 -- the second letter of the word that says that a site is safe
-abbrev has_a : List ℕ → Bool
+abbrev pub has_a : List ℕ → Bool
 has_a line = nat_eq (slice_index_or line 1 0) 97
 
-says_a : (line : List ℕ) → SaysSafe line → has_a line ≡ true
+pub says_a : (line : List ℕ) → SaysSafe line → has_a line ≡ true
 says_a line (rest, e) = ap has_a e
 
 module _ (x : Subject) (V : TrackedSite → Verdict → Type 0) (never : (t : TrackedSite) (stage : ℕ) → V t (Safe stage) → Errs x (site_in x.program t) → ⊥)

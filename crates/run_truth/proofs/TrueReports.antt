@@ -1,24 +1,26 @@
 -- What a report says of safe sites is true.
 use Rattle.std.proofs.Common.{◌≡◌, ℕ, Bool, true, List, [], ◌∷◌, All, Contains, map, sym, subst}
 use Rattle.std.proofs.lemmas.List.Elements.{All-contains, All-cons, All-head, All-nil, All-tail}
+use Rattle.jvm_model.specs.declared.site.Site.{Site}
 use Rattle.jvm_model.specs.LinkedPrograms.{IsProgram}
 use Rattle.bytecode_machine.specs.Executions.{Errs}
 use Rattle.bytecode_machine.specs.Objects.{Subject}
 use Rattle.folder_supply.specs.Supplied.{IsSupplied}
 use Rattle.program_laws.proofs.Orders.{first_there, more_there}
-use Rattle.points_to.specs.Solutions.{IsSolution}
+use Rattle.points_to_rules.specs.Solutions.{IsSolution}
 use Rattle.points_to_rules.specs.Facts.{Fact}
 use Rattle.simulation.specs.Simulation.{HasEntry, HasExceptions}
 use Rattle.site_report.specs.declared.tracked_site.TrackedSite.{TrackedSite}
 use Rattle.site_report.specs.declared.verdict.Verdict.{Verdict}
 use Rattle.site_report.specs.declared.verdict.Verdict.TheVariants.{Safe}
 use Rattle.site_report.specs.Sites.{site_in}
-use Rattle.report_rules.specs.Reports.{IsReport, IsVerdict, is_safe, is_unproved, is_limit}
+use Rattle.report_rules.specs.Reports.{is_safe, is_unproved, is_limit}
 use Rattle.std.specs.List.{count_by}
 use Rattle.report_rules.specs.Tracked.{IsTracked}
+use Rattle.report_rules.specs.Verdicts.{IsVerdict, SafeBy, by_events}
 use Rattle.run_truth.proofs.SafeLines.{of_report, each_safe, NeverErrs}
 use Rattle.run_truth.proofs.Verdicts.{solved_never_errs}
-use Rattle.run_truth.specs.Truth.{IsReportedSite, IsTrueLine, SaysSafe}
+use Rattle.run_truth.specs.Truth.{IsReportedSite, IsReportOf, IsTrueLine, SaysSafe}
 
 -- what holds of each of some sites holds of each with its verdict
 with_sites : (V : TrackedSite → Verdict → Type 0) (P : TrackedSite → Type 0) (found : List (TrackedSite × Verdict)) → All (λ (f : TrackedSite × Verdict). V f.0 f.1) found
@@ -29,34 +31,39 @@ with_sites V P (f ∷ found) all each =
     let rest = with_sites V P found (All-tail (λ (g : TrackedSite × Verdict). V g.0 g.1) f found all) (λ t there. each t (more_there f.0 t sites there)) in
     All-cons (λ (g : TrackedSite × Verdict). V g.0 g.1 × P g.0) f found (All-head (λ (g : TrackedSite × Verdict). V g.0 g.1) f found all, each f.0 (first_there f.0 sites)) rest
 
-module _ (x : Subject) (facts : List Fact) (limit : ℕ) (lines : List (List ℕ)) (all_safe : Bool) (program : IsProgram x.program) (exceptions : HasExceptions x.program)
-    (entry : HasEntry x) (solution : IsSolution x.program (IsSupplied x.program) (record { 0 = x.entry }) limit facts)
-    (report : IsReport x.program (IsSupplied x.program) (Contains facts) x.property lines all_safe) where
+module _ (x : Subject) (facts : List Fact) (limit : ℕ) (program : IsProgram x.program) (exceptions : HasExceptions x.program) (entry : HasEntry x)
+    (solution : IsSolution x.program (IsSupplied x.program) (record { 0 = x.entry }) limit facts) where
+  -- a site that a stage proves safe never errs
+  pub safe_never_errs : (s : Site) (stage : ℕ) → SafeBy (IsSupplied x.program) (Contains facts) x.property s stage → Errs x s → ⊥
+  safe_never_errs s stage (by_events first pruned) = solved_never_errs x facts limit program exceptions entry solution s pruned
+
+module _ (x : Subject) (stages : ℕ) (facts : List Fact) (lines : List (List ℕ)) (all_safe : Bool) (program : IsProgram x.program) (exceptions : HasExceptions x.program)
+    (entry : HasEntry x) (told : IsReportOf x stages facts lines all_safe) where
   abbrev pub IsFoundVerdict : TrackedSite → Verdict → Type 0
-  IsFoundVerdict t v = IsVerdict x.program (IsSupplied x.program) (Contains facts) x.property t v
+  IsFoundVerdict t v = IsVerdict x.program (IsSupplied x.program) (Contains facts) (record { property = x.property; stages = stages }) t v
 
   -- the verdict of a site that the report is about
   abbrev pub V : TrackedSite → Verdict → Type 0
   V t v = IsFoundVerdict t v × IsReportedSite x t
 
   never : (t : TrackedSite) (stage : ℕ) → V t (Safe stage) → Errs x (site_in x.program t) → ⊥
-  never t stage is = solved_never_errs x facts limit program exceptions entry solution (site_in x.program t) is.0.1
+  never t stage is = safe_never_errs x facts told.limit program exceptions entry told.solution (site_in x.program t) stage is.0.has
 
   about : (t : TrackedSite) (v : Verdict) → V t v → IsReportedSite x t
   about t v is = is.1
 
-  verdicts : All (λ (f : TrackedSite × Verdict). V f.0 f.1) report.found
+  verdicts : All (λ (f : TrackedSite × Verdict). V f.0 f.1) told.report.found
   verdicts =
-      with_sites IsFoundVerdict (IsReportedSite x) report.found report.verdicts
-      (λ t there. record { facts = facts; limit = limit; solution = solution; tracked = (report.tracked.those t).0 there })
+      with_sites IsFoundVerdict (IsReportedSite x) told.report.found told.report.verdicts
+      (λ t there. record { facts = facts; limit = told.limit; solution = told.solution; tracked = (told.report.tracked.those t).0 there })
 
   pub lines_true : All (λ (line : List ℕ). SaysSafe line → IsTrueLine x line) lines
   lines_true =
-      subst (λ (ls : List (List ℕ)). All (λ (line : List ℕ). SaysSafe line → IsTrueLine x line) ls) (sym report.lines_are)
-      (of_report x V never about report.found (count_by (λ (f : TrackedSite × Verdict). is_safe f.1) report.found)
-      (count_by (λ (f : TrackedSite × Verdict). is_unproved f.1) report.found) (count_by (λ (f : TrackedSite × Verdict). is_limit f.1) report.found) verdicts)
+      subst (λ (ls : List (List ℕ)). All (λ (line : List ℕ). SaysSafe line → IsTrueLine x line) ls) (sym told.report.lines_are)
+      (of_report x V never about told.report.found (count_by (λ (f : TrackedSite × Verdict). is_safe f.1) told.report.found)
+      (count_by (λ (f : TrackedSite × Verdict). is_unproved f.1) told.report.found) (count_by (λ (f : TrackedSite × Verdict). is_limit f.1) told.report.found) verdicts)
 
   pub sites_true : all_safe ≡ true → (t : TrackedSite) → IsTracked x.program (IsSupplied x.program) (Contains facts) x.property.class_name t → Errs x (site_in x.program t) → ⊥
   sites_true safe t tracked =
-      All-contains (NeverErrs x V never about) (map (λ (f : TrackedSite × Verdict). f.0) report.found) t
-      (each_safe x V never about report.found verdicts (report.safe.0 safe)) ((report.tracked.those t).1 tracked)
+      All-contains (NeverErrs x V never about) (map (λ (f : TrackedSite × Verdict). f.0) told.report.found) t
+      (each_safe x V never about told.report.found verdicts (told.report.safe.0 safe)) ((told.report.tracked.those t).1 tracked)

@@ -12,13 +12,13 @@ use Rattle.points_to_rules.specs.Rules.{Instance}
 use Rattle.folder_supply.proofs.EachAnswer.{each_answer}
 use Rattle.folder_supply.proofs.Maps.{is_map}
 use Rattle.folder_supply.specs.Supplied.{IsSupplied}
-use Rattle.points_to.specs.Solutions.{IsSolution}
+use Rattle.points_to_rules.specs.Solutions.{IsSolution}
 use Rattle.simulation.proofs.Supplied.{supplied_runs}
 use Rattle.simulation.specs.Simulation.{HasEntry, HasExceptions, IsRun}
 use Rattle.coverage.proofs.Refused.{calls_unrefused}
 use Rattle.supplied_coverage.proofs.Whole.{supplied_covered}
 use Rattle.covered_executions.proofs.Executions.{executions_covered}
-use Rattle.report_rules.specs.Pruning.{IsPruned}
+use Rattle.prune_stage.specs.Pruning.{IsPruned}
 use Rattle.run_truth.proofs.Words.{never_errs}
 
 pub pruned_never_errs : (x : Subject) (given : Given) (facts : List Fact) → IsRun x given → IsMapOf given (IsSupplied x.program)

@@ -28,7 +28,7 @@ use Rattle.coverage.proofs.RefusedCalls.{HasNoRefusedCall}
 use Rattle.coverage.proofs.Slots.{operand_of}
 use Rattle.coverage.proofs.Units.{IsUnit, of_slot, of_none, unit_is, argument_there}
 use Rattle.coverage.proofs.Values.{among_from}
-use Rattle.report_rules.specs.Pruning.{MayOccur, IsPruned}
+use Rattle.prune_stage.specs.Pruning.{MayOccur, IsPruned}
 use Rattle.run_truth.specs.Words.{IsWordState, FollowWords, ErrsOnNodes}
 use Rattle.run_truth.proofs.Heaps.{first_have}
 use Rattle.run_truth.proofs.Steps.{Have, step_has}

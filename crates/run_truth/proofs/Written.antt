@@ -21,7 +21,7 @@ AreTrue words files lines = (x : Subject) × IsRunOf words files x × All (λ (l
 pub reports_are_true : (words : List (List ℕ)) (files : List File) (s : Status) (lines : List (List ℕ)) → Outcome words files s lines → IsReport s → AreTrue words files lines
 reports_are_true words files s lines outcome reports =
     let r = is_reported words files s lines outcome reports in
-    (r.0, r.1, lines_true r.0 r.5.0 r.5.1 lines r.5.2 r.2 r.3 r.4 r.5.3 r.5.4)
+    (r.0, r.1, lines_true r.0 r.1.w.stages r.5.0 lines r.5.1 r.2 r.3 r.4 r.5.2)
 
 module _ (x : Subject) where
   abbrev IsTrueIfSafe : List ℕ → Type 0
@@ -58,7 +58,7 @@ safe_runs_keep words files lines outcome =
       x = r.0;
       run = r.1;
       facts = r.5.0;
-      limit = r.5.1;
-      solution = r.5.3;
-      never = sites_true r.0 r.5.0 r.5.1 lines r.5.2 r.2 r.3 r.4 r.5.3 r.5.4 (all_are r.5.2 r.5.5);
+      limit = r.5.2.limit;
+      solution = r.5.2.solution;
+      never = sites_true r.0 r.1.w.stages r.5.0 lines r.5.1 r.2 r.3 r.4 r.5.2 (all_are r.5.1 r.5.3);
     }

@@ -5,7 +5,7 @@ use Rattle.ts_outside.specs.Files.{File}
 use Rattle.bytecode_machine.specs.Executions.{Errs}
 use Rattle.bytecode_machine.specs.Objects.{Subject}
 use Rattle.folder_supply.specs.Supplied.{IsSupplied}
-use Rattle.points_to.specs.Solutions.{IsSolution}
+use Rattle.points_to_rules.specs.Solutions.{IsSolution}
 use Rattle.points_to_rules.specs.Facts.{Fact}
 use Rattle.run_truth.specs.Truth.{IsTrueLine}
 use Rattle.run_outcomes.specs.RunSubjects.{IsRunOf}

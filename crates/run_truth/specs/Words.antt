@@ -10,7 +10,7 @@ use Rattle.bytecode_machine.specs.States.{Object, State}
 use Rattle.node_machine.specs.NodeExecutions.{IsNodeExecution}
 use Rattle.points_to_rules.specs.Facts.{Fact}
 use Rattle.prune_stage.specs.StageOne.{state_after}
-use Rattle.report_rules.specs.Pruning.{MayOccur}
+use Rattle.prune_stage.specs.Pruning.{MayOccur}
 
 -- A word over the events that may occur at the site leads from the initial state to this one.
 pub record IsWordState (gives : GivenAs) (S : Fact → Type 0) (a : Automaton) (s : Site) (state : ℕ) : Type 0 where

@@ -10,7 +10,7 @@ ghost use Rattle.points_to_rules.specs.Facts.{Fact};
 ghost use Rattle.points_to_rules.specs.Refusals.{IsUnrefused};
 ghost use Rattle.points_to_rules.specs.Rules.{Instance};
 ghost use Rattle.coverage.specs.Methods.{AreWholeMethods, as_given};
-ghost use Rattle.report_rules.specs.Pruning.{IsPruned};
+ghost use Rattle.prune_stage.specs.Pruning.{IsPruned};
 ghost use Rattle.run_truth.specs.Words.{FollowWords, ErrsOnNodes};
 
 /// Whatever an execution on nodes does to an object is a word over the events that may occur at the object's site, by any set that is closed under the

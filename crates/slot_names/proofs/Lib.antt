@@ -8,3 +8,4 @@ pub mod MovedVariables
 pub mod EnteredNodes
 pub mod ReachedNodes
 pub mod NamedTables
+pub mod PlaceBounds

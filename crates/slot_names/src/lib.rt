@@ -14,5 +14,5 @@ mod rows;
 mod variable;
 
 pub use names::{Names, names_of};
-pub use places::place_of;
+pub use places::{place_number, place_of};
 pub use variable::Variable;

@@ -1,6 +1,6 @@
-//! Where the node of an offset stands.
+//! Where nodes stand among those of a method.
 
-ghost use Rattle.std.specs.Prelude.{◌<◌, length, IfSome};
+ghost use Rattle.std.specs.Prelude.{◌≡◌, ◌<◌, length, IfSome};
 ghost use Rattle.slot_names.specs.NodePlaces.{AreInOrder, IsPlaceOf};
 
 use op_model::LoweredMethod;
@@ -13,4 +13,14 @@ pub fn place_of(method: &LoweredMethod, offset: u32) -> Option<usize>
 {
     let nodes = method.nodes.as_slice();
     nodes.binary_search_by_key(&offset, |node| node.offset).ok()
+}
+
+/// The place of a node, in 32 bits: no node stands after as many nodes as there are offsets.
+pub fn place_number(method: &LoweredMethod, node: usize) -> u32
+    requires order { AreInOrder method.now }
+    requires there { node < length method.now.nodes }
+    ensures { result ≡ node }
+{
+    let _offset = method.nodes.as_slice()[node].offset;
+    node as u32
 }

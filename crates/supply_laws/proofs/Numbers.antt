@@ -15,7 +15,7 @@ use Rattle.method_nodes.specs.Operations.{Placed}
 use Rattle.node_machine.specs.Nodes.{IsClassNumber as IsNumberOf}
 use Rattle.op_model.specs.declared.node.Node.{Node}
 use Rattle.op_model.specs.declared.node.NodeHandler.{NodeHandler}
-use Rattle.points_to_items.specs.MethodNumbers.{NamesNumbers}
+use Rattle.points_to_rules.specs.WholeMethods.{NamesNumbers}
 use Rattle.supply_laws.proofs.Members.{NamesMembers, members_named}
 use Rattle.supply_laws.proofs.Pairs.{first_of}
 

@@ -17,7 +17,7 @@ use Rattle.method_nodes.specs.LoweredMethods.{IsLowered, IsNodeOf}
 use Rattle.op_model.specs.declared.lowered.LoweredMethod.{LoweredMethod}
 use Rattle.op_model.specs.declared.node.Node.{Node}
 use Rattle.op_model.specs.declared.node.NodeHandler.{NodeHandler}
-use Rattle.points_to_items.specs.ItemRules.{HasNodeAt, IsMethodOf}
+use Rattle.points_to_rules.specs.WholeMethods.{HasNodeAt, IsMethodOf}
 use Rattle.slot_names.specs.Variables.{IsFirstNode, IsReachedNode, at_first, from_node, from_handler, AreReachedNodes}
 use Rattle.supply_laws.proofs.Handled.{begins_caught, caught_begins}
 use Rattle.supply_laws.proofs.Pairs.{first_at, second_at, first_of, second_of}

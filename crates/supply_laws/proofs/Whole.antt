@@ -14,7 +14,7 @@ use Rattle.lowering.specs.Refusals.{IsAccepted}
 use Rattle.method_nodes.specs.LoweredMethods.{IsNodeOf}
 use Rattle.op_model.specs.declared.lowered.LoweredMethod.{LoweredMethod}
 use Rattle.op_model.specs.declared.node.Node.{Node}
-use Rattle.points_to_items.specs.MethodNumbers.{IsMethodIn, NamesNumbers}
+use Rattle.points_to_rules.specs.WholeMethods.{IsMethodIn, NamesNumbers}
 use Rattle.supply_laws.proofs.Numbers.{numbers_named}
 use Rattle.supply_laws.proofs.Pairs.{first_of}
 use Rattle.supply_laws.proofs.Reached.{is_method}

@@ -6,7 +6,7 @@ ghost use Rattle.std.specs.Prelude.{ℕ, Ok};
 ghost use Rattle.jvm_model.specs.Programs.{Program};
 ghost use Rattle.op_model.specs.declared.lowered.LoweredMethod.{LoweredMethod};
 ghost use Rattle.folder_supply.specs.Supplied.{IsSupplied};
-ghost use Rattle.points_to_items.specs.MethodNumbers.{IsMethodIn};
+ghost use Rattle.points_to_rules.specs.WholeMethods.{IsMethodIn};
 
 /// The nodes of a method that is supplied stand in the order of their offsets and are all reached, they go on and are handled at nodes, and what
 /// they name by number is in the program.

@@ -1,11 +1,11 @@
 pub mod Options
+pub mod Stages
 pub mod Wholes
 pub mod Judging
 pub mod ProgramJudging
 pub mod Objects
 pub mod ReadStubs
 pub mod PlainFacts
-pub mod SameReport
 pub mod Reported
 pub mod Written
 pub mod Handing

@@ -22,9 +22,9 @@ use Rattle.hierarchy.proofs.ClassPlaces.{class_of_number, not_named}
 use Rattle.command_words.specs.Requests.{Wanted}
 use Rattle.entry_method.specs.Entries.{IsEntry, NamesMethod}
 use Rattle.folder_supply.specs.Supplied.{IsSupplied}
-use Rattle.points_to.specs.declared.solve_failure.SolveFault.{SolveFault}
-use Rattle.points_to.specs.declared.solve_failure.SolveFault.TheVariants as solve_faults
-use Rattle.points_to.specs.Solutions.{IsSolveEnd}
+use Rattle.points_to_rules.specs.declared.solve_fault.SolveFault.{SolveFault}
+use Rattle.points_to_rules.specs.declared.solve_fault.SolveFault.TheVariants as solve_faults
+use Rattle.points_to_rules.specs.Solutions.{IsSolveEnd}
 use Rattle.run_outcomes.specs.declared.status.Status.{Status}
 use Rattle.run_outcomes.specs.declared.status.Status.TheVariants as statuses
 use Rattle.run_outcomes.specs.Lines.{no_file, refused_line}

@@ -1,6 +1,6 @@
 //! From class files and stubs to the report: linking, the entry, the property's class, the analysis, and the stages.
 
-ghost use Rattle.std.specs.Prelude.{◌≡◌, ◌↔◌, ℕ, Bool, List, All, Contains, IfOk, IfErr, IsTrue};
+ghost use Rattle.std.specs.Prelude.{◌≡◌, ◌↔◌, ◌≤◌, ℕ, Bool, List, All, Contains, IfOk, IfErr, IsTrue};
 ghost use Rattle.failure.specs.declared.Failure.TheVariants.{OutOfMemory};
 ghost use Rattle.jvm_model.specs.Automata.{IsAutomaton};
 ghost use Rattle.jvm_model.specs.declared.number.MethodNo.{MethodNo as RuleMethodNo};
@@ -11,10 +11,8 @@ ghost use Rattle.jvm_model.specs.Subtypes.{class_named};
 ghost use Rattle.linked_program.specs.Numbers.{IsMethodNumber, IsClassNumber, name_at};
 ghost use Rattle.jvm_model.specs.StubRules.{IsSoundStub};
 ghost use Rattle.command_words.specs.Requests.{wanted_of};
-ghost use Rattle.call_graph.specs.Grounds.{HasFacts};
 ghost use Rattle.folder_report.specs.Analyses.{IsAnalysis};
 ghost use Rattle.folder_supply.specs.Supplied.{IsSupplied};
-ghost use Rattle.points_to_rules.specs.Facts.{Fact};
 ghost use Rattle.report_rules.specs.Reports.{IsReport};
 ghost use Rattle.entry_method.specs.Entries.{NamesMethod};
 ghost use Rattle.typestate_core.specs.Answers.{IsReported, lines_of};
@@ -22,16 +20,16 @@ ghost use Rattle.typestate_core.specs.Ends.{SaysEnd};
 ghost use Rattle.run_outcomes.specs.Outcomes.{AnalysisOutcome, ClassOutcome, EntryOutcome, LinkOutcome, report_status};
 
 use crate::answer::{Answer, RunFailure, refuse};
-use call_graph::Ground;
 use command_words::Request;
 use entry_method::{find_entry, has_method_named};
 use failure::Failure;
 use folder_report::{Report, analyse, report_of};
+use ground::Ground;
 use jvm_model::{Automaton, ClassNo, MethodNo, NamedClass, Reason, StubClass};
 use linked_program::link_failure::LinkFault;
 use linked_program::program::Program;
 use linking::link::link;
-use points_to::{SolveFailure, SolveFault};
+use points_to_rules::{SolveFailure, SolveFault};
 use run_outcomes::Status;
 use std::alloc::Global;
 use stub_file::{base_stubs, base_stubs_are_closed};
@@ -44,6 +42,7 @@ pub(crate) fn judge_classes(
     stubs: Vec<StubClass>,
     classes: Vec<NamedClass>,
 ) -> Result<Answer, RunFailure>
+    requires stages { 1 ≤ request.now.stages }
     requires automaton { IsAutomaton automaton.now }
     requires stubs { All IsSoundStub stubs.items }
     requires classes { All (λ (c : RuleNamedClass). IsChecked c.class) classes.items }
@@ -80,6 +79,7 @@ fn judge_program(
     named: bool,
     program: &Program,
 ) -> Result<Answer, RunFailure>
+    requires stages { 1 ≤ request.now.stages }
     requires automaton { IsAutomaton automaton.now }
     requires object { (object : Class) × (class_named program.now object_name ≡ Some object) }
     ensures told { IfOk result (λ a. (classes : List RuleNamedClass) → IsTrue named ↔ NamesMethod classes request.now.class.now request.now.method.now
@@ -102,6 +102,7 @@ fn judge_entry(
     program: &Program,
     entry: MethodNo,
 ) -> Result<Answer, RunFailure>
+    requires stages { 1 ≤ request.now.stages }
     requires automaton { IsAutomaton automaton.now }
     requires entry { IsMethodNumber program.now entry.0 }
     requires object { (object : Class) × (class_named program.now object_name ≡ Some object) }
@@ -125,6 +126,7 @@ fn judge_analysis(
     entry: MethodNo,
     class: ClassNo,
 ) -> Result<Answer, RunFailure>
+    requires stages { 1 ≤ request.now.stages }
     requires automaton { IsAutomaton automaton.now }
     requires entry { IsMethodNumber program.now entry.0 }
     requires object { (object : Class) × (class_named program.now object_name ≡ Some object) }
@@ -135,7 +137,7 @@ fn judge_analysis(
     ensures memory { IfErr result (λ e. e ≡ OutOfMemory) }
 {
     match analyse(alloc, program, entry, u64::from(request.pair_limit)) {
-        Ok(ground) => report_on(alloc, automaton, program, &ground, class),
+        Ok(ground) => report_on(alloc, automaton, &ground, class),
         Err(failure) => refuse_end(alloc, &failure),
     }
 }
@@ -158,24 +160,24 @@ fn refuse_end(alloc: Global, failure: &SolveFailure) -> Result<Answer, RunFailur
     }
 }
 
-/// Reports on the tracked sites of a program that is analysed. The report speaks of any facts that the ground has.
+/// Reports on the tracked sites of a program that is analysed. The report speaks of any last stage.
 fn report_on(
     alloc: Global,
     automaton: &Automaton,
-    program: &Program,
-    ground: &Ground,
+    ground: &Ground<'_>,
     class: ClassNo,
 ) -> Result<Answer, RunFailure>
     requires automaton { IsAutomaton automaton.now }
-    requires class { IsClassNumber program.now class.0 }
-    requires named { name_at program.now class.0 ≡ automaton.now.class_name }
-    requires analysis { (entry : RuleMethodNo) × (limit : ℕ) × IsMethodNumber program.now entry.0 × IsAnalysis program.now (IsSupplied program.now) entry limit ground.now }
-    ensures told { IfOk result (λ a. (facts : List Fact) → HasFacts ground.now facts
-        → (all_safe : Bool) × IsReport program.now (IsSupplied program.now) (Contains facts) automaton.now (lines_of a) all_safe × (a.status ≡ report_status all_safe)) }
+    requires class { IsClassNumber ground.now.program class.0 }
+    requires named { name_at ground.now.program class.0 ≡ automaton.now.class_name }
+    requires analysis { (entry : RuleMethodNo) × (limit : ℕ) × IsAnalysis ground.now.program (IsSupplied ground.now.program) entry limit ground.now }
+    ensures told { IfOk result (λ a. (stages : ℕ) → 1 ≤ stages → (all_safe : Bool)
+        × IsReport ground.now.program (IsSupplied ground.now.program) (Contains ground.now.facts) (record { property = automaton.now; stages = stages }) (lines_of a) all_safe
+        × (a.status ≡ report_status all_safe)) }
     ensures reported { IfOk result (λ a. IsReported a.status) }
     ensures memory { IfErr result (λ e. e ≡ OutOfMemory) }
 {
-    let Report { lines, all_safe } = report_of(alloc, program, ground, automaton, class)?;
+    let Report { lines, all_safe } = report_of(alloc, ground, automaton, class)?;
     Ok(Answer {
         status: report_status(all_safe),
         lines,

@@ -1,8 +1,8 @@
 use Rattle.std.proofs.Common.{List, map, subst}
 use Rattle.std.specs.List.{Contains}
-use Rattle.points_to.specs.declared.solution.RunningMethod.{RunningMethod}
+use Rattle.points_to_rules.specs.declared.running_method.RunningMethod.{RunningMethod}
 use Rattle.points_to_tables.specs.declared.item.Item.{Item}
-use Rattle.call_graph.specs.Grounds.{nodes_of}
+use Rattle.ground.specs.Lists.{nodes_of}
 use Rattle.call_graph.specs.Sets.{AreSetsOf}
 use Rattle.call_graph.specs.Written.{AreWrites}
 use Rattle.call_graph.proofs.FoundFacts.{stands_for_each}

@@ -1,7 +1,7 @@
 use Rattle.std.proofs.Common.{map}
 use Rattle.std.proofs.lemmas.Result.{IfOk-weaker}
 use Rattle.call_graph.specs.Closing.{AreClosed}
-use Rattle.call_graph.specs.Grounds.{nodes_of}
+use Rattle.ground.specs.Lists.{nodes_of}
 use Rattle.call_graph.specs.Written.{AreWrites}
 use Rattle.call_graph.proofs.building.writes_of.Goals as goal
 

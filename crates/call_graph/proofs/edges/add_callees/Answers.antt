@@ -2,9 +2,9 @@ use Rattle.std.proofs.Common.{get_or}
 use Rattle.std.proofs.lemmas.Option.{slice_get-get_or}
 use Rattle.jvm_model.specs.declared.number.MethodNo.{MethodNo}
 use Rattle.call_graph.specs.declared.edges.Edge.{Edge}
-use Rattle.call_graph.proofs.Adding.{added_all, added_more}
-use Rattle.call_graph.proofs.ExactKeys.{same_edges, tells_edges}
-use Rattle.call_graph.proofs.KeySets.{inserted_adds}
+use Rattle.ground.proofs.Adding.{added_all, added_more}
+use Rattle.call_graph.proofs.ExactEdges.{same_edges, tells_edges}
+use Rattle.ground.proofs.KeySets.{inserted_adds}
 use Rattle.call_graph.proofs.NodeEdges.{IsEdgeTo, callees_added}
 use Rattle.call_graph.proofs.edges.add_callees.Goals as goal
 

@@ -1,5 +1,5 @@
 use Rattle.std.proofs.Common.{take}
-use Rattle.call_graph.specs.Added.{AreAdded, OfOne}
+use Rattle.ground.specs.Added.{AreAdded, OfOne}
 use Rattle.call_graph.proofs.NodeEdges.{IsEdgeTo}
 use Rattle.call_graph.proofs.edges.add_callees.Given as goal
 

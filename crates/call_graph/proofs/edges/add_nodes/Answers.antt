@@ -1,7 +1,7 @@
 use Rattle.std.proofs.Common.{refl, length}
 use Rattle.std.proofs.lemmas.Option.{slice_get_read}
 use Rattle.call_graph.specs.Edges.{IsEdgeOf}
-use Rattle.call_graph.proofs.Adding.{added_more}
+use Rattle.ground.proofs.Adding.{added_more}
 use Rattle.call_graph.proofs.NodeEdges.{edges_added}
 use Rattle.call_graph.proofs.edges.add_nodes.Goals as goal
 

@@ -1,9 +1,9 @@
 use Rattle.std.proofs.Common.{[], refl, length}
 use Rattle.std.proofs.lemmas.Option.{slice_get_read}
 use Rattle.least_sets.proofs.Places.{contains_at}
-use Rattle.points_to.specs.declared.solution.RunningMethod.{RunningMethod}
+use Rattle.points_to_rules.specs.declared.running_method.RunningMethod.{RunningMethod}
 use Rattle.call_graph.specs.Edges.{IsEdgeOf, OfRunning}
-use Rattle.call_graph.proofs.Adding.{added_all, added_more}
+use Rattle.ground.proofs.Adding.{added_all, added_more}
 use Rattle.call_graph.proofs.NodeEdges.{all_edges}
 use Rattle.call_graph.proofs.edges.edges_of.Goals as goal
 

@@ -1,6 +1,6 @@
 use Rattle.std.proofs.Common.{[], take}
-use Rattle.points_to.specs.declared.solution.RunningMethod.{RunningMethod}
-use Rattle.call_graph.specs.Added.{AreAdded, OfOne}
+use Rattle.points_to_rules.specs.declared.running_method.RunningMethod.{RunningMethod}
+use Rattle.ground.specs.Added.{AreAdded, OfOne}
 use Rattle.call_graph.specs.Edges.{IsEdgeOf, OfRunning}
 use Rattle.call_graph.proofs.edges.edges_of.Given as goal
 

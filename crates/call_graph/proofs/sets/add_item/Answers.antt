@@ -1,12 +1,11 @@
-use Rattle.std.proofs.Common.{◌∙◌, refl, sym, ap, subst}
+use Rattle.std.proofs.Common.{refl, sym, subst}
 use Rattle.std.proofs.lemmas.Result.{on_ok_weaker}
 use Rattle.op_model.specs.declared.node.NodeRef.{NodeRef}
 use Rattle.points_to_tables.specs.declared.item.Item.{Item}
 use Rattle.points_to_tables.specs.Steps.{IsItemAt}
 use Rattle.call_graph.specs.declared.sets.Sets.{Sets}
-use Rattle.call_graph.specs.Sets.{key_of}
-use Rattle.call_graph.proofs.ExactKeys.{same_methods, tells_methods}
-use Rattle.call_graph.proofs.KeySets.{inserted_adds}
+use Rattle.ground.proofs.ExactKeys.{same_methods, tells_methods}
+use Rattle.ground.proofs.KeySets.{inserted_adds}
 use Rattle.call_graph.proofs.SetsTaken.{holding_taken, run_taken, call_taken, use_taken}
 use Rattle.call_graph.proofs.sets.add_item.Goals as goal
 
@@ -27,9 +26,9 @@ pub returns-in-Calls : goal.returns-in-Calls
 returns-in-Calls c =
     let n = c.args.tables.now in
     let (site, stands, is) = subst (λ (i : Item). IsItemAt n i c.requires.0) c.in-Calls.is c.requires.1 in
-    let of_node = c.call_at.ensures ∙ ap (λ (at : NodeRef). key_of at) (sym (c.call_of.ensures site stands).at) in
+    let of_node = sym (c.call_of.ensures site stands).at in
     on_ok_weaker c.add_target.result
-    (λ adds. rw c.in-Calls.is (call_taken n c.in-Calls.call c.in-Calls.target site c.call_at.result c.args.sets.now c.add_target.new.sets stands of_node adds))
+    (λ adds. rw c.in-Calls.is (call_taken n c.in-Calls.call c.in-Calls.target site c.call_of.result.now.at c.args.sets.now c.add_target.new.sets stands of_node adds))
     c.add_target.ensures
 
 pub returns-in-Uses : goal.returns-in-Uses

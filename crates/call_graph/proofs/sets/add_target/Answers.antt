@@ -2,8 +2,8 @@ use Rattle.std.proofs.Common.{refl}
 use Rattle.std.proofs.lemmas.Result.{on_ok_weaker}
 use Rattle.points_to_tables.proofs.AddedKeys.{inserted}
 use Rattle.call_graph.specs.declared.sets.Sets.{Sets}
-use Rattle.call_graph.proofs.ExactKeys.{same_calls, tells_calls}
-use Rattle.call_graph.proofs.KeySets.{apart_from_distinct_keys}
+use Rattle.ground.proofs.ExactKeys.{same_calls, tells_calls}
+use Rattle.ground.proofs.KeySets.{apart_from_distinct_keys}
 use Rattle.call_graph.proofs.SetsTaken.{target_added}
 use Rattle.call_graph.proofs.sets.add_target.Goals as goal
 

@@ -1,6 +1,6 @@
-use Rattle.call_graph.specs.declared.ground.FieldWrite.{FieldWrite}
-use Rattle.call_graph.proofs.ExactKeys.{same_writes, tells_writes}
-use Rattle.call_graph.proofs.KeySets.{inserted_adds}
+use Rattle.ground.specs.declared.lists.FieldWrite.{FieldWrite}
+use Rattle.ground.proofs.ExactKeys.{same_writes, tells_writes}
+use Rattle.ground.proofs.KeySets.{inserted_adds}
 use Rattle.call_graph.proofs.NodeEdges.{store_added}
 use Rattle.call_graph.proofs.stores.add_node.Goals as goal
 

@@ -1,7 +1,7 @@
 use Rattle.std.proofs.Common.{refl, length}
 use Rattle.std.proofs.lemmas.Option.{slice_get_read}
 use Rattle.call_graph.specs.Edges.{IsStoreOf}
-use Rattle.call_graph.proofs.Adding.{added_more}
+use Rattle.ground.proofs.Adding.{added_more}
 use Rattle.call_graph.proofs.stores.add_nodes.Goals as goal
 
 pub loop-node-preserved : goal.loop-node-preserved

@@ -1,10 +1,10 @@
 use Rattle.std.proofs.Common.{List, subst}
 use Rattle.std.proofs.lemmas.Result.{on_ok_weaker}
 use Rattle.op_model.specs.declared.node.Node.{Node}
-use Rattle.call_graph.specs.Added.{AreAdded, OfOne}
+use Rattle.ground.specs.Added.{AreAdded, OfOne}
 use Rattle.call_graph.specs.Edges.{IsStoreOf}
-use Rattle.call_graph.proofs.ExactKeys.{same_methods, tells_methods}
-use Rattle.call_graph.proofs.KeySets.{is_there}
+use Rattle.ground.proofs.ExactKeys.{same_methods, tells_methods}
+use Rattle.ground.proofs.KeySets.{is_there}
 use Rattle.call_graph.proofs.NodeEdges.{of_running}
 use Rattle.call_graph.proofs.stores.add_running.Goals as goal
 

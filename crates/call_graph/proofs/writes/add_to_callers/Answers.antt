@@ -2,11 +2,11 @@ use Rattle.std.proofs.Common.{get_or}
 use Rattle.std.proofs.lemmas.Option.{slice_get-get_or}
 use Rattle.jvm_model.specs.declared.number.MethodNo.{MethodNo}
 use Rattle.slot_names.proofs.ListPlaces.{Extends-both}
-use Rattle.call_graph.specs.declared.ground.FieldWrite.{FieldWrite}
-use Rattle.call_graph.proofs.Adding.{added_all, added_more}
+use Rattle.ground.specs.declared.lists.FieldWrite.{FieldWrite}
+use Rattle.ground.proofs.Adding.{added_all, added_more}
 use Rattle.call_graph.proofs.Closings.{IsWriteBy, callers_added}
-use Rattle.call_graph.proofs.ExactKeys.{same_writes, tells_writes}
-use Rattle.call_graph.proofs.KeySets.{inserted_adds, inserted_longer}
+use Rattle.ground.proofs.ExactKeys.{same_writes, tells_writes}
+use Rattle.ground.proofs.KeySets.{inserted_adds, inserted_longer}
 use Rattle.call_graph.proofs.writes.add_to_callers.Goals as goal
 
 pub loop-caller-preserved : goal.loop-caller-preserved

@@ -1,6 +1,6 @@
 use Rattle.std.proofs.Common.{take}
 use Rattle.slot_names.specs.Branches.{Extends}
-use Rattle.call_graph.specs.Added.{AreAdded, OfOne}
+use Rattle.ground.specs.Added.{AreAdded, OfOne}
 use Rattle.call_graph.proofs.Closings.{IsWriteBy}
 use Rattle.call_graph.proofs.writes.add_to_callers.Given as goal
 

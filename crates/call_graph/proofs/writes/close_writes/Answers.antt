@@ -3,8 +3,8 @@ use Rattle.std.specs.List.{slice_get}
 use Rattle.std.proofs.lemmas.Option.{slice_get-get_or}
 use Rattle.jvm_model.specs.declared.number.MethodNo.{MethodNo}
 use Rattle.call_graph.specs.declared.edges.Edge.{Edge}
-use Rattle.call_graph.specs.declared.ground.FieldWrite.{FieldWrite}
-use Rattle.call_graph.specs.Added.{AreAdded}
+use Rattle.ground.specs.declared.lists.FieldWrite.{FieldWrite}
+use Rattle.ground.specs.Added.{AreAdded}
 use Rattle.call_graph.specs.Closing.{AreCallers, IsWriteOfOne}
 use Rattle.call_graph.proofs.Closings.{closing_start, closing_more, closing_end}
 use Rattle.call_graph.proofs.writes.close_writes.Goals as goal

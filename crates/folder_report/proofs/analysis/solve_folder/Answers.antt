@@ -1,7 +1,7 @@
 use Rattle.std.proofs.Common.{sym, subst}
 use Rattle.jvm_model.specs.Programs.{Program}
 use Rattle.folder_supply.specs.Supplied.{IsSupplied}
-use Rattle.points_to.specs.Solutions.{IsSupplyOf}
+use Rattle.points_to_rules.specs.Solutions.{IsSupplyOf}
 use Rattle.folder_report.proofs.analysis.solve_folder.Goals as goal
 
 pub solve-requires-clause-supply : goal.solve-requires-clause-supply

@@ -1,73 +1,66 @@
-use Rattle.std.proofs.Common.{Bool, List, Contains, length, map, sym, ap, ◌∙◌, subst}
+use Rattle.std.proofs.Common.{◌≤◌, ℕ, List, Contains, length, map, sym, ap, ◌∙◌, subst}
 use Rattle.std.specs.List.{AllZip}
 use Rattle.std.proofs.lemmas.Result.{IfOk-weaker}
 use Rattle.folder_supply.specs.Supplied.{IsSupplied}
+use Rattle.jvm_model.specs.Programs.{Program}
 use Rattle.linked_program.specs.Numbers.{name_at}
-use Rattle.points_to_rules.specs.Facts.{Fact}
-use Rattle.call_graph.specs.Grounds.{HasFacts, gives_listed, nodes_of}
-use Rattle.report_rules.specs.Pruning.{IsPruningOf}
+use Rattle.ground.specs.Findings.{gives_listed}
 use Rattle.site_report.specs.declared.tracked_site.TrackedSite.{TrackedSite}
+use Rattle.site_report.specs.declared.verdict.Verdict.{Verdict}
+use Rattle.site_report.specs.Sites.{IsKnownSite}
 use Rattle.report_rules.specs.Reports.{IsReport}
+use Rattle.report_rules.specs.Verdicts.{Asked, IsVerdict}
 use Rattle.folder_report.specs.Written.{IsWritten}
-use Rattle.folder_report.proofs.Reported.{as_many_answers, method_is_whole, reported, sites_are_known, target_is_method}
+use Rattle.folder_report.proofs.Reported.{as_many_verdicts, reported, sites_are_known}
 use Rattle.folder_report.proofs.report.report_of.Goals as goal
 
-pub tracked-requires-clause-targets : goal.tracked-requires-clause-targets
-tracked-requires-clause-targets c =
-    let p = c.args.program.now in
-    let (entry, limit, within, analysis) = c.requires.analysis in
-    target_is_method p entry limit c.args.ground.now within analysis (c.supplied_methods_are_whole.ensures p)
-
-pub prune-requires-clause-methods : goal.prune-requires-clause-methods
-prune-requires-clause-methods c =
-    let p = c.args.program.now in
-    let (entry, limit, within, analysis) = c.requires.analysis in
-    method_is_whole p entry limit c.args.ground.now within analysis (c.supplied_methods_are_whole.ensures p)
-
-pub prune-requires-clause-known : goal.prune-requires-clause-known
-prune-requires-clause-known c t there =
-    let p = c.args.program.now in
-    let (entry, limit, within, analysis) = c.requires.analysis in
-    let whole = c.supplied_methods_are_whole.ensures p in
+pub verdicts_of-requires-clause-known : goal.verdicts_of-requires-clause-known
+verdicts_of-requires-clause-known c t there =
+    let g = c.args.ground.now in
+    let (entry, limit, analysis) = c.requires.analysis in
+    let whole = c.supplied_methods_are_whole.ensures g.program in
     let among = subst (λ (ts : List TrackedSite). Contains ts t) c.as_slice.ensures.value there in
-    let known = sites_are_known p entry limit c.args.ground.now within analysis whole (name_at p c.args.upper.0) c.in_ok-sites.sites.items c.in_ok-sites.ensures t among in
+    let known = sites_are_known g.program entry limit g analysis whole (name_at g.program c.args.upper.0) c.in_ok-sites.sites.items c.in_ok-sites.ensures t among in
     known.class
 
 pub written-requires-clause-pairs : goal.written-requires-clause-pairs
 written-requires-clause-pairs c =
-    let p = c.args.program.now in
-    let (entry, limit, within, analysis) = c.requires.analysis in
-    let whole = c.supplied_methods_are_whole.ensures p in
+    let g = c.args.ground.now in
+    let (entry, limit, analysis) = c.requires.analysis in
+    let whole = c.supplied_methods_are_whole.ensures g.program in
     let sites = c.as_slice.result.now in
-    let answers = c.in_ok-answers.answers.items in
-    let many = as_many_answers p entry limit c.args.ground.now within analysis whole c.args.automaton.now sites answers c.in_ok-answers.ensures in
-    ap (length {A = Bool}) c.as_slice-3.ensures.value ∙ many ∙ ap (length {A = TrackedSite}) (c.as_slice.ensures.value ∙ sym c.as_slice-2.ensures.value)
+    let verdicts = c.in_ok-verdicts.verdicts.items in
+    let many = as_many_verdicts g.program entry limit g analysis whole c.args.automaton.now sites verdicts c.in_ok-verdicts.ensures in
+    ap (length {A = Verdict}) c.as_slice-3.ensures.value ∙ many ∙ ap (length {A = TrackedSite}) (c.as_slice.ensures.value ∙ sym c.as_slice-2.ensures.value)
 
 pub written-requires-clause-known : goal.written-requires-clause-known
 written-requires-clause-known c t there =
-    let p = c.args.program.now in
-    let (entry, limit, within, analysis) = c.requires.analysis in
-    let whole = c.supplied_methods_are_whole.ensures p in
+    let g = c.args.ground.now in
+    let (entry, limit, analysis) = c.requires.analysis in
+    let whole = c.supplied_methods_are_whole.ensures g.program in
     let among = subst (λ (ts : List TrackedSite). Contains ts t) c.as_slice-2.ensures.value there in
-    sites_are_known p entry limit c.args.ground.now within analysis whole (name_at p c.args.upper.0) c.in_ok-sites.sites.items c.in_ok-sites.ensures t among
+    let known = sites_are_known g.program entry limit g analysis whole (name_at g.program c.args.upper.0) c.in_ok-sites.sites.items c.in_ok-sites.ensures t among in
+    subst (λ (p : Program). IsKnownSite p t) (sym c.program.ensures) known
 
 pub returns : goal.returns
 returns c =
-    let p = c.args.program.now in
     let g = c.args.ground.now in
+    let p = c.program.result.now in
     let a = c.args.automaton.now in
     let sites = c.in_ok-sites.sites.items in
-    let answers = c.in_ok-answers.answers.items in
-    let (entry, limit, within, analysis) = c.requires.analysis in
-    let whole = c.supplied_methods_are_whole.ensures p in
+    let verdicts = c.in_ok-verdicts.verdicts.items in
+    let (entry, limit, analysis) = c.requires.analysis in
+    let whole = c.supplied_methods_are_whole.ensures g.program in
     IfOk-weaker c.written.result (λ r. IsWritten p c.as_slice-2.result.now c.as_slice-3.result.now (map (λ line. line.items) r.lines.items) r.all_safe)
-    (λ r. (facts : List Fact) → HasFacts g facts → IsReport p (IsSupplied p) (Contains facts) a (map (λ line. line.items) r.lines.items) r.all_safe)
-    (λ r w facts has.
+    (λ r. (stages : ℕ) → 1 ≤ stages → IsReport g.program (IsSupplied g.program) (Contains g.facts) (record { property = a; stages = stages }) (map (λ line. line.items) r.lines.items) r.all_safe)
+    (λ r w stages some.
+    let asked : Asked = record { property = a; stages = stages } in
     let lines = map (λ line. line.items) r.lines.items in
-    let pruned = IsPruningOf p (gives_listed (map nodes_of g.methods.items)) (Contains facts) a in
-    let told = subst (λ (ts : List TrackedSite). AllZip pruned ts answers) c.as_slice.ensures.value (c.in_ok-answers.ensures facts has) in
-    let of_sites = subst (λ (ts : List TrackedSite). IsWritten p ts c.as_slice-3.result.now lines r.all_safe) c.as_slice-2.ensures.value w in
-    let of_both = subst (λ (bs : List Bool). IsWritten p sites bs lines r.all_safe) c.as_slice-3.ensures.value of_sites in
-    let are = c.in_ok-sites.ensures facts has in
-    reported p entry limit g within analysis whole a (name_at p c.args.upper.0) c.requires.class facts has sites answers are told lines r.all_safe of_both)
+    let verdict = IsVerdict g.program (gives_listed g.methods) (Contains g.facts) asked in
+    let told = subst (λ (ts : List TrackedSite). AllZip verdict ts verdicts) c.as_slice.ensures.value (c.in_ok-verdicts.ensures stages some) in
+    let of_program = subst (λ (q : Program). IsWritten q c.as_slice-2.result.now c.as_slice-3.result.now lines r.all_safe) c.program.ensures w in
+    let of_sites = subst (λ (ts : List TrackedSite). IsWritten g.program ts c.as_slice-3.result.now lines r.all_safe) c.as_slice-2.ensures.value of_program in
+    let of_both = subst (λ (vs : List Verdict). IsWritten g.program sites vs lines r.all_safe) c.as_slice-3.ensures.value of_sites in
+    reported g.program entry limit g analysis whole asked (name_at g.program c.args.upper.0) c.requires.class sites verdicts c.in_ok-sites.ensures told lines
+    r.all_safe of_both)
     c.written.ensures

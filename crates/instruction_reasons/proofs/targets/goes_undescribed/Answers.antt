@@ -2,7 +2,8 @@ use Rattle.std.proofs.Common.{ap}
 use Rattle.std.specs.Prelude.{option_map}
 use Rattle.jvm_model.specs.declared.number.MethodNo.{MethodNo}
 use Rattle.instruction_reasons.specs.Judgements.{judged}
-use Rattle.instruction_reasons.specs.Reasons.{HasTarget, IsUndescribed}
+use Rattle.instruction_reasons.specs.Reasons.{HasTarget}
+use Rattle.jvm_model.specs.Programs.{IsUndescribed}
 use Rattle.instruction_reasons.proofs.Dispatch.{target_within}
 use Rattle.instruction_reasons.proofs.Only.{none_such, only_by, only_here, refuted, told}
 use Rattle.instruction_reasons.proofs.targets.goes_undescribed.Goals as goal

@@ -4,9 +4,10 @@ use Rattle.failure.specs.declared.Failure.{Failure}
 use Rattle.jvm_model.specs.declared.reason.Refusal.{Refusal}
 use Rattle.op_model.specs.declared.lowered.LoweredMethod.{LoweredMethod}
 use Rattle.points_to.specs.declared.solution.Solution.{Solution}
-use Rattle.points_to.specs.declared.solve_failure.SolveFault.{SolveFault}
+use Rattle.points_to_rules.specs.declared.solve_fault.SolveFault.{SolveFault}
 use Rattle.points_to.specs.Refusing.{IsNamed, IsRefusing}
-use Rattle.points_to.specs.Solutions.{IsSolved, IsSolveEnd}
+use Rattle.points_to.specs.Solutions.{IsSolved}
+use Rattle.points_to_rules.specs.Solutions.{IsSolveEnd}
 use Rattle.points_to.proofs.Ends.{if_err_and, if_ok_and, refusing_end, solved}
 use Rattle.points_to.proofs.NamedRefusals.{call_coded}
 use Rattle.points_to.proofs.solver.solve.Goals as goal

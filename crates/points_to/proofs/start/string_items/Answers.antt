@@ -6,7 +6,7 @@ use Rattle.slot_names.specs.declared.variable.Variable.TheVariants.{Parameter}
 use Rattle.points_to_rules.specs.Facts.{variable, elements_of, may_hold}
 use Rattle.points_to_rules.specs.Rules.{argument_site}
 use Rattle.points_to_items.specs.Items.{Item as RuleItem, known}
-use Rattle.points_to_tables.specs.declared.keys.Place.TheVariants as places
+use Rattle.points_to_rules.specs.declared.place.Place.TheVariants as places
 use Rattle.points_to_tables.specs.Steps.{IsHoldingOf}
 use Rattle.points_to_tables.proofs.Adding.{adds_both, adds_same}
 use Rattle.points_to_tables.proofs.Growing.{grows_on}

@@ -3,7 +3,7 @@ use Rattle.std.proofs.lemmas.Result.{IfOk-weaker}
 use Rattle.points_to_rules.specs.Facts.{kept_objects, returned_by, may_hold}
 use Rattle.points_to_items.specs.Items.{Item as RuleItem, pass_to, pass_fitting, known}
 use Rattle.points_to_tables.specs.declared.item.Item.TheVariants.{Holds}
-use Rattle.points_to_tables.specs.declared.keys.Place.TheVariants as places
+use Rattle.points_to_rules.specs.declared.place.Place.TheVariants as places
 use Rattle.points_to_tables.specs.declared.keys.User.TheVariants as users
 use Rattle.points_to_calls.specs.declared.gift.Gift.{Gift}
 use Rattle.points_to_calls.specs.Parts.{RuleGift, Gets, IsGiftAt}

@@ -7,7 +7,7 @@ use Rattle.points_to_rules.specs.Facts.{field_of, elements_of, may_hold}
 use Rattle.points_to_items.specs.ItemRules.{LandsAs}
 use Rattle.points_to_items.specs.Items.{User as ItemUser, Item as RuleItem, pass_to, throw_at, known, used}
 use Rattle.points_to_tables.specs.declared.item.Item.TheVariants.{Holds}
-use Rattle.points_to_tables.specs.declared.keys.Place.TheVariants as places
+use Rattle.points_to_rules.specs.declared.place.Place.TheVariants as places
 use Rattle.points_to_tables.specs.declared.keys.User.{User}
 use Rattle.points_to_tables.specs.declared.keys.User.TheVariants as users
 use Rattle.points_to_tables.specs.Numbered.{IsUserAt}

@@ -1,6 +1,6 @@
 use Rattle.std.proofs.Common.{ap, sym, ◌∙◌, subst, refl, List, Option}
 use Rattle.std.proofs.lemmas.Option.{slice_get_read, slice_get_past}
-use Rattle.points_to_tables.specs.declared.keys.PlaceNo.{PlaceNo}
+use Rattle.points_to_rules.specs.declared.place.PlaceNo.{PlaceNo}
 use Rattle.points_to_tables.specs.Numbered.{IsUnitAt}
 use Rattle.points_to_calls.specs.Parts.{unit_in}
 use Rattle.points_to_calls.proofs.CallParts.{units_at, unit_there, no_unit_there}

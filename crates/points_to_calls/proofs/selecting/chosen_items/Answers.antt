@@ -4,7 +4,7 @@ use Rattle.slot_names.specs.declared.variable.Variable.TheVariants.{Parameter}
 use Rattle.points_to_rules.specs.Facts.{variable, may_hold, may_call}
 use Rattle.points_to_items.specs.Items.{Item as RuleItem, known}
 use Rattle.points_to_tables.specs.declared.item.Item.TheVariants.{Calls}
-use Rattle.points_to_tables.specs.declared.keys.Place.TheVariants as places
+use Rattle.points_to_rules.specs.declared.place.Place.TheVariants as places
 use Rattle.points_to_calls.specs.Selecting.{DescribedItem}
 use Rattle.points_to_calls.proofs.Gifts.{resolves_on}
 use Rattle.points_to_tables.proofs.Making.{makes_one, makes_both, makes_held}

@@ -2,7 +2,7 @@ use Rattle.std.proofs.Common.{◌≡◌, refl}
 use Rattle.points_to_rules.specs.Facts.{kept_objects, may_run, thrown_by}
 use Rattle.points_to_items.specs.Items.{Item as RuleItem, known, pass_to, used}
 use Rattle.points_to_tables.specs.declared.item.Item.TheVariants.{Runs}
-use Rattle.points_to_tables.specs.declared.keys.Place.TheVariants as places
+use Rattle.points_to_rules.specs.declared.place.Place.TheVariants as places
 use Rattle.points_to_tables.specs.declared.keys.User.TheVariants as users
 use Rattle.points_to_tables.proofs.Making.{makes_both, makes_grown, makes_one, makes_used}
 use Rattle.points_to_methods.specs.Initiated.{IsInitiated}

@@ -2,7 +2,7 @@ use Rattle.std.proofs.Common.{refl}
 use Rattle.points_to_rules.specs.Facts.{elements_of}
 use Rattle.points_to_tables.proofs.AddedItems.{adds_held}
 use Rattle.points_to_tables.proofs.Making.{makes_grown, makes_added}
-use Rattle.points_to_tables.specs.declared.keys.Place.TheVariants.{Elements}
+use Rattle.points_to_rules.specs.declared.place.Place.TheVariants.{Elements}
 use Rattle.points_to_nodes.proofs.makes.nest_site.Goals as goal
 
 pub add_holding-requires-clause-place : goal.add_holding-requires-clause-place

@@ -1,7 +1,13 @@
 use Rattle.std.proofs.Common.{Global, map, string_bytes}
 use Rattle.command_words.specs.Requests.{wanted_of}
 use Rattle.typestate_core.proofs.Judging.{usable_told, usage_told}
+use Rattle.typestate_core.proofs.Stages.{some_stage}
 use Rattle.typestate_core.proofs.files.judge.Goals as goal
+
+pub judge_request-requires : goal.judge_request-requires
+judge_request-requires g c = record {
+  stages = some_stage (map (string_bytes {Z = Global}) c.args.words.now) (wanted_of c.in-Ok.request) c.in-Ok.ensures.asks;
+}
 
 pub returns-in-Ok-clause-told : goal.returns-in-Ok-clause-told
 returns-in-Ok-clause-told g c =

@@ -1,18 +1,30 @@
-use Rattle.std.proofs.Common.{ℕ, subst}
+use Rattle.std.proofs.Common.{◌≡◌, ℕ, sym, subst}
 use Rattle.command_words.specs.Requests.{wanted_of}
+use Rattle.folder_report.proofs.OwnProgram.{of_own_program}
 use Rattle.folder_supply.specs.Supplied.{IsSupplied}
-use Rattle.points_to.specs.Solutions.{IsSolveEnd}
+use Rattle.jvm_model.specs.Programs.{Program}
+use Rattle.linked_program.specs.Numbers.{IsClassNumber, name_at}
+use Rattle.points_to_rules.specs.Solutions.{IsSolveEnd}
 use Rattle.typestate_core.proofs.ProgramJudging.{end_told}
 use Rattle.typestate_core.proofs.Reported.{reported_told}
 use Rattle.typestate_core.proofs.program.judge_analysis.Goals as goal
 
+pub report_on-requires-clause-class : goal.report_on-requires-clause-class
+report_on-requires-clause-class c = subst (λ (p : Program). IsClassNumber p c.args.class.0) (sym c.in-Ok.ensures.ground.program) c.requires.class
+
+pub report_on-requires-clause-named : goal.report_on-requires-clause-named
+report_on-requires-clause-named c =
+    subst (λ (p : Program). name_at p c.args.class.0 ≡ c.args.automaton.now.class_name) (sym c.in-Ok.ensures.ground.program) c.requires.named
+
 pub report_on-requires-clause-analysis : goal.report_on-requires-clause-analysis
-report_on-requires-clause-analysis c = (c.args.entry, c.from.result, c.requires.entry, c.in-Ok.ensures.ground)
+report_on-requires-clause-analysis c =
+    let analysis = c.in-Ok.ensures.ground in
+    (c.args.entry, c.from.result, of_own_program c.args.program.now c.args.entry c.from.result c.in-Ok.ground analysis)
 
 pub returns-in-Ok-clause-told : goal.returns-in-Ok-clause-told
 returns-in-Ok-clause-told c =
     reported_told c.report_on.result (wanted_of c.args.request.now) c.args.automaton.now c.args.program.now c.args.entry c.from.result c.in-Ok.ground
-    c.from.ensures c.in-Ok.ensures.ground c.report_on.ensures.told
+    c.from.ensures c.requires.stages c.in-Ok.ensures.ground c.report_on.ensures.told
 
 pub returns-in-Err-clause-told : goal.returns-in-Err-clause-told
 returns-in-Err-clause-told c =

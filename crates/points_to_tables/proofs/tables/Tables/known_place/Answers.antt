@@ -4,7 +4,7 @@ use Rattle.std.specs.Option.{IfSome, IfNone}
 use Rattle.points_to_rules.specs.Facts.{Holder}
 use Rattle.points_to_tables.specs.Kept.{kept}
 use Rattle.points_to_tables.specs.Numbered.{IsHolderAt}
-use Rattle.points_to_tables.proofs.ExactKeys.{same_places}
+use Rattle.points_to_rules.proofs.ExactPlaces.{same_places}
 use Rattle.points_to_tables.proofs.KnownPlaces.{known_at, unknown}
 use Rattle.points_to_tables.proofs.tables.Tables.known_place.Goals as goal
 

@@ -1,9 +1,0 @@
-use Rattle.std.proofs.Common.{take}
-use Rattle.folder_report.specs.Found.{AreAdded, OfOne, TargetGives}
-use Rattle.folder_report.proofs.nodes.add_each_target.Given as goal
-
-abbrev pub invariant-loop-target : goal.invariant-loop-target
-invariant-loop-target l = record {
-  added : AreAdded (OfOne (TargetGives l.program l.upper l.method l.offset) (take l.target-index l.targets))
-      l.initial.sites.items l.sites.items;
-}

@@ -1,9 +1,0 @@
-use Rattle.std.proofs.Common.{take}
-use Rattle.folder_report.specs.Found.{AreAdded, IsSiteOf, OfOne}
-use Rattle.folder_report.proofs.nodes.add_nodes.Given as goal
-
-abbrev pub invariant-loop-node : goal.invariant-loop-node
-invariant-loop-node l = record {
-  added : AreAdded (OfOne (IsSiteOf l.program l.ground l.upper l.method) (take l.node-index l.nodes))
-      l.initial.sites.items l.sites.items;
-}

@@ -1,9 +1,0 @@
-use Rattle.std.proofs.Common.{take}
-use Rattle.folder_report.specs.Found.{AreAdded, GivesNew, OfOne}
-use Rattle.folder_report.proofs.targets.add_outcomes.Given as goal
-
-abbrev pub invariant-loop-outcome : goal.invariant-loop-outcome
-invariant-loop-outcome l = record {
-  added : AreAdded (OfOne (GivesNew l.program l.upper l.method l.offset) (take l.outcome-index l.outcomes))
-      l.initial.sites.items l.sites.items;
-}

@@ -1,0 +1,8 @@
+pub mod TellingFacts
+pub mod ExactKeys
+pub mod KeySets
+pub mod Views
+pub mod SlotPlaces
+pub mod EventNumbers
+pub mod Fronts
+pub mod Adding

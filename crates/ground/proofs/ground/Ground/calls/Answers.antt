@@ -1,0 +1,12 @@
+use Rattle.std.proofs.Common.{List, sym, subst}
+use Rattle.std.specs.List.{Contains}
+use Rattle.least_sets.proofs.Places.{contains_at}
+use Rattle.op_model.specs.declared.node.NodeRef.{NodeRef}
+use Rattle.points_to_rules.specs.Facts.{may_call}
+use Rattle.ground.proofs.Views.{so}
+use Rattle.ground.proofs.ground.Ground.calls.Goals as goal
+
+pub returns : goal.returns
+returns c = λ call m there.
+    let (number, at, listed) = (so c.self.inside.program.now c.self.inside.lists c.args.self.now c.self.view_is (may_call call m)).0 there in
+    subst (λ (calls : List NodeRef). Contains calls call) (sym c.as_slice.ensures.keys) (contains_at c.self.inside.lists.calls.keys number call at)

@@ -1,0 +1,8 @@
+use Rattle.std.proofs.Common.{◌≡◌, ◌∙◌, arith, length, vec_len}
+use Rattle.ground.proofs.Views.{site_count}
+use Rattle.ground.proofs.ground.Ground.site_count.Goals as goal
+
+pub returns : goal.returns
+returns c =
+    let long : vec_len c.self.inside.lists.sites ≡ length c.self.inside.lists.sites.items = omega arith in
+    c.len.ensures ∙ long ∙ site_count c.self.inside.program.now c.self.inside.lists c.args.self.now c.self.view_is

@@ -1,0 +1,6 @@
+pub mod Findings
+pub mod Lists
+pub mod Told
+pub mod Sound
+pub mod CallEvents
+pub mod Added

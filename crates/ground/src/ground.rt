@@ -1,0 +1,220 @@
+//! The ground, and what is read of it. No reading takes memory.
+
+ghost use Rattle.std.specs.Prelude.{◌≡◌, ◌↔◌, ◌<◌, ℕ, [], length, map, Contains, IsTrue, Some, slice_get, IfSome, IfNone};
+ghost use Rattle.jvm_model.specs.declared.number.MethodNo.{MethodNo as RuleMethodNo};
+ghost use Rattle.jvm_model.specs.declared.number.SiteNo.{SiteNo as RuleSiteNo};
+ghost use Rattle.jvm_model.specs.declared.site.Site.{Site as RuleSite};
+ghost use Rattle.linked_program.specs.Numbers.{IsMethodNumber};
+ghost use Rattle.op_model.specs.declared.lowered.LoweredMethod.{LoweredMethod as RuleMethod};
+ghost use Rattle.op_model.specs.declared.node.NodeRef.{NodeRef as RuleNodeRef};
+ghost use Rattle.least_sets.specs.Rules.{IsWithoutDoubles};
+ghost use Rattle.points_to_rules.specs.Facts.{Holder, may_call, may_hold, may_run, may_write, variable as variable_holder};
+ghost use Rattle.points_to_rules.specs.Places.{IsHolderIn};
+ghost use Rattle.points_to_rules.specs.WholeMethods.{IsMethodIn};
+ghost use Rattle.ground.specs.declared.lists.FieldWrite.{FieldWrite as RuleWrite};
+ghost use Rattle.ground.specs.Findings.{AreSitesOf, HasNode, IsSlotOf};
+ghost use Rattle.ground.specs.Lists.{HasFacts, holders_of, nodes_of};
+ghost use Rattle.ground.specs.Sound.{AreSound};
+
+use crate::lists::{FieldWrite, Lists, call_number};
+use jvm_model::{FieldNo, MethodNo, Site, SiteNo};
+use linked_program::program::Program;
+use op_model::{LoweredMethod, NodeRef};
+use points_to_rules::{Place, PlaceNo};
+use slot_names::{Variable, place_number};
+use std::marker::Model;
+
+/// What is known of a program. Contracts see its methods, its sites and holders by number, and its facts.
+#[derive(Drop)]
+pub struct Ground<'p> {
+    program: &'p Program,
+    lists: Lists,
+}
+
+impl<'p> Model for Ground<'p> {
+    ghost use Rattle.ground.specs.Findings.{Findings};
+    ghost use Rattle.ground.specs.Told.{findings_of};
+    ghost use Rattle.ground.specs.Sound.{AreSound as IsGround};
+
+    ghost Value = { Findings };
+
+    ghost view = { λ g. findings_of g.program.now g.lists };
+
+    ghost invariant = { λ g. IsGround g.program.now g.lists };
+}
+
+impl<'p> Ground<'p> {
+    /// The ground of lists that are those of a program.
+    pub fn of(program: &'p Program, lists: Lists) -> Ground<'p>
+        requires { AreSound program.now lists }
+        ensures program { result.program ≡ program.now }
+        ensures methods { result.methods ≡ map nodes_of lists.methods.items }
+        ensures sites { result.sites ≡ lists.sites.items }
+        ensures holders { result.holders ≡ holders_of lists }
+        ensures facts { HasFacts lists result.facts }
+    {
+        Ground { program, lists }
+    }
+
+    /// What holds of each ground: its methods are methods of the program, no site has two numbers, and targets of calls are methods of the program.
+    /// It does nothing.
+    pub fn well_formed(&self)
+        ensures methods { (l : RuleMethod) → Contains self.now.methods l → IsMethodIn self.now.program l.method.0 l }
+        ensures sites { IsWithoutDoubles self.now.sites }
+        ensures targets { (call : RuleNodeRef) (m : RuleMethodNo) → Contains self.now.facts (may_call call m) → IsMethodNumber self.now.program m.0 }
+    {
+        let _count = self.lists.methods.len();
+    }
+
+    /// The program.
+    pub fn program(&self) -> &'p Program
+        ensures { result.now ≡ self.now.program }
+    {
+        self.program
+    }
+
+    /// How many methods may run and have code.
+    pub fn method_count(&self) -> usize
+        ensures { result ≡ length self.now.methods }
+    {
+        self.lists.methods.len()
+    }
+
+    /// The method at a place among those that may run and have code.
+    pub fn method(&self, place: usize) -> &LoweredMethod
+        requires { place < length self.now.methods }
+        ensures { slice_get self.now.methods place ≡ Some result.now }
+    {
+        &self.lists.methods[place].method
+    }
+
+    /// How many sites there are.
+    pub fn site_count(&self) -> usize
+        ensures { result ≡ length self.now.sites }
+    {
+        self.lists.sites.len()
+    }
+
+    /// The site of a number.
+    pub fn site(&self, site: SiteNo) -> &Site
+        requires { site.0 < length self.now.sites }
+        ensures { slice_get self.now.sites site.0 ≡ Some result.now }
+    {
+        &self.lists.sites[site.0 as usize]
+    }
+
+    /// How many places there are.
+    pub fn place_count(&self) -> usize
+        ensures { result ≡ length self.now.holders }
+    {
+        self.lists.places.len()
+    }
+
+    /// The place of a number.
+    pub fn place(&self, place: PlaceNo) -> Place
+        requires { place.0 < length self.now.holders }
+        ensures { (h : Holder) → slice_get self.now.holders place.0 ≡ Some h → IsHolderIn self.now.sites result h }
+    {
+        *self.lists.places.get_index(place.0 as usize).unwrap()
+    }
+
+    /// The place of a slot at a node; `None` where nothing is known of it, so that it refers to no object. The method and the node are named by their
+    /// places, among the methods and among the nodes of the method.
+    pub fn place_of_slot(&self, method: usize, node: usize, slot: u32) -> Option<PlaceNo>
+        requires { HasNode self.now method node }
+        ensures holder { (h : Holder) × IsSlotOf self.now method node slot h }
+        ensures found { IfSome result (λ place. (h : Holder) → IsSlotOf self.now method node slot h → slice_get self.now.holders place.0 ≡ Some h) }
+        ensures none { IfNone result ((h : Holder) → IsSlotOf self.now method node slot h → AreSitesOf self.now h []) }
+    {
+        let named = &self.lists.methods[method];
+        let node = place_number(&named.method, node);
+        self.place_with(named.names.variable(node, slot))
+    }
+
+    /// The place of a variable.
+    fn place_with(&self, variable: Variable) -> Option<PlaceNo>
+        ensures found { IfSome result (λ place. slice_get self.now.holders place.0 ≡ Some (variable_holder variable)) }
+        ensures none { IfNone result (AreSitesOf self.now (variable_holder variable) []) }
+    {
+        let _count = self.lists.places.len();
+        match self.lists.places.get_index_of(&Place::Variable(variable)) {
+            Some(number) => Some(PlaceNo(number as u32)),
+            None => None,
+        }
+    }
+
+    /// The sites of the objects that a place may hold, in the order in which they were found.
+    pub fn sites_at(&self, place: PlaceNo) -> &[SiteNo]
+        ensures sites { (h : Holder) → slice_get self.now.holders place.0 ≡ Some h → AreSitesOf self.now h result.now }
+        ensures within { (site : RuleSiteNo) → Contains result.now site → site.0 < length self.now.sites }
+    {
+        self.lists.held.get(place.0)
+    }
+
+    /// The sites of the objects that a slot may refer to at a node.
+    pub fn sites_of_slot(&self, method: usize, node: usize, slot: u32) -> &[SiteNo]
+        requires { HasNode self.now method node }
+        ensures holder { (h : Holder) × IsSlotOf self.now method node slot h }
+        ensures sites { (h : Holder) → IsSlotOf self.now method node slot h → AreSitesOf self.now h result.now }
+        ensures within { (site : RuleSiteNo) → Contains result.now site → site.0 < length self.now.sites }
+    {
+        match self.place_of_slot(method, node, slot) {
+            Some(place) => self.sites_at(place),
+            None => &[],
+        }
+    }
+
+    /// Whether a place may hold an object of a site.
+    pub fn holds(&self, place: PlaceNo, site: SiteNo) -> bool
+        ensures { (h : Holder) (s : RuleSite) → slice_get self.now.holders place.0 ≡ Some h → slice_get self.now.sites site.0 ≡ Some s
+            → IsTrue result ↔ Contains self.now.facts (may_hold h s) }
+    {
+        self.well_formed();
+        self.sites_at(place).contains(&site)
+    }
+
+    /// Whether a method may run.
+    pub fn may_run(&self, method: MethodNo) -> bool
+        ensures { IsTrue result ↔ Contains self.now.facts (may_run method) }
+    {
+        self.lists.running.contains(&method)
+    }
+
+    /// The methods that may run, each once.
+    pub fn running(&self) -> &[MethodNo]
+        ensures { (m : RuleMethodNo) → Contains result.now m ↔ Contains self.now.facts (may_run m) }
+    {
+        self.lists.running.as_slice()
+    }
+
+    /// The methods to which a call may go.
+    pub fn targets_of(&self, call: NodeRef) -> &[MethodNo]
+        ensures { (m : RuleMethodNo) → Contains result.now m ↔ Contains self.now.facts (may_call call m) }
+    {
+        match call_number(&self.lists.calls, call) {
+            Some(number) => self.lists.targets.at(number),
+            None => &[],
+        }
+    }
+
+    /// The calls that may go to a method, each once.
+    pub fn calls(&self) -> &[NodeRef]
+        ensures { (call : RuleNodeRef) (m : RuleMethodNo) → Contains self.now.facts (may_call call m) → Contains result.now call }
+    {
+        self.lists.calls.as_slice()
+    }
+
+    /// Whether a method, or one that it calls or starts, may write an instance field.
+    pub fn may_write(&self, method: MethodNo, field: FieldNo) -> bool
+        ensures { IsTrue result ↔ Contains self.now.facts (may_write method field) }
+    {
+        self.lists.writes.contains(&FieldWrite { method, field })
+    }
+
+    /// The methods with the instance fields that they may write, each once.
+    pub fn writes(&self) -> &[FieldWrite]
+        ensures { (w : RuleWrite) → Contains result.now w ↔ Contains self.now.facts (may_write w.method w.field) }
+    {
+        self.lists.writes.as_slice()
+    }
+}

@@ -1,0 +1,2 @@
+pub mod ExactPlaces
+pub mod PlaceHolders

@@ -1,0 +1,47 @@
+-- Public contracts rest on this module.
+-- Methods as the analysis takes them: their nodes are all reached, and the numbers of classes, fields and methods that nodes name stand for
+-- something in the program.
+use Rattle.std.specs.Prelude.{◌≡◌, ℕ, Some, Ok, All, Contains}
+use Rattle.jvm_model.specs.declared.number.ClassNo.{ClassNo}
+use Rattle.jvm_model.specs.declared.number.FieldNo.{FieldNo}
+use Rattle.jvm_model.specs.declared.number.MethodNo.{MethodNo}
+use Rattle.jvm_model.specs.Programs.{Program}
+use Rattle.linked_program.specs.Numbers.{IsClassNumber, IsFieldNumber, IsMethodNumber}
+use Rattle.op_model.specs.declared.lowered.LoweredMethod.{LoweredMethod}
+use Rattle.op_model.specs.declared.node.Node.{Node}
+use Rattle.op_model.specs.declared.node.NodeHandler.{NodeHandler}
+use Rattle.op_model.specs.declared.op.Call.{Call as NodeCall}
+use Rattle.op_model.specs.declared.op.Op.TheVariants.{LoadStatic, Call}
+use Rattle.op_model.specs.Supplies.{GivenAs}
+use Rattle.slot_names.specs.Variables.{AreReachedNodes}
+
+-- There is a node at the offset.
+pub record HasNodeAt (l : LoweredMethod) (offset : ℕ) : Type 0 where
+  pub node : Node
+  pub stands : Contains l.nodes node
+  pub at : node.offset ≡ offset
+
+-- A method as the solver takes it: it has the number that was asked for, its nodes are all reached, and nodes stand where a node goes on and
+-- where a handler begins.
+pub record IsMethodOf (number : ℕ) (l : LoweredMethod) : Type 0 where
+  pub number_is : l.method ≡ record { 0 = number }
+  pub reached : AreReachedNodes l
+  pub successors : (n : Node) (offset : ℕ) → Contains l.nodes n → Contains n.successors offset → HasNodeAt l offset
+  pub handlers : (n : Node) (handler : NodeHandler) → Contains l.nodes n → Contains n.handlers handler → HasNodeAt l handler.target
+
+abbrev pub AreMethodsOf : GivenAs → Type 0
+AreMethodsOf gives = (number : ℕ) (l : LoweredMethod) → gives number (Ok l) → IsMethodOf number l
+
+-- The numbers that a node names stand for something in the program.
+pub record NamesNumbers (p : Program) (n : Node) : Type 0 where
+  pub throws : (c : ClassNo) → Contains n.throws c → IsClassNumber p c.0
+  pub trigger : (c : ClassNo) → n.trigger ≡ Some c → IsClassNumber p c.0
+  pub catches : (h : NodeHandler) (c : ClassNo) → Contains n.handlers h → h.catch ≡ Some c → IsClassNumber p c.0
+  pub statics : (field : FieldNo) (target : ℕ) → n.op ≡ LoadStatic field target → IsFieldNumber p field.0
+  pub resolved : (c : NodeCall) → n.op ≡ Call c → IsMethodNumber p c.resolved.0
+  pub chosen : (c : NodeCall) (target : MethodNo) → n.op ≡ Call c → c.chosen ≡ Some target → IsMethodNumber p target.0
+
+-- A method of a program, as the solver takes it.
+pub record IsMethodIn (p : Program) (number : ℕ) (l : LoweredMethod) : Type 0 where
+  pub method : IsMethodOf number l
+  pub numbers : All (NamesNumbers p) l.nodes

@@ -1,0 +1,4 @@
+pub mod FirstStages
+pub mod ReportOrder
+pub mod SameFacts
+pub mod OneReport

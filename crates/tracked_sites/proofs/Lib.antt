@@ -1,0 +1,4 @@
+mod ClassSites
+mod SiteOrder
+mod TargetBodies
+mod FoundSites
