@@ -1,5 +1,5 @@
 -- `==` on edges tells each two apart.
-use Rattle.std.proofs.Common.{◌≡◌, Bool, true, eqb}
+use Rattle.std.proofs.Common.{Bool, eqb}
 use Rattle.std.proofs.lemmas.Bool.{and_parts}
 use Rattle.std.proofs.lemmas.Map.Views.{exact_unsigned_eq}
 use Rattle.call_graph.specs.declared.edges.Edge.{Edge}

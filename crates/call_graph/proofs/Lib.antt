@@ -7,3 +7,4 @@ pub mod NodeEdges
 pub mod ReadSites
 pub mod SetsTaken
 pub mod SolutionLists
+mod NumberedMethods

@@ -1,14 +1,9 @@
 -- The lists of a solution are those of the program.
 use Rattle.std.proofs.Common.{◌≡◌, ℕ, ◌<◌, ◌^◌, List, length, map, Some, sym, ◌∙◌, ap, subst}
 use Rattle.std.specs.List.{slice_get, Contains}
-use Rattle.std.specs.declared.alloc.Global.{Global}
-use Rattle.std.specs.declared.vec.Vec.{Vec}
-use Rattle.jvm_model.specs.declared.number.MethodNo.{MethodNo}
 use Rattle.jvm_model.specs.declared.number.SiteNo.{SiteNo}
 use Rattle.jvm_model.specs.declared.site.Site.{Site}
 use Rattle.jvm_model.specs.Programs.{Program}
-use Rattle.linked_program.specs.Numbers.{IsMethodNumber}
-use Rattle.grouped_lists.specs.Groups.{values_at}
 use Rattle.least_sets.specs.Rules.{IsWithoutDoubles}
 use Rattle.points_to.specs.Solutions.{AreFactsOf}
 use Rattle.points_to_items.specs.Items.{Item as RuleItem}
@@ -16,7 +11,7 @@ use Rattle.points_to_rules.specs.declared.place.Place.{Place}
 use Rattle.points_to_rules.specs.declared.running_method.RunningMethod.{RunningMethod}
 use Rattle.points_to_rules.specs.Facts.{Fact, Holder}
 use Rattle.points_to_rules.specs.Places.{IsHolderIn, holder_from}
-use Rattle.points_to_rules.specs.WholeMethods.{IsMethodIn}
+use Rattle.points_to_rules.specs.WholeMethods.{IsWholeMethod}
 use Rattle.points_to_tables.specs.declared.item.Item.{Item}
 use Rattle.points_to_tables.specs.declared.item.Item.TheVariants.{Holds}
 use Rattle.points_to_tables.specs.Numbered.{Numbered, AreApart}
@@ -24,7 +19,7 @@ use Rattle.points_to_tables.specs.Steps.{IsItemAt}
 use Rattle.slot_names.specs.KeptNames.{name_table}
 use Rattle.slot_names.specs.Tables.{AreNames}
 use Rattle.ground.specs.declared.lists.Lists.{Lists}
-use Rattle.ground.specs.Lists.{holders_of}
+use Rattle.ground.specs.Lists.{number_of}
 use Rattle.ground.specs.Sound.{AreSound}
 use Rattle.call_graph.specs.declared.sets.Sets.{Sets}
 use Rattle.call_graph.specs.Grounds.{HaveTargets}
@@ -47,13 +42,14 @@ held_site : (n : Numbered) (place : ℕ) (site : SiteNo) (x : RuleItem) → IsIt
 held_site n place site x (h, s, holder, there, e) = (s, there)
 
 module _ (p : Program) (n : Numbered) (l : Lists) (are : AreNumbered n l) (items : List Item) (found : List Fact) (facts : AreFactsOf n items found) (sets : AreSetsOf n items (sets_in l)) where
-  pub are_sound : ((m : RunningMethod) → Contains l.methods.items m → IsMethodIn p m.method.method.0 m.method)
-      → ((m : RunningMethod) → Contains l.methods.items m → AreNames m.method (name_table m.names)) → AreApart n
+  pub are_sound : ((m : RunningMethod) → Contains l.methods.items m → IsWholeMethod p m.method.method.0 m.method)
+      → ((m : RunningMethod) → Contains l.methods.items m → AreNames m.method (name_table m.names)) → l.numbers.keys ≡ map number_of l.methods.items → AreApart n
       → ((number : ℕ) (place : Place) → slice_get l.places.keys number ≡ Some place → (h : Holder) × IsHolderIn n.sites place h)
       → HaveTargets p found → IsWithoutDoubles l.places.keys → length l.places.keys < 2 ^ 32 → AreSound p l
-  are_sound methods names apart stand targets places_apart few = record {
+  are_sound methods names numbered apart stand targets places_apart few = record {
     methods = methods;
     names = names;
+    numbered = numbered;
     apart = subst (λ (ss : List Site). IsWithoutDoubles ss) (sym are.sites) apart.sites;
     places = λ number place at.
         let (h, stands) = stand number place at in

@@ -8,21 +8,22 @@ ghost use Rattle.points_to_rules.specs.declared.place.Place.{Place};
 ghost use Rattle.points_to_rules.specs.declared.running_method.RunningMethod.{RunningMethod};
 ghost use Rattle.points_to_rules.specs.Facts.{Fact, Holder};
 ghost use Rattle.points_to_rules.specs.Places.{IsHolderIn, holder_from};
-ghost use Rattle.points_to_rules.specs.WholeMethods.{IsMethodIn};
+ghost use Rattle.points_to_rules.specs.WholeMethods.{IsWholeMethod};
 ghost use Rattle.points_to.specs.Solutions.{AreFactsOf};
-ghost use Rattle.ground.specs.Lists.{nodes_of};
+ghost use Rattle.ground.specs.Lists.{HaveDifferentNumbers, nodes_of, number_of};
 ghost use Rattle.call_graph.specs.Grounds.{HaveTargets, IsGround};
 ghost use Rattle.call_graph.specs.Sets.{AreSetsOf};
 ghost use Rattle.call_graph.specs.Written.{AreWrites};
 
 use crate::edges::edges_of;
+use crate::numbers::numbers_of;
 use crate::sets::{Sets, sets_of};
 use crate::sites::sites_of;
 use crate::stores::stores_of;
 use crate::writes::close_writes;
 use ground::{FieldWrite, Ground, Lists};
 use indexmap::IndexSet;
-use jvm_model::Site;
+use jvm_model::{MethodNo, Site};
 use linked_program::program::Program;
 use points_to::Solution;
 use points_to_rules::RunningMethod;
@@ -36,8 +37,9 @@ pub fn ground_of(
     solution: Solution,
 ) -> Result<Ground<'_>, AllocError>
     requires facts { (found : List Fact) × AreFactsOf solution.tables solution.items.items.keys found × HaveTargets program.now found }
-    requires methods { (m : RunningMethod) → Contains solution.methods.items m → IsMethodIn program.now m.method.method.0 m.method }
+    requires methods { (m : RunningMethod) → Contains solution.methods.items m → IsWholeMethod program.now m.method.method.0 m.method }
     requires names { (m : RunningMethod) → Contains solution.methods.items m → AreNames m.method (name_table m.names) }
+    requires apart { HaveDifferentNumbers solution.methods.items }
     ensures methods { IfOk result (λ g. g.methods ≡ map nodes_of solution.methods.items) }
     ensures facts { IfOk result (λ g. (found : List Fact) → AreFactsOf solution.tables solution.items.items.keys found → IsGround program.now found g) }
 {
@@ -46,26 +48,31 @@ pub fn ground_of(
     Ok(Ground::of(program, joined(solution, found)))
 }
 
-/// What is found of a solution: its sets, its sites, and the instance fields that each method may write.
+/// What is found of a solution: the numbers of its methods, its sets, its sites, and the instance fields that each method may write.
 #[derive(Drop)]
 struct Found {
+    numbers: IndexSet<MethodNo>,
     sets: Sets,
     sites: Vec<Site>,
     writes: IndexSet<FieldWrite>,
 }
 
-/// The sets and the sites of a solution, and the instance fields that each method may write.
+/// The numbers of the methods, the sets and the sites of a solution, and the instance fields that each method may write.
 fn found_in(alloc: Global, program: &Program, solution: &Solution) -> Result<Found, AllocError>
     requires facts { (found : List Fact) × AreFactsOf solution.now.tables solution.now.items.items.keys found }
-    requires methods { (m : RunningMethod) → Contains solution.now.methods.items m → IsMethodIn program.now m.method.method.0 m.method }
+    requires methods { (m : RunningMethod) → Contains solution.now.methods.items m → IsWholeMethod program.now m.method.method.0 m.method }
+    requires apart { HaveDifferentNumbers solution.now.methods.items }
+    ensures numbers { IfOk result (λ found. found.numbers.keys ≡ map number_of solution.now.methods.items) }
     ensures sets { IfOk result (λ found. AreSetsOf solution.now.tables solution.now.items.items.keys found.sets) }
     ensures sites { IfOk result (λ found. found.sites.items ≡ solution.now.tables.sites) }
     ensures writes { IfOk result (λ found. AreWrites program.now (map nodes_of solution.now.methods.items) found.sets found.writes.keys) }
 {
+    let numbers = numbers_of(alloc, &solution.methods)?;
     let sets = sets_of(alloc, &solution.tables, solution.items.items.as_slice())?;
     let sites = sites_of(alloc, &solution.tables)?;
     let writes = writes_of(alloc, program, &solution.methods, &sets)?;
     Ok(Found {
+        numbers,
         sets,
         sites,
         writes,
@@ -75,6 +82,7 @@ fn found_in(alloc: Global, program: &Program, solution: &Solution) -> Result<Fou
 /// The lists of a solution, of which this is found.
 fn joined(solution: Solution, found: Found) -> Lists
     ensures methods { result.methods ≡ solution.methods }
+    ensures numbers { result.numbers ≡ found.numbers }
     ensures sites { result.sites ≡ found.sites }
     ensures held { result.held ≡ found.sets.sites }
     ensures running { result.running ≡ found.sets.running }
@@ -88,6 +96,7 @@ fn joined(solution: Solution, found: Found) -> Lists
 {
     Lists {
         methods: solution.methods,
+        numbers: found.numbers,
         sites: found.sites,
         places: solution.tables.into_places(),
         held: found.sets.sites,
@@ -105,7 +114,7 @@ fn writes_of(
     methods: &[RunningMethod],
     sets: &Sets,
 ) -> Result<IndexSet<FieldWrite>, AllocError>
-    requires { (m : RunningMethod) → Contains methods.now m → IsMethodIn program.now m.method.method.0 m.method }
+    requires { (m : RunningMethod) → Contains methods.now m → IsWholeMethod program.now m.method.method.0 m.method }
     ensures { IfOk result (λ writes. AreWrites program.now (map nodes_of methods.now) sets.now writes.keys) }
 {
     let stores = stores_of(alloc, methods, &sets.running)?;

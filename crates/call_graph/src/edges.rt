@@ -4,7 +4,7 @@ ghost use Rattle.std.specs.Prelude.{◌≡◌, map, All, Contains, Some, IfOk, O
 ghost use Rattle.jvm_model.specs.declared.number.ClassNo.{ClassNo};
 ghost use Rattle.linked_program.specs.Numbers.{IsClassNumber};
 ghost use Rattle.points_to_rules.specs.declared.running_method.RunningMethod.{RunningMethod};
-ghost use Rattle.points_to_rules.specs.WholeMethods.{IsMethodIn, NamesNumbers};
+ghost use Rattle.points_to_rules.specs.WholeMethods.{IsWholeMethod, NamesNumbers};
 ghost use Rattle.points_to_rules.specs.Rules.{StartsAt};
 ghost use Rattle.ground.specs.Added.{AreAdded, OfOne};
 ghost use Rattle.call_graph.specs.Edges.{AreEdges, GoesTo, IsEdgeFrom, IsEdgeOf, OfRunning};
@@ -34,7 +34,7 @@ pub(crate) fn edges_of(
     methods: &[RunningMethod],
     sets: &Sets,
 ) -> Result<IndexSet<Edge>, AllocError>
-    requires { (m : RunningMethod) → Contains methods.now m → IsMethodIn program.now m.method.method.0 m.method }
+    requires { (m : RunningMethod) → Contains methods.now m → IsWholeMethod program.now m.method.method.0 m.method }
     ensures { IfOk result (λ edges. AreEdges program.now (map nodes_of methods.now) sets.now edges.keys) }
 {
     let mut edges = IndexSet::new(alloc);

@@ -4,6 +4,7 @@
 
 mod building;
 mod edges;
+mod numbers;
 mod sets;
 mod sites;
 mod stores;

@@ -26,7 +26,7 @@ pub record HasRead (start now : Option (List File)) (faults count : ℕ) (done :
   pub sound : All (λ (c : NamedClass). IsChecked c.class) classes
   pub room : size ≤ most_bytes_together
   pub same_files : now ≡ start
-  pub never_falls : faults ≤ count
+  pub no_fault : count ≡ faults
 
 -- ---- none that is listed is missing
 
@@ -115,9 +115,9 @@ pub reads_one_more : (start now after : Option (List File)) (faults count more :
     (old new : List NamedClass) (size sum : ℕ)
     → HasRead start now faults count done old size → IfSome now (λ files. IsReadNext files (string_bytes name) old size new sum)
     → (All (λ (c : NamedClass). IsChecked c.class) old → All (λ (c : NamedClass). IsChecked c.class) new) → sum ≤ most_bytes_together → after ≡ now
-    → count ≤ more
+    → more ≡ count
     → HasRead start after faults more (done ++ name ∷ []) new sum
-reads_one_more start now after faults count more done name old new size sum read next sound room same falls = record {
+reads_one_more start now after faults count more done name old new size sum read next sound room same unfailing = record {
   so_far = if_some start (λ files. IsReadSoFar files (map (string_bytes {Z = Global}) (done ++ name ∷ [])) new sum)
       (λ files e. subst (λ (xs : List (List ℕ)). IsReadSoFar files xs new sum) (sym (map-append (string_bytes {Z = Global}) done (name ∷ [])))
       ((at_some now (λ files. IsReadNext files (string_bytes name) old size new sum) files (read.same_files ∙ e) next).next
@@ -126,7 +126,7 @@ reads_one_more start now after faults count more done name old new size sum read
   sound = sound read.sound;
   room = room;
   same_files = same ∙ read.same_files;
-  never_falls = let f = read.never_falls in omega arith;
+  no_fault = unfailing ∙ read.no_fault;
 }
 
 pub reads_all : (start now : Option (List File)) (faults count : ℕ) (all done : List (String Global)) (classes : List NamedClass) (size : ℕ)

@@ -1,6 +1,6 @@
 //! Reading class files, one after another.
 
-ghost use Rattle.std.specs.Prelude.{◌≡◌, ◌≤◌, All, IfOk, IfErr, IfSome, IsErrOf, OnOk, map, string_bytes};
+ghost use Rattle.std.specs.Prelude.{◌≡◌, ◌≢◌, ◌≤◌, All, IfOk, IfErr, IfSome, IsErrOf, OnOk, map, string_bytes};
 ghost use Rattle.failure.specs.declared.Failure.TheVariants.{Cause};
 ghost use Rattle.jvm_model.specs.declared.program.NamedClass.{NamedClass as RuleNamedClass};
 ghost use Rattle.jvm_model.specs.Soundness.{IsChecked};
@@ -36,6 +36,7 @@ pub fn read_classes<T: Tree>(alloc: Global, tree: &mut T) -> Result<Vec<NamedCla
     ensures sound { IfOk result (λ classes. All (λ (c : RuleNamedClass). IsChecked c.class) classes.items) }
     ensures failure { IfErr result (λ failure. IfSome (T.files tree.old) (λ files. IsFolderFailure files failure)) }
     ensures unreadable { IsErrOf result (Cause unreadable) → Rose (T.faults tree.old) (T.faults tree.new) }
+    ensures no_fault { result ≢ Err (Cause unreadable) → T.faults tree.new ≡ T.faults tree.old }
     ensures same_files { T.files tree.new ≡ T.files tree.old }
     ensures never_falls { T.faults tree.old ≤ T.faults tree.new }
 {
@@ -55,6 +56,7 @@ fn listed<T: Tree>(alloc: Global, tree: &mut T) -> Result<Vec<String>, FolderFai
     ensures listed { IfOk result (λ names. IfSome (T.files tree.old) (λ files. AreListed files (map string_bytes names.items))) }
     ensures failure { IfErr result (λ failure. IfSome (T.files tree.old) (λ files. IsFolderFailure files failure)) }
     ensures unreadable { IsErrOf result (Cause unreadable) → Rose (T.faults tree.old) (T.faults tree.new) }
+    ensures no_fault { result ≢ Err (Cause unreadable) → T.faults tree.new ≡ T.faults tree.old }
     ensures same_files { T.files tree.new ≡ T.files tree.old }
     ensures never_falls { T.faults tree.old ≤ T.faults tree.new }
 {
@@ -88,6 +90,7 @@ impl Reading {
         ensures size { OnOk result (self.new.size ≤ most_bytes_together) }
         ensures failure { IfErr result (λ failure. IfSome (T.files tree.old) (λ files. IsNextFailure files (string_bytes name) self.old.size failure)) }
         ensures unreadable { IsErrOf result (Cause unreadable) → Rose (T.faults tree.old) (T.faults tree.new) }
+        ensures no_fault { result ≢ Err (Cause unreadable) → T.faults tree.new ≡ T.faults tree.old }
         ensures same_files { T.files tree.new ≡ T.files tree.old }
         ensures never_falls { T.faults tree.old ≤ T.faults tree.new }
     {

@@ -12,7 +12,7 @@ use Rattle.node_machine.specs.Nodes.{StandsAt}
 use Rattle.node_machine.specs.NodeSteps.{AtNode, Leads, Advances}
 use Rattle.points_to_rules.specs.Facts.{Fact}
 use Rattle.points_to_rules.specs.Rules.{Instance}
-use Rattle.coverage.specs.Methods.{AreWholeMethods}
+use Rattle.points_to_rules.specs.WholeMethods.{AreWholeMethods}
 use Rattle.coverage.specs.Covering.{StandsIn, IsCoveredFrame, AreCoveredBelow, Covers}
 use Rattle.coverage.proofs.Worlds.{IsLater}
 use Rattle.coverage.proofs.Frames.{below_on, frames_are}

@@ -6,7 +6,9 @@ use Rattle.std.proofs.lemmas.Option.{same_Some, none-some}
 use Rattle.jvm_model.specs.declared.site.Site.{Site}
 use Rattle.bytecode_machine.specs.States.{Value, primitive_value, null_value, reference_to, elements, Object, default_value, is_reference_type, default_element, new_array, Dimension, references_from, arrays_of_arrays, arrays_from}
 use Rattle.coverage.specs.References.{LeadsTo, IsCovered}
-use Rattle.coverage.proofs.Lists.{first_there, more_there, where_there, none_there, front_of, behind, IsBehind, where_joined}
+use Rattle.program_laws.proofs.Orders.{first_there, more_there, where_there, none_there}
+use Rattle.least_sets.proofs.Places.{in_longer}
+use Rattle.coverage.proofs.Lists.{behind, IsBehind, where_joined}
 
 -- ---- values that are no references
 
@@ -79,7 +81,7 @@ pub first_at : (state place count : ℕ) (d : Dimension) (deeper : List Dimensio
 first_at state place count d [] k lt = record { object = _; held = replicate_at count _ k lt; of_site = refl }
 first_at state place count d (e ∷ deeper) k lt =
     let r = some_row d state (place + count) count k lt in
-    record { object = r.object; held = front_of (arrays_of_arrays d state (place + count) count) (arrays_from state (place + count) (count * d.long) (e ∷ deeper)) k r.object r.held; of_site = r.of_site }
+    record { object = r.object; held = in_longer (arrays_of_arrays d state (place + count) count) (arrays_from state (place + count) (count * d.long) (e ∷ deeper)) k r.object r.held; of_site = r.of_site }
 
 -- a reference to a place in a range
 record IsReferenceIn (first long : ℕ) (v : Value) : Type 0 where

@@ -24,11 +24,12 @@ use Rattle.slot_laws.proofs.Places.{same_node, first_of_all}
 use Rattle.points_to_rules.specs.Calls.{IsOfFile}
 use Rattle.points_to_rules.specs.Facts.{Holder, variable, returned_by, Fact, may_run, may_call}
 use Rattle.points_to_rules.specs.Rules.{node_of, Instance, enter, pass, target_runs, return, receive}
-use Rattle.coverage.specs.Methods.{AreWholeMethods}
+use Rattle.points_to_rules.specs.WholeMethods.{AreWholeMethods}
 use Rattle.coverage.proofs.RefusedCalls.{HasNoRefusedCall}
 use Rattle.coverage.specs.References.{IsCovered}
 use Rattle.coverage.specs.Covering.{MayHold, StandsIn, StandsSomewhere, IsCoveredFrame, node_at, HasPassed, WaitsForCall, AreCoveredBelow, Covers}
-use Rattle.coverage.proofs.Lists.{none_there, first_there, listed_or_not}
+use Rattle.program_laws.proofs.Orders.{none_there, first_there}
+use Rattle.coverage.proofs.Lists.{listed_or_not}
 use Rattle.coverage.proofs.Values.{grows_not, covered_on, covered_by, covered_at, covered_as}
 use Rattle.coverage.proofs.Worlds.{IsLater, events_later}
 use Rattle.coverage.proofs.Frames.{frame_on, below_on, frames_are, caller_is}

@@ -21,12 +21,13 @@ use Rattle.slot_names.specs.Variables.{IsVariable}
 use Rattle.points_to_rules.specs.Calls.{IsOfFile}
 use Rattle.points_to_rules.specs.Facts.{Holder, variable, kept_objects, thrown_by, Fact, may_hold, may_call}
 use Rattle.points_to_rules.specs.Rules.{IsSlotAt, Lands, caught, uncaught, node_of, site_of, Instance, handle, target_throws, described_throws, initialiser_throws, keep_thrown}
-use Rattle.coverage.specs.Methods.{AreWholeMethods}
+use Rattle.points_to_rules.specs.WholeMethods.{AreWholeMethods}
 use Rattle.coverage.proofs.RefusedCalls.{HasNoRefusedCall}
 use Rattle.coverage.specs.References.{LeadsTo, IsCovered}
 use Rattle.coverage.specs.Sites.{of_node, of_thrown}
 use Rattle.coverage.specs.Covering.{MayHold, StandsIn, IsCoveredFrame, IsCoveredCaller, AreCoveredBelow, IsCoveredThrow, IsCoveredMode, Covers}
-use Rattle.coverage.proofs.Lists.{none_there, where_there, contains_placed}
+use Rattle.program_laws.proofs.Orders.{none_there, where_there}
+use Rattle.least_sets.proofs.Places.{contains_at}
 use Rattle.coverage.proofs.Values.{covered_by, covered_as}
 use Rattle.coverage.proofs.Worlds.{kept_later}
 use Rattle.coverage.proofs.Frames.{frame_on, below_on, frames_are, caller_is}
@@ -200,7 +201,7 @@ module _ (x : Subject) (given : Given) (gives : GivenAs) (S : Fact → Type 0) (
       after = kept_world x given gives S map closed whole unrefused s at a.calls i first d
 
       listed : Contains d.stub.throws a.throws.class
-      listed = contains_placed d.stub.throws a.throws.place a.throws.class a.throws.listed
+      listed = contains_at d.stub.throws a.throws.place a.throws.class a.throws.listed
 
       lands : LandsAll x given gives S map closed whole at.frame a.throws.class
       lands m l n to there landing =

@@ -23,11 +23,11 @@ use Rattle.node_machine.specs.NodeSteps.{Leads, NodeStep, advances, enters, gets
 use Rattle.points_to_rules.specs.Facts.{Fact, may_run, may_call, may_write}
 use Rattle.points_to_rules.specs.Rules.{IsNodeOf, node_of, Instance}
 use Rattle.points_to_rules.specs.Writes.{WriteInstance, write, target_writes, initialiser_writes}
-use Rattle.coverage.specs.Methods.{AreWholeMethods}
+use Rattle.points_to_rules.specs.WholeMethods.{AreWholeMethods}
 use Rattle.coverage.proofs.RefusedCalls.{HasNoRefusedCall}
 use Rattle.coverage.specs.Covering.{IsCoveredFrame, AreCoveredBelow, Covers}
 use Rattle.coverage.specs.Changes.{ChangesOnly, StayAbove, ChangesAreWritten}
-use Rattle.coverage.proofs.Lists.{none_there, where_there}
+use Rattle.program_laws.proofs.Orders.{none_there, where_there}
 use Rattle.coverage.proofs.Frames.{frames_are}
 use Rattle.coverage.proofs.Places.{Place, in_method, at_start, place_of, node_is}
 use Rattle.coverage.proofs.Advancing.{start_leads_not}

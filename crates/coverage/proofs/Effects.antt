@@ -10,8 +10,9 @@ use Rattle.op_model.specs.declared.op.Source.TheVariants.{Slot, Null, Primitive}
 use Rattle.bytecode_machine.specs.States.{Value, primitive_value, null_value, slot_at}
 use Rattle.node_machine.specs.Slots.{source_value, AreMoved}
 use Rattle.slot_names.specs.Variables.{Effect, keeps, moves, writes, effect_on, effect_of_move}
-use Rattle.coverage.specs.Operands.{source_slots, read_slots}
-use Rattle.coverage.proofs.Lists.{first_there, more_there, where_there, none_there, IsFound, found, not_found}
+use Rattle.points_to_rules.specs.ReadSlots.{source_slots, read_slots}
+use Rattle.program_laws.proofs.Orders.{first_there, more_there, where_there, none_there}
+use Rattle.coverage.proofs.Lists.{IsFound, found, not_found}
 
 -- ---- operations that write some slots
 

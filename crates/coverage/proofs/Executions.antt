@@ -8,10 +8,10 @@ use Rattle.node_machine.specs.NodeExecutions.{AreNodeSteps}
 use Rattle.node_machine.specs.NodeSteps.{NodeStep, advances, enters, gets_result, gets_exception, enters_entry, returns, resumes, ends, raises, throws, catches, unwinds, starts, wraps}
 use Rattle.points_to_rules.specs.Facts.{Fact}
 use Rattle.points_to_rules.specs.Rules.{Instance}
-use Rattle.coverage.specs.Methods.{AreWholeMethods, as_given}
+use Rattle.points_to_rules.specs.WholeMethods.{AreWholeMethods, as_given}
 use Rattle.coverage.proofs.RefusedCalls.{HasNoRefusedCall}
 use Rattle.coverage.specs.Covering.{Covers, CoversAll}
-use Rattle.coverage.proofs.Lists.{none_there, where_there}
+use Rattle.program_laws.proofs.Orders.{none_there, where_there}
 use Rattle.coverage.proofs.Advancing.{advances_cover}
 use Rattle.coverage.proofs.Calls.{enters_cover, returns_cover, resumes_cover, ends_cover}
 use Rattle.coverage.proofs.Stubs.{gets_result_covers}

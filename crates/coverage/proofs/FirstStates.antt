@@ -17,12 +17,14 @@ use Rattle.bytecode_machine.specs.Objects.{Subject, string_name, constant_classe
 use Rattle.bytecode_machine.specs.Start.{boot_site, boot_object, held_classes, boot_classes, held_place, MayBeArgument, IsArgumentArray, AreArgumentObjects, BeginsAs, no_field, holding, by_default, constant, IsFirst}
 use Rattle.bytecode_machine.specs.States.{Value, primitive_value, null_value, reference_to, fields, elements, Object, State, new_array, default_value}
 use Rattle.points_to_rules.specs.Facts.{elements_of, Fact, may_hold}
-use Rattle.points_to_rules.specs.Rules.{HasArguments, argument_site, Instance, entry_strings, BeginsWith}
+use Rattle.points_to_rules.specs.Rules.{HasArguments, argument_site, Instance, entry_strings}
 use Rattle.points_to_rules.specs.Rules as rules
 use Rattle.coverage.specs.References.{LeadsTo, IsCovered}
 use Rattle.coverage.specs.Sites.{of_start, of_arguments}
 use Rattle.coverage.specs.Covering.{MayHold, MayHoldStatic, IsCoveredObject, Covers}
-use Rattle.coverage.proofs.Lists.{none_there, contains_placed, single, front_of, behind, IsBehind, where_joined}
+use Rattle.program_laws.proofs.Orders.{none_there}
+use Rattle.least_sets.proofs.Places.{contains_at, in_longer}
+use Rattle.coverage.proofs.Lists.{single, behind, IsBehind, where_joined}
 use Rattle.coverage.proofs.Values.{leads_by, covered_as, covered_by}
 use Rattle.coverage.proofs.Arrays.{default_covered}
 use Rattle.coverage.proofs.Worlds.{new_covered}
@@ -53,7 +55,7 @@ module _ (x : Subject) (gives : GivenAs) (S : Fact → Type 0) (closed : IsClose
 
     boot_at : (place : ℕ) (class : List ℕ) → slice_get (boot_classes x.program) place ≡ Some class → slice_get heap place ≡ Some (boot_object x class)
     boot_at place class e =
-        front_of (map (boot_object x) (boot_classes x.program)) objects place (boot_object x class)
+        in_longer (map (boot_object x) (boot_classes x.program)) objects place (boot_object x class)
         (slice_get-map (boot_object x) (boot_classes x.program) place ∙ ap (option_map (boot_object x)) e)
 
     boot_leads : (place : ℕ) (class : List ℕ) → slice_get (boot_classes x.program) place ≡ Some class → LeadsTo (λ s. s ≡ boot_site class) heap place
@@ -62,7 +64,7 @@ module _ (x : Subject) (gives : GivenAs) (S : Fact → Type 0) (closed : IsClose
     constant_leads : (class : List ℕ) (v : Value) → IsConstant class v → IsCovered (λ s. s ≡ boot_site class) heap v
     constant_leads class v c =
         covered_as (λ s. s ≡ boot_site class) heap (reference_to c.place) v c.is
-        (boot_leads c.place class (front_of constant_classes (held_classes x.program.fields) c.place class c.stands))
+        (boot_leads c.place class (in_longer constant_classes (held_classes x.program.fields) c.place class c.stands))
 
     -- ---- the arguments
 
@@ -118,7 +120,7 @@ module _ (x : Subject) (gives : GivenAs) (S : Fact → Type 0) (closed : IsClose
         by (Some class) e is =
             let same : boot_object x class ≡ o = same_Some (boot_object x class) o (sym (ap (option_map (boot_object x)) e) ∙ is) in
             subst (λ (q : Object). IsCoveredObject x.program gives S heap q) same
-            (new_covered x gives S heap (boot_site class) x.property.initial (of_start class (contains_placed (boot_classes x.program) place class e) refl))
+            (new_covered x gives S heap (boot_site class) x.property.initial (of_start class (contains_at (boot_classes x.program) place class e) refl))
     object_covered place o (inr late) = argument_covered late.after o late.held (bytes_eq m.signature.descriptor plain_descriptor) refl
 
     static_covered : (field : FieldNo) (v : Value) → BeginsAs x.program field.0 v → IsCovered (MayHoldStatic x.program S field) heap v
@@ -140,7 +142,7 @@ module _ (x : Subject) (gives : GivenAs) (S : Fact → Type 0) (closed : IsClose
           statics = λ field. static_covered h.entry h.stands h.objects h.arguments field (h.statics field.0) (h.begins field.0);
           kept = λ place there. absurd (none_there place there);
           start = record {
-            constants = λ place class there. boot_leads h.entry h.stands h.objects h.arguments place class (front_of constant_classes (held_classes x.program.fields) place class there);
+            constants = λ place class there. boot_leads h.entry h.stands h.objects h.arguments place class (in_longer constant_classes (held_classes x.program.fields) place class there);
             arguments = λ entry there some.
                 let same : entry ≡ h.entry = same_Some entry h.entry (sym there ∙ h.stands) in
                 argument_leads h.entry h.stands h.objects h.arguments (bytes_eq h.entry.signature.descriptor plain_descriptor) refl

@@ -6,7 +6,8 @@ use Rattle.std.proofs.lemmas.Option.{same_Some}
 use Rattle.jvm_model.specs.declared.number.FieldNo.{FieldNo}
 use Rattle.bytecode_machine.specs.States.{Value, fields, Object, updated}
 use Rattle.coverage.specs.Changes.{HasFields, KeepsFields, ChangesOnly}
-use Rattle.coverage.proofs.Lists.{front_of, set_here, set_there}
+use Rattle.least_sets.proofs.Places.{in_longer}
+use Rattle.coverage.proofs.Lists.{set_here, set_there}
 
 same_fields : (values others : ℕ → Value) → fields values ≡ fields others → values ≡ others
 same_fields values others e = cc
@@ -22,7 +23,7 @@ module _ (Written : FieldNo → Type 0) where
   none_changed heap place o held = object_kept o heap place held
 
   pub more_changed : (heap more : List Object) → ChangesOnly Written heap (heap ++ more)
-  more_changed heap more place o held = object_kept o (heap ++ more) place (front_of heap more place o held)
+  more_changed heap more place o held = object_kept o (heap ++ more) place (in_longer heap more place o held)
 
   pub one_changed : (heap : List Object) (at : ℕ) (old new : Object) → slice_get heap at ≡ Some old → ((values : ℕ → Value) → old.contents ≡ fields values → HasFields Written values new)
       → ChangesOnly Written heap (slice_set heap at new)

@@ -1,26 +1,9 @@
 -- Lists by their places.
-use Rattle.std.proofs.Common.{◌≡◌, ◌⊎◌, inl, inr, ℕ, zero, suc, ◌+◌, ◌<◌, Bool, true, false, cond, List, [], ◌∷◌, ◌++◌, length, get_or, Option, Some, None, slice_get, Contains, find, refl, sym, ap, ◌∙◌, subst, arith}
+use Rattle.std.proofs.Common.{◌≡◌, ◌⊎◌, inl, inr, ℕ, zero, suc, ◌+◌, Bool, true, false, cond, List, [], ◌∷◌, ◌++◌, length, Option, Some, None, slice_get, Contains, find, refl, sym, ap, ◌∙◌, subst, arith}
 use Rattle.std.specs.Prelude.{slice_set}
 use Rattle.std.proofs.lemmas.Bool.{cases_Bool, cases_eq}
-use Rattle.std.proofs.lemmas.Option.{slice_get-get_or, slice_get_within, get_or_from_slice_get, none-some, same_Some}
-
--- ---- one by one
-
-pub none_there : {X : Type 0} (y : X) → Contains [] y → ⊥
-none_there y there = let few = there.1 in omega arith
-
-pub first_there : {X : Type 0} (x : X) (xs : List X) → Contains (x ∷ xs) x
-first_there x xs = (0, omega arith, refl)
-
-pub more_there : {X : Type 0} (x y : X) (xs : List X) → Contains xs y → Contains (x ∷ xs) y
-more_there x y xs there = let few = there.1 in (suc there.0, omega arith, there.2)
-
-pub where_there : {X : Type 0} (x y : X) (xs : List X) → Contains (x ∷ xs) y → (x ≡ y) ⊎ Contains xs y
-where_there x y xs there = at there.0 there.1 there.2
-  where
-    at : (k : ℕ) → k < length (x ∷ xs) → get_or (x ∷ xs) k y ≡ y → (x ≡ y) ⊎ Contains xs y
-    at zero lt e = inl e
-    at (suc k) lt e = inr (k, omega arith, e)
+use Rattle.std.proofs.lemmas.Option.{slice_get-get_or, none-some, same_Some}
+use Rattle.program_laws.proofs.Orders.{none_there, first_there, more_there, where_there}
 
 -- ---- by place
 
@@ -30,9 +13,6 @@ single x y (suc k) e = absurd (none-some y e)
 
 pub placed : {X : Type 0} (xs : List X) (x : X) (at : Contains xs x) → slice_get xs at.0 ≡ Some x
 placed xs x at = slice_get-get_or xs at.0 x at.1 ∙ ap Some at.2
-
-pub contains_placed : {X : Type 0} (xs : List X) (k : ℕ) (x : X) → slice_get xs k ≡ Some x → Contains xs x
-contains_placed xs k x e = (k, slice_get_within xs k x e, get_or_from_slice_get xs k x x e)
 
 -- whether a number is among some
 pub listed_or_not : (xs : List ℕ) (z : ℕ) → Contains xs z ⊎ (Contains xs z → ⊥)
@@ -77,11 +57,6 @@ not_found {X = X} test (y ∷ xs) e x there is = by (not_found test xs) (cases_B
     by later (inr t) (inr rest) = later (sym (ap (λ (b : Bool). cond b (Some y) (find test xs)) t) ∙ e) x rest is
 
 -- ---- one list after another
-
-pub front_of : {X : Type 0} (xs ys : List X) (k : ℕ) (x : X) → slice_get xs k ≡ Some x → slice_get (xs ++ ys) k ≡ Some x
-front_of [] ys k x e = absurd (none-some x e)
-front_of (y ∷ xs) ys zero x e = e
-front_of (y ∷ xs) ys (suc k) x e = front_of xs ys k x e
 
 pub behind : {X : Type 0} (xs ys : List X) (k : ℕ) (x : X) → slice_get ys k ≡ Some x → slice_get (xs ++ ys) (length xs + k) ≡ Some x
 behind [] ys k x e = let same : k ≡ 0 + k = omega arith in subst (λ (i : ℕ). slice_get ys i ≡ Some x) same e

@@ -11,7 +11,8 @@ use Rattle.bytecode_machine.specs.States.{Frame}
 use Rattle.node_machine.specs.Nodes.{IsStartCall, IsStartReturn, AreStartNodes, HasNodes, of_start, of_method, StandsAt}
 use Rattle.points_to_rules.specs.Rules.{node_of}
 use Rattle.coverage.specs.Covering.{StandsIn, node_at}
-use Rattle.coverage.proofs.Lists.{none_there, where_there, IsFound, found}
+use Rattle.program_laws.proofs.Orders.{none_there, where_there}
+use Rattle.coverage.proofs.Lists.{IsFound, found}
 
 -- a node of the start
 abbrev pub IsStartNode : Subject → Node → Type 0

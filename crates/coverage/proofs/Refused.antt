@@ -18,9 +18,10 @@ use Rattle.jvm_model.proofs.CodePlaces.{place_is}
 use Rattle.op_model.specs.Supplies.{GivenAs, IsCodedMethod}
 use Rattle.points_to_rules.specs.Facts.{Fact}
 use Rattle.points_to_rules.specs.Refusals.{IsCodeStart, of_call, IsUnrefused}
-use Rattle.coverage.specs.Methods.{AreWholeMethods}
+use Rattle.points_to_rules.specs.WholeMethods.{AreWholeMethods}
 use Rattle.coverage.proofs.RefusedCalls.{HasNoRefusedCall}
-use Rattle.coverage.proofs.Lists.{none_there, where_there, contains_placed}
+use Rattle.program_laws.proofs.Orders.{none_there, where_there}
+use Rattle.least_sets.proofs.Places.{contains_at}
 
 -- ---- the first that passes a test
 
@@ -72,7 +73,7 @@ class_among (c ∷ classes) name there = by (class_among classes name) (bytes_eq
 
 some_start : (p : Program) → IsProgram p → (m : MethodNo) → IsCodedMethod p m.0 → (name : List ℕ) × (start : ℕ) × IsCodeStart p m name start
 some_start p program m coded =
-    let there = All-contains (λ (k : Method). IsThere p k.class) p.methods coded.method program.methods (contains_placed p.methods m.0 coded.method coded.stands) in
+    let there = All-contains (λ (k : Method). IsThere p k.class) p.methods coded.method program.methods (contains_at p.methods m.0 coded.method coded.stands) in
     let class = class_among p.classes coded.method.class there in
     let place = some_place coded.file coded.place coded.code in (
       class.0.file,

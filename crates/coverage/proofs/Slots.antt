@@ -17,8 +17,8 @@ use Rattle.slot_names.specs.Variables.{keeps, moves, effect_on, IsPredecessor, I
 use Rattle.slot_laws.proofs.EachVariable.{each_variable}
 use Rattle.points_to_rules.specs.Facts.{Holder, variable, Fact, may_run}
 use Rattle.points_to_rules.specs.Rules.{IsNodeOf, IsSlot, IsSlotAfter, Instance, keep, move}
-use Rattle.coverage.specs.Methods.{AreWholeMethods}
-use Rattle.coverage.specs.Operands.{read_slots}
+use Rattle.points_to_rules.specs.WholeMethods.{AreWholeMethods}
+use Rattle.points_to_rules.specs.ReadSlots.{read_slots}
 use Rattle.coverage.specs.References.{IsCovered}
 use Rattle.coverage.specs.Covering.{MayHold}
 use Rattle.coverage.proofs.Lists.{listed_or_not, some_or_not}

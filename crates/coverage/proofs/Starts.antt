@@ -1,6 +1,6 @@
 -- Initialisers that begin, and the call of the entry.
-use Rattle.std.proofs.Common.{◌≡◌, inl, inr, ℕ, zero, suc, Bool, true, false, cond, ◌||◌, List, [], ◌∷◌, length, filter, Option, Some, None, refl, sym, ap, ◌∙◌, subst}
-use Rattle.std.specs.List.{list_any, slice_get}
+use Rattle.std.proofs.Common.{◌≡◌, inl, inr, ℕ, zero, suc, Bool, true, false, cond, List, [], ◌∷◌, length, Option, Some, None, refl, sym, ap, ◌∙◌, subst}
+use Rattle.std.specs.List.{slice_get}
 use Rattle.std.specs.Str.{bytes_eq}
 use Rattle.std.proofs.lemmas.Bool.{false≢true}
 use Rattle.std.proofs.lemmas.Option.{same_Some, none-some}
@@ -8,14 +8,14 @@ use Rattle.std.proofs.lemmas.Slice.Eq.{bytes_eq-Decides}
 use Rattle.jvm_model.specs.declared.number.ClassNo.{ClassNo}
 use Rattle.jvm_model.specs.declared.number.MethodNo.{MethodNo}
 use Rattle.jvm_model.specs.declared.site.Site.{Site}
-use Rattle.jvm_model.specs.Programs.{Program, Method}
-use Rattle.jvm_model.specs.Soundness.{is_code, plain_descriptor}
+use Rattle.jvm_model.specs.Programs.{Method}
+use Rattle.jvm_model.specs.Soundness.{plain_descriptor}
 use Rattle.least_sets.specs.Rules.{IsClosedSet}
 use Rattle.op_model.specs.declared.lowered.LoweredMethod.{LoweredMethod}
 use Rattle.op_model.specs.declared.node.Node.{Node}
 use Rattle.op_model.specs.declared.node.NodeRef.{NodeRef}
 use Rattle.op_model.specs.Supplies.{Given, GivenAs, IsMapOf}
-use Rattle.bytecode_machine.specs.Machine.{AtStart, IsInitialiser}
+use Rattle.bytecode_machine.specs.Machine.{AtStart}
 use Rattle.bytecode_machine.specs.Objects.{Subject}
 use Rattle.bytecode_machine.specs.Start.{arguments_of, boot_classes}
 use Rattle.bytecode_machine.specs.States.{primitive_value, reference_to, State, slot_at}
@@ -24,38 +24,16 @@ use Rattle.node_machine.specs.NodeSteps.{AtNode, Starts, EntersEntry}
 use Rattle.slot_names.specs.declared.variable.Variable.TheVariants.{Parameter}
 use Rattle.points_to_rules.specs.Facts.{variable, Fact, may_hold, may_run, may_call}
 use Rattle.points_to_rules.specs.Rules.{StartsAt, before_entry, at_node, start_call, argument_site, Instance, entry_runs, entry_called, entry_argument, initialiser_runs}
-use Rattle.coverage.specs.Methods.{AreWholeMethods}
+use Rattle.points_to_rules.specs.WholeMethods.{AreWholeMethods}
 use Rattle.coverage.specs.References.{IsCovered}
 use Rattle.coverage.specs.Covering.{MayHold, StandsIn, StandsSomewhere, IsCoveredFrame, node_at, WaitsForInitialiser, AreCoveredBelow, IsCoveredWorld, Covers}
+use Rattle.node_laws.proofs.CodedInitialisers.{coded_initialiser}
 use Rattle.coverage.proofs.Values.{covered_as, leads_by}
 use Rattle.coverage.proofs.Worlds.{started_later}
 use Rattle.coverage.proofs.Frames.{frames_are}
 use Rattle.coverage.proofs.Places.{Place, in_method, at_start, place_of, stands_in}
 use Rattle.coverage.proofs.Calls.{same_method, one_node, begins_frame}
 use Rattle.coverage.proofs.Throws.{class_is}
-
--- ---- initialisers with code
-
-some_of_filter : {X : Type 0} (f : X → Bool) (xs : List X) (y : X) (ys : List X) → filter f xs ≡ y ∷ ys → list_any f xs ≡ true
-some_of_filter f [] y ys e = absurd cc
-some_of_filter f (x ∷ xs) y ys e = by (f x) refl (λ other. some_of_filter f xs y ys other)
-  where
-    by : (b : Bool) → f x ≡ b → (filter f xs ≡ y ∷ ys → list_any f xs ≡ true) → list_any f (x ∷ xs) ≡ true
-    by true is later = ap (λ (b : Bool). b || list_any f xs) is
-    by false is later = ap (λ (b : Bool). b || list_any f xs) is ∙ later (sym (ap (λ (b : Bool). cond b (x ∷ filter f xs) (filter f xs)) is) ∙ e)
-
-coded_initialiser : (p : Program) (class : List ℕ) (number : ℕ) → IsInitialiser p class number → IsCodedInitialiser p class number
-coded_initialiser p class number i = record {
-  method = i.code.method;
-  stands = i.code.stands;
-  named = i.named;
-  file = i.code.file;
-  place = i.code.place;
-  member = i.code.member;
-  of_file = i.code.of_file;
-  code = some_of_filter (is_code i.code.file.pool) i.code.member.attributes i.code.has.code [] i.code.has.only;
-  above = i.above;
-}
 
 module _ (x : Subject) (given : Given) (gives : GivenAs) (S : Fact → Type 0) (map : IsMapOf given gives) (closed : IsClosedSet (Instance x.program gives (record { 0 = x.entry })) S)
     (whole : AreWholeMethods x.program gives) where

@@ -24,12 +24,14 @@ use Rattle.slot_names.specs.Variables.{effect_on}
 use Rattle.points_to_rules.specs.Calls.{IsDescribedBy}
 use Rattle.points_to_rules.specs.Facts.{Holder, kept_objects, Fact, may_hold, may_run}
 use Rattle.points_to_rules.specs.Rules.{IsSlotAfter, IsArgument, site_of, Instance, keep_argument, give_argument, give_new, give_kept}
-use Rattle.coverage.specs.Methods.{AreWholeMethods}
+use Rattle.points_to_rules.specs.WholeMethods.{AreWholeMethods}
+use Rattle.points_to_rules.proofs.Flattened.{among_flat}
 use Rattle.coverage.proofs.RefusedCalls.{HasNoRefusedCall}
 use Rattle.coverage.specs.References.{LeadsTo, IsCovered}
 use Rattle.coverage.specs.Sites.{of_node, of_result}
 use Rattle.coverage.specs.Covering.{MayHold, StandsIn, IsCoveredWorld, Covers}
-use Rattle.coverage.proofs.Lists.{none_there, where_there, contains_placed}
+use Rattle.program_laws.proofs.Orders.{none_there, where_there}
+use Rattle.least_sets.proofs.Places.{contains_at}
 use Rattle.coverage.proofs.Values.{Grows, grows_on, covered_on, covered_by, covered_at, covered_as, leads_from, leads_by}
 use Rattle.coverage.proofs.Worlds.{IsLater, kept_later, object_made}
 use Rattle.coverage.proofs.Frames.{below_on}
@@ -37,7 +39,7 @@ use Rattle.coverage.proofs.Effects.{kept_before}
 use Rattle.coverage.proofs.Within.{same_place}
 use Rattle.coverage.proofs.Slots.{AreSlotsCovered, IsNext, left_slots}
 use Rattle.coverage.proofs.Advancing.{slots_here, moved_frame}
-use Rattle.coverage.proofs.Units.{IsUnit, of_slot, of_none, unit_is, among_flat}
+use Rattle.coverage.proofs.Units.{IsUnit, of_slot, of_none, unit_is}
 use Rattle.coverage.proofs.Calls.{IsInside, inside_of, IsCalled, called_by, argument_at}
 
 -- what a frame allocates, its node does
@@ -189,7 +191,7 @@ module _ (x : Subject) (given : Given) (gives : GivenAs) (S : Fact → Type 0) (
       call i = called_by x given gives S map closed whole unrefused s at a.calls i d.method d.stands c
 
       result : (i : IsInside x given gives S map closed whole at.frame at.now.node) → IsResult s at a.calls i (call i) d a.value a.world
-      result i = result_covered s at a.calls i (call i) d a.gives.result a.value a.world (contains_placed d.stub.returns a.gives.place a.gives.result a.gives.listed) a.gives.gives
+      result i = result_covered s at a.calls i (call i) d a.gives.result a.value a.world (contains_at d.stub.returns a.gives.place a.gives.result a.gives.listed) a.gives.gives
 
       i : IsInside x given gives S map closed whole at.frame at.now.node
       i = inside_of x given gives S map closed whole at.frame at.now a.calls.number a.calls.in_method

@@ -26,7 +26,7 @@ use Rattle.points_to_rules.specs.Calls.{SelectsAs, SelectsFor, IsReceiver, MayPa
 use Rattle.points_to_rules.specs.Facts.{Fact, may_hold, may_run, may_call}
 use Rattle.points_to_rules.specs.Refusals.{not_selected}
 use Rattle.points_to_rules.specs.Rules.{IsNodeOf, node_of, Instance, call_chosen, call_selected}
-use Rattle.coverage.specs.Methods.{AreWholeMethods}
+use Rattle.points_to_rules.specs.WholeMethods.{AreWholeMethods}
 use Rattle.coverage.proofs.RefusedCalls.{HasNoRefusedCall}
 use Rattle.coverage.specs.Covering.{MayHold, IsCoveredWorld}
 use Rattle.coverage.proofs.Values.{among_from}
@@ -80,12 +80,12 @@ selects_as p by_interface c s receiver target m stands selects refused = by (is_
     by false e = (receiver, selected target m selects stands e (λ other. refused PackageOverride (receiver, hidden target m selects stands e other refl)) refl)
 
 -- a reference that is the first unit is that of a slot
-record IsFirstUnit (c : NodeCall) (slots : List Value) (place : ℕ) : Type 0 where
-  z : ℕ
-  at : slice_get c.arguments 0 ≡ Some (Some z)
-  is : slot_at slots z ≡ reference_to place
+pub record IsFirstUnit (c : NodeCall) (slots : List Value) (place : ℕ) : Type 0 where
+  pub z : ℕ
+  pub at : slice_get c.arguments 0 ≡ Some (Some z)
+  pub is : slot_at slots z ≡ reference_to place
 
-first_unit : (c : NodeCall) (slots : List Value) (place : ℕ) → slot_at (argument_values c.arguments slots) 0 ≡ reference_to place → IsFirstUnit c slots place
+pub first_unit : (c : NodeCall) (slots : List Value) (place : ℕ) → slot_at (argument_values c.arguments slots) 0 ≡ reference_to place → IsFirstUnit c slots place
 first_unit c slots place e = by (unit_is c.arguments slots 0)
   where
     by : IsUnit c.arguments slots 0 → IsFirstUnit c slots place

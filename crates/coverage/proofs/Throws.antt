@@ -19,11 +19,11 @@ use Rattle.node_machine.specs.Nodes.{IsClassNumber, IsThrownAt, raised, initiali
 use Rattle.node_machine.specs.NodeSteps.{AtNode, Raises, Throws, IsFirstTaking}
 use Rattle.points_to_rules.specs.Facts.{Holder, Fact, may_hold}
 use Rattle.points_to_rules.specs.Rules.{Lands, site_of, Instance, throw, raise}
-use Rattle.coverage.specs.Methods.{AreWholeMethods}
+use Rattle.points_to_rules.specs.WholeMethods.{AreWholeMethods}
 use Rattle.coverage.specs.References.{LeadsTo}
 use Rattle.coverage.specs.Sites.{IsSite, of_node, of_raised, before_entry}
 use Rattle.coverage.specs.Covering.{MayHold, StandsIn, IsCoveredFrame, AreCoveredBelow, IsCoveredWorld, Covers}
-use Rattle.coverage.proofs.Lists.{none_there, first_there, more_there}
+use Rattle.program_laws.proofs.Orders.{none_there, first_there, more_there}
 use Rattle.coverage.proofs.Values.{among_from}
 use Rattle.coverage.proofs.Worlds.{object_made}
 use Rattle.coverage.proofs.Frames.{frame_on, below_on, frames_are}

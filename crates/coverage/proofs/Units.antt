@@ -1,11 +1,11 @@
 -- The units of a call: each is the value of a slot that the call reads, or a primitive.
-use Rattle.std.proofs.Common.{◌≡◌, ◌⊎◌, inl, inr, ℕ, zero, suc, List, [], ◌∷◌, Option, Some, None, Contains, flat_map, option_to_list, refl, sym, subst}
+use Rattle.std.proofs.Common.{◌≡◌, ℕ, zero, suc, List, [], ◌∷◌, Option, Some, None, Contains, option_to_list, refl, sym, subst}
 use Rattle.std.specs.Prelude.{slice_get}
-use Rattle.std.proofs.lemmas.List.Elements.{Contains-append_left, Contains-append_right, Contains-append_cases}
+use Rattle.std.proofs.lemmas.List.Elements.{Contains-append_left, Contains-append_right}
 use Rattle.std.proofs.lemmas.Option.{same_Some, none-some}
 use Rattle.bytecode_machine.specs.States.{Value, primitive_value, slot_at}
 use Rattle.node_machine.specs.Slots.{argument_values, argument_slots}
-use Rattle.coverage.proofs.Lists.{none_there, first_there, more_there}
+use Rattle.program_laws.proofs.Orders.{first_there}
 
 -- what a unit of a call is
 pub data IsUnit (arguments : List (Option ℕ)) (slots : List Value) (unit : ℕ) : Type 0 where
@@ -28,17 +28,3 @@ argument_there (a ∷ arguments) zero z e =
     Contains-append_left (option_to_list a) (argument_slots arguments) z
     (subst (λ (o : Option ℕ). Contains (option_to_list o) z) (sym (same_Some a (Some z) e)) (first_there z []))
 argument_there (a ∷ arguments) (suc unit) z e = Contains-append_right (option_to_list a) (argument_slots arguments) z (argument_there arguments unit z e)
-
--- an element of one of several lists
-pub record IsAmong {X Y : Type 0} (f : X → List Y) (xs : List X) (y : Y) : Type 0 where
-  pub of : X
-  pub there : Contains xs of
-  pub gives : Contains (f of) y
-
-pub among_flat : {X Y : Type 0} (f : X → List Y) (xs : List X) (y : Y) → Contains (flat_map f xs) y → IsAmong f xs y
-among_flat f [] y there = absurd (none_there y there)
-among_flat {X = X} {Y = Y} f (x ∷ xs) y there = by (among_flat f xs y) (Contains-append_cases (f x) (flat_map f xs) y there)
-  where
-    by : (Contains (flat_map f xs) y → IsAmong f xs y) → Contains (f x) y ⊎ Contains (flat_map f xs) y → IsAmong f (x ∷ xs) y
-    by rest (inl here) = record { of = x; there = first_there x xs; gives = here }
-    by rest (inr later) = let r = rest later in record { of = r.of; there = more_there x r.of xs r.there; gives = r.gives }

@@ -8,7 +8,7 @@ use Rattle.bytecode_machine.specs.Objects.{Subject}
 use Rattle.bytecode_machine.specs.States.{State}
 use Rattle.points_to_rules.specs.Facts.{Fact, may_call}
 use Rattle.points_to_rules.specs.Rules.{Instance}
-use Rattle.coverage.specs.Methods.{AreWholeMethods}
+use Rattle.points_to_rules.specs.WholeMethods.{AreWholeMethods}
 use Rattle.coverage.specs.Covering.{Covers}
 use Rattle.coverage.specs.Uses.{Informs, InformsAll}
 use Rattle.coverage.proofs.RefusedCalls.{HasNoRefusedCall}

@@ -6,7 +6,8 @@ use Rattle.std.proofs.lemmas.Option.{same_Some}
 use Rattle.jvm_model.specs.declared.site.Site.{Site}
 use Rattle.bytecode_machine.specs.States.{Value, primitive_value, null_value, reference_to, Object}
 use Rattle.coverage.specs.References.{LeadsTo, IsCovered}
-use Rattle.coverage.proofs.Lists.{front_of, set_here, set_there}
+use Rattle.least_sets.proofs.Places.{in_longer}
+use Rattle.coverage.proofs.Lists.{set_here, set_there}
 
 -- ---- heaps that grow
 
@@ -24,7 +25,7 @@ pub grows_not : (heap : List Object) → Grows heap heap
 grows_not heap = record { stays = λ place o held. record { object = o; held = held; site = refl; class = refl } }
 
 pub grows_more : (heap more : List Object) → Grows heap (heap ++ more)
-grows_more heap more = record { stays = λ place o held. record { object = o; held = front_of heap more place o held; site = refl; class = refl } }
+grows_more heap more = record { stays = λ place o held. record { object = o; held = in_longer heap more place o held; site = refl; class = refl } }
 
 pub grows_changed : (heap : List Object) (place : ℕ) (old new : Object) → slice_get heap place ≡ Some old → new.site ≡ old.site → new.class ≡ old.class → Grows heap (slice_set heap place new)
 grows_changed heap place old new is site class = record { stays = λ k o held. by k o held (cases_eq k place) }

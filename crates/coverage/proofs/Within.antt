@@ -21,11 +21,12 @@ use Rattle.node_machine.specs.Slots.{AreSame}
 use Rattle.slot_names.specs.Variables.{effect_on}
 use Rattle.points_to_rules.specs.Facts.{variable, field_of, elements_of, static_field, Fact, may_hold, may_run}
 use Rattle.points_to_rules.specs.Rules.{IsNodeOf, IsSlotAfter, Instance, load, load_element, load_static, make, make_array, get_constant, cast, store, store_element, store_static, nest, begin_static}
-use Rattle.coverage.specs.Methods.{AreWholeMethods}
+use Rattle.points_to_rules.specs.WholeMethods.{AreWholeMethods}
 use Rattle.coverage.specs.References.{IsCovered}
 use Rattle.coverage.specs.Sites.{IsSite, of_node, IsMadeAt, of_new, of_new_array}
 use Rattle.coverage.specs.Covering.{MayHold, MayHoldStatic, IsCoveredWorld}
-use Rattle.coverage.proofs.Lists.{none_there, first_there, more_there, where_there, where_set}
+use Rattle.program_laws.proofs.Orders.{none_there, first_there, more_there, where_there}
+use Rattle.coverage.proofs.Lists.{where_set}
 use Rattle.coverage.proofs.Values.{grows_not, covered_by, covered_at, covered_as, among_from}
 use Rattle.coverage.proofs.Arrays.{AreNested}
 use Rattle.coverage.proofs.Effects.{no_write}

@@ -11,7 +11,7 @@ ghost use Rattle.points_to_rules.specs.Rules.{Instance};
 ghost use Rattle.points_to_rules.specs.Writes.{AnyInstance};
 ghost use Rattle.coverage.specs.Changes.{ChangesAreWritten};
 ghost use Rattle.coverage.specs.Covering.{CoversAll};
-ghost use Rattle.coverage.specs.Methods.{AreWholeMethods, as_given};
+ghost use Rattle.points_to_rules.specs.WholeMethods.{AreWholeMethods, as_given};
 ghost use Rattle.coverage.specs.Uses.{InformsAll};
 
 /// A set that is given as a test, is closed under the rules and has no refusal covers each state of each execution on nodes.

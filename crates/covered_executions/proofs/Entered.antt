@@ -25,7 +25,7 @@ use Rattle.simulation.proofs.Known.{LoweredCode}
 use Rattle.simulation.proofs.StartFrames.{OneConcerned, is_triggered}
 use Rattle.simulation.specs.Simulation.{AreLowered, exception_names}
 use Rattle.coverage.specs.Covering.{Covers}
-use Rattle.coverage.specs.Methods.{AreWholeMethods}
+use Rattle.points_to_rules.specs.WholeMethods.{AreWholeMethods}
 use Rattle.coverage.proofs.Calls.{called_by, inside_of}
 use Rattle.coverage.proofs.Frames.{frames_are}
 use Rattle.coverage.proofs.RefusedCalls.{HasNoRefusedCall}

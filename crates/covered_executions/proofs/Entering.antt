@@ -19,7 +19,7 @@ use Rattle.simulation.proofs.Known.{LoweredCode}
 use Rattle.simulation.proofs.StartFrames.{OneConcerned}
 use Rattle.simulation.specs.Simulation.{AreLowered, HasNodes, exception_names}
 use Rattle.coverage.specs.Covering.{Covers}
-use Rattle.coverage.specs.Methods.{AreWholeMethods}
+use Rattle.points_to_rules.specs.WholeMethods.{AreWholeMethods}
 use Rattle.coverage.proofs.RefusedCalls.{HasNoRefusedCall}
 use Rattle.covered_executions.proofs.Entered.{ServesCode, entry_may_run, given_as_nodes, initialiser_may_run, target_may_run}
 use Rattle.covered_executions.proofs.Frames.{Each, frames_of, lowered_as, newest, none, rest, with_newest}

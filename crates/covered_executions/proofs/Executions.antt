@@ -25,7 +25,7 @@ use Rattle.simulation.proofs.Simulated.{step_shown}
 use Rattle.simulation.proofs.StartFrames.{OneConcerned}
 use Rattle.simulation.specs.Simulation.{AreLowered, IsRun, exception_names}
 use Rattle.coverage.specs.Covering.{Covers}
-use Rattle.coverage.specs.Methods.{AreWholeMethods}
+use Rattle.points_to_rules.specs.WholeMethods.{AreWholeMethods}
 use Rattle.coverage.proofs.Executions.{covers_all, step_covers}
 use Rattle.coverage.proofs.FirstStates.{first_covered}
 use Rattle.coverage.proofs.RefusedCalls.{HasNoRefusedCall}

@@ -13,7 +13,7 @@ ghost use Rattle.points_to_rules.specs.Rules.{Instance};
 ghost use Rattle.folder_supply.specs.Supplied.{IsSupplied};
 ghost use Rattle.simulation.specs.Simulation.{AreLowered, IsRun};
 ghost use Rattle.coverage.specs.Covering.{Covers};
-ghost use Rattle.coverage.specs.Methods.{AreWholeMethods};
+ghost use Rattle.points_to_rules.specs.WholeMethods.{AreWholeMethods};
 
 /// An execution of bytecode, in a program in whose closed set of facts nothing is refused, enters no method without nodes: so it is an
 /// execution of the nodes, and the set covers each of its states.

@@ -8,7 +8,6 @@ use Rattle.jvm_model.specs.declared.site.Site.{Site}
 use Rattle.jvm_model.specs.Programs.{Program}
 use Rattle.jvm_model.specs.Selection.{Selection, selected, no_code, nothing, several, hidden}
 use Rattle.linked_program.specs.Numbers.{IsMethodNumber}
-use Rattle.op_model.specs.declared.lowered.LoweredMethod.{LoweredMethod}
 use Rattle.op_model.specs.declared.node.NodeRef.{NodeRef}
 use Rattle.op_model.specs.declared.op.CallKind.{CallKind}
 use Rattle.op_model.specs.declared.op.CallKind.TheVariants.{Virtual, Special, Static, Interface}
@@ -19,7 +18,7 @@ use Rattle.least_sets.proofs.Least.{least_in_closed}
 use Rattle.points_to_rules.specs.Calls.{SelectsFor}
 use Rattle.points_to_rules.specs.Facts.{Fact, may_hold, may_run, may_call, may_write}
 use Rattle.points_to_rules.specs.Rules.{Instance, entry_runs, entry_called, entry_argument, entry_strings, keep, move, enter, handle, load, load_element, load_static, make, make_array, get_constant, cast, store, store_element, store_static, nest, begin_static, call_chosen, call_selected, target_runs, pass, return, receive, keep_argument, give_argument, give_new, give_kept, throw, raise, target_throws, described_throws, initialiser_throws, initialiser_runs, keep_thrown}
-use Rattle.points_to_rules.specs.WholeMethods.{IsMethodIn, NamesNumbers}
+use Rattle.points_to_rules.specs.WholeMethods.{AreWholeMethods, NamesNumbers}
 
 -- The target, if it is a fact of a call, is a method of the program.
 abbrev IsInRange : Program → Fact → Type 0
@@ -46,7 +45,7 @@ module _ (p : Program) where
   target_in Interface resolved s target (receiver, selects) = selected_in _ (selecting_class s.class) resolved.0 (Ok target) target refl selects
 
 module _ (p : Program) (gives : GivenAs) (entry : MethodNo) (within : IsMethodNumber p entry.0)
-    (methods : (number : ℕ) (l : LoweredMethod) → gives number (Ok l) → IsMethodIn p number l) where
+    (methods : AreWholeMethods p gives) where
   each_in : (premises : List Fact) (fact : Fact) → Instance p gives entry premises fact → IsInRange p fact
   each_in premises fact entry_runs = tt
   each_in premises fact entry_called = within

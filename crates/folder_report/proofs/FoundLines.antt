@@ -1,10 +1,9 @@
 -- The sites with their verdicts, one after another: their lines, how many of them have a verdict, and whether all are safe.
 use Rattle.std.proofs.Common.{◌≡◌, ◌↔◌, ℕ, zero, suc, ◌+◌, ◌≤◌, Bool, cond, List, [], ◌∷◌, ◌++◌, length, drop, map, Some, slice_get, IsTrue, refl, sym, ap, ◌∙◌, arith, add-one, append_assoc, append-nil}
 use Rattle.std.specs.Prelude.{zip}
-use Rattle.std.specs.declared.alloc.Global.{Global}
-use Rattle.std.specs.declared.vec.Vec.{Vec}
 use Rattle.std.specs.List.{All, AllByRecursion, count_by}
-use Rattle.std.proofs.lemmas.List.{drop_all, map-append}
+use Rattle.std.proofs.lemmas.Grind.{flat_map-append}
+use Rattle.std.proofs.lemmas.List.{drop_all}
 use Rattle.std.proofs.lemmas.List.Elements.{All-from_recursion, recursion_from_All}
 use Rattle.std.proofs.lemmas.List.Sums.{sum_by-cons}
 use Rattle.std.proofs.lemmas.Option.{none-some, same_Some}
@@ -15,6 +14,7 @@ use Rattle.site_report.specs.declared.verdict.Verdict.TheVariants.{Safe, Unprove
 use Rattle.site_report.specs.Lines.{summary_line, verdict_line}
 use Rattle.report_rules.specs.Reports.{is_safe, is_unproved, is_limit, line_of, report_lines}
 use Rattle.folder_report.specs.declared.writing.Counts.{Counts}
+use Rattle.folder_report.specs.Texts.{text_of}
 use Rattle.folder_report.specs.Written.{AreCounts, lines_of}
 
 -- ---- one more line
@@ -31,31 +31,24 @@ next_found (x ∷ sites) (u ∷ verdicts) zero t v at given =
     (λ i. (same_site i, same_verdict i) ∷ zip sites verdicts)
 next_found (x ∷ sites) (u ∷ verdicts) (suc i) t v at given = next_found sites verdicts i t v at given
 
-abbrev Line : Type 0
-Line = Vec ℕ Global
-
-abbrev pub bytes_of : Line → List ℕ
-bytes_of line = line.items
-
 module _ (p : Program) (sites : List TrackedSite) (verdicts : List Verdict) where
-  -- the lines that were written, and those of what is left, are all of them
-  abbrev pub LeavesLines : List Line → ℕ → Type 0
-  LeavesLines lines i = map bytes_of lines ++ lines_of p (drop i sites) (drop i verdicts) ≡ lines_of p sites verdicts
+  -- the text that was written, and that of the lines of what is left, are that of all of them
+  abbrev pub LeavesLines : List ℕ → ℕ → Type 0
+  LeavesLines text i = text ++ text_of (lines_of p (drop i sites) (drop i verdicts)) ≡ text_of (lines_of p sites verdicts)
 
-  pub next_line : (lines : List Line) (line : Line) (i : ℕ) (t : TrackedSite) (v : Verdict) → slice_get sites i ≡ Some t
-      → slice_get verdicts i ≡ Some v → line.items ≡ verdict_line p t v → LeavesLines lines i → LeavesLines (lines ++ line ∷ []) (i + 1)
-  next_line lines line i t v at given is before =
-      let rest = lines_of p (drop (suc i) sites) (drop (suc i) verdicts) in
-      let pushed = ap (λ (xs : List (List ℕ)). xs ++ rest) (map-append bytes_of lines (line ∷ [])) in
-      let one = ap (λ (xs : List ℕ). map bytes_of lines ++ (xs ∷ rest)) is in
+  pub next_line : (text line : List ℕ) (i : ℕ) (t : TrackedSite) (v : Verdict) → slice_get sites i ≡ Some t
+      → slice_get verdicts i ≡ Some v → line ≡ verdict_line p t v → LeavesLines text i → LeavesLines (text ++ line) (i + 1)
+  next_line text line i t v at given is before =
+      let rest = text_of (lines_of p (drop (suc i) sites) (drop (suc i) verdicts)) in
+      let one = ap (λ (xs : List ℕ). text ++ (xs ++ rest)) is in
       let next = next_found sites verdicts i t v at given in
-      let here = ap (λ (found : List (TrackedSite × Verdict)). map bytes_of lines ++ map (line_of p) found) next in
-      rw add-one (pushed ∙ append_assoc (map bytes_of lines) (line.items ∷ []) rest ∙ one ∙ sym here ∙ before)
+      let here = ap (λ (found : List (TrackedSite × Verdict)). text ++ text_of (map (line_of p) found)) next in
+      rw add-one (append_assoc text line rest ∙ one ∙ sym here ∙ before)
 
-  pub no_line_left : (lines : List Line) (i : ℕ) → length sites ≤ i → LeavesLines lines i → map bytes_of lines ≡ lines_of p sites verdicts
-  no_line_left lines i past left =
-      let none = ap (λ (ts : List TrackedSite). map bytes_of lines ++ lines_of p ts (drop i verdicts)) (drop_all i sites past) in
-      sym (append-nil (map bytes_of lines)) ∙ sym none ∙ left
+  pub no_line_left : (text : List ℕ) (i : ℕ) → length sites ≤ i → LeavesLines text i → text ≡ text_of (lines_of p sites verdicts)
+  no_line_left text i past left =
+      let none = ap (λ (ts : List TrackedSite). text ++ text_of (lines_of p ts (drop i verdicts))) (drop_all i sites past) in
+      sym (append-nil text) ∙ sym none ∙ left
 
 -- ---- counts
 
@@ -86,15 +79,19 @@ all_counted (v ∷ verdicts) =
     one_kind Unproved = refl
     one_kind (Limit stage) = refl
 
--- the lines of the report
-pub written_lines : (p : Program) (sites : List TrackedSite) (verdicts : List Verdict) → length verdicts ≡ length sites → (lines : List (List ℕ)) (summary : List ℕ)
-    (c : Counts) → lines ≡ lines_of p sites verdicts → AreCounts verdicts c → summary ≡ summary_line c.safe c.unproved c.limit
-    → lines ++ summary ∷ [] ≡ report_lines p (zip sites verdicts)
-written_lines p sites verdicts long lines summary c lines_are counts is =
+-- the text of the report
+pub written_text : (p : Program) (sites : List TrackedSite) (verdicts : List Verdict) → length verdicts ≡ length sites → (text summary : List ℕ)
+    (c : Counts) → text ≡ text_of (lines_of p sites verdicts) → AreCounts verdicts c → summary ≡ summary_line c.safe c.unproved c.limit
+    → text ++ summary ≡ text_of (report_lines p (zip sites verdicts))
+written_text p sites verdicts long text summary c text_is counts is =
     let safe = counts.safe ∙ sym (counted is_safe sites verdicts long) in
     let unproved = counts.unproved ∙ sym (counted is_unproved sites verdicts long) in
     let limit = counts.limit ∙ sym (counted is_limit sites verdicts long) in
-    (λ i. lines_are i ++ is i ∷ []) ∙ (λ i. lines_of p sites verdicts ++ summary_line (safe i) (unproved i) (limit i) ∷ [])
+    let lines = lines_of p sites verdicts in
+    let last = summary_line (count_by (λ (f : TrackedSite × Verdict). is_safe f.1) (zip sites verdicts))
+    (count_by (λ (f : TrackedSite × Verdict). is_unproved f.1) (zip sites verdicts)) (count_by (λ (f : TrackedSite × Verdict). is_limit f.1) (zip sites verdicts)) in
+    (λ i. text_is i ++ is i) ∙ ((λ i. text_of lines ++ summary_line (safe i) (unproved i) (limit i))
+    ∙ (ap (λ (xs : List ℕ). text_of lines ++ xs) (sym (append-nil last)) ∙ sym (flat_map-append (λ (line : List ℕ). line) lines (last ∷ []))))
 
 -- ---- all of them
 

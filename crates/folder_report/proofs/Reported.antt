@@ -1,5 +1,5 @@
 -- From an analysis and what is found on its ground to the report.
-use Rattle.std.proofs.Common.{◌≡◌, ◌≤◌, ℕ, Bool, List, [], ◌∷◌, length, Contains, Ok, sym, subst, arith}
+use Rattle.std.proofs.Common.{◌≡◌, ◌≤◌, ℕ, Bool, List, [], ◌∷◌, length, Contains, refl, sym, subst, arith}
 use Rattle.std.specs.List.{AllByRecursion, AllZip}
 use Rattle.std.specs.Prelude.{zip}
 use Rattle.std.proofs.lemmas.List.Elements.{All-from_recursion}
@@ -7,9 +7,8 @@ use Rattle.flow_graph.proofs.Effects.{zip_length}
 use Rattle.jvm_model.specs.declared.automaton.Automaton.{Automaton}
 use Rattle.jvm_model.specs.declared.number.MethodNo.{MethodNo}
 use Rattle.jvm_model.specs.Programs.{Program}
-use Rattle.op_model.specs.declared.lowered.LoweredMethod.{LoweredMethod}
 use Rattle.op_model.specs.Supplies.{GivenAs}
-use Rattle.points_to_rules.specs.WholeMethods.{IsMethodIn}
+use Rattle.points_to_rules.specs.WholeMethods.{AreWholeMethods}
 use Rattle.points_to_rules.specs.Facts.{Fact}
 use Rattle.ground.specs.Findings.{Findings, gives_listed}
 use Rattle.folder_report.specs.Analyses.{IsAnalysis}
@@ -18,8 +17,9 @@ use Rattle.site_report.specs.declared.tracked_site.TrackedSite.{TrackedSite}
 use Rattle.site_report.specs.declared.verdict.Verdict.{Verdict}
 use Rattle.site_report.specs.Sites.{IsKnownSite, site_in}
 use Rattle.report_rules.specs.Tracked.{AreTracked}
-use Rattle.report_rules.specs.Reports.{IsReport}
+use Rattle.report_rules.specs.Reports.{report_lines}
 use Rattle.report_rules.specs.Verdicts.{Asked, IsVerdict}
+use Rattle.folder_report.specs.Texts.{IsReportText}
 use Rattle.folder_report.specs.Written.{IsWritten}
 use Rattle.folder_report.proofs.Agreeing.{GivesNodes, given_is_listed, listed_is_given, tracked_both, verdict_both}
 use Rattle.folder_report.proofs.FoundLines.{all_safe_as, found_sites}
@@ -37,7 +37,7 @@ module _ (p : Program) (S : Fact → Type 0) (one other : GivenAs) (there : Give
 -- ---- the analysis
 
 module _ (p : Program) (entry : MethodNo) (limit : ℕ) (g : Findings) (analysis : IsAnalysis p (IsSupplied p) entry limit g)
-    (whole : (number : ℕ) (l : LoweredMethod) → IsSupplied p number (Ok l) → IsMethodIn p number l) where
+    (whole : AreWholeMethods p (IsSupplied p)) where
   abbrev Listed : GivenAs
   Listed = gives_listed g.methods
 
@@ -45,7 +45,7 @@ module _ (p : Program) (entry : MethodNo) (limit : ℕ) (g : Findings) (analysis
   to_supplied = listed_is_given (IsSupplied p) (Contains g.facts) g.methods analysis.listed
 
   to_listed : GivesNodes (Contains g.facts) (IsSupplied p) Listed
-  to_listed = given_is_listed (IsSupplied p) (Contains g.facts) g.methods analysis.listed (λ number l given. (whole number l given).method.number_is)
+  to_listed = given_is_listed (IsSupplied p) (Contains g.facts) g.methods analysis.listed (λ number l given. (whole number l given).number_is)
 
   tracked_in : (upper : List ℕ) (sites : List TrackedSite) → AreTracked p Listed (Contains g.facts) upper sites
       → AreTracked p (IsSupplied p) (Contains g.facts) upper sites
@@ -67,17 +67,21 @@ module _ (p : Program) (entry : MethodNo) (limit : ℕ) (g : Findings) (analysis
   pub reported : (w : Asked) (upper : List ℕ) → upper ≡ w.property.class_name
       → (sites : List TrackedSite) (verdicts : List Verdict) → AreTracked p Listed (Contains g.facts) upper sites
       → AllZip (IsVerdict p Listed (Contains g.facts) w) sites verdicts
-      → (lines : List (List ℕ)) (all_safe : Bool) → IsWritten p sites verdicts lines all_safe
-      → IsReport p (IsSupplied p) (Contains g.facts) w lines all_safe
-  reported w upper named sites verdicts are told lines all_safe written =
+      → (text : List ℕ) (all_safe : Bool) → IsWritten p sites verdicts text all_safe
+      → IsReportText p (IsSupplied p) (Contains g.facts) w text all_safe
+  reported w upper named sites verdicts are told text all_safe written =
       let long : length verdicts ≡ length sites = zip_length (IsVerdict p Listed (Contains g.facts) w) sites verdicts told in
       let tracked = subst (λ (class : List ℕ). AreTracked p (IsSupplied p) (Contains g.facts) class sites) named (tracked_in upper sites are) in
       let safe = all_safe_as sites verdicts long in
       record {
-        found = zip sites verdicts;
-        tracked = subst (AreTracked p (IsSupplied p) (Contains g.facts) w.property.class_name) (sym (found_sites sites verdicts long)) tracked;
-        verdicts = All-from_recursion (λ (f : TrackedSite × Verdict). IsVerdict p (IsSupplied p) (Contains g.facts) w f.0 f.1) (zip sites verdicts)
-            (verdicts_are p (Contains g.facts) Listed (IsSupplied p) to_supplied to_listed w sites verdicts told);
-        lines_are = written.lines_are;
-        safe = ((λ yes. safe.0 (written.safe.0 yes)), (λ all. written.safe.1 (safe.1 all)));
+        lines = report_lines p (zip sites verdicts);
+        text_is = written.text_is;
+        report = record {
+          found = zip sites verdicts;
+          tracked = subst (AreTracked p (IsSupplied p) (Contains g.facts) w.property.class_name) (sym (found_sites sites verdicts long)) tracked;
+          verdicts = All-from_recursion (λ (f : TrackedSite × Verdict). IsVerdict p (IsSupplied p) (Contains g.facts) w f.0 f.1) (zip sites verdicts)
+              (verdicts_are p (Contains g.facts) Listed (IsSupplied p) to_supplied to_listed w sites verdicts told);
+          lines_are = refl;
+          safe = ((λ yes. safe.0 (written.safe.0 yes)), (λ all. written.safe.1 (safe.1 all)));
+        };
       }

@@ -1,2 +1,3 @@
 pub mod Analyses
+pub mod Texts
 pub mod Written

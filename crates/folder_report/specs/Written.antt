@@ -7,6 +7,7 @@ use Rattle.site_report.specs.declared.verdict.Verdict.{Verdict}
 use Rattle.site_report.specs.declared.verdict.Verdict.TheVariants.{Safe, Unproved}
 use Rattle.report_rules.specs.Reports.{is_safe, is_unproved, is_limit, line_of, report_lines}
 use Rattle.folder_report.specs.declared.writing.Counts.{Counts}
+use Rattle.folder_report.specs.Texts.{text_of}
 
 -- The verdict where the first stage alone is asked for, or others that prove nothing: by whether it proves the site safe.
 abbrev pub verdict_of : Bool → Verdict
@@ -24,7 +25,7 @@ pub record AreCounts (verdicts : List Verdict) (c : Counts) : Type 0 where
   pub limit : c.limit ≡ count_by is_limit verdicts
   pub few : c.safe + c.unproved + c.limit < 2 ^ 32
 
--- The report has a line for each site, in their order, and then the summary, and says whether all are safe.
-pub record IsWritten (p : Program) (sites : List TrackedSite) (verdicts : List Verdict) (lines : List (List ℕ)) (all_safe : Bool) : Type 0 where
-  pub lines_are : lines ≡ report_lines p (zip sites verdicts)
+-- The text has a line for each site, in their order, and then the summary, and it is said whether all are safe.
+pub record IsWritten (p : Program) (sites : List TrackedSite) (verdicts : List Verdict) (text : List ℕ) (all_safe : Bool) : Type 0 where
+  pub text_is : text ≡ text_of (report_lines p (zip sites verdicts))
   pub safe : IsTrue all_safe ↔ All (λ (v : Verdict). IsTrue (is_safe v)) verdicts

@@ -1,12 +1,12 @@
 //! The report on an analysis.
 
-ghost use Rattle.std.specs.Prelude.{◌≡◌, ◌≤◌, ℕ, map, Contains, IfOk};
+ghost use Rattle.std.specs.Prelude.{◌≡◌, ◌≤◌, ℕ, Contains, IfOk};
 ghost use Rattle.jvm_model.specs.Automata.{IsAutomaton};
 ghost use Rattle.jvm_model.specs.declared.number.MethodNo.{MethodNo as RuleMethodNo};
 ghost use Rattle.folder_report.specs.Analyses.{IsAnalysis};
+ghost use Rattle.folder_report.specs.Texts.{IsReportText};
 ghost use Rattle.folder_supply.specs.Supplied.{IsSupplied};
 ghost use Rattle.linked_program.specs.Numbers.{name_at, IsClassNumber};
-ghost use Rattle.report_rules.specs.Reports.{IsReport};
 
 use crate::verdicts::verdicts_of;
 use crate::writing::written;
@@ -16,10 +16,10 @@ use std::alloc::{AllocError, Global};
 use supply_laws::supplied_methods_are_whole;
 use tracked_sites::tracked;
 
-/// The lines of a report, each with its newline, and whether each site is safe.
+/// The text of a report, in which each line ends with a newline, and whether each site is safe.
 #[derive(Drop)]
 pub struct Report {
-    pub lines: Vec<Vec<u8>>,
+    pub text: Vec<u8>,
     pub all_safe: bool,
 }
 
@@ -36,8 +36,8 @@ pub fn report_of(
     requires class { name_at ground.now.program upper.0 ≡ automaton.now.class_name }
     requires analysis { (entry : RuleMethodNo) × (limit : ℕ) × IsAnalysis ground.now.program (IsSupplied ground.now.program) entry limit ground.now }
     ensures { IfOk result (λ r. (stages : ℕ) → 1 ≤ stages
-        → IsReport ground.now.program (IsSupplied ground.now.program) (Contains ground.now.facts) (record { property = automaton.now; stages = stages })
-        (map (λ line. line.items) r.lines.items) r.all_safe) }
+        → IsReportText ground.now.program (IsSupplied ground.now.program) (Contains ground.now.facts) (record { property = automaton.now; stages = stages })
+        r.text.items r.all_safe) }
 {
     supplied_methods_are_whole();
     let sites = tracked(alloc, ground, upper)?;

@@ -1,9 +1,10 @@
-//! The lines of a report, by the sites and their verdicts.
+//! The text of a report, by the sites and their verdicts.
 
-ghost use Rattle.std.specs.Prelude.{◌≡◌, ◌↔◌, All, Contains, IfOk, IsTrue, count_by, length, map};
+ghost use Rattle.std.specs.Prelude.{◌≡◌, ◌↔◌, All, Contains, IfOk, IsTrue, count_by, length};
 ghost use Rattle.site_report.specs.declared.tracked_site.TrackedSite.{TrackedSite as RuleSite};
 ghost use Rattle.site_report.specs.Sites.{IsKnownSite};
 ghost use Rattle.report_rules.specs.Reports.{is_limit, is_safe};
+ghost use Rattle.folder_report.specs.Texts.{text_of};
 ghost use Rattle.folder_report.specs.Written.{AreCounts, IsWritten, lines_of};
 
 use crate::report::Report;
@@ -28,35 +29,35 @@ pub(crate) fn written(
 ) -> Result<Report, AllocError>
     requires pairs { length verdicts.now ≡ length sites.now }
     requires known { (t : RuleSite) → Contains sites.now t → IsKnownSite program.now t }
-    ensures { IfOk result (λ r. IsWritten program.now sites.now verdicts.now (map (λ line. line.items) r.lines.items) r.all_safe) }
+    ensures { IfOk result (λ r. IsWritten program.now sites.now verdicts.now r.text.items r.all_safe) }
 {
-    let mut lines = site_lines(alloc, program, sites, verdicts)?;
+    let mut text = site_lines(alloc, program, sites, verdicts)?;
     let counts = counts_of(verdicts)?;
     let summary = summary_line(alloc, counts.safe, counts.unproved, counts.limit)?;
-    lines.push(summary)?;
+    text.extend_from_slice(&summary)?;
     Ok(Report {
-        lines,
+        text,
         all_safe: are_all_safe(verdicts),
     })
 }
 
-/// The line of each site.
+/// The lines of the sites, one after another.
 fn site_lines(
     alloc: Global,
     program: &Program,
     sites: &[TrackedSite],
     verdicts: &[Verdict],
-) -> Result<Vec<Vec<u8>>, AllocError>
+) -> Result<Vec<u8>, AllocError>
     requires pairs { length verdicts.now ≡ length sites.now }
     requires known { (t : RuleSite) → Contains sites.now t → IsKnownSite program.now t }
-    ensures { IfOk result (λ lines. map (λ line. line.items) lines.items ≡ lines_of program.now sites.now verdicts.now) }
+    ensures { IfOk result (λ text. text.items ≡ text_of (lines_of program.now sites.now verdicts.now)) }
 {
-    let mut lines = Vec::new(alloc);
+    let mut text = Vec::new(alloc);
     for (place, site) in sites.iter().enumerate() {
         let line = verdict_line(alloc, program, *site, verdicts[place])?;
-        lines.push(line)?;
+        text.extend_from_slice(&line)?;
     }
-    Ok(lines)
+    Ok(text)
 }
 
 /// How many sites have each verdict: it is as if memory ran out where there are too many for the summary.

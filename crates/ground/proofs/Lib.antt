@@ -6,3 +6,7 @@ pub mod SlotPlaces
 pub mod EventNumbers
 pub mod Fronts
 pub mod Adding
+mod AscendingNumbers
+mod PutInOrder
+mod NodePlaces
+mod LoneSites

@@ -1,5 +1,5 @@
 -- The place of a slot at a node.
-use Rattle.std.proofs.Common.{◌≡◌, ℕ, ◌<◌, List, [], map, length, Option, Some, None, position, refl, sym, ◌∙◌, ap, subst}
+use Rattle.std.proofs.Common.{◌≡◌, ℕ, ◌<◌, [], length, Option, Some, None, refl, sym, ◌∙◌, ap, subst}
 use Rattle.std.specs.List.{slice_get, Contains}
 use Rattle.std.specs.Option.{IfSome, IfNone}
 use Rattle.std.proofs.lemmas.Option.{same_Some}
@@ -7,8 +7,6 @@ use Rattle.jvm_model.specs.Programs.{Program}
 use Rattle.class_index.proofs.ListPlaces.{map_at, at_map}
 use Rattle.least_sets.proofs.Places.{place_of, contains_at}
 use Rattle.op_model.specs.declared.lowered.LoweredMethod.{LoweredMethod}
-use Rattle.op_model.specs.declared.node.Node.{Node}
-use Rattle.points_to_rules.specs.declared.place.Place.{Place}
 use Rattle.points_to_rules.specs.declared.place.PlaceNo.{PlaceNo}
 use Rattle.points_to_rules.specs.declared.place.Place.TheVariants as places
 use Rattle.points_to_rules.specs.declared.running_method.RunningMethod.{RunningMethod}
@@ -23,68 +21,70 @@ use Rattle.slot_names.specs.NodePlaces.{AreInOrder}
 use Rattle.slot_names.proofs.ListPlaces.{stands_below}
 use Rattle.slot_laws.proofs.OneVariable.{one_variable}
 use Rattle.ground.specs.declared.lists.Lists.{Lists}
+use Rattle.ground.specs.declared.node_place.NodePlace.{NodePlace}
 use Rattle.ground.specs.Findings.{Findings, AreSitesOf, HasNode, IsSlotOf}
-use Rattle.ground.specs.Lists.{holders_of}
 use Rattle.ground.specs.Sound.{AreSound}
 use Rattle.ground.specs.Told.{findings_of}
-use Rattle.ground.proofs.KeySets.{Tells, found_at, only_at}
-use Rattle.ground.proofs.Views.{running_at, holder_at, holder_in, sites_are}
+use Rattle.ground.proofs.KeySets.{Tells}
+use Rattle.ground.proofs.Views.{running_at, holder_at, holder_in}
 
 -- `==` tells places apart.
 pub tells_places : Tells same_places
 tells_places = record { itself = place_itself; exact = exact_places }
 
 module _ (p : Program) (l : Lists) (g : Findings) (is : findings_of p l ≡ g) (sound : AreSound p l) where
-  module _ (method : ℕ) (r : RunningMethod) (at : slice_get l.methods.items method ≡ Some r) where
+  module _ (pl : NodePlace) (r : RunningMethod) (at : slice_get l.methods.items pl.method ≡ Some r) where
     pub in_order : AreInOrder r.method
-    in_order = record { ascend = (sound.methods r (contains_at l.methods.items method r at)).method.reached.ascend }
+    in_order = record { ascend = (sound.methods r (contains_at l.methods.items pl.method r at)).reached.ascend }
 
-    method_is : (m : LoweredMethod) → slice_get g.methods method ≡ Some m → r.method ≡ m
-    method_is m stands = let (other, there, same) = running_at p l g is method m stands in ap (λ (x : RunningMethod). x.method) (same_Some r other (sym at ∙ there)) ∙ same
+    method_is : (m : LoweredMethod) → slice_get g.methods pl.method ≡ Some m → r.method ≡ m
+    method_is m stands = let (other, there, same) = running_at p l g is pl.method m stands in ap (λ (x : RunningMethod). x.method) (same_Some r other (sym at ∙ there)) ∙ same
 
-    pub node_within : (node : ℕ) → HasNode g method node → node < length r.method.nodes
-    node_within node has = subst (λ (m : LoweredMethod). node < length m.nodes) (sym (method_is has.lowered has.stands)) has.within
+    pub node_within : HasNode g pl → pl.node < length r.method.nodes
+    node_within has = subst (λ (m : LoweredMethod). pl.node < length m.nodes) (sym (method_is has.lowered has.stands)) has.within
 
-    pub named_within : (node : ℕ) → HasNode g method node → node < (name_table r.names).count
-    named_within node has =
-        subst (λ (n : ℕ). node < n) (sym (sound.names r (contains_at l.methods.items method r at)).count) (node_within node has)
+    pub named_within : HasNode g pl → pl.node < (name_table r.names).count
+    named_within has =
+        subst (λ (n : ℕ). pl.node < n) (sym (sound.names r (contains_at l.methods.items pl.method r at)).count) (node_within has)
 
     -- the holder of a slot is its variable
-    pub slot_is : (node slot : ℕ) (h : Holder) → IsSlotOf g method node slot h → h ≡ variable ((name_table r.names).variable node slot)
-    slot_is node slot h of =
-        let there = contains_at l.methods.items method r at in
-        let same = method_is of.lowered of.method_stands in
-        let node_at = ap (λ (m : LoweredMethod). slice_get m.nodes node) same ∙ of.node_stands in
-        let slot_at = subst (λ (m : LoweredMethod). IsSlot m of.at slot h) (sym same) of.is_slot in
+    pub slot_is : (slot : ℕ) (h : Holder) → IsSlotOf g pl slot h → h ≡ variable ((name_table r.names).variable pl.node slot)
+    slot_is slot h of =
+        let there = contains_at l.methods.items pl.method r at in
+        let same = method_is of.stands.lowered of.stands.method_stands in
+        let node_at = ap (λ (m : LoweredMethod). slice_get m.nodes pl.node) same ∙ of.stands.node_stands in
+        let slot_at = subst (λ (m : LoweredMethod). IsSlot m of.node slot h) (sym same) of.is_slot in
         slot_at.is
-        ∙ ap variable (one_variable r.method of.at slot slot_at.name ((name_table r.names).variable node slot) (sound.methods r there).method.reached
-        (contains_at r.method.nodes node of.at node_at) slot_at.named ((sound.names r there).each node slot of.at node_at))
+        ∙ ap variable (one_variable r.method of.node slot slot_at.name ((name_table r.names).variable pl.node slot) (sound.methods r there).reached
+        (contains_at r.method.nodes pl.node of.node node_at) slot_at.named ((sound.names r there).each pl.node slot of.node node_at))
 
     -- the place of the variable is that of the slot
-    pub slot_found : (node slot : ℕ) (v : Variable) (o : Option PlaceNo) → v ≡ (name_table r.names).variable node slot
-        → IfSome o (λ place. slice_get g.holders place.0 ≡ Some (variable v)) → IfSome o (λ place. (h : Holder) → IsSlotOf g method node slot h → slice_get g.holders place.0 ≡ Some h)
-    slot_found node slot v None is at = tt
-    slot_found node slot v (Some place) is at = λ h of. at ∙ ap (λ (w : Variable). Some (variable w)) is ∙ ap Some (sym (slot_is node slot h of))
+    pub slot_found : (slot : ℕ) (v : Variable) (o : Option PlaceNo) → v ≡ (name_table r.names).variable pl.node slot
+        → IfSome o (λ place. slice_get g.holders place.0 ≡ Some (variable v)) → IfSome o (λ place. (h : Holder) → IsSlotOf g pl slot h → slice_get g.holders place.0 ≡ Some h)
+    slot_found slot v None is at = tt
+    slot_found slot v (Some place) is at = λ h of. at ∙ ap (λ (w : Variable). Some (variable w)) is ∙ ap Some (sym (slot_is slot h of))
 
-    pub slot_unknown : (node slot : ℕ) (v : Variable) (o : Option PlaceNo) → v ≡ (name_table r.names).variable node slot
-        → IfNone o (AreSitesOf g (variable v) []) → IfNone o ((h : Holder) → IsSlotOf g method node slot h → AreSitesOf g h [])
-    slot_unknown node slot v None is none = λ h of. subst (λ (x : Holder). AreSitesOf g x []) (ap variable is ∙ sym (slot_is node slot h of)) none
-    slot_unknown node slot v (Some place) is none = tt
+    pub slot_unknown : (slot : ℕ) (v : Variable) (o : Option PlaceNo) → v ≡ (name_table r.names).variable pl.node slot
+        → IfNone o (AreSitesOf g (variable v) []) → IfNone o ((h : Holder) → IsSlotOf g pl slot h → AreSitesOf g h [])
+    slot_unknown slot v None is none = λ h of. subst (λ (x : Holder). AreSitesOf g x []) (ap variable is ∙ sym (slot_is slot h of)) none
+    slot_unknown slot v (Some place) is none = tt
 
     -- each slot has a holder
-    pub slot_has : (node slot : ℕ) → HasNode g method node → (h : Holder) × IsSlotOf g method node slot h
-    slot_has node slot has =
+    pub slot_has : (slot : ℕ) → HasNode g pl → (h : Holder) × IsSlotOf g pl slot h
+    slot_has slot has =
         let same = method_is has.lowered has.stands in
-        let within = node_within node has in
-        let (n, stands) = stands_below r.method.nodes node within in
-        let name = (name_table r.names).variable node slot in
-        let named = (sound.names r (contains_at l.methods.items method r at)).each node slot n stands in (
+        let within = node_within has in
+        let (n, stands) = stands_below r.method.nodes pl.node within in
+        let name = (name_table r.names).variable pl.node slot in
+        let named = (sound.names r (contains_at l.methods.items pl.method r at)).each pl.node slot n stands in (
           variable name,
           record {
-            lowered = has.lowered;
-            method_stands = has.stands;
-            at = n;
-            node_stands = ap (λ (m : LoweredMethod). slice_get m.nodes node) (sym same) ∙ stands;
+            node = n;
+            stands = record {
+              lowered = has.lowered;
+              method_stands = has.stands;
+              node_stands = ap (λ (m : LoweredMethod). slice_get m.nodes pl.node) (sym same) ∙ stands;
+            };
             is_slot = subst (λ (m : LoweredMethod). IsSlot m n slot (variable name)) same (record { name = name; named = named; is = refl });
           },
         )

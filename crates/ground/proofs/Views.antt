@@ -18,10 +18,10 @@ use Rattle.points_to_rules.specs.declared.place.Place.{Place}
 use Rattle.points_to_rules.specs.declared.running_method.RunningMethod.{RunningMethod}
 use Rattle.points_to_rules.specs.Facts.{Holder, Fact, may_hold, may_call}
 use Rattle.points_to_rules.specs.Places.{IsHolderIn, holder_from}
-use Rattle.points_to_rules.specs.WholeMethods.{IsMethodIn}
+use Rattle.points_to_rules.specs.WholeMethods.{IsWholeMethod}
 use Rattle.points_to_rules.proofs.PlaceHolders.{place_stands, places_differ}
 use Rattle.ground.specs.declared.lists.Lists.{Lists}
-use Rattle.ground.specs.Findings.{Findings, AreSitesOf, IsAmong}
+use Rattle.ground.specs.Findings.{Findings, AreSitesOf}
 use Rattle.ground.specs.Lists.{HasFacts, holders_of, nodes_of}
 use Rattle.ground.specs.Sound.{AreSound}
 use Rattle.ground.specs.Told.{findings_of, facts_of}
@@ -99,12 +99,12 @@ module _ (p : Program) (l : Lists) (g : Findings) (is : findings_of p l ≡ g) w
     pub sites_apart : IsWithoutDoubles g.sites
     sites_apart = subst (λ (ss : List Site). IsWithoutDoubles ss) (sym sites_are) sound.apart
 
-    pub methods_whole : (m : LoweredMethod) → Contains g.methods m → IsMethodIn g.program m.method.0 m
+    pub methods_whole : (m : LoweredMethod) → Contains g.methods m → IsWholeMethod g.program m.method.0 m
     methods_whole m there =
         let (k, at) = place_of g.methods m there in
         let (r, stands, same) = running_at k m at in
         let whole = sound.methods r (contains_at l.methods.items k r stands) in
-        subst (λ (q : Program). IsMethodIn q m.method.0 m) (sym program_is) (subst (λ (x : LoweredMethod). IsMethodIn p x.method.0 x) same whole)
+        subst (λ (q : Program). IsWholeMethod q m.method.0 m) (sym program_is) (subst (λ (x : LoweredMethod). IsWholeMethod p x.method.0 x) same whole)
 
     pub targets_in : (call : NodeRef) (m : MethodNo) → Contains g.facts (may_call call m) → IsMethodNumber g.program m.0
     targets_in call m there =
@@ -160,6 +160,10 @@ module _ (p : Program) (l : Lists) (g : Findings) (is : findings_of p l ≡ g) w
     sites_within k numbers are site among =
         let (s, at) = sound.held k site (subst (λ (vs : List SiteNo). Contains vs site) are among) in
         slice_get_within g.sites site.0 s (site_at site.0 s at)
+
+  -- a site that is held has a number
+  pub held_numbered : (h : Holder) (s : Site) → Contains g.facts (may_hold h s) → (number : ℕ) × (slice_get g.sites number ≡ Some s)
+  held_numbered h s there = let (place, site, at_place, at_site, among) = (so (may_hold h s)).0 there in (site.0, site_at site.0 s at_site)
 
   -- ---- targets
 

@@ -4,3 +4,4 @@ pub mod Told
 pub mod Sound
 pub mod CallEvents
 pub mod Added
+pub mod Ordered

@@ -16,6 +16,14 @@ use Rattle.ground.specs.declared.lists.Lists.{Lists}
 abbrev pub nodes_of : RunningMethod → LoweredMethod
 nodes_of m = m.method
 
+abbrev pub number_of : RunningMethod → MethodNo
+number_of m = m.method.method
+
+-- No two of the methods have one number.
+abbrev pub HaveDifferentNumbers : List RunningMethod → Type 0
+HaveDifferentNumbers methods =
+    (i j : ℕ) (a b : RunningMethod) → slice_get methods i ≡ Some a → slice_get methods j ≡ Some b → number_of a ≡ number_of b → i ≡ j
+
 -- The holders that the places stand for.
 abbrev pub holders_of : Lists → List Holder
 holders_of l = map (holder_from l.sites.items) l.places.keys

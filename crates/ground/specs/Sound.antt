@@ -1,6 +1,6 @@
 -- Public contracts rest on this module.
 -- Lists that are those of a program.
-use Rattle.std.specs.Prelude.{◌≡◌, ◌<◌, ◌^◌, ℕ, length, Some, slice_get, Contains}
+use Rattle.std.specs.Prelude.{◌≡◌, ◌<◌, ◌^◌, ℕ, length, map, Some, slice_get, Contains}
 use Rattle.jvm_model.specs.declared.number.MethodNo.{MethodNo}
 use Rattle.jvm_model.specs.declared.number.SiteNo.{SiteNo}
 use Rattle.jvm_model.specs.declared.site.Site.{Site}
@@ -14,14 +14,16 @@ use Rattle.points_to_rules.specs.declared.place.Place.{Place}
 use Rattle.points_to_rules.specs.declared.running_method.RunningMethod.{RunningMethod}
 use Rattle.points_to_rules.specs.Facts.{Holder}
 use Rattle.points_to_rules.specs.Places.{IsHolderIn}
-use Rattle.points_to_rules.specs.WholeMethods.{IsMethodIn}
+use Rattle.points_to_rules.specs.WholeMethods.{IsWholeMethod}
 use Rattle.ground.specs.declared.lists.Lists.{Lists}
+use Rattle.ground.specs.Lists.{number_of}
 
--- The methods are methods of the program, with the variables of their slots; no site and no place has two numbers; each place stands for a holder; and the numbers
--- of sites and of targets are numbers of something. 32 bits number the places.
+-- The methods are methods of the program, with their numbers and the variables of their slots; no site and no place has two numbers; each place stands for a
+-- holder; and the numbers of sites and of targets are numbers of something. 32 bits number the places.
 pub record AreSound (p : Program) (l : Lists) : Type 0 where
-  pub methods : (m : RunningMethod) → Contains l.methods.items m → IsMethodIn p m.method.method.0 m.method
+  pub methods : (m : RunningMethod) → Contains l.methods.items m → IsWholeMethod p m.method.method.0 m.method
   pub names : (m : RunningMethod) → Contains l.methods.items m → AreNames m.method (name_table m.names)
+  pub numbered : l.numbers.keys ≡ map number_of l.methods.items
   pub apart : IsWithoutDoubles l.sites.items
   pub places : (number : ℕ) (place : Place) → slice_get l.places.keys number ≡ Some place → (h : Holder) × IsHolderIn l.sites.items place h
   pub places_apart : IsWithoutDoubles l.places.keys

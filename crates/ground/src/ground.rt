@@ -10,18 +10,23 @@ ghost use Rattle.op_model.specs.declared.node.NodeRef.{NodeRef as RuleNodeRef};
 ghost use Rattle.least_sets.specs.Rules.{IsWithoutDoubles};
 ghost use Rattle.points_to_rules.specs.Facts.{Holder, may_call, may_hold, may_run, may_write, variable as variable_holder};
 ghost use Rattle.points_to_rules.specs.Places.{IsHolderIn};
-ghost use Rattle.points_to_rules.specs.WholeMethods.{IsMethodIn};
+ghost use Rattle.points_to_rules.specs.WholeMethods.{IsWholeMethod};
 ghost use Rattle.ground.specs.declared.lists.FieldWrite.{FieldWrite as RuleWrite};
-ghost use Rattle.ground.specs.Findings.{AreSitesOf, HasNode, IsSlotOf};
+ghost use Rattle.ground.specs.declared.node_place.NodePlace.{NodePlace as RuleNodePlace};
+ghost use Rattle.ground.specs.Findings.{AreSitesOf, HasNode, HoldsAlone, IsNodeAt, IsPlaceInMethod, IsPlaceOfMethod, IsPlaceOfNode, IsSlotOf};
+ghost use Rattle.ground.specs.Ordered.{DoAscend, method_number, site_number};
 ghost use Rattle.ground.specs.Lists.{HasFacts, holders_of, nodes_of};
 ghost use Rattle.ground.specs.Sound.{AreSound};
 
-use crate::lists::{FieldWrite, Lists, call_number};
+use crate::lists::{
+    FieldWrite, Lists, call_number, is_alone, is_among, number_place, put_in_order,
+};
+use crate::node_place::NodePlace;
 use jvm_model::{FieldNo, MethodNo, Site, SiteNo};
 use linked_program::program::Program;
-use op_model::{LoweredMethod, NodeRef};
+use op_model::{LoweredMethod, Node, NodeRef};
 use points_to_rules::{Place, PlaceNo};
-use slot_names::{Variable, place_number};
+use slot_names::{Variable, place_number, place_of};
 use std::marker::Model;
 
 /// What is known of a program. Contracts see its methods, its sites and holders by number, and its facts.
@@ -34,17 +39,17 @@ pub struct Ground<'p> {
 impl<'p> Model for Ground<'p> {
     ghost use Rattle.ground.specs.Findings.{Findings};
     ghost use Rattle.ground.specs.Told.{findings_of};
-    ghost use Rattle.ground.specs.Sound.{AreSound as IsGround};
+    ghost use Rattle.ground.specs.Ordered.{AreOfGround};
 
     ghost Value = { Findings };
 
     ghost view = { λ g. findings_of g.program.now g.lists };
 
-    ghost invariant = { λ g. IsGround g.program.now g.lists };
+    ghost invariant = { λ g. AreOfGround g.program.now g.lists };
 }
 
 impl<'p> Ground<'p> {
-    /// The ground of lists that are those of a program.
+    /// The ground of lists that are those of a program. It takes no memory.
     pub fn of(program: &'p Program, lists: Lists) -> Ground<'p>
         requires { AreSound program.now lists }
         ensures program { result.program ≡ program.now }
@@ -53,14 +58,20 @@ impl<'p> Ground<'p> {
         ensures holders { result.holders ≡ holders_of lists }
         ensures facts { HasFacts lists result.facts }
     {
-        Ground { program, lists }
+        let mut ordered = lists;
+        put_in_order(&mut ordered);
+        Ground {
+            program,
+            lists: ordered,
+        }
     }
 
-    /// What holds of each ground: its methods are methods of the program, no site has two numbers, and targets of calls are methods of the program.
-    /// It does nothing.
+    /// What holds of each ground: its methods are methods of the program, no site has two numbers, each site that may be held has one, and targets of
+    /// calls are methods of the program. It does nothing.
     pub fn well_formed(&self)
-        ensures methods { (l : RuleMethod) → Contains self.now.methods l → IsMethodIn self.now.program l.method.0 l }
+        ensures methods { (l : RuleMethod) → Contains self.now.methods l → IsWholeMethod self.now.program l.method.0 l }
         ensures sites { IsWithoutDoubles self.now.sites }
+        ensures held { (h : Holder) (s : RuleSite) → Contains self.now.facts (may_hold h s) → (number : ℕ) × (slice_get self.now.sites number ≡ Some s) }
         ensures targets { (call : RuleNodeRef) (m : RuleMethodNo) → Contains self.now.facts (may_call call m) → IsMethodNumber self.now.program m.0 }
     {
         let _count = self.lists.methods.len();
@@ -86,6 +97,45 @@ impl<'p> Ground<'p> {
         ensures { slice_get self.now.methods place ≡ Some result.now }
     {
         &self.lists.methods[place].method
+    }
+
+    /// The place of the method of a number among those that may run and have code; `None` where it is none of them.
+    pub fn place_of_method(&self, number: MethodNo) -> Option<usize>
+        ensures { (place : ℕ) → (result ≡ Some place) ↔ IsPlaceOfMethod self.now number place }
+    {
+        number_place(&self.lists.numbers, number)
+    }
+
+    /// The place of a node; `None` where it is no node of a method that may run and has code.
+    pub fn place_of_node(&self, node: NodeRef) -> Option<NodePlace>
+        ensures { (at : RuleNodePlace) → (result ≡ Some at) ↔ IsPlaceOfNode self.now node at }
+    {
+        let Some(number) = node.method else {
+            return None;
+        };
+        let Some(method) = self.place_of_method(number) else {
+            return None;
+        };
+        self.place_in_method(method, node.offset)
+    }
+
+    /// The place of the node at an offset of the method at a place.
+    fn place_in_method(&self, method: usize, offset: u32) -> Option<NodePlace>
+        requires { method < length self.now.methods }
+        ensures { (at : RuleNodePlace) → (result ≡ Some at) ↔ IsPlaceInMethod self.now method offset at }
+    {
+        match place_of(&self.lists.methods[method].method, offset) {
+            Some(node) => Some(NodePlace { method, node }),
+            None => None,
+        }
+    }
+
+    /// The node at a place.
+    pub fn node(&self, at: NodePlace) -> &Node
+        requires { HasNode self.now at }
+        ensures { IsNodeAt self.now at result.now }
+    {
+        &self.method(at.method).nodes.as_slice()[at.node]
     }
 
     /// How many sites there are.
@@ -118,16 +168,15 @@ impl<'p> Ground<'p> {
         *self.lists.places.get_index(place.0 as usize).unwrap()
     }
 
-    /// The place of a slot at a node; `None` where nothing is known of it, so that it refers to no object. The method and the node are named by their
-    /// places, among the methods and among the nodes of the method.
-    pub fn place_of_slot(&self, method: usize, node: usize, slot: u32) -> Option<PlaceNo>
-        requires { HasNode self.now method node }
-        ensures holder { (h : Holder) × IsSlotOf self.now method node slot h }
-        ensures found { IfSome result (λ place. (h : Holder) → IsSlotOf self.now method node slot h → slice_get self.now.holders place.0 ≡ Some h) }
-        ensures none { IfNone result ((h : Holder) → IsSlotOf self.now method node slot h → AreSitesOf self.now h []) }
+    /// The place of a slot at a node; `None` where nothing is known of it, so that it refers to no object.
+    pub fn place_of_slot(&self, at: NodePlace, slot: u32) -> Option<PlaceNo>
+        requires { HasNode self.now at }
+        ensures holder { (h : Holder) × IsSlotOf self.now at slot h }
+        ensures found { IfSome result (λ place. (h : Holder) → IsSlotOf self.now at slot h → slice_get self.now.holders place.0 ≡ Some h) }
+        ensures none { IfNone result ((h : Holder) → IsSlotOf self.now at slot h → AreSitesOf self.now h []) }
     {
-        let named = &self.lists.methods[method];
-        let node = place_number(&named.method, node);
+        let named = &self.lists.methods[at.method];
+        let node = place_number(&named.method, at.node);
         self.place_with(named.names.variable(node, slot))
     }
 
@@ -143,22 +192,24 @@ impl<'p> Ground<'p> {
         }
     }
 
-    /// The sites of the objects that a place may hold, in the order in which they were found.
+    /// The sites of the objects that a place may hold, in the order of their numbers.
     pub fn sites_at(&self, place: PlaceNo) -> &[SiteNo]
         ensures sites { (h : Holder) → slice_get self.now.holders place.0 ≡ Some h → AreSitesOf self.now h result.now }
+        ensures ascend { DoAscend site_number result.now }
         ensures within { (site : RuleSiteNo) → Contains result.now site → site.0 < length self.now.sites }
     {
         self.lists.held.get(place.0)
     }
 
-    /// The sites of the objects that a slot may refer to at a node.
-    pub fn sites_of_slot(&self, method: usize, node: usize, slot: u32) -> &[SiteNo]
-        requires { HasNode self.now method node }
-        ensures holder { (h : Holder) × IsSlotOf self.now method node slot h }
-        ensures sites { (h : Holder) → IsSlotOf self.now method node slot h → AreSitesOf self.now h result.now }
+    /// The sites of the objects that a slot may refer to at a node, in the order of their numbers.
+    pub fn sites_of_slot(&self, at: NodePlace, slot: u32) -> &[SiteNo]
+        requires { HasNode self.now at }
+        ensures holder { (h : Holder) × IsSlotOf self.now at slot h }
+        ensures sites { (h : Holder) → IsSlotOf self.now at slot h → AreSitesOf self.now h result.now }
+        ensures ascend { DoAscend site_number result.now }
         ensures within { (site : RuleSiteNo) → Contains result.now site → site.0 < length self.now.sites }
     {
-        match self.place_of_slot(method, node, slot) {
+        match self.place_of_slot(at, slot) {
             Some(place) => self.sites_at(place),
             None => &[],
         }
@@ -170,7 +221,16 @@ impl<'p> Ground<'p> {
             → IsTrue result ↔ Contains self.now.facts (may_hold h s) }
     {
         self.well_formed();
-        self.sites_at(place).contains(&site)
+        is_among(self.sites_at(place), site)
+    }
+
+    /// Whether a place may hold objects of a site and of no other.
+    pub fn holds_alone(&self, place: PlaceNo, site: SiteNo) -> bool
+        ensures { (h : Holder) (s : RuleSite) → slice_get self.now.holders place.0 ≡ Some h → slice_get self.now.sites site.0 ≡ Some s
+            → IsTrue result ↔ HoldsAlone self.now h s }
+    {
+        self.well_formed();
+        is_alone(self.sites_at(place), site)
     }
 
     /// Whether a method may run.
@@ -187,9 +247,10 @@ impl<'p> Ground<'p> {
         self.lists.running.as_slice()
     }
 
-    /// The methods to which a call may go.
+    /// The methods to which a call may go, in the order of their numbers.
     pub fn targets_of(&self, call: NodeRef) -> &[MethodNo]
-        ensures { (m : RuleMethodNo) → Contains result.now m ↔ Contains self.now.facts (may_call call m) }
+        ensures targets { (m : RuleMethodNo) → Contains result.now m ↔ Contains self.now.facts (may_call call m) }
+        ensures ascend { DoAscend method_number result.now }
     {
         match call_number(&self.lists.calls, call) {
             Some(number) => self.lists.targets.at(number),

@@ -5,7 +5,9 @@
 mod calls;
 mod ground;
 mod lists;
+mod node_place;
 
 pub use calls::{call_event, receiver};
 pub use ground::Ground;
-pub use lists::{FieldWrite, Lists, call_number};
+pub use lists::{FieldWrite, Lists, call_number, is_among};
+pub use node_place::NodePlace;

@@ -1,1 +1,2 @@
 pub mod PutValues
+mod OrderedValues

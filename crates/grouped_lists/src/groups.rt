@@ -2,6 +2,7 @@
 
 ghost use Rattle.std.specs.Prelude.{◌≡◌, ◌<◌, ℕ, [], length, OnOk};
 ghost use Rattle.grouped_lists.specs.Groups.{values_at, IsPut, IsSame};
+ghost use Rattle.grouped_lists.specs.Ordered.{AreOrdered, IsOrdered};
 
 use std::alloc::{AllocError, Global};
 
@@ -67,4 +68,23 @@ impl<V: Copy> Groups<V> {
         }
         Ok(())
     }
+}
+
+impl<V: Copy + Ord> Groups<V> {
+    /// Puts the values of each number into ascending order, each once. It takes no memory.
+    pub fn order(&mut self)
+        ensures { AreOrdered V.eq V.cmp self.old.groups.items self.new.groups.items }
+    {
+        for number in 0..self.groups.len() {
+            order_values(&mut self.groups[number]);
+        }
+    }
+}
+
+/// Puts values into ascending order, each once.
+fn order_values<V: Copy + Ord>(values: &mut Vec<V>)
+    ensures { IsOrdered V.eq V.cmp values.old.items values.new.items }
+{
+    values.sort_unstable();
+    values.dedup();
 }

@@ -19,7 +19,7 @@ use Rattle.points_to_rules.specs.Rules.{IsNodeOf}
 use Rattle.points_to_items.specs.CallItems.{CallItem}
 use Rattle.points_to_items.specs.Items.{CallSite, User as ItemUser, Item as RuleItem, known, used}
 use Rattle.points_to_items.specs.ItemRules.{Passed, ItemInstance, of_start, of_node, of_call, of_user}
-use Rattle.points_to_rules.specs.WholeMethods.{AreMethodsOf}
+use Rattle.points_to_rules.specs.WholeMethods.{AreWholeMethods}
 use Rattle.points_to_items.specs.NodeItems.{NodeItem, IsCallSite}
 use Rattle.points_to_tables.specs.declared.item.Item.{Item}
 use Rattle.points_to_tables.specs.declared.item.Item.TheVariants.{Holds, Runs, Calls, Uses}
@@ -38,7 +38,7 @@ use Rattle.points_to.proofs.OneSite.{IsGivenCall, one_given_call}
 
 -- What is known of the items up to one, which stands for `popped`.
 pub record IsPoppedAt (p : Program) (gives : GivenAs) (n : Numbered) (sites : SitesBy) (users : UsersBy) (items : List Item) (xs : List RuleItem) (done : ℕ) (item : Item) (popped : RuleItem) : Type 0 where
-  pub methods : AreMethodsOf gives
+  pub methods : AreWholeMethods p gives
   pub one : GivesOne gives
   pub apart : AreApart n
   pub stand : AllZip (IsItemAt n) items xs

@@ -21,7 +21,7 @@ use Rattle.points_to.specs.declared.refusals.RefusedCall.{RefusedCall}
 use Rattle.points_to.specs.declared.refusals.RefusedMethod.{RefusedMethod}
 use Rattle.points_to_rules.specs.declared.running_method.RunningMethod.{RunningMethod}
 use Rattle.points_to.specs.Closing.{IsLackIn, IsRefusedAmong, HasFirstCall, HasFirstMethod, IsClosed}
-use Rattle.points_to.specs.Firsts.{IsNoLaterCall, IsFirstCall, IsFirstMethod, LeadsMethod, TrailsMethod}
+use Rattle.points_to.specs.Firsts.{IsNoLaterCall, LeadsMethod, TrailsMethod}
 use Rattle.points_to.specs.Firsts as firsts
 use Rattle.points_to.specs.Refusing.{IsCallRefusal, IsNamed, IsOfCoded, refusal_of}
 use Rattle.points_to_rules.specs.Solutions.{IsSupplyOf, AreLeastBelow}
@@ -29,7 +29,6 @@ use Rattle.points_to.proofs.CodeStarts.{one_start, lack_reason, no_later}
 use Rattle.points_to.proofs.GivenMethods.{GivesOne}
 use Rattle.points_to.proofs.PairedFacts.{known_there, fact_there, pairs_counted}
 use Rattle.points_to.proofs.RefusedNodes.{lack_is_refused, refused_is_lack}
-use Rattle.points_to.proofs.SoFar.{methods_of}
 
 method_no : (a b : MethodNo) → a.0 ≡ b.0 → a ≡ b
 method_no a b e = (λ i. record { 0 = e i })
@@ -46,7 +45,7 @@ module _ (p : Program) (gives : GivenAs) (supply : IsSupplyOf p gives) (one : Gi
 
   pub least_below : AreLeastBelow p gives entry limit facts
   least_below = record {
-    least = least_facts p gives entry closed.xs (methods_of p gives supply) (derivable_fact p gives entry) closed.least;
+    least = least_facts p gives entry closed.xs supply.methods (derivable_fact p gives entry) closed.least;
     apart = closed.apart;
     room = (let count = pairs_counted n items closed.xs closed.stand in let room = closed.room in omega arith);
   }
@@ -57,7 +56,7 @@ module _ (p : Program) (gives : GivenAs) (supply : IsSupplyOf p gives) (one : Gi
   refused_method k q runs refused = record { runs = known_there closed.xs (may_run k) runs; refused = refused }
 
   lacking : (k : MethodNo) (offset : ℕ) (reason : Reason) → IsRefusedCall p gives Among k offset reason → IsLackIn p (Contains closed.xs) (record { method = k; offset = offset; reason = reason })
-  lacking = refused_is_lack p gives entry closed.xs closed.least (methods_of p gives supply)
+  lacking = refused_is_lack p gives entry closed.xs closed.least supply.methods
 
   -- a method that is refused has no calls
   refused_or_called : (k : MethodNo) (q : Refusal) (offset : ℕ) (reason : Reason) → gives k.0 (Err q) → IsRefusedCall p gives Among k offset reason → ⊥

@@ -14,9 +14,8 @@ use Rattle.op_model.specs.Supplies.{GivenAs}
 use Rattle.least_sets.proofs.Growing.{back_to}
 use Rattle.points_to_rules.specs.Facts.{may_run}
 use Rattle.points_to_rules.specs.Rules.{start_call, node_of}
-use Rattle.points_to_rules.specs.WholeMethods.{AreMethodsOf}
+use Rattle.points_to_rules.specs.WholeMethods.{AreWholeMethods, NamesNumbers}
 use Rattle.points_to_items.specs.Items.{CallSite, Item as RuleItem, known}
-use Rattle.points_to_rules.specs.WholeMethods.{NamesNumbers}
 use Rattle.points_to_items.specs.NodeItems.{IsCallOf}
 use Rattle.points_to_methods.specs.NewCalls.{AddsCalls}
 use Rattle.points_to_tables.specs.declared.item.Item.{Item}
@@ -37,7 +36,7 @@ pub record AreNumberedCalls (gives : GivenAs) (T : RuleItem → Type 0) (calls :
   pub each : (number : ℕ) (site : CallSite) → slice_get calls number ≡ Some site → IsNumberedCall gives T site
   pub apart : (i j : ℕ) (a b : CallSite) → slice_get calls i ≡ Some a → slice_get calls j ≡ Some b → a.at ≡ b.at → i ≡ j
 
-module _ (gives : GivenAs) (methods : AreMethodsOf gives) (one : GivesOne gives) (T U : RuleItem → Type 0) (more : (x : RuleItem) → T x → U x) where
+module _ {p : Program} (gives : GivenAs) (methods : AreWholeMethods p gives) (one : GivesOne gives) (T U : RuleItem → Type 0) (more : (x : RuleItem) → T x → U x) where
   later : (site : CallSite) → IsNumberedCall gives T site → IsNumberedCall gives U site
   later site (of_start e) = of_start e
   later site (of_method m given runs) = of_method m given (more (known (may_run m)) runs)

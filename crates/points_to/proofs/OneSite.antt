@@ -1,72 +1,21 @@
--- A call of a node has one site: each of its holders is one.
-use Rattle.std.proofs.Common.{◌≡◌, ℕ, List, [], ◌∷◌, Option, Some, None, Contains, Ok, refl, sym, ◌∙◌, ap, subst}
-use Rattle.std.specs.List.{AllZip}
+-- Two sites of calls of given methods at one node are one.
+use Rattle.std.proofs.Common.{◌≡◌, Contains, Ok, sym, ◌∙◌, ap, subst}
 use Rattle.std.proofs.lemmas.Option.{same_Some}
 use Rattle.jvm_model.specs.declared.number.MethodNo.{MethodNo}
+use Rattle.jvm_model.specs.Programs.{Program}
 use Rattle.op_model.specs.declared.lowered.LoweredMethod.{LoweredMethod}
 use Rattle.op_model.specs.declared.node.Node.{Node}
-use Rattle.op_model.specs.declared.node.NodeHandler.{NodeHandler}
 use Rattle.op_model.specs.declared.node.NodeRef.{NodeRef}
 use Rattle.op_model.specs.declared.op.Call.{Call as NodeCall}
 use Rattle.op_model.specs.declared.op.Op.TheVariants.{Call}
 use Rattle.op_model.specs.Supplies.{GivenAs}
 use Rattle.slot_laws.proofs.Places.{same_node}
-use Rattle.slot_names.specs.Variables.{AreReachedNodes}
-use Rattle.points_to_rules.specs.Facts.{Holder}
-use Rattle.points_to_rules.specs.Rules.{IsNodeOf, IsSlotAt, node_of}
-use Rattle.points_to_rules.specs.WholeMethods.{AreMethodsOf}
-use Rattle.points_to_items.specs.Items.{Arm, Landing, CallSite}
-use Rattle.points_to_items.specs.NodeItems.{IsArm, IsLanding, IsUnitHolder, AreResults, IsCallSite, IsCallOf}
-use Rattle.points_to_items.proofs.Holders.{same_holder, same_holder_at}
+use Rattle.points_to_rules.specs.Rules.{IsNodeOf, node_of}
+use Rattle.points_to_rules.specs.WholeMethods.{AreWholeMethods}
+use Rattle.points_to_items.specs.Items.{CallSite}
+use Rattle.points_to_items.specs.NodeItems.{IsCallSite, IsCallOf}
+use Rattle.points_to_items.proofs.OneSite.{one_site}
 use Rattle.points_to.proofs.GivenMethods.{GivesOne}
-
-one_list : {X Y : Type 0} (R : X → Y → Type 0) → ((x : X) (y z : Y) → R x y → R x z → y ≡ z) → (xs : List X) (ys zs : List Y) → AllZip R xs ys → AllZip R xs zs → ys ≡ zs
-one_list R one [] [] [] first second = refl
-one_list R one [] [] (z ∷ zs) first second = absurd second
-one_list R one [] (y ∷ ys) zs first second = absurd first
-one_list R one (x ∷ xs) [] zs first second = absurd first
-one_list R one (x ∷ xs) (y ∷ ys) [] first second = absurd second
-one_list R one (x ∷ xs) (y ∷ ys) (z ∷ zs) first second =
-    let heads = one x y z first.0 second.0 in
-    let tails = one_list R one xs ys zs first.1 second.1 in
-    (λ i. heads i ∷ tails i)
-
-module _ (l : LoweredMethod) (reached : AreReachedNodes l) where
-  one_arm : (handler : NodeHandler) (a b : Arm) → IsArm l handler a → IsArm l handler b → a ≡ b
-  one_arm handler a b first second =
-      let handlers = first.handler_is ∙ sym second.handler_is in
-      let places = same_holder_at l reached handler.target l.slots a.to b.to first.slot second.slot in
-      (λ i. record { handler = handlers i; to = places i })
-
-  one_landing : (m : MethodNo) (n : Node) (a b : Landing) → IsLanding m l n a → IsLanding m l n b → a ≡ b
-  one_landing m n a b first second =
-      let arms = one_list (IsArm l) one_arm n.handlers a.arms b.arms first.arms second.arms in
-      let outside = first.outside ∙ sym second.outside in
-      (λ i. record { arms = arms i; outside = outside i })
-
-  module _ (n : Node) (here : Contains l.nodes n) where
-    one_unit : (unit : Option ℕ) (a b : Option Holder) → IsUnitHolder l n unit a → IsUnitHolder l n unit b → a ≡ b
-    one_unit None None None first second = refl
-    one_unit None None (Some h) first second = absurd second
-    one_unit None (Some h) b first second = absurd first
-    one_unit (Some z) None b first second = absurd first
-    one_unit (Some z) (Some g) None first second = absurd second
-    one_unit (Some z) (Some g) (Some h) first second = ap Some (same_holder l reached n here z g h first second)
-
-    one_result : (result : Option ℕ) (a b : List Holder) → AreResults l n result a → AreResults l n result b → a ≡ b
-    one_result None a b first second = first ∙ sym second
-    one_result (Some z) a b first second =
-        one_list (λ (offset : ℕ) (h : Holder). IsSlotAt l offset z h) (λ offset g h one other. same_holder_at l reached offset z g h one other) n.successors a b first second
-
-    one_site : (m : MethodNo) (c : NodeCall) (a b : CallSite) → IsCallSite m l n c a → IsCallSite m l n c b → a ≡ b
-    one_site m c a b first second =
-        let ats = first.at ∙ sym second.at in
-        let kinds = first.kind ∙ sym second.kind in
-        let methods = first.resolved ∙ sym second.resolved in
-        let arguments = one_list (IsUnitHolder l n) one_unit c.arguments a.arguments b.arguments first.arguments second.arguments in
-        let results = one_result c.result a.results b.results first.results second.results in
-        let landings = one_landing m n a.landing b.landing first.landing second.landing in
-        (λ i. record { at = ats i; kind = kinds i; resolved = methods i; arguments = arguments i; results = results i; landing = landings i })
 
 -- ---- sites of given methods
 
@@ -79,7 +28,7 @@ pub record IsGivenCall (gives : GivenAs) (m : MethodNo) (site : CallSite) : Type
   pub is_call : n.op ≡ Call call
   pub is_site : IsCallSite m l n call site
 
-module _ (gives : GivenAs) (methods : AreMethodsOf gives) (one : GivesOne gives) where
+module _ {p : Program} (gives : GivenAs) (methods : AreWholeMethods p gives) (one : GivesOne gives) where
   -- the call of a method that is given
   pub of_given : (m : MethodNo) (l : LoweredMethod) → gives m.0 (Ok l) → (site : CallSite) → IsCallOf l site → IsGivenCall gives m site
   of_given m l given site is = record {

@@ -1,5 +1,5 @@
 -- The facts among the items: each stands there once, and so many of them are pairs.
-use Rattle.std.proofs.Common.{◌≡◌, ℕ, zero, suc, ◌+◌, List, [], ◌∷◌, Some, length, refl, sym, ◌∙◌, ap, arith, zero-add}
+use Rattle.std.proofs.Common.{◌≡◌, ℕ, zero, suc, ◌+◌, List, [], ◌∷◌, Some, refl, sym, ◌∙◌, ap, arith, zero-add}
 use Rattle.std.specs.List.{slice_get, AllZip, Contains}
 use Rattle.std.proofs.lemmas.Option.{none-some, same_Some}
 use Rattle.std.proofs.lemmas.List.Elements.{All-contains}
@@ -22,6 +22,7 @@ use Rattle.points_to_tables.specs.declared.item.Item.TheVariants.{Holds, Runs, C
 use Rattle.points_to_tables.specs.Numbered.{Numbered, AreApart}
 use Rattle.points_to_tables.specs.Steps.{IsItemAt}
 use Rattle.points_to.specs.Queues.{weight_of, pairs_among}
+use Rattle.points_to_rules.proofs.CountedPairs.{count_pairs}
 use Rattle.points_to_rules.specs.Solutions.{pair_of, pairs_in}
 use Rattle.points_to.proofs.ItemPlaces.{holding, running, calling, zip_back}
 
@@ -137,13 +138,6 @@ pairs_apart (may_hold h s ∷ facts) apart pair (suc i) (suc j) p q = ap suc (pa
 pairs_apart (may_run m ∷ facts) apart pair i j p q = pairs_apart facts (tail_apart (may_run m) facts apart) pair i j p q
 pairs_apart (may_call at m ∷ facts) apart pair i j p q = pairs_apart facts (tail_apart (may_call at m) facts apart) pair i j p q
 pairs_apart (may_write m field ∷ facts) apart pair i j p q = pairs_apart facts (tail_apart (may_write m field) facts apart) pair i j p q
-
-count_pairs : (facts : List Fact) → length (parts_of pair_of facts) ≡ pairs_in facts
-count_pairs [] = refl
-count_pairs (may_hold h s ∷ facts) = ap suc (count_pairs facts)
-count_pairs (may_run m ∷ facts) = count_pairs facts
-count_pairs (may_call at m ∷ facts) = count_pairs facts
-count_pairs (may_write m field ∷ facts) = count_pairs facts
 
 -- how many pairs are among the facts of an item
 weight : RuleItem → ℕ

@@ -27,7 +27,7 @@ use Rattle.points_to_items.specs.CallItems.{CallItem, SelectItem, GivesUnit}
 use Rattle.points_to_items.specs.CallItems as call_items
 use Rattle.points_to_items.specs.Items.{CallSite, User, pass_to, pass_fitting, read_field, write_field, read_elements, write_elements, throw_at, land_at, select, Item as RuleItem, known, used, facts_of}
 use Rattle.points_to_items.specs.ItemRules.{StartItem, Passed, ItemInstance, of_start, of_node, of_call, of_user}
-use Rattle.points_to_rules.specs.WholeMethods.{IsMethodOf, AreMethodsOf}
+use Rattle.points_to_rules.specs.WholeMethods.{AreWholeMethods}
 use Rattle.points_to_items.specs.ItemRules as item_rules
 use Rattle.points_to_items.specs.NodeItems.{NodeItem, FlowItem, OpItem, LoadStaticItem, NewArrayItem, CallNodeItem, TriggerItem, IsUnitHolder, IsCallSite}
 use Rattle.points_to_items.specs.NodeItems as node_items
@@ -238,7 +238,7 @@ module _ (p : Program) (gives : GivenAs) (entry : MethodNo) (xs : List RuleItem)
   lacks_by_kind kind resolved s reason (not_selected selects) = selects_by_kind kind resolved s (Err reason) selects
   lacks_by_kind kind resolved s reason (not_described target selects undescribed is) = selects_by_kind kind resolved s (Ok target) selects
 
-  pub refused_is_lack : AreMethodsOf gives → (m : MethodNo) (offset : ℕ) (reason : Reason) → IsRefusedCall p gives (Contains (facts_of xs)) m offset reason
+  pub refused_is_lack : AreWholeMethods p gives → (m : MethodNo) (offset : ℕ) (reason : Reason) → IsRefusedCall p gives (Contains (facts_of xs)) m offset reason
       → IsLackIn p (Contains xs) (record { method = m; offset = offset; reason = reason })
   refused_is_lack methods m offset reason h =
       let is_method = methods m.0 h.method h.stands.given in

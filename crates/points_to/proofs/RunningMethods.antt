@@ -5,6 +5,7 @@ use Rattle.std.proofs.lemmas.Bool.{cases_lt}
 use Rattle.std.proofs.lemmas.Option.{none-some, same_Some}
 use Rattle.std.proofs.lemmas.List.Elements.{Contains-append_left, Contains-push, Contains-push_cases}
 use Rattle.jvm_model.specs.declared.number.MethodNo.{MethodNo}
+use Rattle.jvm_model.specs.Programs.{Program}
 use Rattle.op_model.specs.declared.lowered.LoweredMethod.{LoweredMethod}
 use Rattle.op_model.specs.Supplies.{GivenAs}
 use Rattle.slot_names.specs.KeptNames.{name_table}
@@ -12,7 +13,7 @@ use Rattle.slot_names.specs.Tables.{AreNames}
 use Rattle.least_sets.proofs.Growing.{back_to}
 use Rattle.least_sets.proofs.Places.{contains_at, in_longer, nothing_in}
 use Rattle.points_to_rules.specs.Facts.{Fact, may_run}
-use Rattle.points_to_rules.specs.WholeMethods.{AreMethodsOf}
+use Rattle.points_to_rules.specs.WholeMethods.{AreWholeMethods}
 use Rattle.points_to_tables.specs.declared.item.Item.{Item}
 use Rattle.points_to_tables.specs.declared.item.Item.TheVariants.{Holds, Runs, Calls, Uses}
 use Rattle.points_to_rules.specs.declared.running_method.RunningMethod.{RunningMethod}
@@ -47,7 +48,7 @@ running_same gives S T listed same h = record {
 
 -- ---- one more item
 
-module _ (gives : GivenAs) (methods : AreMethodsOf gives) (one : GivesOne gives) (S T : Fact → Type 0) (more : (fact : Fact) → S fact → T fact) where
+module _ {p : Program} (gives : GivenAs) (methods : AreWholeMethods p gives) (one : GivesOne gives) (S T : Fact → Type 0) (more : (fact : Fact) → S fact → T fact) where
   -- no method more
   running_stays : (old new : List RunningMethod) → new ≡ old → ((number : MethodNo) (l : LoweredMethod) → T (may_run number) → gives number.0 (Ok l) → S (may_run number))
       → AreRunning gives S old → AreRunning gives T new

@@ -15,7 +15,6 @@ use Rattle.least_sets.proofs.Places.{place_of, contains_at, in_front, nothing_in
 use Rattle.points_to_rules.specs.Facts.{may_run}
 use Rattle.points_to_items.specs.Items.{Item as RuleItem, known}
 use Rattle.points_to_items.specs.ItemRules.{StartItem, ItemInstance, of_start, of_node, of_call, of_user}
-use Rattle.points_to_rules.specs.WholeMethods.{AreMethodsOf}
 use Rattle.points_to_items.proofs.Holders.{zip_place}
 use Rattle.points_to_tables.specs.declared.item.Item.{Item}
 use Rattle.points_to_tables.specs.declared.item.Item.TheVariants.{Runs}
@@ -83,10 +82,6 @@ absent_before items at item apart e c =
 -- what is in front is in the whole
 pub in_whole : {X : Type 0} (xs : List X) (k : ℕ) (x : X) → Contains (take k xs) x → Contains xs x
 in_whole xs k x c = let at = place_of (take k xs) x c in contains_at xs at.0 x (in_front xs k at.0 x at.1).1
-
--- methods of a supplier
-pub methods_of : (p : Program) (gives : GivenAs) → IsSupplyOf p gives → AreMethodsOf gives
-methods_of p gives supply number l given = (supply.methods number l given).method
 
 -- ---- the start
 
@@ -168,7 +163,7 @@ module _ {p : Program} {gives : GivenAs} (supply : IsSupplyOf p gives) (one : Gi
 
   popped : IsPoppedAt p gives n (values_at new_sites) (values_at new_users) items before.xs done item popped_place.0
   popped = record {
-    methods = methods_of p gives supply;
+    methods = supply.methods;
     one = one;
     apart = apart_before n m told.grows told.apart;
     stand = before.stand;
@@ -214,7 +209,7 @@ module _ {p : Program} {gives : GivenAs} (supply : IsSupplyOf p gives) (one : Gi
   still x c = before_there before.xs done popped_place.0 popped_place.1 x c
 
   numbered : AreNumberedCalls gives Now m.calls
-  numbered = calls_by gives (methods_of p gives supply) one Old Now still item n.calls m.calls told.grows.calls fresh told.calls before.calls
+  numbered = calls_by gives supply.methods one Old Now still item n.calls m.calls told.grows.calls fresh told.calls before.calls
 
   -- what may run by now did before, or by the item
   run_split : (k : MethodNo) → Now (known (may_run k)) → Old (known (may_run k)) ⊎ (item ≡ Runs k)
@@ -225,7 +220,7 @@ module _ {p : Program} {gives : GivenAs} (supply : IsSupplyOf p gives) (one : Gi
 
   now_running : AreRunning gives (KnownIn (take (done + 1) before.xs)) new_listed
   now_running =
-      running_by gives (methods_of p gives supply) one (KnownIn (take done before.xs)) (KnownIn (take (done + 1) before.xs)) (λ fact c. still (known fact) c) item old_listed new_listed
+      running_by gives supply.methods one (KnownIn (take done before.xs)) (KnownIn (take (done + 1) before.xs)) (λ fact c. still (known fact) c) item old_listed new_listed
       run_split fresh told.methods before.running
 
   pub derived_more : IsDerivedList p gives entry m new

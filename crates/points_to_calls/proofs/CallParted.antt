@@ -1,43 +1,22 @@
 -- What a call leads to, by its parts: the target runs, units are passed, and what the body of the target gives, keeps and throws.
-use Rattle.std.proofs.Common.{◌≡◌, ◌↔◌, ℕ, Some, None, false, refl, sym, ap, ◌∙◌, subst, inl, inr, ◌⊎◌, Bor}
+use Rattle.std.proofs.Common.{◌≡◌, ◌↔◌, Some, None, false, refl, sym, ap, ◌∙◌, subst, inl, inr, ◌⊎◌}
 use Rattle.std.specs.List.{slice_get, Contains}
 use Rattle.std.proofs.lemmas.Option.{same_Some}
-use Rattle.jvm_model.specs.declared.class_file.ClassFile.{ClassFile}
 use Rattle.jvm_model.specs.declared.number.MethodNo.{MethodNo}
 use Rattle.jvm_model.specs.declared.site.SiteKind.TheVariants as kinds
 use Rattle.jvm_model.specs.declared.stub.StubMethod.{StubMethod}
 use Rattle.jvm_model.specs.declared.stub.StubResult.{StubResult}
 use Rattle.jvm_model.specs.declared.stub.StubResult.TheVariants.{Primitive, Void, Null, Given, New, Kept}
-use Rattle.jvm_model.specs.Programs.{Program, Method, Body, in_file, described}
-use Rattle.linked_program.specs.Bodies.{IsBodyView}
-use Rattle.linked_program.specs.declared.method_body.MethodBody.TheVariants.{InFile, Described}
+use Rattle.jvm_model.specs.Programs.{Program, Method, in_file, described}
 use Rattle.points_to_rules.specs.Calls.{IsOfFile, IsDescribedBy}
 use Rattle.points_to_rules.specs.Facts.{kept_objects, may_run}
+use Rattle.points_to_rules.proofs.TargetBodies.{not_both}
 use Rattle.points_to_items.specs.CallItems.{call_allocates, CallItem, runs, pass, receive, target_throws, keep_argument, give_argument, give_new, give_kept, described_throws}
 use Rattle.points_to_items.specs.Items.{CallSite, Item as RuleItem, known}
 use Rattle.points_to_calls.specs.Describing.{StubPart, StubItem, BodyItem}
 use Rattle.points_to_calls.specs.Parts.{RuleGift, unit, made, fitting, Gets, ResultsGet, ResultGives, FileItem, UnitPassed}
 
 -- ---- the body of a target
-
-pub file_by_view : (p : Program) (target : MethodNo) (m : Method) (file : Bor ClassFile) (number : ℕ) → slice_get p.methods target.0 ≡ Some m → IsBodyView m.body (InFile file number) → IsOfFile p target
-file_by_view p target m file number stands view = by m.body refl view
-  where
-    by : (b : Body) → m.body ≡ b → IsBodyView b (InFile file number) → IsOfFile p target
-    by (in_file f place member) e is = record { method = m; stands = stands; file = f; place = place; member = member; of_file = e }
-    by (described d) e is = absurd is
-
-pub described_by_view : (m : Method) (stub : Bor StubMethod) → IsBodyView m.body (Described stub) → m.body ≡ described stub.now
-described_by_view m stub view = by m.body refl view
-  where
-    by : (b : Body) → m.body ≡ b → IsBodyView b (Described stub) → m.body ≡ described stub.now
-    by (in_file f place member) e is = absurd is
-    by (described d) e is = e ∙ ap described is
-
-pub not_both : (p : Program) (target : MethodNo) (stub : StubMethod) → IsOfFile p target → IsDescribedBy p target stub → ⊥
-not_both p target stub of by =
-    let e : in_file of.file of.place of.member ≡ described stub = sym of.of_file ∙ ap (λ (m : Method). m.body) (same_Some of.method by.method (sym of.stands ∙ by.stands)) ∙ by.of_stub in
-    cc e
 
 one_stub : (p : Program) (target : MethodNo) (a b : StubMethod) → IsDescribedBy p target a → IsDescribedBy p target b → a ≡ b
 one_stub p target a b first second =

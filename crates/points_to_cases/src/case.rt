@@ -3,6 +3,7 @@
 ghost use Rattle.std.specs.Prelude.{IfOk, IfSome};
 ghost use Rattle.linked_program.specs.Numbers.{IsMethodNumber};
 
+use crate::readings::tell_disagreements;
 use crate::request::{Amount, LIMIT};
 use crate::sets::{tell_counts, tell_sets};
 use anyhow::{Result, bail};
@@ -156,7 +157,10 @@ fn tell_ground<R: Print>(
     amount: Amount,
 ) -> Result<()> {
     match amount {
-        Amount::Everything => tell_sets(rt, alloc, ground, names),
+        Amount::Everything => {
+            tell_sets(rt, alloc, ground, names)?;
+            tell_disagreements(rt, alloc, ground)
+        }
         Amount::Counts => tell_counts(rt, ground),
     }
 }

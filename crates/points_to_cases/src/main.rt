@@ -38,6 +38,7 @@
 #![tactic(auto)]
 
 mod case;
+mod readings;
 mod request;
 mod sets;
 

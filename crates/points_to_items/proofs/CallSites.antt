@@ -14,7 +14,7 @@ use Rattle.least_sets.proofs.Places.{place_of, contains_at, first, later}
 use Rattle.points_to_rules.specs.Facts.{Holder, thrown_by}
 use Rattle.points_to_rules.specs.Rules.{node_of, IsSlot, IsSlotAfter, IsSlotAt, Lands, caught, uncaught}
 use Rattle.points_to_items.specs.CallItems.{LandsIn}
-use Rattle.points_to_rules.specs.WholeMethods.{IsMethodOf}
+use Rattle.points_to_rules.specs.WholeMethods.{IsWholeMethod}
 use Rattle.points_to_items.specs.Items.{Arm, Landing, CallSite}
 use Rattle.points_to_items.specs.NodeItems.{IsArm, IsLanding, IsUnitHolder, AreResults, IsCallSite}
 use Rattle.points_to_items.proofs.Holders.{zip_made, zip_place, same_holder, same_holder_at, holder_of, holder_at}
@@ -70,7 +70,7 @@ site_at m l n c has = record { at = node_of m n; kind = c.kind; resolved = c.res
 pub is_site_at : (m : MethodNo) (l : LoweredMethod) (n : Node) (c : NodeCall) (has : HasSite m l n c) → IsCallSite m l n c (site_at m l n c has)
 is_site_at m l n c has = record { at = refl; kind = refl; resolved = refl; arguments = has.are_arguments; results = has.are_results; landing = has.is_landing }
 
-module _ (number : ℕ) (m : MethodNo) (l : LoweredMethod) (is_method : IsMethodOf number l) (n : Node) (here : Contains l.nodes n) where
+module _ {p : Program} (number : ℕ) (m : MethodNo) (l : LoweredMethod) (is_method : IsWholeMethod p number l) (n : Node) (here : Contains l.nodes n) where
   pub landing_of : (landing : Landing) × IsLanding m l n landing
   landing_of =
       let arms = zip_made (IsArm l) n.handlers (λ handler there.

@@ -13,7 +13,7 @@ use Rattle.least_sets.proofs.Places.{All-from_contains, first_or_later, first, l
 use Rattle.points_to_rules.specs.Facts.{Fact, may_run, may_call}
 use Rattle.points_to_rules.specs.Rules.{IsNodeOf, Instance, entry_runs, entry_called, entry_argument, entry_strings, keep, move, enter, handle, load, load_element, load_static, make, make_array, get_constant, cast, store, store_element, store_static, nest, begin_static, call_chosen, call_selected, target_runs, pass, return, receive, keep_argument, give_argument, give_new, give_kept, throw, raise, target_throws, described_throws, initialiser_throws, initialiser_runs, keep_thrown}
 use Rattle.points_to_items.specs.ItemRules.{StartItem, ItemInstance}
-use Rattle.points_to_rules.specs.WholeMethods.{AreMethodsOf}
+use Rattle.points_to_rules.specs.WholeMethods.{AreWholeMethods}
 use Rattle.points_to_items.specs.Items.{Item, known, used, facts_of}
 use Rattle.points_to_items.proofs.CalledNodes.{IsCallOf, call_comes_from}
 use Rattle.points_to_items.proofs.ClosedCalls.{call_chosen_closed, call_selected_closed, pass_closed, receive_closed, give_new_closed, give_kept_closed, keep_argument_closed, give_argument_closed, target_throws_closed, described_throws_closed, target_runs_closed}
@@ -76,7 +76,7 @@ module _ {p : Program} {gives : GivenAs} {entry : MethodNo} {T : Item → Type 0
   facts_closed premises fact (keep_thrown rest i s may) hold = keep_thrown_closed h rest i s may hold.0 hold.1
 
 -- Where the items are closed by the rules of items, and each call among them comes from a node or the start, the facts among them are closed.
-pub closed_facts : (p : Program) (gives : GivenAs) (entry : MethodNo) (T : Item → Type 0) → AreMethodsOf gives → IsClosedSet (ItemInstance p gives entry) T
+pub closed_facts : (p : Program) (gives : GivenAs) (entry : MethodNo) (T : Item → Type 0) → AreWholeMethods p gives → IsClosedSet (ItemInstance p gives entry) T
     → ((call : NodeRef) (target : MethodNo) → T (known (may_call call target)) → IsCallOf gives entry call target) → IsClosedSet (Instance p gives entry) (λ (fact : Fact). T (known fact))
 closed_facts p gives entry T methods closed come = facts_closed (record { methods = methods; closed = closed }) come
 
@@ -108,7 +108,7 @@ hold_known items (f ∷ premises) hold = (known_from_fact items f hold.0, hold_k
 -- ---- the least facts
 
 -- The facts among the least items are the least facts, if each of those that is derivable by items is derivable by the rules.
-pub least_facts : (p : Program) (gives : GivenAs) (entry : MethodNo) (items : List Item) → AreMethodsOf gives
+pub least_facts : (p : Program) (gives : GivenAs) (entry : MethodNo) (items : List Item) → AreWholeMethods p gives
     → ((fact : Fact) → IsDerivable (ItemInstance p gives entry) (known fact) → IsDerivable (Instance p gives entry) fact)
     → IsLeast (ItemInstance p gives entry) items → IsLeast (Instance p gives entry) (facts_of items)
 least_facts p gives entry items methods derivable least =

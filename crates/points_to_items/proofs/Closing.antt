@@ -16,14 +16,14 @@ use Rattle.points_to_rules.specs.Facts.{Holder, may_hold, may_run, may_call}
 use Rattle.points_to_rules.specs.Rules.{IsNodeOf, node_of}
 use Rattle.points_to_items.specs.CallItems.{CallItem}
 use Rattle.points_to_items.specs.ItemRules.{StartItem, Passed, ItemInstance, of_start, of_node, of_call, of_user}
-use Rattle.points_to_rules.specs.WholeMethods.{IsMethodOf, AreMethodsOf}
+use Rattle.points_to_rules.specs.WholeMethods.{IsWholeMethod, AreWholeMethods}
 use Rattle.points_to_items.specs.Items.{Landing, User, pass_to, Item, known, used}
 use Rattle.points_to_items.specs.NodeItems.{NodeItem, OpItem, operates, IsLanding}
 use Rattle.points_to_items.proofs.CallSites.{HasSite, site_at, is_site_at, landing_of, site_of_call}
 
--- The items are closed, and the methods are as the solver takes them.
+-- The items are closed, and the methods are whole.
 pub record IsClosing (p : Program) (gives : GivenAs) (entry : MethodNo) (T : Item → Type 0) : Type 0 where
-  pub methods : AreMethodsOf gives
+  pub methods : AreWholeMethods p gives
   pub closed : IsClosedSet (ItemInstance p gives entry) T
 
 -- A node of a method that may run.
@@ -43,7 +43,7 @@ module _ {p : Program} {gives : GivenAs} {entry : MethodNo} {T : Item → Type 0
 
   -- at a node of a method that is given
   module _ {m : MethodNo} {l : LoweredMethod} {n : Node} (is_node : IsNodeOf gives m l n) where
-    is_method : IsMethodOf m.0 l
+    is_method : IsWholeMethod p m.0 l
     is_method = h.methods m.0 l is_node.given
 
     pub all_reached : AreReachedNodes l

@@ -5,6 +5,7 @@ mod MeantNodes
 pub mod MeantItems
 pub mod Holders
 pub mod CallSites
+pub mod OneSite
 mod Closing
 mod ClosedNodes
 mod CalledNodes

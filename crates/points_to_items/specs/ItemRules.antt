@@ -1,6 +1,6 @@
 -- Public contracts rest on this module.
 -- The rules by items: no instance has more than two premises, and the only ones of two have a user and an object of one holder.
-use Rattle.std.specs.Prelude.{codes, ◌≡◌, ℕ, List, [], ◌∷◌, Ok, Some, slice_get, Contains}
+use Rattle.std.specs.Prelude.{codes, ◌≡◌, List, [], ◌∷◌, Some, slice_get, Contains}
 use Rattle.jvm_model.specs.declared.number.MethodNo.{MethodNo}
 use Rattle.jvm_model.specs.declared.site.Site.{Site}
 use Rattle.jvm_model.specs.Programs.{Program, Method}
@@ -9,7 +9,7 @@ use Rattle.op_model.specs.declared.lowered.LoweredMethod.{LoweredMethod}
 use Rattle.op_model.specs.declared.node.Node.{Node}
 use Rattle.op_model.specs.declared.op.Call.{Call as NodeCall}
 use Rattle.op_model.specs.declared.op.Op.TheVariants.{Call}
-use Rattle.op_model.specs.Supplies.{Given, GivenAs}
+use Rattle.op_model.specs.Supplies.{GivenAs}
 use Rattle.bytecode_machine.specs.Objects.{string_name}
 use Rattle.bytecode_machine.specs.Start.{boot_site}
 use Rattle.node_machine.specs.Nodes.{IsCodedInitialiser}
@@ -54,10 +54,6 @@ pub data ItemInstance (p : Program) (gives : GivenAs) (entry : MethodNo) (premis
       → IsNodeOf gives m l n → n.op ≡ Call c → IsCallSite m l n c site → CallItem p site target x → ItemInstance p gives entry premises x
   of_user : (from : Holder) (user : User) (s : Site) → premises ≡ used from user ∷ known (may_hold from s) ∷ [] → Passed p user s x
       → ItemInstance p gives entry premises x
-
--- The supplier that gives what a map has.
-abbrev pub by_map : Given → GivenAs
-by_map given number answer = given number ≡ Some answer
 
 -- What the nodes of a method lead to.
 abbrev pub MethodItem : Program → LoweredMethod → Item → Type 0

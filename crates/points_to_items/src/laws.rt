@@ -7,18 +7,18 @@ ghost use Rattle.op_model.specs.Supplies.{Given};
 ghost use Rattle.least_sets.specs.Rules.{IsDerivable, IsLeast};
 ghost use Rattle.points_to_rules.specs.Facts.{Fact};
 ghost use Rattle.points_to_rules.specs.Rules.{Instance};
+ghost use Rattle.points_to_rules.specs.WholeMethods.{AreWholeMethods, as_given};
 ghost use Rattle.points_to_items.specs.Items.{Item, facts_of, known};
-ghost use Rattle.points_to_rules.specs.WholeMethods.{AreMethodsOf};
-ghost use Rattle.points_to_items.specs.ItemRules.{ItemInstance, by_map};
+ghost use Rattle.points_to_items.specs.ItemRules.{ItemInstance};
 
 /// A fact that is derivable by items is derivable by the rules.
 pub fn derivable_by_items()
     ensures { (p : Program) (given : Given) (entry : MethodNo) (fact : Fact)
-        → IsDerivable (ItemInstance p (by_map given) entry) (known fact) → IsDerivable (Instance p (by_map given) entry) fact }
+        → IsDerivable (ItemInstance p (as_given given) entry) (known fact) → IsDerivable (Instance p (as_given given) entry) fact }
 {}
 
 /// The facts among the least items are the least facts.
 pub fn least_by_items()
-    ensures { (p : Program) (given : Given) (entry : MethodNo) (items : List Item) → AreMethodsOf (by_map given)
-        → IsLeast (ItemInstance p (by_map given) entry) items → IsLeast (Instance p (by_map given) entry) (facts_of items) }
+    ensures { (p : Program) (given : Given) (entry : MethodNo) (items : List Item) → AreWholeMethods p (as_given given)
+        → IsLeast (ItemInstance p (as_given given) entry) items → IsLeast (Instance p (as_given given) entry) (facts_of items) }
 {}

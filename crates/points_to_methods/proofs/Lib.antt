@@ -1,5 +1,4 @@
 pub mod EntryLists
-pub mod OneSite
 pub mod NumberedSites
 pub mod SelectedSites
 pub mod NumberedCalls

@@ -11,7 +11,7 @@ use Rattle.op_model.specs.declared.op.Call.{Call as NodeCall}
 use Rattle.op_model.specs.declared.op.Op.{Op}
 use Rattle.op_model.specs.declared.op.Op.TheVariants.{Assign, Load, Store, LoadElement, StoreElement, LoadStatic, StoreStatic, New, NewArray, Constant, Call, Return, Throw, Cast, Probe}
 use Rattle.points_to_items.specs.Items.{Item as RuleItem}
-use Rattle.points_to_rules.specs.WholeMethods.{IsMethodIn, NamesNumbers}
+use Rattle.points_to_rules.specs.WholeMethods.{IsWholeMethod, NamesNumbers}
 use Rattle.points_to_items.specs.NodeItems.{FlowItem, EnterItem, HandleItem, OpItem, RaiseItem, TriggerItem, NodeItem, flows, enters, handles, operates, raises, triggers}
 use Rattle.points_to_methods.specs.NodeCalls.{AddsNode}
 use Rattle.points_to_nodes.specs.Operations.{IsSimple}
@@ -74,7 +74,7 @@ pub operation_read : (nodes list : List Node) (place : ℕ) (n m : Node) → lis
 operation_read nodes list place n m same within is at = ap (λ (k : Node). k.op) (sym is ∙ read_node nodes list place n m same within is at)
 
 -- the numbers of what a node names
-pub node_numbers : (p : Program) (l : LoweredMethod) → IsMethodIn p l.method.0 l → (node : ℕ) (n : Node) → slice_get l.nodes node ≡ Some n → NamesNumbers p n
+pub node_numbers : (p : Program) (l : LoweredMethod) → IsWholeMethod p l.method.0 l → (node : ℕ) (n : Node) → slice_get l.nodes node ≡ Some n → NamesNumbers p n
 node_numbers p l is_method node n at = All-contains (NamesNumbers p) l.nodes n is_method.numbers (contains_at l.nodes node n at)
 
 module _ {T E : Type 0} (r : Result T E) (p : Program) (l : LoweredMethod) (n : Node) (a b : Numbered) (xs ys : List Item) where

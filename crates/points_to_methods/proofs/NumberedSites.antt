@@ -12,8 +12,7 @@ use Rattle.slot_names.proofs.ListPlaces.{contains_at}
 use Rattle.points_to_rules.specs.Facts.{Holder}
 use Rattle.points_to_rules.specs.Rules.{IsSlot, IsSlotAt}
 use Rattle.points_to_items.specs.Items.{CallSite as ItemCallSite}
-use Rattle.points_to_rules.specs.WholeMethods.{HasNodeAt}
-use Rattle.points_to_rules.specs.WholeMethods.{IsMethodIn}
+use Rattle.points_to_rules.specs.WholeMethods.{HasNodeAt, IsWholeMethod}
 use Rattle.points_to_items.specs.NodeItems.{AreResults, IsCallSite, IsUnitHolder}
 use Rattle.points_to_tables.specs.declared.entries.CallSite.{CallSite}
 use Rattle.points_to_tables.specs.declared.keys.LandingNo.{LandingNo}
@@ -70,10 +69,10 @@ pub results_there : (l : LoweredMethod) (n : Node) (old new : Numbered) (target 
 results_there l n old new target z places is all = subst (λ (t : Option ℕ). GrowsTo (λ numbered. StandForResults l n numbered t places) old new) (sym is) all
 
 -- a node stands at each successor of a node
-pub successors_stand : (p : Program) (l : LoweredMethod) → IsMethodIn p l.method.0 l → (node : ℕ) (n : Node) → slice_get l.nodes node ≡ Some n → (offsets : List ℕ) → offsets ≡ n.successors → (i d : ℕ) → i < length offsets
+pub successors_stand : (p : Program) (l : LoweredMethod) → IsWholeMethod p l.method.0 l → (node : ℕ) (n : Node) → slice_get l.nodes node ≡ Some n → (offsets : List ℕ) → offsets ≡ n.successors → (i d : ℕ) → i < length offsets
     → HasNodeAt l (get_or offsets i d)
 successors_stand p l is_method node n at offsets list i d within =
-    is_method.method.successors n (get_or offsets i d) (contains_at l.nodes node n at) (subst (λ (all : List ℕ). Contains all (get_or offsets i d)) list (Contains-get_or offsets i d within))
+    is_method.successors n (get_or offsets i d) (contains_at l.nodes node n at) (subst (λ (all : List ℕ). Contains all (get_or offsets i d)) list (Contains-get_or offsets i d within))
 
 -- ---- the call
 

@@ -11,6 +11,7 @@ use Rattle.op_model.specs.declared.node.Node.{Node}
 use Rattle.op_model.specs.declared.node.NodeRef.{NodeRef}
 use Rattle.op_model.specs.declared.op.Call.{Call as NodeCall}
 use Rattle.slot_names.specs.Tables.{NameTable}
+use Rattle.slot_names.proofs.ListPlaces.{contains_at}
 use Rattle.points_to_rules.specs.Facts.{Holder, may_call}
 use Rattle.points_to_rules.specs.Rules.{IsSlot}
 use Rattle.points_to_items.specs.Items.{CallSite, Item, known, select, used}
@@ -18,9 +19,9 @@ use Rattle.points_to_items.specs.NodeItems.{CallNodeItem, IsCallSite, IsUnitHold
 use Rattle.points_to_items.specs.NodeItems as node_items
 use Rattle.points_to_nodes.specs.Known.{IsNamedMethod}
 use Rattle.points_to_nodes.specs.Slots.{slot_holder}
-use Rattle.points_to_nodes.proofs.NamedSlots.{slot_is}
+use Rattle.points_to_items.proofs.OneSite.{one_site}
+use Rattle.points_to_nodes.proofs.NamedSlots.{reached, slot_is}
 use Rattle.points_to_methods.specs.CallParts.{ChosenItem, SelectingItem}
-use Rattle.points_to_methods.proofs.OneSite.{one_site}
 
 -- ---- the first argument
 
@@ -78,7 +79,7 @@ module _ (p : Program) (l : LoweredMethod) (names : NameTable) (known_method : I
     (λ item. elim item [
       | node_items.chosen target is e ↦ inl (target, is, e ∙ ap (λ (r : NodeRef). known (may_call r target)) (sym is_site.at))
       | node_items.selecting other from kind is_other first e ↦
-          let same : other ≡ site = one_site p l names known_method node n at c other site is_other is_site in
+          let same : other ≡ site = one_site l (reached p l names known_method) n (contains_at l.nodes node n at) l.method c other site is_other is_site in
           inr (
             from,
             kind,

@@ -12,7 +12,7 @@ use Rattle.node_machine.specs.Nodes.{IsCodedInitialiser}
 use Rattle.op_model.specs.declared.lowered.LoweredMethod.{LoweredMethod}
 use Rattle.op_model.specs.declared.node.Node.{Node}
 use Rattle.points_to_items.specs.Items.{Item, Landing, land_at, used}
-use Rattle.points_to_rules.specs.WholeMethods.{IsMethodIn, NamesNumbers}
+use Rattle.points_to_rules.specs.WholeMethods.{IsWholeMethod, NamesNumbers}
 use Rattle.points_to_items.specs.NodeItems.{IsLanding, TriggerItem, keeps_thrown, runs, throws}
 use Rattle.points_to_rules.specs.Facts.{thrown_by}
 use Rattle.points_to_rules.specs.Rules.{StartsAt}
@@ -20,7 +20,8 @@ use Rattle.points_to_tables.proofs.Adding.{OfOne}
 use Rattle.slot_names.specs.Tables.{NameTable}
 use Rattle.slot_names.proofs.ListPlaces.{contains_at}
 use Rattle.points_to_nodes.specs.Known.{IsNamedMethod}
-use Rattle.points_to_nodes.proofs.LandedNodes.{one_landing}
+use Rattle.points_to_items.proofs.OneSite.{one_landing}
+use Rattle.points_to_nodes.proofs.NamedSlots.{reached}
 use Rattle.points_to_nodes.proofs.RaisedObjects.{class_numbered}
 use Rattle.points_to_methods.specs.Started.{IsStarted}
 
@@ -30,7 +31,7 @@ trigger_read nodes list place n d trigger same at is =
     ap (λ (m : Node). m.trigger) (sym (get_or_from_slice_get list place n d (ap (λ (ns : List Node). slice_get ns place) same ∙ at))) ∙ is
 
 -- the class that a node of the method may initialise
-pub trigger_numbered : (p : Program) (l : LoweredMethod) → IsMethodIn p l.method.0 l → (node : ℕ) (n : Node) → slice_get l.nodes node ≡ Some n → (trigger : ClassNo) → n.trigger ≡ Some trigger
+pub trigger_numbered : (p : Program) (l : LoweredMethod) → IsWholeMethod p l.method.0 l → (node : ℕ) (n : Node) → slice_get l.nodes node ≡ Some n → (trigger : ClassNo) → n.trigger ≡ Some trigger
     → trigger.0 < length p.classes
 trigger_numbered p l is_method node n at trigger is =
     let numbers = All-contains (NamesNumbers p) l.nodes n is_method.numbers (contains_at l.nodes node n at) in
@@ -67,7 +68,7 @@ module _ (p : Program) (n : Node) (trigger : ClassNo) (is_trigger : n.trigger �
       started_as x (runs i starts is) = (i, (are i).1 ((started i).0 starts), inl (inl is))
       started_as x (keeps_thrown i starts is) = (i, (are i).1 ((started i).0 starts), inl (inr is))
       started_as x (throws i there starts is_there is) =
-          (i, (are i).1 ((started i).0 starts), inr (is ∙ ap (λ (t : Landing). used (thrown_by i) (land_at t)) (one_landing p l names known n there landing is_there is_landing)))
+          (i, (are i).1 ((started i).0 starts), inr (is ∙ ap (λ (t : Landing). used (thrown_by i) (land_at t)) (one_landing l (reached p l names known) l.method n there landing is_there is_landing)))
 
       leads_to : (i : MethodNo) → StartsAt p n i → (x : Item) → IsStarted i landing x → TriggerItem p l.method l n x
       leads_to i starts x (inl (inl is)) = runs i starts is

@@ -2,7 +2,7 @@
 
 ghost use Rattle.std.specs.Prelude.{IfOk, OnOk};
 ghost use Rattle.points_to_items.specs.ItemRules.{MethodItem};
-ghost use Rattle.points_to_rules.specs.WholeMethods.{IsMethodIn};
+ghost use Rattle.points_to_rules.specs.WholeMethods.{IsWholeMethod};
 ghost use Rattle.points_to_methods.specs.NewCalls.{AddsCalls};
 ghost use Rattle.points_to_tables.specs.Numbered.{Grows};
 ghost use Rattle.points_to_tables.specs.Steps.{Adds};
@@ -26,7 +26,7 @@ pub fn method_items(
     method: &LoweredMethod,
     steps: &mut Vec<Item>,
 ) -> Result<Names, IndexFailure>
-    requires { IsMethodIn program.now method.now.method.0 method.now }
+    requires { IsWholeMethod program.now method.now.method.0 method.now }
     ensures grows { OnOk result (Grows tables.old tables.new) }
     ensures calls { OnOk result (AddsCalls method.now tables.old.calls tables.new.calls) }
     ensures adds { OnOk result (Adds tables.new (MethodItem program.now method.now) steps.old.items steps.new.items) }

@@ -8,8 +8,7 @@ use Rattle.op_model.specs.declared.lowered.LoweredMethod.{LoweredMethod}
 use Rattle.op_model.specs.declared.node.Node.{Node}
 use Rattle.op_model.specs.declared.node.NodeHandler.{NodeHandler}
 use Rattle.points_to_items.specs.Items.{Arm as ItemArm, Item, Landing as ItemLanding, used, throw_at}
-use Rattle.points_to_rules.specs.WholeMethods.{HasNodeAt}
-use Rattle.points_to_rules.specs.WholeMethods.{IsMethodIn}
+use Rattle.points_to_rules.specs.WholeMethods.{HasNodeAt, IsWholeMethod}
 use Rattle.points_to_items.specs.NodeItems.{IsArm, IsLanding}
 use Rattle.points_to_nodes.specs.Known.{IsNamedMethod}
 use Rattle.points_to_nodes.specs.Landings.{StandsForArm}
@@ -20,9 +19,9 @@ use Rattle.points_to_tables.specs.declared.entries.Arm.{Arm}
 use Rattle.points_to_tables.specs.declared.entries.Landing.{Landing}
 use Rattle.points_to_tables.specs.Numbered.{Grows, IsArmAt, IsLandingAt, Numbered}
 use Rattle.slot_names.specs.Tables.{NameTable}
-use Rattle.slot_names.proofs.FoundPlaces.{one_place}
 use Rattle.slot_names.proofs.ListPlaces.{contains_at}
-use Rattle.points_to_nodes.proofs.NamedSlots.{in_order, slot_has, slot_is, there_is}
+use Rattle.points_to_items.proofs.OneSite.{one_landing}
+use Rattle.points_to_nodes.proofs.NamedSlots.{reached, slot_has, slot_is}
 
 -- ---- arms
 
@@ -86,47 +85,21 @@ arm_there l tables handler to entry slot is at =
     (record { handler = handler; to = to }, record { handler_is = refl; slot = slot }, record { handler = sym is; to = at })
 
 -- a node stands where a handler of a node begins
-pub handlers_stand : (p : Program) (l : LoweredMethod) → IsMethodIn p l.method.0 l → (node : ℕ) (n : Node) → slice_get l.nodes node ≡ Some n → (hs : List NodeHandler) → hs ≡ n.handlers → (i : ℕ) (d : NodeHandler) → i < length hs
+pub handlers_stand : (p : Program) (l : LoweredMethod) → IsWholeMethod p l.method.0 l → (node : ℕ) (n : Node) → slice_get l.nodes node ≡ Some n → (hs : List NodeHandler) → hs ≡ n.handlers → (i : ℕ) (d : NodeHandler) → i < length hs
     → HasNodeAt l (get_or hs i d).target
 handlers_stand p l is_method node n at hs list i d within =
-    is_method.method.handlers n (get_or hs i d) (contains_at l.nodes node n at) (subst (λ (all : List NodeHandler). Contains all (get_or hs i d)) list (Contains-get_or hs i d within))
+    is_method.handlers n (get_or hs i d) (contains_at l.nodes node n at) (subst (λ (all : List NodeHandler). Contains all (get_or hs i d)) list (Contains-get_or hs i d within))
 
--- ---- a node has one landing
+-- ---- what is thrown
 
 module _ (p : Program) (l : LoweredMethod) (names : NameTable) (known : IsNamedMethod p l names) where
-  -- a slot at an offset has one holder
-  pub one_holder : (offset z : ℕ) (g h : Holder) → IsSlotAt l offset z g → IsSlotAt l offset z h → g ≡ h
-  one_holder offset z g h first second =
-      let (i, at, is) = there_is p l names known offset z g first in
-      let (j, there, same) = there_is p l names known offset z h second in
-      is ∙ ap (λ (k : ℕ). slot_holder names k z) (one_place l offset i j (in_order p l names known) at there) ∙ sym same
-
-  same_arm : (handler : NodeHandler) (a b : ItemArm) → IsArm l handler a → IsArm l handler b → a ≡ b
-  same_arm handler a b first second =
-      ap (λ (h : Holder). record { handler = a.handler; to = h }) (one_holder handler.target l.slots a.to b.to first.slot second.slot)
-      ∙ ap (λ (h : NodeHandler). record { handler = h; to = b.to }) (first.handler_is ∙ sym second.handler_is)
-
-  same_arms : (hs : List NodeHandler) (fs gs : List ItemArm) → AllZip (IsArm l) hs fs → AllZip (IsArm l) hs gs → fs ≡ gs
-  same_arms [] [] [] h g = refl
-  same_arms [] (f ∷ fs) gs h g = absurd h
-  same_arms [] [] (b ∷ gs) h g = absurd g
-  same_arms (x ∷ hs) [] gs h g = absurd h
-  same_arms (x ∷ hs) (f ∷ fs) [] h g = absurd g
-  same_arms (x ∷ hs) (f ∷ fs) (b ∷ gs) (one, rest) (next, more) =
-      ap (λ (c : ItemArm). c ∷ fs) (same_arm x f b one next) ∙ ap (λ (cs : List ItemArm). b ∷ cs) (same_arms hs fs gs rest more)
-
-  pub one_landing : (n : Node) (a b : ItemLanding) → IsLanding l.method l n a → IsLanding l.method l n b → a ≡ b
-  one_landing n a b first second =
-      ap (λ (arms : List ItemArm). record { arms = arms; outside = a.outside }) (same_arms n.handlers a.arms b.arms first.arms second.arms)
-      ∙ ap (λ (h : Holder). record { arms = b.arms; outside = h }) (first.outside ∙ sym second.outside)
-
   -- what is thrown goes to the one landing of the node
   pub thrown_from : (node : ℕ) (n : Node) → slice_get l.nodes node ≡ Some n → (landing : ItemLanding) → IsLanding l.method l n landing → (z : ℕ) (h : Holder) → h ≡ slot_holder names node z → (x : Item)
       → (x ≡ used h (throw_at landing)) ↔ ((other : ItemLanding) × (from : Holder) × IsLanding l.method l n other × IsSlot l n z from × (x ≡ used from (throw_at other)))
   thrown_from node n at landing is_landing z h is x = (
     (λ e. (landing, slot_holder names node z, is_landing, slot_has p l names known node n at z, e ∙ ap (λ (k : Holder). used k (throw_at landing)) is)),
     (λ (other, from, is_other, slot, e).
-        let same = one_landing n other landing is_other is_landing in
+        let same = one_landing l (reached p l names known) l.method n other landing is_other is_landing in
         let here = slot_is p l names known node n at z from slot ∙ sym is in
         cc),
   )

@@ -1,7 +1,7 @@
 -- The slots of a method by its names: at the node of a place a slot has the name that the table has, and no other.
-use Rattle.std.proofs.Common.{◌≡◌, ℕ, zero, suc, ◌<◌, List, [], ◌∷◌, length, get_or, Some, refl, sym, ◌∙◌, ap, arith}
+use Rattle.std.proofs.Common.{◌≡◌, ℕ, ◌<◌, List, length, get_or, Some, refl, sym, ◌∙◌, ap}
 use Rattle.std.specs.List.{slice_get}
-use Rattle.std.proofs.lemmas.Option.{slice_get_read, slice_get_within, same_Some}
+use Rattle.std.proofs.lemmas.Option.{slice_get_read, same_Some}
 use Rattle.jvm_model.specs.Programs.{Program}
 use Rattle.op_model.specs.declared.lowered.LoweredMethod.{LoweredMethod}
 use Rattle.op_model.specs.declared.node.Node.{Node}
@@ -15,11 +15,6 @@ use Rattle.slot_names.specs.Variables.{AreReachedNodes}
 use Rattle.slot_names.proofs.ListPlaces.{contains_at, place_in}
 use Rattle.slot_laws.proofs.OneVariable.{one_variable}
 
-pub stands_below : {X : Type 0} (xs : List X) (k : ℕ) → k < length xs → (x : X) × (slice_get xs k ≡ Some x)
-stands_below [] k within = absurd (omega arith)
-stands_below (x ∷ xs) zero within = (x, refl)
-stands_below (x ∷ xs) (suc k) within = stands_below xs k (omega arith)
-
 -- the node that is read at a place is the one that stands there
 pub read_node : (nodes list : List Node) (place : ℕ) (n m : Node) → list ≡ nodes → place < length nodes → m ≡ get_or list place m → slice_get nodes place ≡ Some n → m ≡ n
 read_node nodes list place n m same within is at =
@@ -27,10 +22,10 @@ read_node nodes list place n m same within is at =
 
 module _ (p : Program) (l : LoweredMethod) (names : NameTable) (known : IsNamedMethod p l names) where
   pub reached : AreReachedNodes l
-  reached = known.in_program.method.reached
+  reached = known.in_program.reached
 
   pub in_order : AreInOrder l
-  in_order = record { ascend = known.in_program.method.reached.ascend }
+  in_order = record { ascend = known.in_program.reached.ascend }
 
   module _ (node : ℕ) (n : Node) (at : slice_get l.nodes node ≡ Some n) where
     pub slot_has : (z : ℕ) → IsSlot l n z (slot_holder names node z)
@@ -38,7 +33,7 @@ module _ (p : Program) (l : LoweredMethod) (names : NameTable) (known : IsNamedM
 
     pub slot_is : (z : ℕ) (h : Holder) → IsSlot l n z h → h ≡ slot_holder names node z
     slot_is z h slot =
-        slot.is ∙ ap variable (one_variable l n z slot.name (names.variable node z) known.in_program.method.reached (contains_at l.nodes node n at) slot.named (known.are_names.each node z n at))
+        slot.is ∙ ap variable (one_variable l n z slot.name (names.variable node z) known.in_program.reached (contains_at l.nodes node n at) slot.named (known.are_names.each node z n at))
 
   -- the slots at an offset, by the place of its node
   pub there_has : (offset next : ℕ) → StandsAt l offset next → (z : ℕ) → IsSlotAt l offset z (slot_holder names next z)

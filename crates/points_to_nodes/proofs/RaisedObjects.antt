@@ -15,16 +15,16 @@ use Rattle.op_model.specs.declared.lowered.LoweredMethod.{LoweredMethod}
 use Rattle.op_model.specs.declared.node.Node.{Node}
 use Rattle.op_model.specs.declared.node.NodeHandler.{NodeHandler}
 use Rattle.points_to_items.specs.Items.{Item, known}
-use Rattle.points_to_rules.specs.WholeMethods.{IsMethodIn, NamesNumbers}
+use Rattle.points_to_rules.specs.WholeMethods.{IsWholeMethod, NamesNumbers}
 use Rattle.points_to_items.specs.NodeItems.{RaiseItem}
 use Rattle.points_to_nodes.specs.Known.{IsNamedMethod}
 use Rattle.points_to_nodes.specs.Raises.{RaisesOf}
 use Rattle.points_to_rules.specs.Facts.{Holder, may_hold}
 use Rattle.points_to_rules.specs.Rules.{IsSlotAt, Lands, caught, site_of, uncaught}
 use Rattle.slot_names.specs.Tables.{NameTable}
-use Rattle.slot_names.proofs.ListPlaces.{contains_at}
-use Rattle.points_to_nodes.proofs.LandedNodes.{one_holder}
-use Rattle.points_to_nodes.proofs.NamedSlots.{stands_below}
+use Rattle.slot_names.proofs.ListPlaces.{contains_at, stands_below}
+use Rattle.points_to_items.proofs.Holders.{same_holder_at}
+use Rattle.points_to_nodes.proofs.NamedSlots.{reached}
 
 -- ---- the first handler that takes a class
 
@@ -65,7 +65,7 @@ module _ (p : Program) (l : LoweredMethod) (names : NameTable) (known_method : I
   one_place_of : (n : Node) (class : List ℕ) (g h : Holder) → Lands p l.method l n class g → Lands p l.method l n class h → g ≡ h
   one_place_of n class g h (caught a first slot) (caught b second there) =
       let same = one_taking p class n.handlers a b first second in
-      one_holder p l names known_method b.target l.slots g h (subst (λ (c : NodeHandler). IsSlotAt l c.target l.slots g) same slot) there
+      same_holder_at l (reached p l names known_method) b.target l.slots g h (subst (λ (c : NodeHandler). IsSlotAt l c.target l.slots g) same slot) there
   one_place_of n class g h (caught a first slot) (uncaught none e) = let (there, takes) = taking_one p class n.handlers a first in absurd (none a there takes)
   one_place_of n class g h (uncaught none e) (caught a first slot) = let (there, takes) = taking_one p class n.handlers a first in absurd (none a there takes)
   one_place_of n class g h (uncaught none e) (uncaught never f) = e ∙ sym f
@@ -118,14 +118,14 @@ pub caught_first : (p : Program) (l : LoweredMethod) (n : Node) (class : List �
 caught_first p l n class hs h to list first slot = caught h (subst (λ (all : List NodeHandler). IsFirstTaking p class all h) list first) slot
 
 -- the class that a handler of a node names
-pub catches_numbered : (p : Program) (l : LoweredMethod) → IsMethodIn p l.method.0 l → (node : ℕ) (n : Node) → slice_get l.nodes node ≡ Some n → (hs : List NodeHandler) → hs ≡ n.handlers → (i : ℕ) (d : NodeHandler) → i < length hs
+pub catches_numbered : (p : Program) (l : LoweredMethod) → IsWholeMethod p l.method.0 l → (node : ℕ) (n : Node) → slice_get l.nodes node ≡ Some n → (hs : List NodeHandler) → hs ≡ n.handlers → (i : ℕ) (d : NodeHandler) → i < length hs
     → (catch : ClassNo) → (get_or hs i d).catch ≡ Some catch → catch.0 < length p.classes
 catches_numbered p l is_method node n at hs list i d within catch is =
     let numbers = All-contains (NamesNumbers p) l.nodes n is_method.numbers (contains_at l.nodes node n at) in
     numbers.catches (get_or hs i d) catch (subst (λ (all : List NodeHandler). Contains all (get_or hs i d)) list (Contains-get_or hs i d within)) is
 
 -- the classes that a node throws
-pub throws_numbered : (p : Program) (l : LoweredMethod) → IsMethodIn p l.method.0 l → (node : ℕ) (n : Node) → slice_get l.nodes node ≡ Some n → (cs : List ClassNo) → cs ≡ n.throws → (i : ℕ) (d : ClassNo) → i < length cs
+pub throws_numbered : (p : Program) (l : LoweredMethod) → IsWholeMethod p l.method.0 l → (node : ℕ) (n : Node) → slice_get l.nodes node ≡ Some n → (cs : List ClassNo) → cs ≡ n.throws → (i : ℕ) (d : ClassNo) → i < length cs
     → (get_or cs i d).0 < length p.classes
 throws_numbered p l is_method node n at cs list i d within =
     let numbers = All-contains (NamesNumbers p) l.nodes n is_method.numbers (contains_at l.nodes node n at) in

@@ -3,14 +3,14 @@
 use Rattle.std.specs.Prelude.{ℕ, ◌<◌, length}
 use Rattle.jvm_model.specs.Programs.{Program}
 use Rattle.op_model.specs.declared.lowered.LoweredMethod.{LoweredMethod}
-use Rattle.points_to_rules.specs.WholeMethods.{IsMethodIn}
+use Rattle.points_to_rules.specs.WholeMethods.{IsWholeMethod}
 use Rattle.points_to_nodes.specs.declared.named.NamedMethod.{NamedMethod}
 use Rattle.slot_names.specs.KeptNames.{name_table}
 use Rattle.slot_names.specs.Tables.{AreNames, NameTable}
 
 -- It is a method of the program, and the names are those of its slots.
 pub record IsNamedMethod (p : Program) (l : LoweredMethod) (names : NameTable) : Type 0 where
-  pub in_program : IsMethodIn p l.method.0 l
+  pub in_program : IsWholeMethod p l.method.0 l
   pub are_names : AreNames l names
 
 abbrev pub names_at : NamedMethod → NameTable

@@ -4,5 +4,6 @@ pub mod Calls
 pub mod Rules
 pub mod Writes
 pub mod Refusals
+pub mod ReadSlots
 pub mod WholeMethods
 pub mod Solutions

@@ -20,13 +20,13 @@ use Rattle.points_to_rules.specs.declared.solve_fault.SolveFault.TheVariants.{Pa
 use Rattle.points_to_rules.specs.Facts.{Holder, Fact, may_hold, may_run, may_call, may_write}
 use Rattle.points_to_rules.specs.Refusals.{IsFirstRefusal, IsUnrefused}
 use Rattle.points_to_rules.specs.Rules.{Instance}
-use Rattle.points_to_rules.specs.WholeMethods.{IsMethodIn}
+use Rattle.points_to_rules.specs.WholeMethods.{AreWholeMethods}
 
 -- The supplier serves just the methods that have code, and gives methods of the program.
 pub record IsSupplyOf (p : Program) (gives : GivenAs) : Type 0 where
   pub serves : (number : ℕ) → IsCodedMethod p number → IsServed gives number
   pub coded : (number : ℕ) (answer : Result LoweredMethod Refusal) → gives number answer → IsCodedMethod p number
-  pub methods : (number : ℕ) (l : LoweredMethod) → gives number (Ok l) → IsMethodIn p number l
+  pub methods : AreWholeMethods p gives
 
 -- A fact that is a pair: of a holder and a site that it may hold.
 abbrev pub pair_of : Fact → Option (Holder × Site)

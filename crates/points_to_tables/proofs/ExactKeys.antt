@@ -1,11 +1,7 @@
 -- `==` on the keys of the tables tells each two apart.
-use Rattle.std.proofs.Common.{◌≡◌, Bool, true, eqb, ◌&&◌, Option, Some, None, refl}
-use Rattle.std.specs.Option.{option_eq}
+use Rattle.std.proofs.Common.{◌≡◌, Bool, true, eqb, ◌&&◌, refl}
 use Rattle.std.proofs.lemmas.Bool.{and_parts}
 use Rattle.std.proofs.lemmas.Map.Views.{exact_unsigned_eq}
-use Rattle.jvm_model.specs.declared.number.MethodNo.{MethodNo}
-use Rattle.jvm_model.specs.declared.site.SiteKind.{SiteKind}
-use Rattle.jvm_model.specs.declared.site.SiteKind.TheVariants as kinds
 use Rattle.jvm_model.specs.contracts.site.SiteKindPartialEq.TheImpl as kind_block
 use Rattle.points_to_tables.specs.declared.keys.SiteKey.{SiteKey}
 use Rattle.points_to_tables.specs.declared.keys.User.{User}
@@ -14,6 +10,7 @@ use Rattle.points_to_tables.specs.contracts.keys.SiteKeyPartialEq.TheImpl as sit
 use Rattle.points_to_tables.specs.contracts.keys.UserPartialEq.TheImpl as user_block
 use Rattle.points_to_tables.specs.contracts.keys.SiteKeyEq.TheImpl.Laws as site_laws
 use Rattle.points_to_tables.specs.contracts.keys.UserEq.TheImpl.Laws as user_laws
+use Rattle.points_to_rules.proofs.ExactParts.{exact_kinds, same_maybe, exact_maybe}
 
 abbrev pub same_sites : SiteKey → SiteKey → Bool
 same_sites = (site_block.ghosts).eq
@@ -30,21 +27,6 @@ pub user_itself : (a : User) → same_users a a ≡ true
 user_itself a = (user_laws.laws-law).refl a
 
 -- ---- and as no other
-
-exact_kinds : (a b : SiteKind) → (kind_block.ghosts).eq a b ≡ true → a ≡ b
-exact_kinds kinds.Boot kinds.Boot h = refl
-exact_kinds kinds.New kinds.New h = refl
-exact_kinds kinds.Result kinds.Result h = refl
-exact_kinds kinds.Thrown kinds.Thrown h = refl
-exact_kinds _ _ h = cc
-
-abbrev same_maybe : Option MethodNo → Option MethodNo → Bool
-same_maybe = option_eq (λ (a b : MethodNo). eqb a.0 b.0)
-
-exact_maybe : (a b : Option MethodNo) → same_maybe a b ≡ true → a ≡ b
-exact_maybe None None h = refl
-exact_maybe (Some a) (Some b) h = let methods = exact_unsigned_eq a.0 b.0 h in (λ i. Some (record { 0 = methods i }))
-exact_maybe _ _ h = cc
 
 pub exact_sites : (a b : SiteKey) → same_sites a b ≡ true → a ≡ b
 exact_sites a b h =

@@ -4,7 +4,7 @@ use Rattle.std.specs.Prelude.{slice_set}
 use Rattle.std.specs.List.{slice_get}
 use Rattle.std.proofs.lemmas.Bool.{cases_Bool, cases_lt, eqb-false, eqb-true}
 use Rattle.std.proofs.lemmas.List.{take_all}
-use Rattle.std.proofs.lemmas.Option.{same_Some}
+use Rattle.std.proofs.lemmas.Option.{none-some, same_Some}
 use Rattle.least_sets.proofs.Places.{nothing_in, push_cases}
 use Rattle.prune_stage.proofs.Reach.{get_set_cases, get_set_keeps, get_set_same}
 use Rattle.slot_names.proofs.ListPlaces.{set_at, set_cases, set_other}
@@ -61,6 +61,10 @@ none_more sets set none empty place event mark = elim (push_cases sets set place
   | inl before ↦ none place event (record { set = mark.set; stands = before; occurs = mark.occurs })
   | inr last ↦ empty event (subst (λ (x : EventSet). slice_get x.occurs event ≡ Some true) last.1 mark.occurs)
 ]
+
+-- a set without an event alone
+pub none_alone : (set : EventSet) → ((event : ℕ) → slice_get set.occurs event ≡ Some true → ⊥) → (place event : ℕ) → IsMarked (set ∷ []) place event → ⊥
+none_alone set empty place event mark = none_more [] set (λ i e m. none-some m.set m.stands) empty place event mark
 
 -- for each in a list
 module _ {X : Type 0} (R : X → ℕ → ℕ → Type 0) (xs : List X) where

@@ -16,7 +16,7 @@ use Rattle.least_sets.proofs.Places.{contains_at, in_longer, pushed_at}
 use Rattle.slot_names.proofs.ListPlaces.{stands_below}
 use Rattle.site_report.specs.declared.tracked_site.TrackedSite.{TrackedSite}
 use Rattle.site_report.specs.Sites.{site_in}
-use Rattle.prune_stage.specs.Places.{ArePlaces, AreBelow, IsPlaceIn, IsTracking}
+use Rattle.prune_stage.specs.Places.{ArePlaces, AreBelow, IsPlaceIn, IsTracking, StandsInTable}
 
 -- ---- one site
 
@@ -126,7 +126,7 @@ module _ (p : Program) (numbered : List Site) (sites : List TrackedSite) where
 
 -- places of sites are below the count of sites
 pub are_below : (p : Program) (numbered : List Site) (sites : List TrackedSite) (places : List (Option ℕ)) (count : ℕ) → length sites ≡ count
-    → ArePlaces p numbered sites places → AreBelow count places
+    → ArePlaces p numbered sites places → AreBelow count (StandsInTable places)
 are_below p numbered sites places count long are = record {
   each = λ number place at.
       let (s, stands, (t, there, is)) = are.found number place at in

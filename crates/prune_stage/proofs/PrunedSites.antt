@@ -9,14 +9,16 @@ use Rattle.std.proofs.lemmas.Option.{none-some, same_Some, slice_get_within}
 use Rattle.jvm_model.specs.declared.automaton.Automaton.{Automaton}
 use Rattle.jvm_model.specs.declared.automaton.Event.{Event}
 use Rattle.jvm_model.specs.declared.number.MethodNo.{MethodNo}
+use Rattle.jvm_model.specs.declared.number.SiteNo.{SiteNo}
 use Rattle.jvm_model.specs.declared.site.Site.{Site}
 use Rattle.jvm_model.specs.Lookups.{Signature}
 use Rattle.bytecode_machine.specs.Events.{event_for}
 use Rattle.node_machine.specs.NodeSteps.{is_selecting_kind}
 use Rattle.op_model.specs.declared.lowered.LoweredMethod.{LoweredMethod}
 use Rattle.op_model.specs.declared.op.Call.{Call as NodeCall}
+use Rattle.least_sets.specs.Rules.{IsWithoutDoubles}
 use Rattle.least_sets.proofs.Places.{place_of, contains_at, in_front, to_front}
-use Rattle.points_to_rules.specs.Facts.{may_hold, may_run}
+use Rattle.points_to_rules.specs.Facts.{Holder, may_hold, may_run}
 use Rattle.prune_stage.specs.StageOne.{IsSafe, picked}
 use Rattle.prune_stage.proofs.Reach.{picked_at, place_picked}
 use Rattle.slot_names.proofs.ListPlaces.{place_in}
@@ -26,8 +28,9 @@ use Rattle.ground.proofs.EventNumbers.{found_at_number, number_of_found, number_
 use Rattle.site_report.specs.declared.tracked_site.TrackedSite.{TrackedSite}
 use Rattle.site_report.specs.Sites.{site_in}
 use Rattle.prune_stage.specs.declared.event_set.EventSet.{EventSet}
-use Rattle.prune_stage.specs.Marks.{AreMarked, IsMarked, MethodMarks, OfOneBelow}
-use Rattle.prune_stage.specs.Pruning.{IsPruningOf, MayOccur}
+use Rattle.prune_stage.specs.Marks.{AreMarked, IsMarked, MethodMarks, OfOneBelow, Standing}
+use Rattle.prune_stage.specs.Places.{ArePlaces, StandsAlone, StandsInTable}
+use Rattle.prune_stage.specs.Pruning.{IsPruned, IsPruningOf, MayOccur}
 
 -- ---- the event of a call
 
@@ -64,21 +67,24 @@ flattened (Some slot) z e = ap (λ (s : Option ℕ). Some s) e
 
 -- ---- the events at one site
 
-module _ (g : Findings) (a : Automaton) (sites : List TrackedSite) (empty sets : List EventSet) (none : (place event : ℕ) → IsMarked empty place event → ⊥)
-    (marked : AreMarked (OfOneBelow (MethodMarks a g sites) (length g.methods)) empty sets) where
+module _ (g : Findings) (a : Automaton) (stands : Standing) (empty sets : List EventSet) (none : (place event : ℕ) → IsMarked empty place event → ⊥)
+    (marked : AreMarked (OfOneBelow (MethodMarks a g stands) (length g.methods)) empty sets)
+    (numbered : (h : Holder) (s : Site) → Contains g.facts (may_hold h s) → (number : ℕ) × (slice_get g.sites number ≡ Some s)) where
   abbrev Occurs : Site → Event → Type 0
   Occurs s x = MayOccur (gives_listed g.methods) (Contains g.facts) a s x
 
-  module _ (place : ℕ) (t : TrackedSite) (set : EventSet) (site_at : slice_get sites place ≡ Some t) (set_at : slice_get sets place ≡ Some set) where
+  -- the site, and no other, has its events at the place
+  module _ (place : ℕ) (s : Site) (set : EventSet) (set_at : slice_get sets place ≡ Some set)
+      (is_here : (number : ℕ) (x : Site) → slice_get g.sites number ≡ Some x → stands number place → x ≡ s)
+      (all_here : (number : ℕ) → slice_get g.sites number ≡ Some s → stands number place) where
     -- ---- what is marked may occur
 
-    occurs_by : (event : ℕ) (x : Event) → slice_get a.events event ≡ Some x → (method : ℕ) → MethodMarks a g sites method place event → Occurs (site_in g.program t) x
+    occurs_by : (event : ℕ) (x : Event) → slice_get a.events event ≡ Some x → (method : ℕ) → MethodMarks a g stands method place event → Occurs s x
     occurs_by event x at method m =
         let l = m.marks.l in
         let call = m.marks.marks in
         let (selecting, is_event) = event_is a m.marks.call event x call.is_event at in
-        let (u, there, is) = call.at in
-        let this : call.site ≡ site_in g.program t = sym is ∙ ap (λ (v : TrackedSite). site_in g.program v) (same_Some u t (sym there ∙ site_at)) in
+        let this : call.site ≡ s = is_here call.number call.site call.numbered call.at in
         record {
           m = l.method;
           l = l;
@@ -87,7 +93,7 @@ module _ (g : Findings) (a : Automaton) (sites : List TrackedSite) (empty sets :
           runs = m.runs;
           node = record {
             given = (l, contains_at g.methods method l m.marks.listed, refl, refl);
-            stands = contains_at l.nodes m.node m.marks.n m.marks.stands;
+            stands = contains_at l.nodes m.node m.marks.n m.marks.there;
           };
           is_call = m.marks.is_call;
           selecting = selecting;
@@ -99,7 +105,7 @@ module _ (g : Findings) (a : Automaton) (sites : List TrackedSite) (empty sets :
           holds = subst (λ (site : Site). Contains g.facts (may_hold call.from site)) this call.holds;
         }
 
-    picked_occurs : (x : Event) → Contains (picked (take (length a.events) set.occurs) a.events) x → Occurs (site_in g.program t) x
+    picked_occurs : (x : Event) → Contains (picked (take (length a.events) set.occurs) a.events) x → Occurs s x
     picked_occurs x among =
         let (j, there) = place_of (picked (take (length a.events) set.occurs) a.events) x among in
         let (event, at, is_true) = place_picked (take (length a.events) set.occurs) a.events x j there in
@@ -111,17 +117,18 @@ module _ (g : Findings) (a : Automaton) (sites : List TrackedSite) (empty sets :
 
     -- ---- what may occur is marked
 
-    marks_of : (x : Event) (o : Occurs (site_in g.program t) x) (event : ℕ) → call_event a o.c ≡ Some event → (method : ℕ) → slice_get g.methods method ≡ Some o.l
-        → o.l.method ≡ o.m → MethodMarks a g sites method place event
+    marks_of : (x : Event) (o : Occurs s x) (event : ℕ) → call_event a o.c ≡ Some event → (method : ℕ) → slice_get g.methods method ≡ Some o.l
+        → o.l.method ≡ o.m → MethodMarks a g stands method place event
     marks_of x o event is_event method listed number =
-        let (node, stands) = place_in o.l.nodes o.n o.node.stands in
+        let (node, there) = place_in o.l.nodes o.n o.node.stands in
+        let (site_number, site_at) = numbered o.from s o.holds in
         record {
           node = node;
           marks = record {
             l = o.l;
             listed = listed;
             n = o.n;
-            stands = stands;
+            there = there;
             call = o.c;
             is_call = o.is_call;
             marks = record {
@@ -130,18 +137,20 @@ module _ (g : Findings) (a : Automaton) (sites : List TrackedSite) (empty sets :
               receiver = ap option_flatten o.receiver;
               from = o.from;
               of_slot = o.slot;
-              site = site_in g.program t;
+              site = s;
               holds = o.holds;
-              at = (t, site_at, refl);
+              number = site_number;
+              numbered = site_at;
+              at = all_here site_number site_at;
             };
           };
           runs = subst (λ (m : MethodNo). Contains g.facts (may_run m)) (sym number) o.runs;
         }
 
     marked_here : (event : ℕ) → IsMarked sets place event → slice_get set.occurs event ≡ Some true
-    marked_here event mark = subst (λ (s : EventSet). slice_get s.occurs event ≡ Some true) (same_Some mark.set set (sym mark.stands ∙ set_at)) mark.occurs
+    marked_here event mark = subst (λ (x : EventSet). slice_get x.occurs event ≡ Some true) (same_Some mark.set set (sym mark.stands ∙ set_at)) mark.occurs
 
-    occurs_picked : (x : Event) → Occurs (site_in g.program t) x → Contains (picked (take (length a.events) set.occurs) a.events) x
+    occurs_picked : (x : Event) → Occurs s x → Contains (picked (take (length a.events) set.occurs) a.events) x
     occurs_picked x o =
         let (event, is_event, at) = event_has a o.c x o.selecting o.event in
         let (l, among, number, answer) = o.node.given in
@@ -158,20 +167,20 @@ module _ (g : Findings) (a : Automaton) (sites : List TrackedSite) (empty sets :
     -- ---- the answer
 
     pub pruning_is : (answer : Bool) → IsTrue answer ↔ IsSafe a (picked (take (length a.events) set.occurs) a.events)
-        → IsPruningOf g.program (gives_listed g.methods) (Contains g.facts) a t answer
+        → IsTrue answer ↔ IsPruned (gives_listed g.methods) (Contains g.facts) a s
     pruning_is answer safe = (
       λ safe_is. record {
         no_word = λ word all leads.
             (safe.0 safe_is).no_word word
             (record {
-              occur = All-weaker (Occurs (site_in g.program t)) (Contains (picked (take (length a.events) set.occurs) a.events)) occurs_picked word
+              occur = All-weaker (Occurs s) (Contains (picked (take (length a.events) set.occurs) a.events)) occurs_picked word
                   all;
               leads = leads;
             });
       },
       λ pruned. safe.1 (record {
         no_word = λ word leads.
-            pruned.no_word word (All-weaker (Contains (picked (take (length a.events) set.occurs) a.events)) (Occurs (site_in g.program t)) picked_occurs
+            pruned.no_word word (All-weaker (Contains (picked (take (length a.events) set.occurs) a.events)) (Occurs s) picked_occurs
             word leads.occur) leads.leads;
       }),
     )
@@ -196,13 +205,37 @@ zip_through R Q (x ∷ xs) (y ∷ ys) [] long give all = absurd all
 zip_through R Q (x ∷ xs) (y ∷ ys) (z ∷ zs) long give all =
     (give 0 x y z refl refl all.0, zip_through R Q xs ys zs (omega (arith, long)) (λ i u v w at there q. give (suc i) u v w at there q) all.1)
 
-pub all_pruned : (g : Findings) (a : Automaton) (sites : List TrackedSite) (empty sets : List EventSet)
-    → ((place event : ℕ) → IsMarked empty place event → ⊥) → AreMarked (OfOneBelow (MethodMarks a g sites) (length g.methods)) empty sets
-    → length sets ≡ length sites → (answers : List Bool)
-    → AllZip (λ set answer. IsTrue answer ↔ IsSafe a (picked (take (length a.events) set.occurs) a.events)) sets answers
-    → AllZip (IsPruningOf g.program (gives_listed g.methods) (Contains g.facts) a) sites answers
-all_pruned g a sites empty sets none marked long answers all =
-    zip_through (IsPruningOf g.program (gives_listed g.methods) (Contains g.facts) a)
-    (λ (set : EventSet) (answer : Bool). IsTrue answer ↔ IsSafe a (picked (take (length a.events) set.occurs) a.events)) sites sets answers long
-    (λ place t set answer site_at set_at safe. pruning_is g a sites empty sets none marked place t set site_at set_at answer safe)
-    all
+module _ (g : Findings) (a : Automaton) (sites : List TrackedSite) (places : List (Option ℕ)) (are : ArePlaces g.program g.sites sites places) where
+  -- a place is that of its tracked site
+  is_tracked : (place : ℕ) (t : TrackedSite) → slice_get sites place ≡ Some t → (number : ℕ) (x : Site) → slice_get g.sites number ≡ Some x
+      → StandsInTable places number place → x ≡ site_in g.program t
+  is_tracked place t site_at number x x_at stands =
+      let (s, s_at, (u, u_at, is)) = are.found number place stands in
+      sym (same_Some s x (sym s_at ∙ x_at)) ∙ sym is ∙ ap (λ (v : TrackedSite). site_in g.program v) (same_Some u t (sym u_at ∙ site_at))
+
+  pub all_pruned : (empty sets : List EventSet) → ((place event : ℕ) → IsMarked empty place event → ⊥)
+      → AreMarked (OfOneBelow (MethodMarks a g (StandsInTable places)) (length g.methods)) empty sets
+      → ((h : Holder) (s : Site) → Contains g.facts (may_hold h s) → (number : ℕ) × (slice_get g.sites number ≡ Some s))
+      → length sets ≡ length sites → (answers : List Bool)
+      → AllZip (λ set answer. IsTrue answer ↔ IsSafe a (picked (take (length a.events) set.occurs) a.events)) sets answers
+      → AllZip (IsPruningOf g.program (gives_listed g.methods) (Contains g.facts) a) sites answers
+  all_pruned empty sets none marked numbered long answers all =
+      zip_through (IsPruningOf g.program (gives_listed g.methods) (Contains g.facts) a)
+      (λ (set : EventSet) (answer : Bool). IsTrue answer ↔ IsSafe a (picked (take (length a.events) set.occurs) a.events)) sites sets answers long
+      (λ place t set answer site_at set_at safe.
+      pruning_is g a (StandsInTable places) empty sets none marked numbered place (site_in g.program t) set set_at (is_tracked place t site_at)
+      (λ number at. are.all number place (site_in g.program t) at (t, site_at, refl)) answer safe)
+      all
+
+-- ---- one site
+
+pub one_pruned : (g : Findings) (a : Automaton) (site : SiteNo) (s : Site) → slice_get g.sites site.0 ≡ Some s → IsWithoutDoubles g.sites
+    → ((h : Holder) (s : Site) → Contains g.facts (may_hold h s) → (number : ℕ) × (slice_get g.sites number ≡ Some s))
+    → (empty sets : List EventSet) → ((place event : ℕ) → IsMarked empty place event → ⊥)
+    → AreMarked (OfOneBelow (MethodMarks a g (StandsAlone site)) (length g.methods)) empty sets → (set : EventSet) → slice_get sets 0 ≡ Some set
+    → (answer : Bool) → IsTrue answer ↔ IsSafe a (picked (take (length a.events) set.occurs) a.events)
+    → IsTrue answer ↔ IsPruned (gives_listed g.methods) (Contains g.facts) a s
+one_pruned g a site s at apart numbered empty sets none marked set set_at answer safe =
+    pruning_is g a (StandsAlone site) empty sets none marked numbered 0 s set set_at
+    (λ number x x_at (same, first). same_Some x s (sym x_at ∙ ap (λ (k : ℕ). slice_get g.sites k) same ∙ at))
+    (λ number there. (apart s number site.0 there at, refl)) answer safe

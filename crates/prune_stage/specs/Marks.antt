@@ -1,6 +1,6 @@
 -- This crate's own proofs alone rest on this module.
 -- Which events are marked at which sites, by the numbers of the events and the places of the sites.
-use Rattle.std.specs.Prelude.{◌≡◌, ◌↔◌, ◌⊎◌, ℕ, ◌<◌, true, List, Option, Some, slice_get, Contains}
+use Rattle.std.specs.Prelude.{◌≡◌, ◌↔◌, ◌⊎◌, ℕ, ◌<◌, true, List, Some, slice_get, Contains}
 use Rattle.std.specs.Option.{option_flatten}
 use Rattle.jvm_model.specs.declared.automaton.Automaton.{Automaton}
 use Rattle.jvm_model.specs.declared.number.SiteNo.{SiteNo}
@@ -13,9 +13,7 @@ use Rattle.points_to_rules.specs.Facts.{Holder, may_hold, may_run}
 use Rattle.points_to_rules.specs.Rules.{IsSlot}
 use Rattle.ground.specs.CallEvents.{call_event}
 use Rattle.ground.specs.Findings.{Findings}
-use Rattle.site_report.specs.declared.tracked_site.TrackedSite.{TrackedSite}
 use Rattle.prune_stage.specs.declared.event_set.EventSet.{EventSet}
-use Rattle.prune_stage.specs.Places.{StandsIn}
 
 -- The event of the number is marked at the site of the place.
 pub record IsMarked (sets : List EventSet) (place event : ℕ) : Type 0 where
@@ -37,13 +35,16 @@ OfOneBelow R limit place event = (k : ℕ) × (k < limit) × R k place event
 
 -- ---- what marks events
 
--- The event is this one, and the place that of the site.
-abbrev pub SiteMarks : List (Option ℕ) → (event : ℕ) → SiteNo → ℕ → ℕ → Type 0
-SiteMarks places event site place e = (slice_get places site.0 ≡ Some (Some place)) × (e ≡ event)
+-- Which site, by its number, has its events marked at which place.
+abbrev pub Standing : Type 1
+Standing = (number place : ℕ) → Type 0
 
--- The call of the node is the event, and may be made on an object of the site that stands at the place.
-pub record CallMarks (a : Automaton) (g : Findings) (sites : List TrackedSite) (l : LoweredMethod) (n : Node) (c : NodeCall)
-    (place event : ℕ) : Type 0 where
+-- The event is this one, and the place that of the site.
+abbrev pub SiteMarks : Standing → (event : ℕ) → SiteNo → ℕ → ℕ → Type 0
+SiteMarks stands event site place e = stands site.0 place × (e ≡ event)
+
+-- The call of the node is the event, and may be made on an object of a site that has the place.
+pub record CallMarks (a : Automaton) (g : Findings) (stands : Standing) (l : LoweredMethod) (n : Node) (c : NodeCall) (place event : ℕ) : Type 0 where
   pub is_event : call_event a c ≡ Some event
   pub slot : ℕ
   pub receiver : option_flatten (slice_get c.arguments 0) ≡ Some slot
@@ -51,20 +52,22 @@ pub record CallMarks (a : Automaton) (g : Findings) (sites : List TrackedSite) (
   pub of_slot : IsSlot l n slot from
   pub site : Site
   pub holds : Contains g.facts (may_hold from site)
-  pub at : StandsIn g.program sites site place
+  pub number : ℕ
+  pub numbered : slice_get g.sites number ≡ Some site
+  pub at : stands number place
 
--- The node at a place of the method at a place has such a call.
-pub record NodeMarks (a : Automaton) (g : Findings) (sites : List TrackedSite) (method node place event : ℕ) : Type 0 where
+-- The node at a place has such a call.
+pub record NodeMarks (a : Automaton) (g : Findings) (stands : Standing) (method node place event : ℕ) : Type 0 where
   pub l : LoweredMethod
   pub listed : slice_get g.methods method ≡ Some l
   pub n : Node
-  pub stands : slice_get l.nodes node ≡ Some n
+  pub there : slice_get l.nodes node ≡ Some n
   pub call : NodeCall
   pub is_call : n.op ≡ Call call
-  pub marks : CallMarks a g sites l n call place event
+  pub marks : CallMarks a g stands l n call place event
 
 -- The method at a place may run, and one of its nodes has such a call.
-pub record MethodMarks (a : Automaton) (g : Findings) (sites : List TrackedSite) (method place event : ℕ) : Type 0 where
+pub record MethodMarks (a : Automaton) (g : Findings) (stands : Standing) (method place event : ℕ) : Type 0 where
   pub node : ℕ
-  pub marks : NodeMarks a g sites method node place event
+  pub marks : NodeMarks a g stands method node place event
   pub runs : Contains g.facts (may_run marks.l.method)

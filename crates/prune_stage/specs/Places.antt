@@ -1,6 +1,7 @@
 -- This crate's own proofs alone rest on this module.
 -- The places of sites among those that are tracked.
 use Rattle.std.specs.Prelude.{◌≡◌, ◌↔◌, ℕ, ◌<◌, List, Option, Some, slice_get}
+use Rattle.jvm_model.specs.declared.number.SiteNo.{SiteNo}
 use Rattle.jvm_model.specs.declared.site.Site.{Site}
 use Rattle.jvm_model.specs.Programs.{Program}
 use Rattle.linked_program.specs.Numbers.{IsClassNumber}
@@ -25,6 +26,14 @@ pub record ArePlaces (p : Program) (numbered : List Site) (sites : List TrackedS
   pub found : (number place : ℕ) → slice_get places number ≡ Some (Some place) → (s : Site) × (slice_get numbered number ≡ Some s) × StandsIn p sites s place
   pub all : (number place : ℕ) (s : Site) → slice_get numbered number ≡ Some s → StandsIn p sites s place → slice_get places number ≡ Some (Some place)
 
+-- A table tells where the site of a number stands.
+abbrev pub StandsInTable : List (Option ℕ) → (number place : ℕ) → Type 0
+StandsInTable places number place = slice_get places number ≡ Some (Some place)
+
+-- One site alone stands somewhere, at the first place.
+abbrev pub StandsAlone : SiteNo → (number place : ℕ) → Type 0
+StandsAlone site number place = (number ≡ site.0) × (place ≡ 0)
+
 -- The places are below a count.
-pub record AreBelow (count : ℕ) (places : List (Option ℕ)) : Type 0 where
-  pub each : (number place : ℕ) → slice_get places number ≡ Some (Some place) → place < count
+pub record AreBelow (count : ℕ) (stands : (number place : ℕ) → Type 0) : Type 0 where
+  pub each : (number place : ℕ) → stands number place → place < count

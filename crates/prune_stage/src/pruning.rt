@@ -1,18 +1,22 @@
-//! Which sites the first stage proves safe.
+//! Which sites the first stage proves safe: all that are tracked in one walk over the calls, or one alone.
 
-ghost use Rattle.std.specs.Prelude.{Contains, IfOk};
+ghost use Rattle.std.specs.Prelude.{◌≡◌, ◌↔◌, ◌<◌, length, Some, slice_get, Contains, IfOk, IsTrue};
 ghost use Rattle.std.specs.List.{AllZip};
 ghost use Rattle.jvm_model.specs.Automata.{IsAutomaton};
+ghost use Rattle.jvm_model.specs.declared.site.Site.{Site as RuleSite};
 ghost use Rattle.linked_program.specs.Numbers.{IsClassNumber};
 ghost use Rattle.ground.specs.Findings.{gives_listed};
 ghost use Rattle.site_report.specs.Sites.{AreInOrder};
-ghost use Rattle.prune_stage.specs.Pruning.{IsPruningOf};
+ghost use Rattle.prune_stage.specs.Pruning.{IsPruned, IsPruningOf};
 
 use crate::answers::{answers_of, no_events};
+use crate::event_set::EventSet;
+use crate::marked_sites::{Only, Table};
 use crate::marks::mark_methods;
 use crate::places::site_places;
+use crate::stage_one::is_safe;
 use ground::Ground;
-use jvm_model::Automaton;
+use jvm_model::{Automaton, SiteNo};
 use site_report::TrackedSite;
 use std::alloc::{AllocError, Global};
 
@@ -30,8 +34,23 @@ pub fn prune(
     ensures { IfOk result (λ answers. AllZip (IsPruningOf ground.now.program (gives_listed ground.now.methods) (Contains ground.now.facts) automaton.now)
         sites.now answers.items) }
 {
+    ground.well_formed();
     let places = site_places(alloc, ground.program(), ground, sites)?;
     let mut sets = no_events(alloc, sites.len())?;
-    mark_methods(ground, automaton, &places, &mut sets);
+    mark_methods(ground, automaton, &Table { places }, &mut sets);
     answers_of(alloc, automaton, &sets)
+}
+
+/// Whether the first stage proves the site of a number safe. It walks over the calls for this site alone, and takes no memory; for many sites use
+/// `prune`.
+pub fn prune_site(ground: &Ground<'_>, automaton: &Automaton, site: SiteNo) -> bool
+    requires automaton { IsAutomaton automaton.now }
+    requires site { site.0 < length ground.now.sites }
+    ensures { (s : RuleSite) → slice_get ground.now.sites site.0 ≡ Some s
+        → IsTrue result ↔ IsPruned (gives_listed ground.now.methods) (Contains ground.now.facts) automaton.now s }
+{
+    ground.well_formed();
+    let mut sets = [EventSet::none()];
+    mark_methods(ground, automaton, &Only { site }, &mut sets);
+    is_safe(automaton, sets[0].first(automaton.events.len()))
 }

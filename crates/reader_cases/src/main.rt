@@ -1,57 +1,37 @@
-//! Reads the class files that the rows of each case spell, with their code and their flow graphs, and prints what the readers
-//! answer. A case is a file in the folder that is named, and begins with the lines of the file that is named before it, which
-//! gives names to bytes. `case` says what the lines are, and `notation` how bytes are written there.
+//! Prints what the readers answer to the rows of cases, for tests: to class files, with their code and their flow graphs, and to
+//! property files and stub files. Then it prints the rows of the instruction table.
+//!
+//! ```text
+//! reader_cases NAMES CLASSES TEXTS
+//! ```
+//!
+//! CLASSES is a folder of cases of class files, and NAMES a file of lines that stand before each of them; TEXTS is a folder of cases
+//! of property files and of stub files. A case is a file. Of each, in byte order of their names, its name is printed, and then the
+//! answers.
 #![tactic(auto)]
 
-mod case;
-mod class_answer;
-mod code_answer;
-mod graph_answer;
-mod notation;
-mod question;
-mod sweep;
+mod classes;
+mod files;
+mod opcodes;
+mod texts;
 
-use crate::case::tell_case;
+use crate::classes::tell_classes;
+use crate::opcodes::tell_opcodes;
+use crate::texts::tell_texts;
 use anyhow::{Result, bail};
-use std::alloc::Global;
-use std::rt::Files;
-use std::{env, fs, io};
+use std::env;
 
 fn main(rt: HostRuntime) -> Result<()> {
     let alloc = rt.alloc();
     let mut words = env::args(&rt)?.skip(1);
-    let (Some(names), Some(cases)) = (words.next(), words.next()) else {
-        bail!("usage: reader_cases NAMES FOLDER");
+    let (Some(names), Some(classes), Some(texts)) = (words.next(), words.next(), words.next())
+    else {
+        bail!("usage: reader_cases NAMES CLASSES TEXTS");
     };
-    let names = fs::read_to_string(&rt, names.as_str())?;
-    for case in &files(&rt, alloc, cases.as_str())? {
-        println!(rt; "{case}")?;
-        let lines = lines_of(&rt, alloc, names.as_str(), cases.as_str(), case.as_str())?;
-        tell_case(&rt, alloc, lines.as_str())?;
-        println!(rt; "")?;
-    }
-    Ok(())
-}
-
-/// The lines of a case in a folder, behind those that give names to bytes.
-fn lines_of(
-    rt: &HostRuntime,
-    alloc: Global,
-    names: &str,
-    folder: &str,
-    case: &str,
-) -> Result<String> {
-    let path = format!(in alloc; "{folder}/{case}")?;
-    let lines = fs::read_to_string(rt, path.as_str())?;
-    Ok(format!(in alloc; "{names}{lines}")?)
-}
-
-/// The names of the files in a folder, in byte order.
-fn files(rt: &impl Files, alloc: Global, path: &str) -> io::Result<Vec<String>> {
-    let mut names = Vec::new(alloc);
-    for entry in fs::read_dir(&(rt, alloc), path)? {
-        names.push(String::from_str(alloc, entry?.file_name())?)?;
-    }
-    names.sort()?;
-    Ok(names)
+    println!(rt; "# class files, their code and their flow graphs")?;
+    tell_classes(&rt, alloc, names.as_str(), classes.as_str())?;
+    println!(rt; "# property files and stub files")?;
+    tell_texts(&rt, alloc, texts.as_str())?;
+    println!(rt; "# the instruction table")?;
+    tell_opcodes(&rt, alloc)
 }

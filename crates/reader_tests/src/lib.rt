@@ -1,5 +1,5 @@
-//! Tests of the readers: each public call once on its happy path, and what no clause says. The programs `reader_cases` and `text_cases`
-//! have the tables of what is read and refused.
+//! Tests of the outside and of the readers: each public call once on its happy path, and what no clause says. The program `reader_cases`
+//! has the tables of what is read and refused.
 #![tactic(auto)]
 
 #[cfg(test)]
@@ -8,6 +8,8 @@ mod documents;
 mod folders;
 #[cfg(test)]
 mod one_method;
+#[cfg(test)]
+mod outside;
 #[cfg(test)]
 mod readers;
 #[cfg(test)]

@@ -7,11 +7,9 @@
 //!
 //! Of each case, in byte order of their names, its name is printed, then what the run writes, and its exit status.
 //!
-//! Tests of runs over trees and sinks in memory, and of the outside, stand beside it.
+//! Tests of runs over trees and sinks in memory stand beside it.
 #![tactic(auto)]
 
-#[cfg(test)]
-mod outside;
 #[cfg(test)]
 mod run;
 #[cfg(test)]

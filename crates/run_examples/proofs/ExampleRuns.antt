@@ -20,15 +20,16 @@ use Rattle.run_examples.proofs.Words.{asks, wanted}
 is_run : (called nexts property : List ℕ) (fits : body_fits (main_code called) ≡ true) → list_all member_fits (class_with_calls called).methods ≡ true → leb (length (spell (class_with_calls called))) 4194304 ≡ true
     → IsPropertyFile property (with_reads nexts) → IsRunOf words (folder_with (class_with_calls called) property) (x called nexts fits)
 is_run called nexts property fits each few is_property = record {
-  w = wanted;
-  asks = asks;
-  property_bytes = property;
-  property_held = refl;
-  property = is_property;
-  stubs = [];
-  are_stubs = refl;
-  classes = named called ∷ [];
-  are_classes = are_class_files called property each few;
+  input = record { wanted = wanted; property = with_reads nexts; stubs = []; classes = named called ∷ [] };
+  is_input = record {
+    asks = asks;
+    property_bytes = property;
+    property_held = refl;
+    property = is_property;
+    stubs = refl;
+    classes = are_class_files called property each few;
+  };
+  property = refl;
   links = links called;
   entry = is_entry called;
 }

@@ -26,8 +26,8 @@ use Rattle.stub_file.specs.StubFile.{IsStubFile, IsStubRefusal}
 use Rattle.stub_file.proofs.OneAnswer.{IsStubFile-unique, not_both, one_reason}
 use Rattle.toml_tables.specs.Documents.{IsNoDocument}
 use Rattle.run_outcomes.specs.declared.status.Status.{Status}
-use Rattle.run_outcomes.specs.Inputs.{AreStubs, HaveDifferentNames}
-use Rattle.run_outcomes.specs.Outcomes.{all_stubs, AnalysisOutcome, ClassOutcome, no_class, has_class, EntryOutcome, no_entry, other_shape, has_entry, LinkOutcome, unlinked, linked, FolderOutcome, refused_folder, has_classes, StubOutcome, no_stub_file, stubs_no_document, broken_stubs, no_stubs, has_stubs, PropertyOutcome, no_property, property_no_document, broken_property, has_property, Outcome, unusable, usable}
+use Rattle.run_outcomes.specs.Inputs.{AreStubs, HaveDifferentNames, Input, all_stubs}
+use Rattle.run_outcomes.specs.Outcomes.{AnalysisOutcome, ClassOutcome, no_class, has_class, EntryOutcome, no_entry, other_shape, has_entry, LinkOutcome, unlinked, linked, FolderOutcome, refused_folder, has_classes, StubOutcome, no_stub_file, stubs_no_document, broken_stubs, no_stubs, has_stubs, PropertyOutcome, no_property, property_no_document, broken_property, has_property, Outcome, unusable, usable}
 use Rattle.run_outcomes.proofs.OneEntry.{entry_same}
 use Rattle.run_outcomes.proofs.OneFolder.{AreClassFiles-same, classes_or_refused}
 use Rattle.run_outcomes.proofs.OneRequest.{AsksFor-same, asked_or_wrong}
@@ -79,31 +79,29 @@ module _ (name bytes : List ℕ) where
 -- ---- the levels
 
 module _ (s : Status) (l : List (List ℕ)) where
-  pub past_class : (w : Wanted) (a : Automaton) (p : Program) (entry : MethodNo) (class : Class) → class_named p a.class_name ≡ Some class
-      → ClassOutcome w a p entry s l → AnalysisOutcome w a p entry s l
-  past_class w a p entry class is (no_class none ends) = absurd (none-some class (sym none ∙ is))
-  past_class w a p entry class is (has_class other is2 next) = next
+  pub past_class : (i : Input) (p : Program) (entry : MethodNo) (class : Class) → class_named p i.property.class_name ≡ Some class
+      → ClassOutcome i p entry s l → AnalysisOutcome i p entry s l
+  past_class i p entry class is (no_class none ends) = absurd (none-some class (sym none ∙ is))
+  past_class i p entry class is (has_class other is2 next) = next
 
-  pub past_entry : (w : Wanted) (a : Automaton) (classes : List NamedClass) (p : Program) → MembersDiffer p → (entry : MethodNo)
-      → IsEntry p w.class w.method entry.0
-      → EntryOutcome w a classes p s l → ClassOutcome w a p entry s l
-  past_entry w a classes p members entry is (no_entry none no_name ends) = absurd (none entry.0 is)
-  past_entry w a classes p members entry is (other_shape none named ends) = absurd (none entry.0 is)
-  past_entry w a classes p members entry is (has_entry other is2 next) =
-      subst (λ (e : MethodNo). ClassOutcome w a p e s l) (entry_same p members w.class w.method other entry is2 is) next
+  pub past_entry : (i : Input) (p : Program) → MembersDiffer p → (entry : MethodNo) → IsEntry p i.wanted.class i.wanted.method entry.0
+      → EntryOutcome i p s l → ClassOutcome i p entry s l
+  past_entry i p members entry is (no_entry none no_name ends) = absurd (none entry.0 is)
+  past_entry i p members entry is (other_shape none named ends) = absurd (none entry.0 is)
+  past_entry i p members entry is (has_entry other is2 next) =
+      subst (λ (e : MethodNo). ClassOutcome i p e s l) (entry_same p members i.wanted.class i.wanted.method other entry is2 is) next
 
-  pub past_link : (w : Wanted) (a : Automaton) (stubs : List StubClass) (classes : List NamedClass) → AllPairs (λ f g. f.file ≢ g.file) classes
-      → (p : Program) → Links classes (all_stubs stubs) (Ok p) → LinkOutcome w a stubs classes s l → IsProgram p × EntryOutcome w a classes p s l
-  past_link w a stubs classes differ p is (unlinked r is2 ends) = absurd (linked_or_not stubs classes differ p r is is2)
-  past_link w a stubs classes differ p is (linked q is2 program next) =
-      subst (λ (k : Program). IsProgram k × EntryOutcome w a classes k s l) (program_same stubs classes differ q p is2 is) (program, next)
+  pub past_link : (i : Input) → AllPairs (λ f g. f.file ≢ g.file) i.classes → (p : Program) → Links i.classes (all_stubs i.stubs) (Ok p)
+      → LinkOutcome i s l → IsProgram p × EntryOutcome i p s l
+  past_link i differ p is (unlinked r is2 ends) = absurd (linked_or_not i.stubs i.classes differ p r is is2)
+  past_link i differ p is (linked q is2 program next) =
+      subst (λ (k : Program). IsProgram k × EntryOutcome i k s l) (program_same i.stubs i.classes differ q p is2 is) (program, next)
 
-  pub past_folder : (files : List File) → HaveDifferentNames files → (w : Wanted) (a : Automaton) (stubs : List StubClass) (classes : List NamedClass)
-      → AreClassFiles files classes
-      → FolderOutcome files w a stubs s l → LinkOutcome w a stubs classes s l
-  past_folder files differ w a stubs classes are (refused_folder r is ends) = absurd (classes_or_refused files differ classes r are is)
-  past_folder files differ w a stubs classes are (has_classes others are2 next) =
-      subst (λ (cs : List NamedClass). LinkOutcome w a stubs cs s l) (AreClassFiles-same files differ others classes are2 are) next
+  pub past_folder : (files : List File) → HaveDifferentNames files → (i : Input) → AreClassFiles files i.classes
+      → FolderOutcome files i.wanted i.property i.stubs s l → LinkOutcome i s l
+  past_folder files differ i are (refused_folder r is ends) = absurd (classes_or_refused files differ i.classes r are is)
+  past_folder files differ i are (has_classes others are2 next) =
+      subst (λ (cs : List NamedClass). LinkOutcome (record i { classes = cs }) s l) (AreClassFiles-same files differ others i.classes are2 are) next
 
   -- with a stub file of this name
   module _ (files : List File) (w : Wanted) (a : Automaton) where

@@ -1,5 +1,5 @@
 -- The analysis of a program ends in one way: with too many pairs, with one first refusal, or with sets in which nothing is refused.
-use Rattle.std.proofs.Common.{◌≡◌, ◌∙◌, ℕ, suc, ◌≤◌, List, [], ◌∷◌, length, Result, Ok, Err, Contains, slice_get, refl, sym, ap, subst, arith}
+use Rattle.std.proofs.Common.{◌≡◌, ◌∙◌, ℕ, ◌≤◌, List, Result, Ok, Err, Contains, slice_get, sym, ap, subst, arith}
 use Rattle.std.proofs.lemmas.Option.{same_Some}
 use Rattle.jvm_model.specs.declared.number.MethodNo.{MethodNo}
 use Rattle.jvm_model.specs.declared.reason.Reason.{Reason}
@@ -8,23 +8,15 @@ use Rattle.jvm_model.specs.Programs.{Class, Method, Program}
 use Rattle.jvm_model.specs.Subtypes.{class_named}
 use Rattle.op_model.specs.declared.lowered.LoweredMethod.{LoweredMethod}
 use Rattle.op_model.specs.Supplies.{GivenAs}
-use Rattle.least_sets.specs.Parts.{HasAtLeast, parts_of}
+use Rattle.least_sets.specs.Parts.{HasAtLeast}
 use Rattle.least_sets.proofs.Least.{least_is_one}
 use Rattle.least_sets.proofs.Parts.{at_least_parts}
-use Rattle.points_to_rules.specs.Facts.{Fact, may_hold, may_run, may_call, may_write}
-use Rattle.points_to_rules.specs.Refusals.{IsRefusedIn, of_method, of_call, IsRefusedCall, IsCodeStart, IsNoLater, call_reasons, ComesFirst, IsFirstRefusal, IsUnrefused}
+use Rattle.points_to_rules.specs.Facts.{Fact, may_hold, may_run}
+use Rattle.points_to_rules.specs.Refusals.{IsRefusedIn, of_method, of_call, IsRefusedCall, IsCodeStart, IsNoLater, call_reasons, ComesFirst, IsFirstRefusal}
 use Rattle.points_to_rules.specs.Refusals as refusals
 use Rattle.points_to_rules.specs.Rules.{Instance}
-use Rattle.points_to_rules.specs.Solutions.{AreLeastBelow, EndsRefused, IsSolution, pair_of, pairs_in}
-
--- ---- pairs
-
-count_pairs : (facts : List Fact) → length (parts_of pair_of facts) ≡ pairs_in facts
-count_pairs [] = refl
-count_pairs (may_hold h s ∷ facts) = ap suc (count_pairs facts)
-count_pairs (may_run m ∷ facts) = count_pairs facts
-count_pairs (may_call at m ∷ facts) = count_pairs facts
-count_pairs (may_write m field ∷ facts) = count_pairs facts
+use Rattle.points_to_rules.proofs.CountedPairs.{count_pairs}
+use Rattle.points_to_rules.specs.Solutions.{AreLeastBelow, EndsRefused, IsSolution, pair_of}
 
 -- ---- facts of a larger set
 

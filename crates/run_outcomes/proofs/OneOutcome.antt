@@ -5,7 +5,6 @@ use Rattle.ts_outside.specs.Files.{File, file_at}
 use Rattle.failure.specs.declared.Failure.TheVariants.{Cause}
 use Rattle.jvm_model.specs.declared.automaton.Automaton.{Automaton}
 use Rattle.jvm_model.specs.declared.number.MethodNo.{MethodNo}
-use Rattle.jvm_model.specs.declared.program.NamedClass.{NamedClass}
 use Rattle.jvm_model.specs.declared.reason.Reason.{Reason}
 use Rattle.jvm_model.specs.declared.reason.Reason.TheVariants.{BadToml, BadStub}
 use Rattle.jvm_model.specs.declared.reason.Refusal.{Refusal}
@@ -24,7 +23,7 @@ use Rattle.stub_file.specs.StubFile.{IsStubFile, IsStubRefusal}
 use Rattle.toml_tables.specs.Documents.{IsNoDocument}
 use Rattle.run_outcomes.specs.declared.status.Status.{Status}
 use Rattle.run_outcomes.specs.declared.status.Status.TheVariants as statuses
-use Rattle.run_outcomes.specs.Inputs.{HaveDifferentNames}
+use Rattle.run_outcomes.specs.Inputs.{HaveDifferentNames, Input}
 use Rattle.run_outcomes.specs.Lines.{missing_line, refused_line, usage_line}
 use Rattle.run_outcomes.specs.Outcomes.{EndsWith, Refuses, asked_of, report_status, AnalysisOutcome, pair_limit, refused_method, reported, ClassOutcome, no_class, has_class, EntryOutcome, no_entry, other_shape, has_entry, LinkOutcome, unlinked, linked, FolderOutcome, refused_folder, has_classes, StubOutcome, no_stub_file, stubs_no_document, broken_stubs, no_stubs, has_stubs, PropertyOutcome, no_property, property_no_document, broken_property, has_property, Outcome, unusable, usable}
 use Rattle.run_outcomes.proofs.Levels.{past_class, past_entry, past_link, past_folder, past_stubs, past_property, past_words, linked_or_not, link_refusal_same, stubs_or_refused, document_or_broken}
@@ -58,55 +57,56 @@ module _ (s t : Status) (l m : List (List ℕ)) where
 
   -- ---- the analysis
 
-  module _ (w : Wanted) (a : Automaton) (p : Program) (entry : MethodNo) where
-    AnalysisOutcome-same : AnalysisOutcome w a p entry s l → AnalysisOutcome w a p entry t m → Same
+  module _ (i : Input) (p : Program) (entry : MethodNo) where
+    abbrev limit : ℕ
+    limit = i.wanted.pair_limit
+
+    AnalysisOutcome-same : AnalysisOutcome i p entry s l → AnalysisOutcome i p entry t m → Same
     AnalysisOutcome-same (pair_limit many ends) (pair_limit many2 ends2) = same_end statuses.Refused _ _ refl ends ends2
     AnalysisOutcome-same (pair_limit many ends) (refused_method q is ends2) =
-        absurd (many_or_few p (IsSupplied p) (one_answer p) entry w.pair_limit is.facts many.1 is.least)
+        absurd (many_or_few p (IsSupplied p) (one_answer p) entry limit is.facts many.1 is.least)
     AnalysisOutcome-same (pair_limit many ends) (reported facts b is report ti) =
-        absurd (many_or_few p (IsSupplied p) (one_answer p) entry w.pair_limit facts many.1 is.least)
+        absurd (many_or_few p (IsSupplied p) (one_answer p) entry limit facts many.1 is.least)
     AnalysisOutcome-same (refused_method r is ends) (pair_limit many ends2) =
-        absurd (many_or_few p (IsSupplied p) (one_answer p) entry w.pair_limit is.facts many.1 is.least)
+        absurd (many_or_few p (IsSupplied p) (one_answer p) entry limit is.facts many.1 is.least)
     AnalysisOutcome-same (refused_method r is ends) (refused_method q is2 ends2) =
-        same_refusal r q (refusal_same p (IsSupplied p) (one_answer p) entry w.pair_limit r q is is2) ends ends2
+        same_refusal r q (refusal_same p (IsSupplied p) (one_answer p) entry limit r q is is2) ends ends2
     AnalysisOutcome-same (refused_method r is ends) (reported facts b is2 report ti) =
-        absurd (refused_or_solved p (IsSupplied p) (one_answer p) entry w.pair_limit r facts is is2)
+        absurd (refused_or_solved p (IsSupplied p) (one_answer p) entry limit r facts is is2)
     AnalysisOutcome-same (reported facts b is report si) (pair_limit many ends) =
-        absurd (many_or_few p (IsSupplied p) (one_answer p) entry w.pair_limit facts many.1 is.least)
+        absurd (many_or_few p (IsSupplied p) (one_answer p) entry limit facts many.1 is.least)
     AnalysisOutcome-same (reported facts b is report si) (refused_method q is2 ends) =
-        absurd (refused_or_solved p (IsSupplied p) (one_answer p) entry w.pair_limit q facts is2 is)
+        absurd (refused_or_solved p (IsSupplied p) (one_answer p) entry limit q facts is2 is)
     AnalysisOutcome-same (reported facts b is report si) (reported others c is2 report2 ti) =
-        let to = to_other p (IsSupplied p) (one_answer p) entry w.pair_limit facts others is.least is2.least in
-        let back = to_this p (IsSupplied p) (one_answer p) entry w.pair_limit facts others is.least is2.least in
-        let both = report_same p (IsSupplied p) (asked_of w a) (Contains facts) (Contains others) (all_kept (Contains facts) (Contains others) to)
+        let to = to_other p (IsSupplied p) (one_answer p) entry limit facts others is.least is2.least in
+        let back = to_this p (IsSupplied p) (one_answer p) entry limit facts others is.least is2.least in
+        let both = report_same p (IsSupplied p) (asked_of i) (Contains facts) (Contains others) (all_kept (Contains facts) (Contains others) to)
         (all_kept (Contains others) (Contains facts) back) l m b c report report2 in
         (si ∙ ap report_status both.1 ∙ sym ti, both.0)
 
     -- ---- the program
 
-    ClassOutcome-same : ClassOutcome w a p entry s l → ClassOutcome w a p entry t m → Same
+    ClassOutcome-same : ClassOutcome i p entry s l → ClassOutcome i p entry t m → Same
     ClassOutcome-same (no_class none ends) (no_class none2 ends2) = same_end statuses.Refused _ _ refl ends ends2
     ClassOutcome-same (no_class none ends) (has_class class is next) = absurd (none-some class (sym none ∙ is))
-    ClassOutcome-same (has_class class is next) other = AnalysisOutcome-same next (past_class t m w a p entry class is other)
+    ClassOutcome-same (has_class class is next) other = AnalysisOutcome-same next (past_class t m i p entry class is other)
 
-  module _ (w : Wanted) (a : Automaton) where
-    EntryOutcome-same : (classes : List NamedClass) (p : Program) → IsProgram p → EntryOutcome w a classes p s l → EntryOutcome w a classes p t m → Same
-    EntryOutcome-same classes p program (no_entry none no_name ends) (no_entry none2 no_name2 ends2) = same_end statuses.Refused _ _ refl ends ends2
-    EntryOutcome-same classes p program (no_entry none no_name ends) (other_shape none2 named ends2) = absurd (no_name named)
-    EntryOutcome-same classes p program (no_entry none no_name ends) (has_entry entry is next) = absurd (none entry.0 is)
-    EntryOutcome-same classes p program (other_shape none named ends) (no_entry none2 no_name ends2) = absurd (no_name named)
-    EntryOutcome-same classes p program (other_shape none named ends) (other_shape none2 named2 ends2) = same_end statuses.Refused _ _ refl ends ends2
-    EntryOutcome-same classes p program (other_shape none named ends) (has_entry entry is next) = absurd (none entry.0 is)
-    EntryOutcome-same classes p program (has_entry entry is next) other =
-        ClassOutcome-same w a p entry next (past_entry t m w a classes p program.members entry is other)
+  module _ (i : Input) where
+    EntryOutcome-same : (p : Program) → IsProgram p → EntryOutcome i p s l → EntryOutcome i p t m → Same
+    EntryOutcome-same p program (no_entry none no_name ends) (no_entry none2 no_name2 ends2) = same_end statuses.Refused _ _ refl ends ends2
+    EntryOutcome-same p program (no_entry none no_name ends) (other_shape none2 named ends2) = absurd (no_name named)
+    EntryOutcome-same p program (no_entry none no_name ends) (has_entry entry is next) = absurd (none entry.0 is)
+    EntryOutcome-same p program (other_shape none named ends) (no_entry none2 no_name ends2) = absurd (no_name named)
+    EntryOutcome-same p program (other_shape none named ends) (other_shape none2 named2 ends2) = same_end statuses.Refused _ _ refl ends ends2
+    EntryOutcome-same p program (other_shape none named ends) (has_entry entry is next) = absurd (none entry.0 is)
+    EntryOutcome-same p program (has_entry entry is next) other =
+        ClassOutcome-same i p entry next (past_entry t m i p program.members entry is other)
 
-    LinkOutcome-same : (stubs : List StubClass) (classes : List NamedClass) → AllPairs (λ f g. f.file ≢ g.file) classes
-        → LinkOutcome w a stubs classes s l → LinkOutcome w a stubs classes t m → Same
-    LinkOutcome-same stubs classes differ (unlinked r is ends) (unlinked q is2 ends2) =
-        same_refusal r q (link_refusal_same stubs classes differ r q is is2) ends ends2
-    LinkOutcome-same stubs classes differ (unlinked r is ends) (linked p is2 program next) = absurd (linked_or_not stubs classes differ p r is2 is)
-    LinkOutcome-same stubs classes differ (linked p is program next) other =
-        EntryOutcome-same classes p program next (past_link t m w a stubs classes differ p is other).1
+    LinkOutcome-same : AllPairs (λ f g. f.file ≢ g.file) i.classes → LinkOutcome i s l → LinkOutcome i t m → Same
+    LinkOutcome-same differ (unlinked r is ends) (unlinked q is2 ends2) =
+        same_refusal r q (link_refusal_same i.stubs i.classes differ r q is is2) ends ends2
+    LinkOutcome-same differ (unlinked r is ends) (linked p is2 program next) = absurd (linked_or_not i.stubs i.classes differ p r is2 is)
+    LinkOutcome-same differ (linked p is program next) other = EntryOutcome-same p program next (past_link t m i differ p is other).1
 
   -- ---- the files
 
@@ -116,7 +116,8 @@ module _ (s t : Status) (l m : List (List ℕ)) where
         same_refusal r q (IsRefusedFolder-same files differ r q is is2) ends ends2
     FolderOutcome-same a stubs (refused_folder r is ends) (has_classes classes are next) = absurd (classes_or_refused files differ classes r are is)
     FolderOutcome-same a stubs (has_classes classes are next) other =
-        LinkOutcome-same w a stubs classes (files_differ files differ classes are) next (past_folder t m files differ w a stubs classes are other)
+        let input : Input = record { wanted = w; property = a; stubs = stubs; classes = classes } in
+        LinkOutcome-same input (files_differ files differ classes are) next (past_folder t m files differ input are other)
 
     -- two names of a stub file, of its bytes
     names_same : (name other : List ℕ) → w.stubs ≡ Some name → w.stubs ≡ Some other → name ≡ other
@@ -199,9 +200,17 @@ module _ (s t : Status) (l m : List (List ℕ)) where
 
 -- ---- the words
 
-pub Outcome-same : (words : List (List ℕ)) (files : List File) (s t : Status) (l m : List (List ℕ)) → HaveDifferentNames files
+Outcome-same : (words : List (List ℕ)) (files : List File) (s t : Status) (l m : List (List ℕ)) → HaveDifferentNames files
     → Outcome words files s l → Outcome words files t m → (s ≡ t) × (l ≡ m)
 Outcome-same words files s t l m differ (unusable f is ends) (unusable g is2 ends2) =
     same_end s t l m statuses.Usage (usage_line f) (usage_line g) (ap usage_line (UsageFault-same words f g is is2)) ends ends2
 Outcome-same words files s t l m differ (unusable f is ends) (usable w asks next) = absurd (asked_or_wrong words w f asks is)
 Outcome-same words files s t l m differ (usable w asks next) other = PropertyOutcome-same s t l m files differ w next (past_words t m words files w asks other)
+
+pub status_same : (words : List (List ℕ)) (files : List File) (s t : Status) (l m : List (List ℕ)) → HaveDifferentNames files
+    → Outcome words files s l → Outcome words files t m → s ≡ t
+status_same words files s t l m differ x y = (Outcome-same words files s t l m differ x y).0
+
+pub lines_same : (words : List (List ℕ)) (files : List File) (s t : Status) (l m : List (List ℕ)) → HaveDifferentNames files
+    → Outcome words files s l → Outcome words files t m → l ≡ m
+lines_same words files s t l m differ x y = (Outcome-same words files s t l m differ x y).1

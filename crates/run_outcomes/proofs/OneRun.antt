@@ -1,9 +1,8 @@
--- Words and files give one program, one property and one entry: level by level, what is read or made is one.
+-- Words and files give one input, and so one program, one property and one entry.
 use Rattle.std.proofs.Common.{◌≡◌, ◌∙◌, ℕ, List, Option, Some, None, Ok, sym, ap, subst}
 use Rattle.std.proofs.lemmas.Option.{same_Some}
 use Rattle.ts_outside.specs.Files.{File, file_at}
 use Rattle.jvm_model.specs.declared.number.MethodNo.{MethodNo}
-use Rattle.jvm_model.specs.declared.program.NamedClass.{NamedClass}
 use Rattle.jvm_model.specs.declared.stub.StubClass.{StubClass}
 use Rattle.jvm_model.specs.LinkedPrograms.{IsProgram}
 use Rattle.jvm_model.specs.Linking.{Links}
@@ -15,9 +14,8 @@ use Rattle.property_file.specs.PropertyFile.{IsPropertyFile}
 use Rattle.property_file.proofs.Whole.{IsPropertyFile-same}
 use Rattle.stub_file.specs.StubFile.{IsStubFile}
 use Rattle.stub_file.proofs.OneAnswer.{IsStubFile-unique}
-use Rattle.run_outcomes.specs.Inputs.{AreStubs, HaveDifferentNames}
+use Rattle.run_outcomes.specs.Inputs.{AreStubs, HaveDifferentNames, Input, IsInput, all_stubs}
 use Rattle.run_outcomes.specs.RunSubjects.{IsRunOf}
-use Rattle.run_outcomes.specs.Outcomes.{all_stubs}
 use Rattle.run_outcomes.proofs.Levels.{program_same}
 use Rattle.run_outcomes.proofs.OneEntry.{entry_same}
 use Rattle.run_outcomes.proofs.OneFolder.{AreClassFiles-same, files_differ}
@@ -31,39 +29,45 @@ stubs_same files (Some name) stubs others (bytes, held, are) (bytes2, held2, are
     IsStubFile-unique name bytes2 stubs others (subst (λ (b : List ℕ). IsStubFile name b stubs) contents are) are2
 
 -- of what is the same, the same is made
-made_same : (x y : Subject) → x.program ≡ y.program → x.property ≡ y.property → x.entry ≡ y.entry → x ≡ y
-made_same x y program property entry = λ i. record { program = program i; property = property i; entry = entry i }
+input_made : (i j : Input) → i.wanted ≡ j.wanted → i.property ≡ j.property → i.stubs ≡ j.stubs → i.classes ≡ j.classes → i ≡ j
+input_made i j wanted property stubs classes = λ k. record { wanted = wanted k; property = property k; stubs = stubs k; classes = classes k }
 
-module _ (words : List (List ℕ)) (files : List File) (x y : Subject) (differ : HaveDifferentNames files) (program : IsProgram x.program) (a : IsRunOf words files x)
-    (b : IsRunOf words files y) where
-  asked : a.w ≡ b.w
-  asked = AsksFor-same words a.w b.w a.asks b.asks
+subject_made : (x y : Subject) → x.program ≡ y.program → x.property ≡ y.property → x.entry ≡ y.entry → x ≡ y
+subject_made x y program property entry = λ k. record { program = program k; property = property k; entry = entry k }
 
-  property_is : x.property ≡ y.property
+-- words and files give one input
+module _ (words : List (List ℕ)) (files : List File) (differ : HaveDifferentNames files) (i j : Input) (a : IsInput words files i) (b : IsInput words files j) where
+  asked : i.wanted ≡ j.wanted
+  asked = AsksFor-same words i.wanted j.wanted a.asks b.asks
+
+  property_is : i.property ≡ j.property
   property_is =
       let held = ap (λ (w : Wanted). file_at files w.property) (sym asked) in
       let contents = same_Some b.property_bytes a.property_bytes (sym b.property_held ∙ (held ∙ a.property_held)) in
-      IsPropertyFile-same a.property_bytes x.property y.property a.property (subst (λ (bytes : List ℕ). IsPropertyFile bytes y.property) contents b.property)
+      IsPropertyFile-same a.property_bytes i.property j.property a.property (subst (λ (bytes : List ℕ). IsPropertyFile bytes j.property) contents b.property)
 
-  stubs_are : a.stubs ≡ b.stubs
-  stubs_are = stubs_same files b.w.stubs a.stubs b.stubs (subst (λ (w : Wanted). AreStubs files w.stubs a.stubs) asked a.are_stubs) b.are_stubs
+  stubs_are : i.stubs ≡ j.stubs
+  stubs_are = stubs_same files j.wanted.stubs i.stubs j.stubs (subst (λ (w : Wanted). AreStubs files w.stubs i.stubs) asked a.stubs) b.stubs
 
-  classes_are : a.classes ≡ b.classes
-  classes_are = AreClassFiles-same files differ a.classes b.classes a.are_classes b.are_classes
+  pub input_same : i ≡ j
+  input_same = input_made i j asked property_is stubs_are (AreClassFiles-same files differ i.classes j.classes a.classes b.classes)
 
-  abbrev Gives : List StubClass → List NamedClass → Type 0
-  Gives stubs classes = Links classes (all_stubs stubs) (Ok y.program)
+module _ (words : List (List ℕ)) (files : List File) (x y : Subject) (differ : HaveDifferentNames files) (program : IsProgram x.program) (a : IsRunOf words files x)
+    (b : IsRunOf words files y) where
+  inputs : b.input ≡ a.input
+  inputs = input_same words files differ b.input a.input b.is_input a.is_input
 
   program_is : x.program ≡ y.program
   program_is =
-      program_same a.stubs a.classes (files_differ files differ a.classes a.are_classes) x.program y.program a.links
-      (subst (λ (k : List StubClass). Gives k a.classes) (sym stubs_are) (subst (λ (k : List NamedClass). Gives b.stubs k) (sym classes_are) b.links))
+      program_same a.input.stubs a.input.classes (files_differ files differ a.input.classes a.is_input.classes) x.program y.program a.links
+      (subst (λ (i : Input). Links i.classes (all_stubs i.stubs) (Ok y.program)) inputs b.links)
 
   entry_is : x.entry ≡ y.entry
   entry_is =
-      let other = subst (λ (p : Program). IsEntry p b.w.class b.w.method y.entry) (sym program_is) b.entry in
-      let here = subst (λ (w : Wanted). IsEntry x.program w.class w.method y.entry) (sym asked) other in
-      ap (λ (m : MethodNo). m.0) (entry_same x.program program.members a.w.class a.w.method (record { 0 = x.entry }) (record { 0 = y.entry }) a.entry here)
+      let other = subst (λ (p : Program). IsEntry p b.input.wanted.class b.input.wanted.method y.entry) (sym program_is) b.entry in
+      let here = subst (λ (i : Input). IsEntry x.program i.wanted.class i.wanted.method y.entry) inputs other in
+      let both = entry_same x.program program.members a.input.wanted.class a.input.wanted.method (record { 0 = x.entry }) (record { 0 = y.entry }) a.entry here in
+      ap (λ (m : MethodNo). m.0) both
 
   pub run_same : x ≡ y
-  run_same = made_same x y program_is property_is entry_is
+  run_same = subject_made x y program_is (sym a.property ∙ ap (λ (i : Input). i.property) (sym inputs) ∙ b.property) entry_is

@@ -3,3 +3,4 @@ pub mod Lines
 pub mod Outcomes
 pub mod Statuses
 pub mod RunSubjects
+pub mod WholeInputs

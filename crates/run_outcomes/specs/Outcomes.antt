@@ -1,7 +1,7 @@
 -- Public contracts rest on this module.
 -- What a run answers, from the words and the files of the tree: a status, and the lines that are written. The checks stand in their order, a level
 -- for each thing that is read or made: each of its cases but the last is a check that fails, and the last one goes on to the next level.
-use Rattle.std.specs.Prelude.{◌≡◌, ℕ, Bool, true, false, List, [], ◌∷◌, ◌++◌, Option, Some, None, Ok, Err, Contains}
+use Rattle.std.specs.Prelude.{◌≡◌, ℕ, Bool, true, false, List, [], ◌∷◌, Option, Some, None, Ok, Err, Contains}
 use Rattle.ts_outside.specs.Files.{File, file_at}
 use Rattle.failure.specs.declared.Failure.TheVariants.{Cause}
 use Rattle.jvm_model.specs.declared.automaton.Automaton.{Automaton}
@@ -27,12 +27,12 @@ use Rattle.property_file.specs.PropertyFile.{IsPropertyFile}
 use Rattle.property_file.specs.Refusals.{IsBrokenFile}
 use Rattle.report_rules.specs.Reports.{IsReport}
 use Rattle.report_rules.specs.Verdicts.{Asked}
-use Rattle.stub_file.specs.BaseStubs.{base_classes}
 use Rattle.stub_file.specs.declared.stub_failure.StubFault.TheVariants as stub_faults
 use Rattle.stub_file.specs.StubFile.{IsStubFile, IsStubRefusal}
 use Rattle.toml_tables.specs.Documents.{IsNoDocument}
 use Rattle.run_outcomes.specs.declared.status.Status.{Status}
 use Rattle.run_outcomes.specs.declared.status.Status.TheVariants as statuses
+use Rattle.run_outcomes.specs.Inputs.{Input, all_stubs}
 use Rattle.run_outcomes.specs.Lines.{no_file, missing_line, refused_line, usage_line}
 
 -- ---- what is said where a check fails
@@ -51,9 +51,9 @@ Misses status lines name = EndsWith status lines statuses.Usage (missing_line na
 
 -- ---- the analysis
 
--- What the words ask of the property that they name: the stages up to the last one that they ask for.
-abbrev pub asked_of : Wanted → Automaton → Asked
-asked_of w a = record { property = a; stages = w.stages }
+-- What is asked of an input: whether its property is kept, by the stages up to the last one that the words ask for.
+abbrev pub asked_of : Input → Asked
+asked_of i = record { property = i.property; stages = i.wanted.stages }
 
 -- The status where each tracked site is safe, and where not.
 abbrev pub report_status : Bool → Status
@@ -61,46 +61,42 @@ report_status true = statuses.AllSafe
 report_status false = statuses.SomeUnproved
 
 -- There are too many pairs of a place and a site; or a method that may run, or a call in one, is refused; or there is a report.
-pub data AnalysisOutcome (w : Wanted) (a : Automaton) (p : Program) (entry : MethodNo) (status : Status) (lines : List (List ℕ)) : Type 0 where
-  pair_limit : IsSolveEnd p (IsSupplied p) entry w.pair_limit (Cause (solve_faults.PairLimit w.pair_limit))
-      → Refuses status lines no_file 0 PairLimit → AnalysisOutcome w a p entry status lines
-  refused_method : (r : Refusal) → IsSolveEnd p (IsSupplied p) entry w.pair_limit (Cause (solve_faults.Refused r))
-      → Refuses status lines r.file r.offset r.reason → AnalysisOutcome w a p entry status lines
-  reported : (facts : List Fact) (all_safe : Bool) → IsSolution p (IsSupplied p) entry w.pair_limit facts
-      → IsReport p (IsSupplied p) (Contains facts) (asked_of w a) lines all_safe → status ≡ report_status all_safe → AnalysisOutcome w a p entry status lines
+pub data AnalysisOutcome (i : Input) (p : Program) (entry : MethodNo) (status : Status) (lines : List (List ℕ)) : Type 0 where
+  pair_limit : IsSolveEnd p (IsSupplied p) entry i.wanted.pair_limit (Cause (solve_faults.PairLimit i.wanted.pair_limit))
+      → Refuses status lines no_file 0 PairLimit → AnalysisOutcome i p entry status lines
+  refused_method : (r : Refusal) → IsSolveEnd p (IsSupplied p) entry i.wanted.pair_limit (Cause (solve_faults.Refused r))
+      → Refuses status lines r.file r.offset r.reason → AnalysisOutcome i p entry status lines
+  reported : (facts : List Fact) (all_safe : Bool) → IsSolution p (IsSupplied p) entry i.wanted.pair_limit facts
+      → IsReport p (IsSupplied p) (Contains facts) (asked_of i) lines all_safe → status ≡ report_status all_safe → AnalysisOutcome i p entry status lines
 
 -- ---- the program
 
 -- The property's class is not in the program.
-pub data ClassOutcome (w : Wanted) (a : Automaton) (p : Program) (entry : MethodNo) (status : Status) (lines : List (List ℕ)) : Type 0 where
-  no_class : class_named p a.class_name ≡ None → Refuses status lines w.property 0 MissingClass → ClassOutcome w a p entry status lines
-  has_class : (class : Class) → class_named p a.class_name ≡ Some class → AnalysisOutcome w a p entry status lines → ClassOutcome w a p entry status lines
+pub data ClassOutcome (i : Input) (p : Program) (entry : MethodNo) (status : Status) (lines : List (List ℕ)) : Type 0 where
+  no_class : class_named p i.property.class_name ≡ None → Refuses status lines i.wanted.property 0 MissingClass → ClassOutcome i p entry status lines
+  has_class : (class : Class) → class_named p i.property.class_name ≡ Some class → AnalysisOutcome i p entry status lines
+      → ClassOutcome i p entry status lines
 
 -- No class file has a method of the entry's class and name; or none of them can start the program.
-pub data EntryOutcome (w : Wanted) (a : Automaton) (classes : List NamedClass) (p : Program) (status : Status) (lines : List (List ℕ)) : Type 0 where
-  no_entry : ((entry : ℕ) → IsEntry p w.class w.method entry → ⊥) → (NamesMethod classes w.class w.method → ⊥)
-      → Refuses status lines no_file 0 NoEntry → EntryOutcome w a classes p status lines
-  other_shape : ((entry : ℕ) → IsEntry p w.class w.method entry → ⊥) → NamesMethod classes w.class w.method
-      → Refuses status lines no_file 0 EntryShape → EntryOutcome w a classes p status lines
-  has_entry : (entry : MethodNo) → IsEntry p w.class w.method entry.0 → ClassOutcome w a p entry status lines → EntryOutcome w a classes p status lines
-
--- The stubs of a run: those that are built in, and the user's.
-abbrev pub all_stubs : List StubClass → List StubClass
-all_stubs stubs = base_classes ++ stubs
+pub data EntryOutcome (i : Input) (p : Program) (status : Status) (lines : List (List ℕ)) : Type 0 where
+  no_entry : ((entry : ℕ) → IsEntry p i.wanted.class i.wanted.method entry → ⊥) → (NamesMethod i.classes i.wanted.class i.wanted.method → ⊥)
+      → Refuses status lines no_file 0 NoEntry → EntryOutcome i p status lines
+  other_shape : ((entry : ℕ) → IsEntry p i.wanted.class i.wanted.method entry → ⊥) → NamesMethod i.classes i.wanted.class i.wanted.method
+      → Refuses status lines no_file 0 EntryShape → EntryOutcome i p status lines
+  has_entry : (entry : MethodNo) → IsEntry p i.wanted.class i.wanted.method entry.0 → ClassOutcome i p entry status lines → EntryOutcome i p status lines
 
 -- The classes do not link.
-pub data LinkOutcome (w : Wanted) (a : Automaton) (stubs : List StubClass) (classes : List NamedClass) (status : Status) (lines : List (List ℕ)) : Type 0 where
-  unlinked : (r : Refusal) → Links classes (all_stubs stubs) (Err r) → Refuses status lines r.file r.offset r.reason
-      → LinkOutcome w a stubs classes status lines
-  linked : (p : Program) → Links classes (all_stubs stubs) (Ok p) → IsProgram p → EntryOutcome w a classes p status lines → LinkOutcome w a stubs classes status lines
+pub data LinkOutcome (i : Input) (status : Status) (lines : List (List ℕ)) : Type 0 where
+  unlinked : (r : Refusal) → Links i.classes (all_stubs i.stubs) (Err r) → Refuses status lines r.file r.offset r.reason → LinkOutcome i status lines
+  linked : (p : Program) → Links i.classes (all_stubs i.stubs) (Ok p) → IsProgram p → EntryOutcome i p status lines → LinkOutcome i status lines
 
 -- ---- the files
 
 -- There are too many class files, or one is refused.
 pub data FolderOutcome (files : List File) (w : Wanted) (a : Automaton) (stubs : List StubClass) (status : Status) (lines : List (List ℕ)) : Type 0 where
   refused_folder : (r : Refusal) → IsRefusedFolder files r → Refuses status lines r.file r.offset r.reason → FolderOutcome files w a stubs status lines
-  has_classes : (classes : List NamedClass) → AreClassFiles files classes → LinkOutcome w a stubs classes status lines
-      → FolderOutcome files w a stubs status lines
+  has_classes : (classes : List NamedClass) → AreClassFiles files classes
+      → LinkOutcome (record { wanted = w; property = a; stubs = stubs; classes = classes }) status lines → FolderOutcome files w a stubs status lines
 
 -- The stub file is not there; it is no TOML document; or it breaks a rule of a key or of a class.
 pub data StubOutcome (files : List File) (w : Wanted) (a : Automaton) (status : Status) (lines : List (List ℕ)) : Type 0 where

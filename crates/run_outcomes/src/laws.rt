@@ -4,16 +4,23 @@ ghost use Rattle.std.specs.Prelude.{◌≡◌, ◌⊎◌, ℕ, List};
 ghost use Rattle.ts_outside.specs.Files.{File};
 ghost use Rattle.run_outcomes.specs.declared.status.Status.{Status as RunStatus};
 ghost use Rattle.run_outcomes.specs.declared.status.Status.TheVariants.{AllSafe, SomeUnproved};
-ghost use Rattle.run_outcomes.specs.Inputs.{HaveDifferentNames, IsWholeInput};
+ghost use Rattle.run_outcomes.specs.Inputs.{HaveDifferentNames};
 ghost use Rattle.run_outcomes.specs.Outcomes.{Outcome};
 ghost use Rattle.run_outcomes.specs.RunSubjects.{IsRunOf};
+ghost use Rattle.run_outcomes.specs.WholeInputs.{IsWholeInput};
 ghost use Rattle.jvm_model.specs.LinkedPrograms.{IsProgram};
 ghost use Rattle.bytecode_machine.specs.Objects.{Subject};
 
-/// The outcome of a run is determined by its words and by the files of the tree, whose names differ.
-pub fn one_outcome()
+/// A run of the same words over the same files, whose names differ, has one status.
+pub fn one_status()
     ensures { (words : List (List ℕ)) (files : List File) (s t : RunStatus) (l m : List (List ℕ)) → HaveDifferentNames files
-        → Outcome words files s l → Outcome words files t m → (s ≡ t) × (l ≡ m) }
+        → Outcome words files s l → Outcome words files t m → s ≡ t }
+{}
+
+/// And it writes the same lines.
+pub fn one_report()
+    ensures { (words : List (List ℕ)) (files : List File) (s t : RunStatus) (l m : List (List ℕ)) → HaveDifferentNames files
+        → Outcome words files s l → Outcome words files t m → l ≡ m }
 {}
 
 /// Of an input in which nothing is missing and nothing is refused, and whose sets stay below the limit, the outcome is a report.

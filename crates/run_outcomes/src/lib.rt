@@ -4,5 +4,5 @@
 mod laws;
 mod status;
 
-pub use laws::{one_outcome, one_run, whole_input_is_reported};
+pub use laws::{one_report, one_run, one_status, whole_input_is_reported};
 pub use status::Status;

@@ -7,6 +7,7 @@ pub mod TrueReports
 pub mod BuiltIn
 pub mod Reported
 pub mod LineForms
+pub mod OwnSites
 pub mod Written
 pub mod MoreStages
 pub mod RunStages

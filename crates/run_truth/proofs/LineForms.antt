@@ -5,7 +5,6 @@ use Rattle.std.specs.Prelude.{slice_index_or}
 use Rattle.ts_outside.specs.Files.{File}
 use Rattle.jvm_model.specs.declared.automaton.Automaton.{Automaton}
 use Rattle.jvm_model.specs.declared.number.MethodNo.{MethodNo}
-use Rattle.jvm_model.specs.declared.program.NamedClass.{NamedClass}
 use Rattle.jvm_model.specs.declared.reason.Reason.{Reason}
 use Rattle.jvm_model.specs.declared.reason.Reason.TheVariants.{Truncated, BadMagic, BadVersion, BadTag, BadIndex, BadUtf8, BadDescriptor, TrailingBytes, CodeMissing, CodeUnexpected, ClassTooLarge, BadOpcode, BadTarget, CodeCut, StackUnder, StackOver, StackMerge, FallsOff, BadLocal, BadHandler, Subroutine, InvokeDynamic, MethodConstant, DuplicateClass, MissingClass, Cycle, MissingField, MissingMethod, NoStub, NoImplementation, ClashingDefaults, PackageOverride, KindMismatch, Reflection, Threads, Finalizer, BadToml, BadProperty, BadStub, NoEntry, EntryShape, TooManyFiles, PairLimit}
 use Rattle.jvm_model.specs.declared.stub.StubClass.{StubClass}
@@ -22,6 +21,7 @@ use Rattle.site_report.specs.Lines.{summary_line}
 use Rattle.report_rules.specs.Reports.{is_limit, is_safe, is_unproved, line_of, report_lines}
 use Rattle.run_outcomes.specs.declared.status.Status.{Status}
 use Rattle.run_outcomes.specs.declared.status.Status.TheVariants.{AllSafe, SomeUnproved, Refused, Usage}
+use Rattle.run_outcomes.specs.Inputs.{Input}
 use Rattle.run_outcomes.specs.Lines.{missing_line, no_file, option_word, refused_line, usage_line}
 use Rattle.run_outcomes.specs.Outcomes.{AnalysisOutcome, ClassOutcome, EndsWith, EntryOutcome, FolderOutcome, LinkOutcome, Misses, Outcome, PropertyOutcome, Refuses, StubOutcome, pair_limit, refused_method, reported, report_status, no_class, has_class, no_entry, other_shape, has_entry, unlinked, linked, refused_folder, has_classes, no_stub_file, stubs_no_document, broken_stubs, no_stubs, has_stubs, no_property, property_no_document, broken_property, has_property, unusable, usable}
 use Rattle.run_truth.specs.Truth.{SaysSafe}
@@ -75,11 +75,11 @@ word_plain EntryShape = refl
 word_plain TooManyFiles = refl
 word_plain PairLimit = refl
 
-refused_is_line : (file : List ℕ) (offset : ℕ) (reason : Reason) → IsLine (refused_line file offset reason)
+pub refused_is_line : (file : List ℕ) (offset : ℕ) (reason : Reason) → IsLine (refused_line file offset reason)
 refused_is_line file offset reason =
     ended (word (word_of reason) (word_plain reason) (word (codes " ") refl (number offset (word (codes " ") refl (name file (IsPlain-test (codes "refused ") refl))))))
 
-missing_is_line : (file : List ℕ) → IsLine (missing_line file)
+pub missing_is_line : (file : List ℕ) → IsLine (missing_line file)
 missing_is_line file = ended (name file (IsPlain-test (codes "missing ") refl))
 
 option_plain : (o : NumberOption) → list_all (λ b. not (eqb b 10)) (option_word o) ≡ true
@@ -88,13 +88,13 @@ option_plain options.Depth = refl
 option_plain options.FactLimit = refl
 option_plain options.PairLimit = refl
 
-usage_is_line : (fault : UsageFault) → IsLine (usage_line fault)
+pub usage_is_line : (fault : UsageFault) → IsLine (usage_line fault)
 usage_is_line Words = ended (IsPlain-test (codes "usage words") refl)
 usage_is_line (Range option) = ended (word (option_word option) (option_plain option) (IsPlain-test (codes "usage range ") refl))
 
 -- ---- the lines of a report
 
-report_are_lines : (p : Program) (found : List (TrackedSite × Verdict)) (safe unproved limit : ℕ)
+pub report_are_lines : (p : Program) (found : List (TrackedSite × Verdict)) (safe unproved limit : ℕ)
     → AllByRecursion IsLine (map (line_of p) found ++ summary_line safe unproved limit ∷ [])
 report_are_lines p [] safe unproved limit = (summary_is_line safe unproved limit, tt)
 report_are_lines p (f ∷ found) safe unproved limit = (verdict_is_line p f.0 f.1, report_are_lines p found safe unproved limit)
@@ -146,10 +146,10 @@ status_reports false s is = inr is
 
 -- ---- the levels
 
-analysis_formed : (w : Wanted) (a : Automaton) (p : Program) (entry : MethodNo) (s : Status) (lines : List (List ℕ)) → AnalysisOutcome w a p entry s lines → IsFormed s lines
-analysis_formed w a p entry s lines (pair_limit end ends) = refuses_formed s lines no_file 0 PairLimit ends
-analysis_formed w a p entry s lines (refused_method r end ends) = refuses_formed s lines r.file r.offset r.reason ends
-analysis_formed w a p entry s lines (reported facts all_safe solution report is) = record {
+analysis_formed : (i : Input) (p : Program) (entry : MethodNo) (s : Status) (lines : List (List ℕ)) → AnalysisOutcome i p entry s lines → IsFormed s lines
+analysis_formed i p entry s lines (pair_limit end ends) = refuses_formed s lines no_file 0 PairLimit ends
+analysis_formed i p entry s lines (refused_method r end ends) = refuses_formed s lines r.file r.offset r.reason ends
+analysis_formed i p entry s lines (reported facts all_safe solution report is) = record {
   others = report_lines p report.found;
   same = report.lines_are;
   are = report_are_lines p report.found
@@ -158,24 +158,24 @@ analysis_formed w a p entry s lines (reported facts all_safe solution report is)
   reports = λ line among says. status_reports all_safe s is;
 }
 
-class_formed : (w : Wanted) (a : Automaton) (p : Program) (entry : MethodNo) (s : Status) (lines : List (List ℕ)) → ClassOutcome w a p entry s lines → IsFormed s lines
-class_formed w a p entry s lines (no_class none ends) = refuses_formed s lines w.property 0 MissingClass ends
-class_formed w a p entry s lines (has_class class named outcome) = analysis_formed w a p entry s lines outcome
+class_formed : (i : Input) (p : Program) (entry : MethodNo) (s : Status) (lines : List (List ℕ)) → ClassOutcome i p entry s lines → IsFormed s lines
+class_formed i p entry s lines (no_class none ends) = refuses_formed s lines i.wanted.property 0 MissingClass ends
+class_formed i p entry s lines (has_class class named outcome) = analysis_formed i p entry s lines outcome
 
-entry_formed : (w : Wanted) (a : Automaton) (classes : List NamedClass) (p : Program) (s : Status) (lines : List (List ℕ)) → EntryOutcome w a classes p s lines → IsFormed s lines
-entry_formed w a classes p s lines (no_entry none names ends) = refuses_formed s lines no_file 0 NoEntry ends
-entry_formed w a classes p s lines (other_shape none names ends) = refuses_formed s lines no_file 0 EntryShape ends
-entry_formed w a classes p s lines (has_entry entry is outcome) = class_formed w a p entry s lines outcome
+entry_formed : (i : Input) (p : Program) (s : Status) (lines : List (List ℕ)) → EntryOutcome i p s lines → IsFormed s lines
+entry_formed i p s lines (no_entry none names ends) = refuses_formed s lines no_file 0 NoEntry ends
+entry_formed i p s lines (other_shape none names ends) = refuses_formed s lines no_file 0 EntryShape ends
+entry_formed i p s lines (has_entry entry is outcome) = class_formed i p entry s lines outcome
 
-link_formed : (w : Wanted) (a : Automaton) (stubs : List StubClass) (classes : List NamedClass) (s : Status) (lines : List (List ℕ)) → LinkOutcome w a stubs classes s lines
-    → IsFormed s lines
-link_formed w a stubs classes s lines (unlinked r links ends) = refuses_formed s lines r.file r.offset r.reason ends
-link_formed w a stubs classes s lines (linked p links program outcome) = entry_formed w a classes p s lines outcome
+link_formed : (i : Input) (s : Status) (lines : List (List ℕ)) → LinkOutcome i s lines → IsFormed s lines
+link_formed i s lines (unlinked r links ends) = refuses_formed s lines r.file r.offset r.reason ends
+link_formed i s lines (linked p links program outcome) = entry_formed i p s lines outcome
 
 folder_formed : (files : List File) (w : Wanted) (a : Automaton) (stubs : List StubClass) (s : Status) (lines : List (List ℕ)) → FolderOutcome files w a stubs s lines
     → IsFormed s lines
 folder_formed files w a stubs s lines (refused_folder r refused ends) = refuses_formed s lines r.file r.offset r.reason ends
-folder_formed files w a stubs s lines (has_classes classes are outcome) = link_formed w a stubs classes s lines outcome
+folder_formed files w a stubs s lines (has_classes classes are outcome) =
+    link_formed (record { wanted = w; property = a; stubs = stubs; classes = classes }) s lines outcome
 
 stubs_formed : (files : List File) (w : Wanted) (a : Automaton) (s : Status) (lines : List (List ℕ)) → StubOutcome files w a s lines → IsFormed s lines
 stubs_formed files w a s lines (no_stub_file file given missing ends) = misses_formed s lines file ends

@@ -3,25 +3,23 @@ use Rattle.std.proofs.Common.{◌≡◌, ◌⊎◌, inl, inr, ℕ, Bool, List, [
 use Rattle.ts_outside.specs.Files.{File, file_at}
 use Rattle.jvm_model.specs.declared.automaton.Automaton.{Automaton}
 use Rattle.jvm_model.specs.declared.number.MethodNo.{MethodNo}
-use Rattle.jvm_model.specs.declared.program.NamedClass.{NamedClass}
 use Rattle.jvm_model.specs.declared.stub.StubClass.{StubClass}
 use Rattle.jvm_model.specs.LinkedPrograms.{IsProgram}
 use Rattle.jvm_model.specs.Linking.{Links}
 use Rattle.jvm_model.specs.Lookups.{Signature}
 use Rattle.jvm_model.specs.Programs.{Program}
 use Rattle.bytecode_machine.specs.Objects.{Subject}
-use Rattle.class_folder.specs.ClassFiles.{AreClassFiles}
 use Rattle.command_words.specs.Requests.{Wanted, AsksFor}
 use Rattle.entry_method.specs.Entries.{IsEntry, with_strings, plain}
 use Rattle.points_to_rules.specs.Facts.{Fact}
 use Rattle.property_file.specs.PropertyFile.{IsPropertyFile}
 use Rattle.run_outcomes.specs.declared.status.Status.{Status}
 use Rattle.run_outcomes.specs.declared.status.Status.TheVariants.{AllSafe, SomeUnproved, Refused, Usage}
-use Rattle.run_outcomes.specs.Inputs.{AreStubs}
-use Rattle.run_outcomes.specs.Outcomes.{report_status, all_stubs, AnalysisOutcome, pair_limit, refused_method, reported, ClassOutcome, no_class, has_class, EntryOutcome, no_entry, other_shape, has_entry, LinkOutcome, unlinked, linked, FolderOutcome, refused_folder, has_classes, StubOutcome, no_stub_file, stubs_no_document, broken_stubs, no_stubs, has_stubs, PropertyOutcome, no_property, property_no_document, broken_property, has_property, Outcome, unusable, usable}
+use Rattle.run_outcomes.specs.Inputs.{AreStubs, Input, IsInput, all_stubs}
+use Rattle.run_outcomes.specs.Outcomes.{report_status, AnalysisOutcome, pair_limit, refused_method, reported, ClassOutcome, no_class, has_class, EntryOutcome, no_entry, other_shape, has_entry, LinkOutcome, unlinked, linked, FolderOutcome, refused_folder, has_classes, StubOutcome, no_stub_file, stubs_no_document, broken_stubs, no_stubs, has_stubs, PropertyOutcome, no_property, property_no_document, broken_property, has_property, Outcome, unusable, usable}
 use Rattle.simulation.specs.Simulation.{HasEntry, HasExceptions}
 use Rattle.run_outcomes.specs.RunSubjects.{IsRunOf}
-use Rattle.run_truth.specs.Truth.{IsReportOf}
+use Rattle.run_truth.specs.Reports.{IsReportOf}
 use Rattle.run_truth.proofs.BuiltIn.{has_exceptions}
 
 -- ---- the entry
@@ -44,7 +42,7 @@ HasReport x stages status lines = (facts : List Fact) × (all_safe : Bool) × Is
 -- what the run is of, with its report
 abbrev IsReported : List (List ℕ) → List File → Status → List (List ℕ) → Type 0
 IsReported words files status lines =
-    (x : Subject) × (run : IsRunOf words files x) × IsProgram x.program × HasExceptions x.program × HasEntry x × HasReport x run.w.stages status lines
+    (x : Subject) × (run : IsRunOf words files x) × IsProgram x.program × HasExceptions x.program × HasEntry x × HasReport x run.input.wanted.stages status lines
 
 -- ---- the levels, from the last to the first
 
@@ -55,74 +53,64 @@ module _ (status : Status) (lines : List (List ℕ)) (ends : (status ≡ AllSafe
   never_usage : status ≡ Usage → ⊥
   never_usage is = elim ends [ inl safe ↦ cc | inr unproved ↦ cc ]
 
-  of_analysis : (w : Wanted) (a : Automaton) (p : Program) (entry : MethodNo) → AnalysisOutcome w a p entry status lines
-      → HasReport (subject p a entry) w.stages status lines
-  of_analysis w a p entry (pair_limit many e) = absurd (never_refused e.status_is)
-  of_analysis w a p entry (refused_method r is e) = absurd (never_refused e.status_is)
-  of_analysis w a p entry (reported facts all_safe solution report is) =
-      (facts, all_safe, record { limit = w.pair_limit; solution = solution; report = report }, is)
+  of_analysis : (i : Input) (p : Program) (entry : MethodNo) → AnalysisOutcome i p entry status lines
+      → HasReport (subject p i.property entry) i.wanted.stages status lines
+  of_analysis i p entry (pair_limit many e) = absurd (never_refused e.status_is)
+  of_analysis i p entry (refused_method r is e) = absurd (never_refused e.status_is)
+  of_analysis i p entry (reported facts all_safe solution report is) =
+      (facts, all_safe, record { limit = i.wanted.pair_limit; solution = solution; report = report }, is)
 
-  of_class : (w : Wanted) (a : Automaton) (p : Program) (entry : MethodNo) → ClassOutcome w a p entry status lines
-      → HasReport (subject p a entry) w.stages status lines
-  of_class w a p entry (no_class none e) = absurd (never_refused e.status_is)
-  of_class w a p entry (has_class class is next) = of_analysis w a p entry next
+  of_class : (i : Input) (p : Program) (entry : MethodNo) → ClassOutcome i p entry status lines
+      → HasReport (subject p i.property entry) i.wanted.stages status lines
+  of_class i p entry (no_class none e) = absurd (never_refused e.status_is)
+  of_class i p entry (has_class class is next) = of_analysis i p entry next
 
-  module _ (words : List (List ℕ)) (files : List File) (w : Wanted) (asks : AsksFor words w) where
-    module _ (property_bytes : List ℕ) (a : Automaton) (property_held : file_at files w.property ≡ Some property_bytes)
-        (property : IsPropertyFile property_bytes a) where
-      module _ (stubs : List StubClass) (are_stubs : AreStubs files w.stubs stubs) where
-        module _ (classes : List NamedClass) (are_classes : AreClassFiles files classes) where
-          of_entry : (p : Program) → Links classes (all_stubs stubs) (Ok p) → IsProgram p → EntryOutcome w a classes p status lines
-              → IsReported words files status lines
-          of_entry p links program (no_entry none no_name e) = absurd (never_refused e.status_is)
-          of_entry p links program (other_shape none named e) = absurd (never_refused e.status_is)
-          of_entry p links program (has_entry entry is next) =
-              let run : IsRunOf words files (subject p a entry) = record {
-                w = w;
-                asks = asks;
-                property_bytes = property_bytes;
-                property_held = property_held;
-                property = property;
-                stubs = stubs;
-                are_stubs = are_stubs;
-                classes = classes;
-                are_classes = are_classes;
-                links = links;
-                entry = is;
-              } in (
-                subject p a entry,
-                run,
-                program,
-                has_exceptions classes stubs p links,
-                has_entry_method (subject p a entry) w.class w.method is,
-                of_class w a p entry next,
-              )
+  module _ (words : List (List ℕ)) (files : List File) where
+    module _ (i : Input) (is_input : IsInput words files i) where
+      of_entry : (p : Program) → Links i.classes (all_stubs i.stubs) (Ok p) → IsProgram p → EntryOutcome i p status lines → IsReported words files status lines
+      of_entry p links program (no_entry none no_name e) = absurd (never_refused e.status_is)
+      of_entry p links program (other_shape none named e) = absurd (never_refused e.status_is)
+      of_entry p links program (has_entry entry is next) =
+          let x = subject p i.property entry in
+          let run : IsRunOf words files x = record { input = i; is_input = is_input; property = refl; links = links; entry = is } in
+          (x, run, program, has_exceptions i.classes i.stubs p links, has_entry_method x i.wanted.class i.wanted.method is, of_class i p entry next)
 
-          of_link : LinkOutcome w a stubs classes status lines → IsReported words files status lines
-          of_link (unlinked r links e) = absurd (never_refused e.status_is)
-          of_link (linked p links program next) = of_entry p links program next
+      of_link : LinkOutcome i status lines → IsReported words files status lines
+      of_link (unlinked r links e) = absurd (never_refused e.status_is)
+      of_link (linked p links program next) = of_entry p links program next
 
-        of_folder : FolderOutcome files w a stubs status lines → IsReported words files status lines
-        of_folder (refused_folder r is e) = absurd (never_refused e.status_is)
-        of_folder (has_classes classes are next) = of_link classes are next
+    module _ (w : Wanted) (asks : AsksFor words w) where
+      module _ (property_bytes : List ℕ) (a : Automaton) (property_held : file_at files w.property ≡ Some property_bytes)
+          (property : IsPropertyFile property_bytes a) where
+        of_folder : (stubs : List StubClass) → AreStubs files w.stubs stubs → FolderOutcome files w a stubs status lines → IsReported words files status lines
+        of_folder stubs are_stubs (refused_folder r is e) = absurd (never_refused e.status_is)
+        of_folder stubs are_stubs (has_classes classes are next) =
+            of_link (record { wanted = w; property = a; stubs = stubs; classes = classes }) (record {
+              asks = asks;
+              property_bytes = property_bytes;
+              property_held = property_held;
+              property = property;
+              stubs = are_stubs;
+              classes = are;
+            }) next
 
-      of_stubs : StubOutcome files w a status lines → IsReported words files status lines
-      of_stubs (no_stub_file name asked none e) = absurd (never_usage e.status_is)
-      of_stubs (stubs_no_document name bytes asked held bad e) = absurd (never_refused e.status_is)
-      of_stubs (broken_stubs name bytes class asked held bad e) = absurd (never_refused e.status_is)
-      of_stubs (no_stubs unasked next) = of_folder [] (subst (λ (o : Option (List ℕ)). AreStubs files o []) (sym unasked) refl) next
-      of_stubs (has_stubs name bytes stubs asked held are next) =
-          of_folder stubs (subst (λ (o : Option (List ℕ)). AreStubs files o stubs) (sym asked) (bytes, held, are)) next
+        of_stubs : StubOutcome files w a status lines → IsReported words files status lines
+        of_stubs (no_stub_file name asked none e) = absurd (never_usage e.status_is)
+        of_stubs (stubs_no_document name bytes asked held bad e) = absurd (never_refused e.status_is)
+        of_stubs (broken_stubs name bytes class asked held bad e) = absurd (never_refused e.status_is)
+        of_stubs (no_stubs unasked next) = of_folder [] (subst (λ (o : Option (List ℕ)). AreStubs files o []) (sym unasked) refl) next
+        of_stubs (has_stubs name bytes stubs asked held are next) =
+            of_folder stubs (subst (λ (o : Option (List ℕ)). AreStubs files o stubs) (sym asked) (bytes, held, are)) next
 
-    of_property : PropertyOutcome files w status lines → IsReported words files status lines
-    of_property (no_property none e) = absurd (never_usage e.status_is)
-    of_property (property_no_document bytes held bad e) = absurd (never_refused e.status_is)
-    of_property (broken_property bytes key held bad e) = absurd (never_refused e.status_is)
-    of_property (has_property bytes a held is next) = of_stubs bytes a held is next
+      of_property : PropertyOutcome files w status lines → IsReported words files status lines
+      of_property (no_property none e) = absurd (never_usage e.status_is)
+      of_property (property_no_document bytes held bad e) = absurd (never_refused e.status_is)
+      of_property (broken_property bytes key held bad e) = absurd (never_refused e.status_is)
+      of_property (has_property bytes a held is next) = of_stubs bytes a held is next
 
-  of_words : (words : List (List ℕ)) (files : List File) → Outcome words files status lines → IsReported words files status lines
-  of_words words files (unusable fault is e) = absurd (never_usage e.status_is)
-  of_words words files (usable w asks next) = of_property words files w asks next
+    of_words : Outcome words files status lines → IsReported words files status lines
+    of_words (unusable fault is e) = absurd (never_usage e.status_is)
+    of_words (usable w asks next) = of_property w asks next
 
 pub is_reported : (words : List (List ℕ)) (files : List File) (status : Status) (lines : List (List ℕ)) → Outcome words files status lines
     → (status ≡ AllSafe) ⊎ (status ≡ SomeUnproved)

@@ -1,4 +1,4 @@
--- The lines of a report that say that a site is safe are true, where each verdict of that is.
+-- The lines of a report that say that a site is safe are true, and of sites that the report is about, where each verdict of that is.
 use Rattle.std.proofs.Common.{◌≡◌, ℕ, Bool, true, List, [], ◌∷◌, ◌++◌, map, All, IsTrue, refl, ap, nat_eq}
 use Rattle.std.proofs.lemmas.List.Elements.{All-append, All-cons, All-head, All-nil, All-tail}
 use Rattle.std.specs.Prelude.{slice_index_or}
@@ -10,7 +10,8 @@ use Rattle.site_report.specs.declared.verdict.Verdict.TheVariants.{Safe, Unprove
 use Rattle.site_report.specs.Lines.{summary_line, verdict_line}
 use Rattle.site_report.specs.Sites.{site_in}
 use Rattle.report_rules.specs.Reports.{is_safe, line_of}
-use Rattle.run_truth.specs.Truth.{IsReportedSite, IsTrueLine, SaysSafe}
+use Rattle.run_truth.specs.Reports.{IsReportedLine, IsReportedSite}
+use Rattle.run_truth.specs.Truth.{SaysSafe}
 
 -- the second letter of the word that says that a site is safe
 abbrev pub has_a : List ℕ → Bool
@@ -21,13 +22,16 @@ says_a line (rest, e) = ap has_a e
 
 module _ (x : Subject) (V : TrackedSite → Verdict → Type 0) (never : (t : TrackedSite) (stage : ℕ) → V t (Safe stage) → Errs x (site_in x.program t) → ⊥)
     (reported : (t : TrackedSite) (v : Verdict) → V t v → IsReportedSite x t) where
-  one : (t : TrackedSite) (v : Verdict) → V t v → SaysSafe (verdict_line x.program t v) → IsTrueLine x (verdict_line x.program t v)
-  one t (Safe stage) is safe = record { site = t; reported = reported t (Safe stage) is; stage = stage; is = refl; never = never t stage is }
+  one : (t : TrackedSite) (v : Verdict) → V t v → SaysSafe (verdict_line x.program t v) → IsReportedLine x (verdict_line x.program t v)
+  one t (Safe stage) is safe = record {
+    told = record { site = t; stage = stage; is = refl; never = never t stage is };
+    about = reported t (Safe stage) is;
+  }
   one t Unproved is safe = absurd (cc (says_a (verdict_line x.program t Unproved) safe))
   one t (Limit stage) is safe = absurd (cc (says_a (verdict_line x.program t (Limit stage)) safe))
 
   abbrev pub Q : List ℕ → Type 0
-  Q line = SaysSafe line → IsTrueLine x line
+  Q line = SaysSafe line → IsReportedLine x line
 
   abbrev pub W : TrackedSite × Verdict → Type 0
   W f = V f.0 f.1
@@ -37,7 +41,7 @@ module _ (x : Subject) (V : TrackedSite → Verdict → Type 0) (never : (t : Tr
   of_sites (f ∷ found) all =
       All-cons Q (line_of x.program f) (map (line_of x.program) found) (one f.0 f.1 (All-head W f found all)) (of_sites found (All-tail W f found all))
 
-  of_summary : (safe unproved limit : ℕ) → SaysSafe (summary_line safe unproved limit) → IsTrueLine x (summary_line safe unproved limit)
+  of_summary : (safe unproved limit : ℕ) → SaysSafe (summary_line safe unproved limit) → IsReportedLine x (summary_line safe unproved limit)
   of_summary safe unproved limit says = absurd (cc (says_a (summary_line safe unproved limit) says))
 
   -- of a whole report

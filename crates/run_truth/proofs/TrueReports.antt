@@ -1,6 +1,6 @@
 -- What a report says of safe sites is true.
 use Rattle.std.proofs.Common.{◌≡◌, ℕ, Bool, true, List, [], ◌∷◌, All, Contains, map, sym, subst}
-use Rattle.std.proofs.lemmas.List.Elements.{All-contains, All-cons, All-head, All-nil, All-tail}
+use Rattle.std.proofs.lemmas.List.Elements.{All-contains, All-cons, All-head, All-nil, All-tail, All-weaker}
 use Rattle.jvm_model.specs.declared.site.Site.{Site}
 use Rattle.jvm_model.specs.LinkedPrograms.{IsProgram}
 use Rattle.bytecode_machine.specs.Executions.{Errs}
@@ -20,7 +20,8 @@ use Rattle.report_rules.specs.Tracked.{IsTracked}
 use Rattle.report_rules.specs.Verdicts.{IsVerdict, SafeBy, by_events}
 use Rattle.run_truth.proofs.SafeLines.{of_report, each_safe, NeverErrs}
 use Rattle.run_truth.proofs.Verdicts.{solved_never_errs}
-use Rattle.run_truth.specs.Truth.{IsReportedSite, IsReportOf, IsTrueLine, SaysSafe}
+use Rattle.run_truth.specs.Reports.{IsReportOf, IsReportedLine, IsReportedSite}
+use Rattle.run_truth.specs.Truth.{IsTrueLine, SaysSafe}
 
 -- what holds of each of some sites holds of each with its verdict
 with_sites : (V : TrackedSite → Verdict → Type 0) (P : TrackedSite → Type 0) (found : List (TrackedSite × Verdict)) → All (λ (f : TrackedSite × Verdict). V f.0 f.1) found
@@ -57,11 +58,16 @@ module _ (x : Subject) (stages : ℕ) (facts : List Fact) (lines : List (List �
       with_sites IsFoundVerdict (IsReportedSite x) told.report.found told.report.verdicts
       (λ t there. record { facts = facts; limit = told.limit; solution = told.solution; tracked = (told.report.tracked.those t).0 there })
 
-  pub lines_true : All (λ (line : List ℕ). SaysSafe line → IsTrueLine x line) lines
-  lines_true =
-      subst (λ (ls : List (List ℕ)). All (λ (line : List ℕ). SaysSafe line → IsTrueLine x line) ls) (sym told.report.lines_are)
+  pub lines_reported : All (λ (line : List ℕ). SaysSafe line → IsReportedLine x line) lines
+  lines_reported =
+      subst (λ (ls : List (List ℕ)). All (λ (line : List ℕ). SaysSafe line → IsReportedLine x line) ls) (sym told.report.lines_are)
       (of_report x V never about told.report.found (count_by (λ (f : TrackedSite × Verdict). is_safe f.1) told.report.found)
       (count_by (λ (f : TrackedSite × Verdict). is_unproved f.1) told.report.found) (count_by (λ (f : TrackedSite × Verdict). is_limit f.1) told.report.found) verdicts)
+
+  pub lines_true : All (λ (line : List ℕ). SaysSafe line → IsTrueLine x line) lines
+  lines_true =
+      All-weaker (λ (line : List ℕ). SaysSafe line → IsReportedLine x line) (λ (line : List ℕ). SaysSafe line → IsTrueLine x line)
+      (λ line reported says. (reported says).told) lines lines_reported
 
   pub sites_true : all_safe ≡ true → (t : TrackedSite) → IsTracked x.program (IsSupplied x.program) (Contains facts) x.property.class_name t → Errs x (site_in x.program t) → ⊥
   sites_true safe t tracked =

@@ -16,7 +16,7 @@ use Rattle.points_to_rules.specs.Solutions.{IsSolution}
 use Rattle.simulation.proofs.Supplied.{supplied_runs}
 use Rattle.simulation.specs.Simulation.{HasEntry, HasExceptions, IsRun}
 use Rattle.coverage.proofs.Refused.{calls_unrefused}
-use Rattle.supplied_coverage.proofs.Whole.{supplied_covered}
+use Rattle.supply_laws.proofs.Whole.{supplied_whole}
 use Rattle.covered_executions.proofs.Executions.{executions_covered}
 use Rattle.prune_stage.specs.Pruning.{IsPruned}
 use Rattle.run_truth.proofs.Words.{never_errs}
@@ -25,7 +25,7 @@ pub pruned_never_errs : (x : Subject) (given : Given) (facts : List Fact) → Is
     → IsClosedSet (Instance x.program (IsSupplied x.program) (record { 0 = x.entry })) (Contains facts) → IsUnrefused x.program (IsSupplied x.program) (Contains facts)
     → (s : Site) → IsPruned (IsSupplied x.program) (Contains facts) x.property s → Errs x s → ⊥
 pruned_never_errs x given facts run map closed unrefused s pruned e =
-    let whole = supplied_covered x.program in
+    let whole = supplied_whole x.program in
     let all = executions_covered x given (IsSupplied x.program) (Contains facts) run map (λ number coded. each_answer x.program number run.program coded) whole closed unrefused
     e.states e.execution in
     never_errs x given (IsSupplied x.program) (Contains facts) map closed whole (calls_unrefused x.program (IsSupplied x.program) (Contains facts) run.program whole unrefused) s pruned

@@ -1,16 +1,15 @@
 -- Each object of an execution has followed a word over the events that may occur at its site.
-use Rattle.std.proofs.Common.{◌≡◌, inl, inr, ℕ, List, [], ◌∷◌, ◌++◌, Some, Contains, refl, sym, ap, ◌∙◌, subst}
-use Rattle.std.specs.Prelude.{All, slice_get, slice_index}
+use Rattle.std.proofs.Common.{◌≡◌, inl, inr, ℕ, List, [], ◌∷◌, ◌++◌, Contains, refl, sym, ap, ◌∙◌, subst}
+use Rattle.std.specs.Prelude.{All, slice_index}
 use Rattle.std.proofs.lemmas.List.Elements.{All-nil, All-cons, All-append}
 use Rattle.jvm_model.specs.declared.automaton.Event.{Event}
 use Rattle.jvm_model.specs.declared.site.Site.{Site}
 use Rattle.least_sets.specs.Rules.{IsClosedSet}
-use Rattle.op_model.specs.declared.op.Call.{Call as NodeCall}
 use Rattle.op_model.specs.declared.op.Op.TheVariants.{Call}
 use Rattle.op_model.specs.Supplies.{Given, GivenAs, IsMapOf}
 use Rattle.bytecode_machine.specs.Events.{IsEvent}
 use Rattle.bytecode_machine.specs.Objects.{Subject}
-use Rattle.bytecode_machine.specs.States.{Value, reference_to, State, slot_at}
+use Rattle.bytecode_machine.specs.States.{State, slot_at}
 use Rattle.node_machine.specs.NodeExecutions.{AreNodeSteps}
 use Rattle.node_machine.specs.NodeSteps.{AtNode, Calls, is_selecting_kind}
 use Rattle.node_machine.specs.Slots.{argument_values}
@@ -18,15 +17,17 @@ use Rattle.points_to_rules.specs.Facts.{Fact}
 use Rattle.points_to_rules.specs.Rules.{Instance}
 use Rattle.prune_stage.specs.StageOne.{state_after}
 use Rattle.coverage.specs.Covering.{MayHold, Covers}
-use Rattle.coverage.specs.Methods.{AreWholeMethods}
+use Rattle.points_to_rules.specs.WholeMethods.{AreWholeMethods}
 use Rattle.coverage.proofs.Advancing.{slots_here}
 use Rattle.coverage.proofs.Calls.{inside_of}
 use Rattle.coverage.proofs.Executions.{covers_all}
 use Rattle.coverage.proofs.Frames.{frames_are}
-use Rattle.coverage.proofs.Lists.{none_there, where_there, first_there, more_there, placed}
+use Rattle.program_laws.proofs.Orders.{none_there, where_there, first_there, more_there}
+use Rattle.coverage.proofs.Lists.{placed}
 use Rattle.coverage.proofs.RefusedCalls.{HasNoRefusedCall}
 use Rattle.coverage.proofs.Slots.{operand_of}
-use Rattle.coverage.proofs.Units.{IsUnit, of_slot, of_none, unit_is, argument_there}
+use Rattle.coverage.proofs.Targets.{first_unit}
+use Rattle.coverage.proofs.Units.{argument_there}
 use Rattle.coverage.proofs.Values.{among_from}
 use Rattle.prune_stage.specs.Pruning.{MayOccur, IsPruned}
 use Rattle.run_truth.specs.Words.{IsWordState, FollowWords, ErrsOnNodes}
@@ -37,19 +38,6 @@ use Rattle.run_truth.proofs.Steps.{Have, step_has}
 state_after_one : (q : ℕ) (word : List Event) (e : Event) → state_after q (word ++ e ∷ []) ≡ slice_index e.next (state_after q word)
 state_after_one q [] e = refl
 state_after_one q (f ∷ word) e = state_after_one (slice_index f.next q) word e
-
--- a reference that is the first unit is that of a slot
-record IsFirstUnit (c : NodeCall) (slots : List Value) (place : ℕ) : Type 0 where
-  z : ℕ
-  at : slice_get c.arguments 0 ≡ Some (Some z)
-  is : slot_at slots z ≡ reference_to place
-
-first_unit : (c : NodeCall) (slots : List Value) (place : ℕ) → slot_at (argument_values c.arguments slots) 0 ≡ reference_to place → IsFirstUnit c slots place
-first_unit c slots place e = by (unit_is c.arguments slots 0)
-  where
-    by : IsUnit c.arguments slots 0 → IsFirstUnit c slots place
-    by (of_slot z at same) = record { z = z; at = at; is = sym same ∙ e }
-    by (of_none none) = absurd (let both = sym none ∙ e in cc)
 
 module _ (x : Subject) (given : Given) (gives : GivenAs) (S : Fact → Type 0) (map : IsMapOf given gives) (closed : IsClosedSet (Instance x.program gives (record { 0 = x.entry })) S)
     (whole : AreWholeMethods x.program gives) (unrefused : HasNoRefusedCall x.program gives S) where

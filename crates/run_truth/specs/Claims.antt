@@ -1,17 +1,16 @@
 -- Public contracts rest on this module.
 -- What is true of a line that says that a site is safe, wherever a run has written it; and of a run that ends with all sites safe.
-use Rattle.std.specs.Prelude.{◌≡◌, ◌≢◌, ◌⊎◌, ℕ, List, [], ◌∷◌, ◌++◌, Option, Some, All, Contains}
+use Rattle.std.specs.Prelude.{◌≡◌, ◌≢◌, ◌⊎◌, ℕ, List, [], ◌∷◌, ◌++◌, Option, Some, All}
 use Rattle.ts_outside.specs.Files.{File}
+use Rattle.jvm_model.specs.declared.site.SiteKind.TheVariants as kinds
+use Rattle.jvm_model.specs.Subtypes.{IsSubtype}
+use Rattle.linked_program.specs.Numbers.{name_at, IsClassNumber}
 use Rattle.bytecode_machine.specs.Executions.{Errs}
 use Rattle.bytecode_machine.specs.Objects.{Subject}
-use Rattle.folder_supply.specs.Supplied.{IsSupplied}
-use Rattle.points_to_rules.specs.Solutions.{IsSolution}
-use Rattle.points_to_rules.specs.Facts.{Fact}
 use Rattle.run_truth.specs.Truth.{IsTrueLine}
 use Rattle.run_outcomes.specs.RunSubjects.{IsRunOf}
 use Rattle.site_report.specs.declared.tracked_site.TrackedSite.{TrackedSite}
 use Rattle.site_report.specs.Sites.{site_in}
-use Rattle.report_rules.specs.Tracked.{IsTracked}
 
 -- A text that is empty or ends with a newline.
 abbrev pub IsFront : List ℕ → Type 0
@@ -42,12 +41,15 @@ pub record IsTrueOfRun (words : List (List ℕ)) (files : List File) (line : Lis
   pub run : IsRunOf words files x
   pub is_true : IsTrueLine x line
 
--- Words and files give a program, a property and an entry, of which no site errs that a report is about: none at which methods that may run, by the least
--- facts of the analysis, make objects of the property's class or of one below it.
+-- Objects of the property's class, or of one below it, may be made at the site: by an instruction of the program, or by a stub that gives a new one.
+pub record IsOwnSite (x : Subject) (t : TrackedSite) : Type 0 where
+  pub kind : (t.kind ≡ kinds.New) ⊎ (t.kind ≡ kinds.Result)
+  pub known : IsClassNumber x.program t.class.0
+  pub below : IsSubtype x.program x.property.class_name (name_at x.program t.class.0)
+
+-- Words and files give a program, a property and an entry, and no execution of the bytecode, of any length, has a state in which an object of one of these
+-- sites is in the error state.
 pub record KeepsProtocol (words : List (List ℕ)) (files : List File) : Type 0 where
   pub x : Subject
   pub run : IsRunOf words files x
-  pub facts : List Fact
-  pub limit : ℕ
-  pub solution : IsSolution x.program (IsSupplied x.program) (record { 0 = x.entry }) limit facts
-  pub never : (t : TrackedSite) → IsTracked x.program (IsSupplied x.program) (Contains facts) x.property.class_name t → Errs x (site_in x.program t) → ⊥
+  pub never : (t : TrackedSite) → IsOwnSite x t → Errs x (site_in x.program t) → ⊥

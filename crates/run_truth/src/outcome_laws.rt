@@ -11,7 +11,8 @@ ghost use Rattle.run_outcomes.specs.declared.status.Status.TheVariants.{AllSafe,
 ghost use Rattle.run_outcomes.specs.Inputs.{HaveDifferentNames};
 ghost use Rattle.run_outcomes.specs.Outcomes.{report_status, Outcome};
 ghost use Rattle.run_outcomes.specs.RunSubjects.{IsRunOf};
-ghost use Rattle.run_truth.specs.Truth.{IsReportOf, SaysSafe};
+ghost use Rattle.run_truth.specs.Reports.{IsReportOf};
+ghost use Rattle.run_truth.specs.Truth.{SaysSafe};
 ghost use Rattle.simulation.specs.Simulation.{HasEntry, HasExceptions};
 
 /// A run that ends with the status of a report is of a linked program with the classes of exceptions and the entry, which its words and files
@@ -21,7 +22,7 @@ pub fn reports_are_of_runs()
     ensures { (words : List (List ℕ)) (files : List File) (status : Status) (lines : List (List ℕ)) → Outcome words files status lines
         → (status ≡ AllSafe) ⊎ (status ≡ SomeUnproved)
         → (x : Subject) × (run : IsRunOf words files x) × IsProgram x.program × HasExceptions x.program × HasEntry x
-        × ((facts : List Fact) × (all_safe : Bool) × IsReportOf x run.w.stages facts lines all_safe × (status ≡ report_status all_safe)) }
+        × ((facts : List Fact) × (all_safe : Bool) × IsReportOf x run.input.wanted.stages facts lines all_safe × (status ≡ report_status all_safe)) }
 {}
 
 /// More stages take nothing back: of two runs over the same files whose words ask for the same but for their last stages, the second for as many stages or

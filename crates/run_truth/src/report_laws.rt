@@ -17,7 +17,8 @@ ghost use Rattle.site_report.specs.Sites.{site_in};
 ghost use Rattle.report_rules.specs.Reports.{IsReport};
 ghost use Rattle.report_rules.specs.Tracked.{IsTracked};
 ghost use Rattle.report_rules.specs.Verdicts.{Asked, SafeBy, with_stages};
-ghost use Rattle.run_truth.specs.Truth.{IsReportOf, IsTrueLine, SaysSafe};
+ghost use Rattle.run_truth.specs.Reports.{IsReportOf, IsReportedLine};
+ghost use Rattle.run_truth.specs.Truth.{IsTrueLine, SaysSafe};
 
 /// Where the first stage proves a site safe, by the least facts of the points-to analysis of a folder, no execution of the bytecode, of any length, has a
 /// state in which an object of the site is in the error state.
@@ -38,6 +39,12 @@ pub fn safe_sites_never_err()
 pub fn safe_lines_are_true()
     ensures { (x : Subject) (stages : ℕ) (facts : List Fact) (lines : List (List ℕ)) (all_safe : Bool) → IsProgram x.program → HasExceptions x.program → HasEntry x
         → IsReportOf x stages facts lines all_safe → All (λ (line : List ℕ). SaysSafe line → IsTrueLine x line) lines }
+{}
+
+/// And it is of a site that the report is about.
+pub fn safe_lines_are_reported()
+    ensures { (x : Subject) (stages : ℕ) (facts : List Fact) (lines : List (List ℕ)) (all_safe : Bool) → IsProgram x.program → HasExceptions x.program → HasEntry x
+        → IsReportOf x stages facts lines all_safe → All (λ (line : List ℕ). SaysSafe line → IsReportedLine x line) lines }
 {}
 
 /// And where a report says that all is safe, no site that it is about ever errs.

@@ -10,6 +10,7 @@ ghost use Rattle.run_outcomes.specs.declared.status.Status.{Status as RunStatus}
 ghost use Rattle.run_outcomes.specs.declared.status.Status.TheVariants.{AllSafe, SomeUnproved};
 ghost use Rattle.run_outcomes.specs.Outcomes.{Outcome};
 ghost use Rattle.run_truth.specs.Claims.{IsTrueOfRun, KeepsProtocol, StandsIn};
+ghost use Rattle.run_truth.specs.Reports.{IsReportedOfRun};
 
 /// Of a run that reports, each line that says that a site is safe is true: no execution of the bytecode of the program that its words and files give,
 /// of any length, has a state in which an object of the site is in the error state.
@@ -26,7 +27,13 @@ pub fn written_safe_lines_are_true()
         → (line : List ℕ) → StandsIn (flat_map (λ (l : List ℕ). l) lines) line → SaysSafe line → IsTrueOfRun words files line }
 {}
 
-/// Where the status says that all sites are safe, no site that the report is about ever errs.
+/// And each such line is of a site that the report is about.
+pub fn written_safe_lines_are_reported()
+    ensures { (words : List (List ℕ)) (files : List File) (status : RunStatus) (lines : List (List ℕ)) → Outcome words files status lines
+        → (line : List ℕ) → StandsIn (flat_map (λ (l : List ℕ). l) lines) line → SaysSafe line → IsReportedOfRun words files line }
+{}
+
+/// Where the status says that all sites are safe, no site ever errs at which the program, or a stub, makes objects of the property's class or of one below it.
 pub fn safe_runs_keep_the_protocol()
     ensures { (words : List (List ℕ)) (files : List File) (lines : List (List ℕ)) → Outcome words files AllSafe lines → KeepsProtocol words files }
 {}

@@ -9,7 +9,7 @@ ghost use Rattle.bytecode_machine.specs.Objects.{Subject};
 ghost use Rattle.points_to_rules.specs.Facts.{Fact};
 ghost use Rattle.points_to_rules.specs.Refusals.{IsUnrefused};
 ghost use Rattle.points_to_rules.specs.Rules.{Instance};
-ghost use Rattle.coverage.specs.Methods.{AreWholeMethods, as_given};
+ghost use Rattle.points_to_rules.specs.WholeMethods.{AreWholeMethods, as_given};
 ghost use Rattle.prune_stage.specs.Pruning.{IsPruned};
 ghost use Rattle.run_truth.specs.Words.{FollowWords, ErrsOnNodes};
 

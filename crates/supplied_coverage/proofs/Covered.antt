@@ -15,14 +15,14 @@ use Rattle.coverage.proofs.Changed.{changes_written}
 use Rattle.coverage.proofs.Executions.{covers_all}
 use Rattle.coverage.proofs.Refused.{calls_unrefused}
 use Rattle.coverage.proofs.Uses.{informs_all}
-use Rattle.supplied_coverage.proofs.Whole.{supplied_covered}
+use Rattle.supply_laws.proofs.Whole.{supplied_whole}
 
 pub closed_covers : (x : Subject) (given : Given) (facts : List Fact) → IsProgram x.program → IsMapOf given (IsSupplied x.program)
     → IsClosedSet (AnyInstance x.program (IsSupplied x.program) (record { 0 = x.entry })) (Contains facts)
     → IsUnrefused x.program (IsSupplied x.program) (Contains facts)
     → CoversAll x given (IsSupplied x.program) (Contains facts) × InformsAll x given (IsSupplied x.program) (Contains facts) × ChangesAreWritten x given (Contains facts)
 closed_covers x given facts program map closed unrefused =
-    let whole = supplied_covered x.program in
+    let whole = supplied_whole x.program in
     let calls = calls_unrefused x.program (IsSupplied x.program) (Contains facts) program whole unrefused in (
       covers_all x given (IsSupplied x.program) (Contains facts) map (λ premises fact instance hold. closed premises fact (inl instance) hold) whole calls,
       informs_all x given (IsSupplied x.program) (Contains facts) map (λ premises fact instance hold. closed premises fact (inl instance) hold) whole calls,

@@ -1,4 +1,1 @@
-pub mod RowUnits
-pub mod Operations
-pub mod Whole
 pub mod Covered

@@ -1,8 +1,7 @@
-//! The laws of supplied methods under coverage: they call nothing, and stand on the definitions alone.
+//! The law of supplied methods under coverage: it calls nothing, and stands on the definitions alone.
 
 ghost use Rattle.std.specs.Prelude.{Contains, List};
 ghost use Rattle.jvm_model.specs.LinkedPrograms.{IsProgram};
-ghost use Rattle.jvm_model.specs.Programs.{Program};
 ghost use Rattle.least_sets.specs.Rules.{IsClosedSet};
 ghost use Rattle.op_model.specs.Supplies.{Given, IsMapOf};
 ghost use Rattle.bytecode_machine.specs.Objects.{Subject};
@@ -12,16 +11,9 @@ ghost use Rattle.points_to_rules.specs.Writes.{AnyInstance};
 ghost use Rattle.folder_supply.specs.Supplied.{IsSupplied};
 ghost use Rattle.coverage.specs.Changes.{ChangesAreWritten};
 ghost use Rattle.coverage.specs.Covering.{CoversAll};
-ghost use Rattle.coverage.specs.Methods.{AreWholeMethods};
 ghost use Rattle.coverage.specs.Uses.{InformsAll};
 
-/// Each method that a folder supplies as nodes is whole: a class file has its code, its nodes are all reached and read its own slots, and its
-/// constants are among the objects that are there from the start.
-pub fn supplied_methods_are_covered()
-    ensures { (p : Program) → AreWholeMethods p (IsSupplied p) }
-{}
-
-/// So a list of facts that is closed under the rules for these methods, and has no refusal, covers each state of each execution on them, and has
+/// A list of facts that is closed under the rules for the methods of a folder, and has no refusal, covers each state of each execution on them, and has
 /// what they load, call, return and change.
 pub fn supplied_executions_are_covered()
     ensures { (x : Subject) (given : Given) (facts : List Fact) → IsProgram x.program → IsMapOf given (IsSupplied x.program)

@@ -10,7 +10,8 @@ use Rattle.flow_graph.proofs.Catching.{from_covering}
 use Rattle.method_nodes.specs.LoweredMethods.{IsHandlerAt}
 use Rattle.op_model.specs.declared.node.NodeHandler.{NodeHandler}
 use Rattle.program_laws.proofs.Orders.{none_there, first_there, more_there, where_there}
-use Rattle.supply_laws.proofs.Pairs.{placed, first_of, second_of}
+use Rattle.least_sets.proofs.Places.{place_of}
+use Rattle.supply_laws.proofs.Pairs.{first_of, second_of}
 
 -- ---- the entries that cover an offset
 
@@ -98,9 +99,9 @@ module _ (p : Program) (pool : List PoolEntry) (handlers : List Handler) (offset
   pub caught_begins : (target : ℕ) → Contains (caught_at handlers offset) target → (h : NodeHandler) × Contains held h × (target ≡ h.target)
   caught_begins target caught =
       let entry = from_covering handlers offset target caught in
-      let stands = placed handlers entry.0 entry.1 in
-      let place : 0 + entry.1.0 ≡ entry.1.0 = omega arith in
-      let listed = subst (λ (k : ℕ). Contains (covering handlers offset) k) place (covering_there 0 offset handlers entry.1.0 entry.0 stands entry.2) in
-      let h = second_of (IsHandlerAt p pool handlers) places held entry.1.0 each (subst (λ (ps : List ℕ). Contains ps entry.1.0) (sym covering_places) listed) in
+      let (at, stands) = place_of handlers entry.0 entry.1 in
+      let place : 0 + at ≡ at = omega arith in
+      let listed = subst (λ (k : ℕ). Contains (covering handlers offset) k) place (covering_there 0 offset handlers at entry.0 stands entry.2) in
+      let h = second_of (IsHandlerAt p pool handlers) places held at each (subst (λ (ps : List ℕ). Contains ps at) (sym covering_places) listed) in
       let same : entry.0 ≡ h.2.handler = same_Some entry.0 h.2.handler (sym stands ∙ h.2.stands) in
       (h.0, h.1, sym entry.3 ∙ ap (λ (x : Handler). x.target) same ∙ sym h.2.target)

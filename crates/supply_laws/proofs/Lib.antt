@@ -3,4 +3,9 @@ pub mod Handled
 pub mod Reached
 pub mod Members
 pub mod Numbers
+pub mod RowUnits
+pub mod Operations
+pub mod FittingNodes
 pub mod Whole
+pub mod ArrayNames
+pub mod CheckedIndexes

@@ -1,8 +1,8 @@
 -- Two lists that go together, place by place: each item of one has its item of the other.
-use Rattle.std.proofs.Common.{◌≡◌, ℕ, zero, suc, List, [], ◌∷◌, Some, refl, ap, ◌∙◌, subst}
+use Rattle.std.proofs.Common.{◌≡◌, ℕ, zero, suc, List, [], ◌∷◌, Some, refl, subst}
 use Rattle.std.specs.List.{AllZip, Contains, slice_get}
-use Rattle.std.proofs.lemmas.Option.{slice_get-get_or, none-some, same_Some}
-use Rattle.hierarchy.proofs.ClassPlaces.{contained}
+use Rattle.std.proofs.lemmas.Option.{none-some, same_Some}
+use Rattle.least_sets.proofs.Places.{contains_at, place_of}
 
 -- ---- at one place
 
@@ -26,15 +26,14 @@ second_at R (a ∷ xs) (b ∷ ys) (suc k) x all stands = second_at R xs ys k x a
 
 -- ---- at some place
 
-pub placed : {X : Type 0} (xs : List X) (x : X) (there : Contains xs x) → slice_get xs there.0 ≡ Some x
-placed xs x there = slice_get-get_or xs there.0 x there.1 ∙ ap Some there.2
-
 pub first_of : {A B : Type 0} (R : A → B → Type 0) (xs : List A) (ys : List B) (y : B) → AllZip R xs ys → Contains ys y → (x : A) × Contains xs x × R x y
 first_of R xs ys y all there =
-    let x = first_at R xs ys there.0 y all (placed ys y there) in
-    (x.0, contained xs there.0 x.0 x.1, x.2)
+    let (place, at) = place_of ys y there in
+    let x = first_at R xs ys place y all at in
+    (x.0, contains_at xs place x.0 x.1, x.2)
 
 pub second_of : {A B : Type 0} (R : A → B → Type 0) (xs : List A) (ys : List B) (x : A) → AllZip R xs ys → Contains xs x → (y : B) × Contains ys y × R x y
 second_of R xs ys x all there =
-    let y = second_at R xs ys there.0 x all (placed xs x there) in
-    (y.0, contained ys there.0 y.0 y.1, y.2)
+    let (place, at) = place_of xs x there in
+    let y = second_at R xs ys place x all at in
+    (y.0, contains_at ys place y.0 y.1, y.2)

@@ -17,7 +17,7 @@ use Rattle.method_nodes.specs.LoweredMethods.{IsLowered, IsNodeOf}
 use Rattle.op_model.specs.declared.lowered.LoweredMethod.{LoweredMethod}
 use Rattle.op_model.specs.declared.node.Node.{Node}
 use Rattle.op_model.specs.declared.node.NodeHandler.{NodeHandler}
-use Rattle.points_to_rules.specs.WholeMethods.{HasNodeAt, IsMethodOf}
+use Rattle.points_to_rules.specs.WholeMethods.{HasNodeAt}
 use Rattle.slot_names.specs.Variables.{IsFirstNode, IsReachedNode, at_first, from_node, from_handler, AreReachedNodes}
 use Rattle.supply_laws.proofs.Handled.{begins_caught, caught_begins}
 use Rattle.supply_laws.proofs.Pairs.{first_at, second_at, first_of, second_of}
@@ -46,14 +46,14 @@ module _ (p : Program) (number : ℕ) (c : ClassFile) (code : Code) (graph : Gra
 
   -- ---- where a node goes on, and where it is handled
 
-  goes_on : (n : Node) (offset : ℕ) → Contains l.nodes n → Contains n.successors offset → HasNodeAt l offset
+  pub goes_on : (n : Node) (offset : ℕ) → Contains l.nodes n → Contains n.successors offset → HasNodeAt l offset
   goes_on n offset there next =
       let s = step_of n there in
       let step = is_step s.0 s.1 in
       let height = height_after step.effect s.0.height in
       node_at offset height (of_each (λ (o : ℕ). HasStep graph.steps o height) s.0.successors offset step.successors_there ((s.2.successors offset).0 next))
 
-  handled : (n : Node) (handler : NodeHandler) → Contains l.nodes n → Contains n.handlers handler → HasNodeAt l handler.target
+  pub handled : (n : Node) (handler : NodeHandler) → Contains l.nodes n → Contains n.handlers handler → HasNodeAt l handler.target
   handled n handler there covers =
       let s = step_of n there in
       let step = is_step s.0 s.1 in
@@ -92,10 +92,5 @@ module _ (p : Program) (number : ℕ) (c : ClassFile) (code : Code) (graph : Gra
       let less = flow.ascends i j s.0 t.0 before s.1 t.1 in
       omega (arith, s.2.offset, t.2.offset)
 
-  -- ---- the method
-
-  are_reached : AreReachedNodes l
+  pub are_reached : AreReachedNodes l
   are_reached = record { ascend = ascend; each = All-from_contains (λ (n : Node). IsReachedNode l n.offset) l.nodes reached }
-
-  pub is_method : IsMethodOf number l
-  is_method = record { number_is = lowered.number_is; reached = are_reached; successors = goes_on; handlers = handled }

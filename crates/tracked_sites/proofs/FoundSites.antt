@@ -27,7 +27,7 @@ use Rattle.site_report.specs.Sites.{site_in, AreInOrder}
 use Rattle.report_rules.specs.Tracked.{Allocates, makes, is_given, AreTracked, IsTracked}
 use Rattle.tracked_sites.specs.Found.{AreFound, GivesNew, HaveSame, IsSiteOf, IsSiteOfMethod, IsTrackedAs, StubGives, TargetGives, result_site}
 use Rattle.ground.proofs.Adding.{added_as, added_none}
-use Rattle.tracked_sites.proofs.TargetBodies.{file_by_view, described_by_view, not_both}
+use Rattle.points_to_rules.proofs.TargetBodies.{file_by_view, described_by_view, not_both}
 
 module _ (p : Program) (upper : ClassNo) (m : MethodNo) (offset : ℕ) where
   -- ---- an outcome

@@ -1,4 +1,3 @@
 mod ClassSites
 mod SiteOrder
-mod TargetBodies
 mod FoundSites

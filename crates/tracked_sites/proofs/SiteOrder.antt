@@ -4,7 +4,7 @@ use Rattle.std.specs.declared.cmp.Ordering.{Ordering}
 use Rattle.std.specs.declared.cmp.Ordering.TheVariants.{Less, Equal, Greater}
 use Rattle.std.specs.List.{slice_get, Contains, dedup}
 use Rattle.std.specs.List.Sorted.{IsPermutation, IsSorted, IsStrictlySortedBy}
-use Rattle.std.specs.Option.{option_cmp, option_eq}
+use Rattle.std.specs.Option.{option_cmp}
 use Rattle.std.specs.Ordering.{MatchOrdering, nat_cmp, ordering_then}
 use Rattle.std.proofs.lemmas.Bool.{and_parts}
 use Rattle.std.proofs.lemmas.Cmp.{ranked}
@@ -25,6 +25,7 @@ use Rattle.site_report.specs.contracts.tracked_site.TrackedSiteOrd.TheImpl as si
 use Rattle.site_report.specs.contracts.tracked_site.TrackedSiteOrd.TheImpl.Laws as order_laws
 use Rattle.site_report.specs.Sites.{AreInOrder, IsBefore, by_method, by_offset, by_class, by_kind, kind_rank, method_rank}
 use Rattle.tracked_sites.specs.Found.{HaveSame}
+use Rattle.points_to_rules.proofs.ExactParts.{exact_kinds, same_maybe, exact_maybe}
 
 abbrev pub site_cmp : TrackedSite → TrackedSite → Ordering
 site_cmp = (site_order.ghosts).cmp
@@ -97,21 +98,6 @@ before t u e =
     ]
 
 -- ---- `==` tells sites apart
-
-exact_kinds : (a b : SiteKind) → (kind_equality.ghosts).eq a b ≡ true → a ≡ b
-exact_kinds kinds.Boot kinds.Boot e = refl
-exact_kinds kinds.New kinds.New e = refl
-exact_kinds kinds.Result kinds.Result e = refl
-exact_kinds kinds.Thrown kinds.Thrown e = refl
-exact_kinds _ _ e = cc
-
-abbrev same_maybe : Option MethodNo → Option MethodNo → Bool
-same_maybe = option_eq (λ (a b : MethodNo). eqb a.0 b.0)
-
-exact_maybe : (a b : Option MethodNo) → same_maybe a b ≡ true → a ≡ b
-exact_maybe None None e = refl
-exact_maybe (Some a) (Some b) e = let methods = exact_unsigned_eq a.0 b.0 e in (λ i. Some (record { 0 = methods i }))
-exact_maybe _ _ e = cc
 
 pub exact_sites : (a b : TrackedSite) → same_sites a b ≡ true → a ≡ b
 exact_sites a b e =

@@ -1,5 +1,5 @@
 //! A sink that keeps what it takes in memory, of a given capacity, and of which given calls fail.
-ghost use Rattle.std.specs.Prelude.{◌≡◌, ◌↔◌, ◌<◌, ◌≤◌, [], ◌++◌, length, take, min, IfOk, OnErr, IsErr, IsTrue};
+ghost use Rattle.std.specs.Prelude.{◌≡◌, ◌↔◌, ◌<◌, ◌≤◌, [], ◌++◌, length, take, min, IfOk, OnOk, OnErr, IsErr, IsTrue};
 ghost use Rattle.ts_outside.specs.Counts.{Rose};
 ghost use Rattle.ts_outside.specs.Memory.{room, sink_fails, sink_after};
 
@@ -73,6 +73,7 @@ impl Sink for MemorySink {
         ensures takes { IfOk result (λ count. self.new.bytes ≡ self.old.bytes ++ take count piece.now) }
         ensures takes_nothing { OnErr result (self.new.bytes ≡ self.old.bytes) }
         ensures failed { OnErr result (Rose self.old.faults self.new.faults) }
+        ensures no_fault { OnOk result (self.new.faults ≡ self.old.faults) }
         ensures never_falls { self.old.faults ≤ self.new.faults }
 
         // A call fails exactly where its number is one of those that are to fail or the sink is full, and else

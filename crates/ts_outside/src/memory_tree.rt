@@ -76,6 +76,7 @@ impl Tree for MemoryTree {
     fn list(&mut self, alloc: Global) -> Result<Vec<String>, TreeFailure>
         ensures listing { IfOk result (λ names. IsListing self.old.files (map string_bytes names.items)) }
         ensures failed { IsErrOf result (Cause TreeFault.Failed) → Rose self.old.faults self.new.faults }
+        ensures no_fault { result ≢ Err (Cause TreeFault.Failed) → self.new.faults ≡ self.old.faults }
         ensures not_missing { result ≢ Err (Cause TreeFault.Missing) }
         ensures same_files { self.new.files ≡ self.old.files }
         ensures never_falls { self.old.faults ≤ self.new.faults }
@@ -95,6 +96,7 @@ impl Tree for MemoryTree {
             option_map (take limit) (file_at self.old.files name.now) ≡ Some read.items) }
         ensures missing { IsErrOf result (Cause TreeFault.Missing) → file_at self.old.files name.now ≡ None }
         ensures failed { IsErrOf result (Cause TreeFault.Failed) → Rose self.old.faults self.new.faults }
+        ensures no_fault { result ≢ Err (Cause TreeFault.Failed) → self.new.faults ≡ self.old.faults }
         ensures same_files { self.new.files ≡ self.old.files }
         ensures never_falls { self.old.faults ≤ self.new.faults }
 

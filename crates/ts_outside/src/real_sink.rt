@@ -46,7 +46,7 @@ impl<R: Print + Clone + Drop> Sink for RealSink<R> {
         ensures some { IfOk result (λ count. (0 < count) × (count ≤ length piece.now)) }
         ensures failed { OnErr result (Rose self.old self.new) }
         ensures never_falls { self.old ≤ self.new }
-        ensures ok { OnOk result (self.new ≡ self.old) }
+        ensures no_fault { OnOk result (self.new ≡ self.old) }
         ensures err { OnErr result (self.new ≡ counts.raised self.old 1) }
     {
         match self.rt.write_some(piece) {

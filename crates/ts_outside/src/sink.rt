@@ -1,6 +1,6 @@
 //! A place where output goes, as a trait.
 
-ghost use Rattle.std.specs.Prelude.{◌≡◌, ℕ, ◌<◌, ◌≤◌, ◌++◌, List, length, take, Option, option_map, IfOk, OnErr};
+ghost use Rattle.std.specs.Prelude.{◌≡◌, ℕ, ◌<◌, ◌≤◌, ◌++◌, List, length, take, Option, option_map, IfOk, OnOk, OnErr};
 ghost use Rattle.ts_outside.specs.Counts.{Rose};
 ghost use Rattle.ts_outside.specs.Handed.{Handed, and_then};
 
@@ -15,7 +15,8 @@ pub struct SinkFailure;
 ///
 /// It has three meanings. `taken` is the list of the bytes that it has taken, or `None` where it does not
 /// tell. `handed` is the list of the calls of `write`, each with its piece and with how many bytes of it were
-/// taken, or `None` where it does not tell. `faults` is a count of faults, which never falls.
+/// taken, or `None` where it does not tell. `faults` is a count of faults, which never falls, and rises in no call
+/// that takes something.
 pub trait Sink {
     ghost taken: { Self → Option (List ℕ) };
 
@@ -32,5 +33,6 @@ pub trait Sink {
         ensures hands { IfOk result (λ count. handed self.new ≡ option_map (and_then piece.now count) (handed self.old)) }
         ensures hands_in_vain { OnErr result (handed self.new ≡ option_map (and_then piece.now 0) (handed self.old)) }
         ensures failed { OnErr result (Rose (faults self.old) (faults self.new)) }
+        ensures no_fault { OnOk result (faults self.new ≡ faults self.old) }
         ensures never_falls { faults self.old ≤ faults self.new };
 }

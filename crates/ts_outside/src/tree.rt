@@ -26,7 +26,8 @@ pub type TreeFailure = Failure<TreeFault>;
 /// A tree of files.
 ///
 /// It has two meanings. `files` is what it holds, a finite map from names to bytes, or `None` where it
-/// does not tell; no call changes it. `faults` is a count of faults, which never falls.
+/// does not tell; no call changes it. `faults` is a count of faults, which never falls, and rises in no call that
+/// answers anything else than `Failed`.
 pub trait Tree {
     ghost files: { Self → Option (List File) };
 
@@ -36,6 +37,7 @@ pub trait Tree {
     fn list(&mut self, alloc: Global) -> Result<Vec<String>, TreeFailure>
         ensures listing { IfOk result (λ names. IfSome (files self.old) (λ held. IsListing held (map string_bytes names.items))) }
         ensures failed { IsErrOf result (Cause TreeFault.Failed) → Rose (faults self.old) (faults self.new) }
+        ensures no_fault { result ≢ Err (Cause TreeFault.Failed) → faults self.new ≡ faults self.old }
         ensures not_missing { result ≢ Err (Cause TreeFault.Missing) }
         ensures same_files { files self.new ≡ files self.old }
         ensures never_falls { faults self.old ≤ faults self.new };
@@ -46,6 +48,7 @@ pub trait Tree {
             option_map (take limit) (file_at held name.now) ≡ Some read.items)) }
         ensures missing { IsErrOf result (Cause TreeFault.Missing) → IfSome (files self.old) (λ held. file_at held name.now ≡ None) }
         ensures failed { IsErrOf result (Cause TreeFault.Failed) → Rose (faults self.old) (faults self.new) }
+        ensures no_fault { result ≢ Err (Cause TreeFault.Failed) → faults self.new ≡ faults self.old }
         ensures same_files { files self.new ≡ files self.old }
         ensures never_falls { faults self.old ≤ faults self.new };
 }

@@ -1,6 +1,6 @@
 //! A sink that keeps the end of what it hands on.
 
-ghost use Rattle.std.specs.Prelude.{◌≡◌, ◌⊎◌, ℕ, ◌<◌, ◌≤◌, ◌-◌, ◌++◌, [], List, length, take, drop, Option, option_map, IfOk, OnErr};
+ghost use Rattle.std.specs.Prelude.{◌≡◌, ◌⊎◌, ℕ, ◌<◌, ◌≤◌, ◌-◌, ◌++◌, [], List, length, take, drop, Option, option_map, IfOk, OnOk, OnErr};
 ghost use Rattle.ts_outside.specs.Counts.{Rose};
 ghost use Rattle.ts_outside.specs.Handed.{Handed, and_then};
 
@@ -67,6 +67,7 @@ impl<S: Sink + Drop> Sink for KeptLine<S> {
         ensures hands { IfOk result (λ count. S.handed self.new.inner ≡ option_map (and_then piece.now count) (S.handed self.old.inner)) }
         ensures hands_in_vain { OnErr result (S.handed self.new.inner ≡ option_map (and_then piece.now 0) (S.handed self.old.inner)) }
         ensures failed { OnErr result (Rose (S.faults self.old.inner) (S.faults self.new.inner)) }
+        ensures no_fault { OnOk result (S.faults self.new.inner ≡ S.faults self.old.inner) }
         ensures never_falls { S.faults self.old.inner ≤ S.faults self.new.inner }
     {
         let count = self.inner.write(piece)?;

@@ -22,6 +22,7 @@ use Rattle.stub_file.specs.declared.stub_failure.StubFault.TheVariants as stub_f
 use Rattle.stub_file.specs.StubFile.{IsStubFile, IsStubRefusal}
 use Rattle.run_outcomes.specs.declared.status.Status.{Status}
 use Rattle.run_outcomes.specs.declared.status.Status.TheVariants as statuses
+use Rattle.run_outcomes.specs.Inputs.{Input}
 use Rattle.run_outcomes.specs.Lines.{missing_line, refused_line, usage_line}
 use Rattle.run_outcomes.specs.Outcomes.{EndsWith, FolderOutcome, LinkOutcome, Outcome, PropertyOutcome, StubOutcome, unusable, usable, property_no_document, broken_property, has_property, no_stub_file, stubs_no_document, broken_stubs, no_stubs, has_stubs, refused_folder, has_classes}
 use Rattle.typestate_core.specs.declared.answer.Answer.{Answer}
@@ -162,9 +163,14 @@ module _ {E : Type 0} (o : Option (List File)) (r : Result Answer E) (w : Wanted
       refused_folder refusal (subst (IsFolderFailure files) is (at_some o (λ held. IsFolderFailure held failure) files e bad))
       (subst (λ (t : List ℕ). EndsWith s l statuses.Refused (refused_line t refusal.offset refusal.reason)) text_is ends))
 
-  pub classes_told : (classes : List NamedClass) → IfSome o (λ files. AreClassFiles files classes) → IfOk r (λ x. LinkOutcome w a stubs classes x.status (lines_of x))
+  -- the input with these class files
+  abbrev input_with : List NamedClass → Input
+  input_with classes = record { wanted = w; property = a; stubs = stubs; classes = classes }
+
+  pub classes_told : (classes : List NamedClass) → IfSome o (λ files. AreClassFiles files classes)
+      → IfOk r (λ x. LinkOutcome (record { wanted = w; property = a; stubs = stubs; classes = classes }) x.status (lines_of x))
       → Told o r (λ files s l. FolderOutcome files w a stubs s l)
   classes_told classes are told =
-      if_ok r (λ (x : Answer). LinkOutcome w a stubs classes x.status (lines_of x)) (λ (x : Answer). IfSome o (λ files. FolderOutcome files w a stubs x.status (lines_of x))) told
+      if_ok r (λ (x : Answer). LinkOutcome (input_with classes) x.status (lines_of x)) (λ (x : Answer). IfSome o (λ files. FolderOutcome files w a stubs x.status (lines_of x))) told
       (λ x outcome. if_some o (λ files. FolderOutcome files w a stubs x.status (lines_of x)) (λ files e.
       has_classes classes (at_some o (λ held. AreClassFiles held classes) files e are) outcome))

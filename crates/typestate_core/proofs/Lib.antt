@@ -7,9 +7,10 @@ pub mod Objects
 pub mod ReadStubs
 pub mod PlainFacts
 pub mod Reported
+pub mod Cutting
+pub mod TextLines
 pub mod Written
 pub mod Handing
-pub mod FullLines
 pub mod HandedRuns
 pub mod RunTold
 pub mod SafeLines

@@ -1,5 +1,5 @@
 -- From the analysis and its report to the outcome: the report speaks of the facts of the solution.
-use Rattle.std.proofs.Common.{◌≡◌, ◌≤◌, ℕ, Bool, List, Contains, Result, Ok, Err, IfOk, subst}
+use Rattle.std.proofs.Common.{◌≡◌, ◌≤◌, ℕ, Bool, Contains, Result, Ok, Err, IfOk, subst}
 use Rattle.jvm_model.specs.declared.automaton.Automaton.{Automaton}
 use Rattle.jvm_model.specs.declared.number.MethodNo.{MethodNo}
 use Rattle.jvm_model.specs.Programs.{Program}
@@ -10,9 +10,10 @@ use Rattle.folder_supply.specs.Supplied.{IsSupplied}
 use Rattle.points_to_rules.specs.Facts.{may_hold, may_run, may_call}
 use Rattle.report_rules.specs.Reports.{IsReport}
 use Rattle.report_rules.proofs.SameFacts.{AreKept, all_kept, report_into}
+use Rattle.run_outcomes.specs.Inputs.{Input}
 use Rattle.run_outcomes.specs.Outcomes.{AnalysisOutcome, asked_of, report_status, reported}
 use Rattle.typestate_core.specs.declared.answer.Answer.{Answer}
-use Rattle.typestate_core.specs.Answers.{lines_of}
+use Rattle.typestate_core.specs.Answers.{OfInputs, lines_of}
 use Rattle.typestate_core.proofs.PlainFacts.{found_in_all, plain_in_found}
 
 module _ (p : Program) (entry : MethodNo) (limit : ℕ) (g : Findings) (analysis : IsAnalysis p (IsSupplied p) entry limit g) where
@@ -30,12 +31,13 @@ pub reported_told : {E : Type 0} (r : Result Answer E) (w : Wanted) (a : Automat
     → limit ≡ w.pair_limit → 1 ≤ w.stages → IsAnalysis p (IsSupplied p) entry limit g
     → IfOk r (λ x. (stages : ℕ) → 1 ≤ stages → (all_safe : Bool)
     × IsReport g.program (IsSupplied g.program) (Contains g.facts) (record { property = a; stages = stages }) (lines_of x) all_safe × (x.status ≡ report_status all_safe))
-    → IfOk r (λ x. AnalysisOutcome w a p entry x.status (lines_of x))
+    → IfOk r (λ x. OfInputs w a (λ i. AnalysisOutcome i p entry x.status (lines_of x)))
 reported_told (Err e) w a p entry limit g limit_is some at_limit says = tt
-reported_told (Ok x) w a p entry limit g limit_is some at_limit says =
+reported_told (Ok x) w a p entry limit g limit_is some at_limit says = λ stubs classes.
+    let i : Input = record { wanted = w; property = a; stubs = stubs; classes = classes } in
     let analysis : IsAnalysis p (IsSupplied p) entry w.pair_limit g = subst (λ (n : ℕ). IsAnalysis p (IsSupplied p) entry n g) limit_is at_limit in
     let (all_safe, of_ground, status_is) = says w.stages some in
-    let report = subst (λ (q : Program). IsReport q (IsSupplied q) (Contains g.facts) (asked_of w a) (lines_of x) all_safe) analysis.program of_ground in
+    let report = subst (λ (q : Program). IsReport q (IsSupplied q) (Contains g.facts) (asked_of i) (lines_of x) all_safe) analysis.program of_ground in
     reported analysis.found all_safe analysis.solution
     (report_into p (IsSupplied p) (Contains g.facts) (Contains analysis.found) (kept_in_found p entry w.pair_limit g analysis)
-    (kept_in_all p entry w.pair_limit g analysis) (asked_of w a) (lines_of x) all_safe report) status_is
+    (kept_in_all p entry w.pair_limit g analysis) (asked_of i) (lines_of x) all_safe report) status_is

@@ -1,13 +1,16 @@
 -- From the outcome and what was written to what the run says of the input.
-use Rattle.std.proofs.Common.{◌≡◌, ◌⊎◌, inl, inr, ℕ, List, Option, Some, None, IfSome, sym, subst}
+use Rattle.std.proofs.Common.{◌≡◌, ◌∙◌, ◌⊎◌, inl, inr, ℕ, List, Option, Some, None, IfSome, sym, subst}
 use Rattle.ts_outside.specs.Files.{File}
 use Rattle.run_outcomes.specs.declared.status.Status.{Status}
 use Rattle.run_outcomes.specs.declared.status.Status.TheVariants as statuses
-use Rattle.run_outcomes.specs.Inputs.{HaveDifferentNames, IsWholeInput}
+use Rattle.run_outcomes.specs.Inputs.{HaveDifferentNames}
 use Rattle.run_outcomes.specs.Outcomes.{Outcome}
+use Rattle.run_outcomes.specs.WholeInputs.{IsWholeInput}
 use Rattle.typestate_core.specs.declared.answer.Answer.{Answer}
 use Rattle.typestate_core.specs.Answers.{AnswersRun, IsReported, IsReportOrFault, lines_of}
-use Rattle.typestate_core.specs.Output.{TakesAll, TakesFront, text_of}
+use Rattle.folder_report.specs.Texts.{text_of}
+use Rattle.typestate_core.specs.Output.{TakesAll, TakesFront}
+use Rattle.typestate_core.proofs.Cutting.{text_of_lines}
 
 by_status : (words : List (List ℕ)) (files : List File) (lines : List (List ℕ)) (old new : Option (List ℕ)) (s : Status)
     → IsReported s → TakesAll old new (text_of lines) → Outcome words files s lines → AnswersRun words files s old new
@@ -20,22 +23,22 @@ by_status words files lines old new statuses.ReadFault r takes outcome = absurd 
 by_status words files lines old new statuses.WriteFault r takes outcome = absurd r
 by_status words files lines old new statuses.Memory r takes outcome = absurd r
 
--- The lines were written to their end.
-pub written_told : (o : Option (List File)) (words : List (List ℕ)) (answer : Answer) (lines : List (List ℕ)) (old new : Option (List ℕ))
-    → lines_of answer ≡ lines → IsReported answer.status → IfSome o (λ files. Outcome words files answer.status (lines_of answer)) → TakesAll old new (text_of lines)
+-- The text was written to its end.
+pub written_told : (o : Option (List File)) (words : List (List ℕ)) (answer : Answer) (text : List ℕ) (old new : Option (List ℕ))
+    → text ≡ answer.text.items → IsReported answer.status → IfSome o (λ files. Outcome words files answer.status (lines_of answer)) → TakesAll old new text
     → IfSome o (λ files. AnswersRun words files answer.status old new)
-written_told None words answer lines old new lines_are reported told takes = tt
-written_told (Some files) words answer lines old new lines_are reported told takes =
-    let outcome = subst (λ (l : List (List ℕ)). Outcome words files answer.status l) lines_are told in
-    by_status words files lines old new answer.status reported takes outcome
+written_told None words answer text old new text_is reported told takes = tt
+written_told (Some files) words answer text old new text_is reported told takes =
+    let lines = subst (TakesAll old new) (text_is ∙ sym (text_of_lines answer.text.items)) takes in
+    by_status words files (lines_of answer) old new answer.status reported lines told
 
--- Some of the first bytes of the lines were written, and then writing failed.
-pub front_told : (o : Option (List File)) (words : List (List ℕ)) (answer : Answer) (lines : List (List ℕ)) (old new : Option (List ℕ))
-    → lines_of answer ≡ lines → IfSome o (λ files. Outcome words files answer.status (lines_of answer)) → TakesFront old new (text_of lines)
+-- Some of the first bytes of the text were written, and then writing failed.
+pub front_told : (o : Option (List File)) (words : List (List ℕ)) (answer : Answer) (text : List ℕ) (old new : Option (List ℕ))
+    → text ≡ answer.text.items → IfSome o (λ files. Outcome words files answer.status (lines_of answer)) → TakesFront old new text
     → IfSome o (λ files. AnswersRun words files statuses.WriteFault old new)
-front_told None words answer lines old new lines_are told takes = tt
-front_told (Some files) words answer lines old new lines_are told takes =
-    (answer.status, lines, subst (λ (l : List (List ℕ)). Outcome words files answer.status l) lines_are told, takes)
+front_told None words answer text old new text_is told takes = tt
+front_told (Some files) words answer text old new text_is told takes =
+    (answer.status, lines_of answer, told, subst (TakesFront old new) (text_is ∙ sym (text_of_lines answer.text.items)) takes)
 
 -- ---- a whole input
 

@@ -6,16 +6,17 @@ use Rattle.run_truth.specs.Truth.{SaysSafe}
 use Rattle.run_outcomes.specs.declared.status.Status.{Status}
 use Rattle.run_outcomes.specs.declared.status.Status.TheVariants as statuses
 use Rattle.run_outcomes.specs.Outcomes.{Outcome}
-use Rattle.run_truth.specs.Claims.{IsTrueOfRun, KeepsProtocol, StandsIn, WroteLine}
+use Rattle.run_truth.specs.Claims.{KeepsProtocol, StandsIn, WroteLine}
 use Rattle.typestate_core.specs.Answers.{AnswersRun}
-use Rattle.typestate_core.specs.Output.{TakesAll, TakesFront, text_of}
+use Rattle.folder_report.specs.Texts.{text_of}
+use Rattle.typestate_core.specs.Output.{TakesAll, TakesFront}
 use Rattle.typestate_core.proofs.Written.{TakesAll-nil}
 
 -- The laws of runs.
-abbrev AreWrittenTrue : Type 0
-AreWrittenTrue =
+abbrev AreWritten : (List (List ℕ) → List File → List ℕ → Type 0) → Type 0
+AreWritten Q =
     (words : List (List ℕ)) (files : List File) (s : Status) (lines : List (List ℕ)) → Outcome words files s lines → (line : List ℕ)
-    → StandsIn (text_of lines) line → SaysSafe line → IsTrueOfRun words files line
+    → StandsIn (text_of lines) line → SaysSafe line → Q words files line
 
 abbrev AreAllKept : Type 0
 AreAllKept = (words : List (List ℕ)) (files : List File) (lines : List (List ℕ)) → Outcome words files statuses.AllSafe lines → KeepsProtocol words files
@@ -44,13 +45,13 @@ none_stands : (line : List ℕ) → StandsIn [] line → ⊥
 none_stands line s =
     absurd (omega (arith, ap length s.text_is ∙ length-append s.front (line ++ s.rest), length-append line s.rest, ap length s.line_is ∙ length-append s.content (10 ∷ [])))
 
-module _ (law : AreWrittenTrue) (words : List (List ℕ)) (files : List File) (old new : Option (List ℕ)) (line : List ℕ) (wrote : WroteLine old new line)
-    (says : SaysSafe line) where
-  of_all : (s : Status) → ((lines : List (List ℕ)) × Outcome words files s lines × TakesAll old new (text_of lines)) → IsTrueOfRun words files line
+module _ (Q : List (List ℕ) → List File → List ℕ → Type 0) (law : AreWritten Q) (words : List (List ℕ)) (files : List File) (old new : Option (List ℕ)) (line : List ℕ)
+    (wrote : WroteLine old new line) (says : SaysSafe line) where
+  of_all : (s : Status) → ((lines : List (List ℕ)) × Outcome words files s lines × TakesAll old new (text_of lines)) → Q words files line
   of_all s (lines, outcome, takes) =
       law words files s lines outcome line (subst (λ (t : List ℕ). StandsIn t line) (sym (taken old new line (text_of lines) wrote takes)) wrote.stands) says
 
-  of_front : (s : Status) (lines : List (List ℕ)) → Outcome words files s lines → TakesFront old new (text_of lines) → IsTrueOfRun words files line
+  of_front : (s : Status) (lines : List (List ℕ)) → Outcome words files s lines → TakesFront old new (text_of lines) → Q words files line
   of_front s lines outcome (count, fits, takes) =
       let here = subst (λ (t : List ℕ). StandsIn t line) (sym (taken old new line (take count (text_of lines)) wrote takes)) wrote.stands in
       let whole = stands_on (take count (text_of lines)) (drop count (text_of lines)) line here in
@@ -60,7 +61,7 @@ module _ (law : AreWrittenTrue) (words : List (List ℕ)) (files : List File) (o
   not_written same =
       none_stands line (subst (λ (t : List ℕ). StandsIn t line) (sym (taken old new line [] wrote (same ∙ TakesAll-nil old))) wrote.stands)
 
-  by_status : (s : Status) → AnswersRun words files s old new → IsTrueOfRun words files line
+  by_status : (s : Status) → AnswersRun words files s old new → Q words files line
   by_status statuses.AllSafe answers = of_all statuses.AllSafe answers
   by_status statuses.SomeUnproved answers = of_all statuses.SomeUnproved answers
   by_status statuses.Refused answers = of_all statuses.Refused answers
@@ -70,11 +71,11 @@ module _ (law : AreWrittenTrue) (words : List (List ℕ)) (files : List File) (o
   by_status statuses.Memory answers = absurd (not_written answers)
   by_status statuses.WriteFault (s, lines, outcome, takes) = of_front s lines outcome takes
 
-pub sound_told : AreWrittenTrue → (o : Option (List File)) (words : List (List ℕ)) (status : Status) (old new : Option (List ℕ))
-    → IfSome o (λ files. AnswersRun words files status old new)
-    → IfSome o (λ files. (line : List ℕ) → WroteLine old new line → SaysSafe line → IsTrueOfRun words files line)
-sound_told law None words status old new told = tt
-sound_told law (Some files) words status old new told = λ line wrote says. by_status law words files old new line wrote says status told
+pub told_of_lines : (Q : List (List ℕ) → List File → List ℕ → Type 0) → AreWritten Q → (o : Option (List File)) (words : List (List ℕ)) (status : Status)
+    (old new : Option (List ℕ)) → IfSome o (λ files. AnswersRun words files status old new)
+    → IfSome o (λ files. (line : List ℕ) → WroteLine old new line → SaysSafe line → Q words files line)
+told_of_lines Q law None words status old new told = tt
+told_of_lines Q law (Some files) words status old new told = λ line wrote says. by_status Q law words files old new line wrote says status told
 
 pub all_safe_told : AreAllKept → (o : Option (List File)) (words : List (List ℕ)) (status : Status) (old new : Option (List ℕ))
     → IfSome o (λ files. AnswersRun words files status old new) → IfSome o (λ files. status ≡ statuses.AllSafe → KeepsProtocol words files)

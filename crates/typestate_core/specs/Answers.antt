@@ -1,23 +1,33 @@
 -- Public contracts rest on this module.
 -- What a run answers, what the sink has taken then, and what was handed to it.
-use Rattle.std.specs.Prelude.{◌≡◌, ℕ, List, [], map, Option}
+use Rattle.std.specs.Prelude.{◌≡◌, ℕ, List, [], Option}
 use Rattle.ts_outside.specs.Files.{File}
 use Rattle.ts_outside.specs.Handed.{Handed}
+use Rattle.jvm_model.specs.declared.automaton.Automaton.{Automaton}
+use Rattle.jvm_model.specs.declared.program.NamedClass.{NamedClass}
+use Rattle.jvm_model.specs.declared.stub.StubClass.{StubClass}
+use Rattle.command_words.specs.Requests.{Wanted}
 use Rattle.run_outcomes.specs.declared.status.Status.{Status}
 use Rattle.run_outcomes.specs.declared.status.Status.TheVariants.{AllSafe, SomeUnproved, Refused, RejectedCertificate, ReadFault, WriteFault, Usage, Memory}
 use Rattle.typestate_core.specs.declared.answer.Answer.{Answer}
 use Rattle.typestate_core.specs.declared.answer.ReadFault.{ReadFault as Unread}
+use Rattle.run_outcomes.specs.Inputs.{Input}
 use Rattle.run_outcomes.specs.Outcomes.{Outcome}
-use Rattle.typestate_core.specs.Output.{TakesAll, TakesFront, text_of, Hands}
+use Rattle.folder_report.specs.Texts.{text_of}
+use Rattle.typestate_core.specs.Output.{TakesAll, TakesFront, Hands, HandsInVain, lines_in}
 
--- The lines of an answer.
+-- The lines of an answer: its text is cut after each newline.
 abbrev pub lines_of : Answer → List (List ℕ)
-lines_of a = map (λ line. line.items) a.lines.items
+lines_of a = lines_in a.text.items
 
 -- The answer has this status and these lines.
 pub record Says (a : Answer) (status : Status) (lines : List (List ℕ)) : Type 0 where
   pub status_is : a.status ≡ status
   pub lines_are : lines_of a ≡ lines
+
+-- It holds of each input that is asked for this and has this property, whatever its stubs and its class files are.
+abbrev pub OfInputs : Wanted → Automaton → (Input → Type 0) → Type 0
+OfInputs w a P = (stubs : List StubClass) (classes : List NamedClass) → P (record { wanted = w; property = a; stubs = stubs; classes = classes })
 
 -- The cause of a run that has nothing to say.
 abbrev pub read_fault : Unread
@@ -49,12 +59,12 @@ AnswersRun words files Usage old new = (lines : List (List ℕ)) × Outcome word
 AnswersRun words files RejectedCertificate old new = ⊥
 
 -- The calls of the run hand out the lines of its outcome, each as a piece of its own: all of them, or where writing
--- fails, up to a rest. Where reading fails or memory runs out, there is no call.
+-- fails, up to the call that failed, which is the last one. Where reading fails or memory runs out, there is no call.
 abbrev pub HandsRun : List (List ℕ) → List File → Status → Option (List Handed) → Option (List Handed) → Type 0
 HandsRun words files ReadFault old new = new ≡ old
 HandsRun words files Memory old new = new ≡ old
 HandsRun words files WriteFault old new =
-    (status : Status) × (lines : List (List ℕ)) × Outcome words files status lines × ((rest : List (List ℕ)) × Hands old new lines rest)
+    (status : Status) × (lines : List (List ℕ)) × Outcome words files status lines × HandsInVain old new lines
 HandsRun words files AllSafe old new = (lines : List (List ℕ)) × Outcome words files AllSafe lines × Hands old new lines []
 HandsRun words files SomeUnproved old new = (lines : List (List ℕ)) × Outcome words files SomeUnproved lines × Hands old new lines []
 HandsRun words files Refused old new = (lines : List (List ℕ)) × Outcome words files Refused lines × Hands old new lines []

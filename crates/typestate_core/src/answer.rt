@@ -14,11 +14,11 @@ use site_report::push_name;
 use std::alloc::{AllocError, Global};
 use thiserror::Error;
 
-/// What a run says: its status, and the lines that are written.
+/// What a run says: its status, and the text that is written, in which each line ends with a newline.
 #[derive(Drop)]
 pub(crate) struct Answer {
     pub(crate) status: Status,
-    pub(crate) lines: Vec<Vec<u8>>,
+    pub(crate) text: Vec<u8>,
 }
 
 /// A fault of reading, which the tree counted.
@@ -89,16 +89,6 @@ fn usage_line(alloc: Global, fault: UsageFault) -> Result<Vec<u8>, AllocError>
     Ok(line)
 }
 
-/// The answer of one line.
-fn one_line(alloc: Global, status: Status, line: Vec<u8>) -> Result<Answer, RunFailure>
-    ensures ok { IfOk result (λ a. Says a status (line.items ∷ [])) }
-    ensures memory { IfErr result (λ e. e ≡ OutOfMemory) }
-{
-    let mut lines = Vec::new(alloc);
-    lines.push(line)?;
-    Ok(Answer { status, lines })
-}
-
 /// A file is refused at an offset, or with `-` no file in particular.
 pub(crate) fn refuse(
     alloc: Global,
@@ -109,8 +99,11 @@ pub(crate) fn refuse(
     ensures ok { IfOk result (λ a. Says a Status.Refused (refused_line file.now offset reason ∷ [])) }
     ensures memory { IfErr result (λ e. e ≡ OutOfMemory) }
 {
-    let line = refused_line(alloc, file, offset, reason)?;
-    one_line(alloc, Status::Refused, line)
+    let text = refused_line(alloc, file, offset, reason)?;
+    Ok(Answer {
+        status: Status::Refused,
+        text,
+    })
 }
 
 /// A file of this name is not there.
@@ -118,8 +111,11 @@ pub(crate) fn miss(alloc: Global, name: &[u8]) -> Result<Answer, RunFailure>
     ensures ok { IfOk result (λ a. Says a Status.Usage (missing_line name.now ∷ [])) }
     ensures memory { IfErr result (λ e. e ≡ OutOfMemory) }
 {
-    let line = missing_line(alloc, name)?;
-    one_line(alloc, Status::Usage, line)
+    let text = missing_line(alloc, name)?;
+    Ok(Answer {
+        status: Status::Usage,
+        text,
+    })
 }
 
 /// The words ask for nothing.
@@ -127,6 +123,9 @@ pub(crate) fn misuse(alloc: Global, fault: UsageFault) -> Result<Answer, RunFail
     ensures ok { IfOk result (λ a. Says a Status.Usage (usage_line fault ∷ [])) }
     ensures memory { IfErr result (λ e. e ≡ OutOfMemory) }
 {
-    let line = usage_line(alloc, fault)?;
-    one_line(alloc, Status::Usage, line)
+    let text = usage_line(alloc, fault)?;
+    Ok(Answer {
+        status: Status::Usage,
+        text,
+    })
 }

@@ -1,6 +1,6 @@
 //! From words and a tree of files to what they give: the request, the property, the stubs and the class files.
 
-ghost use Rattle.std.specs.Prelude.{◌≡◌, ◌≤◌, All, map, string_bytes, IfOk, IfSome, IsErrOf};
+ghost use Rattle.std.specs.Prelude.{◌≡◌, ◌≢◌, ◌≤◌, All, map, string_bytes, IfOk, IfSome, IsErrOf};
 ghost use Rattle.failure.specs.declared.Failure.TheVariants.{Cause};
 ghost use Rattle.jvm_model.specs.Automata.{IsAutomaton};
 ghost use Rattle.jvm_model.specs.StubRules.{IsSoundStub};
@@ -32,6 +32,7 @@ pub(crate) fn judge<T: Tree>(
     ensures told { IfOk result (λ a. IfSome (T.files tree.old) (λ files. Outcome (map string_bytes words.now) files a.status (lines_of a))) }
     ensures reported { IfOk result (λ a. IsReported a.status) }
     ensures read_fault { IsErrOf result (Cause read_fault) → Rose (T.faults tree.old) (T.faults tree.new) }
+    ensures no_fault { result ≢ Err (Cause read_fault) → T.faults tree.new ≡ T.faults tree.old }
 {
     match read_words(alloc, words) {
         Ok(request) => judge_request(alloc, &request, tree),
@@ -50,6 +51,7 @@ fn judge_request<T: Tree>(
     ensures told { IfOk result (λ a. IfSome (T.files tree.old) (λ files. PropertyOutcome files (wanted_of request.now) a.status (lines_of a))) }
     ensures reported { IfOk result (λ a. IsReported a.status) }
     ensures read_fault { IsErrOf result (Cause read_fault) → Rose (T.faults tree.old) (T.faults tree.new) }
+    ensures no_fault { result ≢ Err (Cause read_fault) → T.faults tree.new ≡ T.faults tree.old }
 {
     let bytes = match tree.read(alloc, request.property, DOCUMENT_BYTES) {
         Ok(bytes) => bytes,
@@ -83,6 +85,7 @@ fn judge_property<T: Tree>(
     ensures told { IfOk result (λ a. IfSome (T.files tree.old) (λ files. StubOutcome files (wanted_of request.now) automaton.now a.status (lines_of a))) }
     ensures reported { IfOk result (λ a. IsReported a.status) }
     ensures read_fault { IsErrOf result (Cause read_fault) → Rose (T.faults tree.old) (T.faults tree.new) }
+    ensures no_fault { result ≢ Err (Cause read_fault) → T.faults tree.new ≡ T.faults tree.old }
 {
     let Some(name) = request.stubs else {
         return judge_stubs(alloc, request, automaton, Vec::new(alloc), tree);
@@ -125,6 +128,7 @@ fn judge_stubs<T: Tree>(
     ensures told { IfOk result (λ a. IfSome (T.files tree.old) (λ files. FolderOutcome files (wanted_of request.now) automaton.now stubs.items a.status (lines_of a))) }
     ensures reported { IfOk result (λ a. IsReported a.status) }
     ensures read_fault { IsErrOf result (Cause read_fault) → Rose (T.faults tree.old) (T.faults tree.new) }
+    ensures no_fault { result ≢ Err (Cause read_fault) → T.faults tree.new ≡ T.faults tree.old }
     ensures never_falls { T.faults tree.old ≤ T.faults tree.new }
 {
     match read_classes(alloc, tree) {

@@ -1,19 +1,20 @@
-//! Writing lines to a sink, each as a piece of its own, repeated from where the sink stopped.
+//! Writing a text to a sink, line by line: each line as a piece of its own, repeated from where the sink stopped. A write that fails ends it.
 
-ghost use Rattle.std.specs.Prelude.{ℕ, ◌<◌, ◌≤◌, List, [], ◌∷◌, length, map, All, OnOk, OnErr};
+ghost use Rattle.std.specs.Prelude.{◌≡◌, ◌<◌, ◌≤◌, [], ◌∷◌, length, take, drop, OnOk, OnErr};
 ghost use Rattle.ts_outside.specs.Counts.{Rose};
-ghost use Rattle.typestate_core.specs.Output.{TakesAll, TakesFront, text_of, Hands};
+ghost use Rattle.typestate_core.specs.Output.{TakesAll, TakesFront, Hands, HandsInVain, lines_in};
 
 use ts_outside::{Sink, SinkFailure};
 
 /// Writes a line: each call hands the sink all that is left of it.
 fn write_line<S: Sink>(out: &mut S, line: &[u8]) -> Result<(), SinkFailure>
+    requires { 0 < length line.now }
     ensures all { OnOk result (TakesAll (S.taken out.old) (S.taken out.new) line.now) }
     ensures front { OnErr result (TakesFront (S.taken out.old) (S.taken out.new) line.now) }
-    ensures pieces { OnOk result (0 < length line.now → Hands (S.handed out.old) (S.handed out.new) (line.now ∷ []) []) }
-    ensures pieces_front { OnErr result (0 < length line.now → (rest : List (List ℕ)) × Hands (S.handed out.old) (S.handed out.new) (line.now ∷ []) rest) }
+    ensures pieces { OnOk result (Hands (S.handed out.old) (S.handed out.new) (line.now ∷ []) []) }
+    ensures pieces_front { OnErr result (HandsInVain (S.handed out.old) (S.handed out.new) (line.now ∷ [])) }
     ensures failed { OnErr result (Rose (S.faults out.old) (S.faults out.new)) }
-    ensures never_falls { S.faults out.old ≤ S.faults out.new }
+    ensures no_fault { OnOk result (S.faults out.new ≡ S.faults out.old) }
 {
     let mut rest = line;
     while !rest.is_empty() {
@@ -24,18 +25,35 @@ fn write_line<S: Sink>(out: &mut S, line: &[u8]) -> Result<(), SinkFailure>
     Ok(())
 }
 
-/// Writes lines in order, and stops where a write fails.
-pub(crate) fn write_lines<S: Sink>(out: &mut S, lines: &[Vec<u8>]) -> Result<(), SinkFailure>
-    ensures all { OnOk result (TakesAll (S.taken out.old) (S.taken out.new) (text_of (map (λ line. line.items) lines.now))) }
-    ensures front { OnErr result (TakesFront (S.taken out.old) (S.taken out.new) (text_of (map (λ line. line.items) lines.now))) }
-    ensures pieces { OnOk result (All (λ line. 0 < length line) (map (λ line. line.items) lines.now)
-        → Hands (S.handed out.old) (S.handed out.new) (map (λ line. line.items) lines.now) []) }
-    ensures pieces_front { OnErr result (All (λ line. 0 < length line) (map (λ line. line.items) lines.now)
-        → (rest : List (List ℕ)) × Hands (S.handed out.old) (S.handed out.new) (map (λ line. line.items) lines.now) rest) }
-    ensures failed { OnErr result (Rose (S.faults out.old) (S.faults out.new)) }
+/// Where the first line of a text ends: after its newline, or with the text.
+fn line_end(text: &[u8]) -> usize
+    requires { 0 < length text.now }
+    ensures some { 0 < result }
+    ensures within { result ≤ length text.now }
+    ensures first { lines_in text.now ≡ take result text.now ∷ lines_in (drop result text.now) }
 {
-    for line in lines {
+    for (place, byte) in text.iter().enumerate() {
+        if *byte == b'\n' {
+            return place + 1;
+        }
+    }
+    text.len()
+}
+
+/// Writes the lines of a text in order, and stops where a write fails.
+pub(crate) fn write_lines<S: Sink>(out: &mut S, text: &[u8]) -> Result<(), SinkFailure>
+    ensures all { OnOk result (TakesAll (S.taken out.old) (S.taken out.new) text.now) }
+    ensures front { OnErr result (TakesFront (S.taken out.old) (S.taken out.new) text.now) }
+    ensures pieces { OnOk result (Hands (S.handed out.old) (S.handed out.new) (lines_in text.now) []) }
+    ensures pieces_front { OnErr result (HandsInVain (S.handed out.old) (S.handed out.new) (lines_in text.now)) }
+    ensures failed { OnErr result (Rose (S.faults out.old) (S.faults out.new)) }
+    ensures no_fault { OnOk result (S.faults out.new ≡ S.faults out.old) }
+{
+    let mut rest = text;
+    while !rest.is_empty() {
+        let (line, others) = rest.split_at(line_end(rest));
         write_line(out, line)?;
+        rest = others;
     }
     Ok(())
 }

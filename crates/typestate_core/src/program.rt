@@ -1,6 +1,6 @@
 //! From class files and stubs to the report: linking, the entry, the property's class, the analysis, and the stages.
 
-ghost use Rattle.std.specs.Prelude.{◌≡◌, ◌↔◌, ◌≤◌, ℕ, Bool, List, All, Contains, IfOk, IfErr, IsTrue};
+ghost use Rattle.std.specs.Prelude.{◌≡◌, ◌↔◌, ◌≤◌, ℕ, Bool, All, Contains, IfOk, IfErr, IsTrue};
 ghost use Rattle.failure.specs.declared.Failure.TheVariants.{OutOfMemory};
 ghost use Rattle.jvm_model.specs.Automata.{IsAutomaton};
 ghost use Rattle.jvm_model.specs.declared.number.MethodNo.{MethodNo as RuleMethodNo};
@@ -15,7 +15,7 @@ ghost use Rattle.folder_report.specs.Analyses.{IsAnalysis};
 ghost use Rattle.folder_supply.specs.Supplied.{IsSupplied};
 ghost use Rattle.report_rules.specs.Reports.{IsReport};
 ghost use Rattle.entry_method.specs.Entries.{NamesMethod};
-ghost use Rattle.typestate_core.specs.Answers.{IsReported, lines_of};
+ghost use Rattle.typestate_core.specs.Answers.{IsReported, OfInputs, lines_of};
 ghost use Rattle.typestate_core.specs.Ends.{SaysEnd};
 ghost use Rattle.run_outcomes.specs.Outcomes.{AnalysisOutcome, ClassOutcome, EntryOutcome, LinkOutcome, report_status};
 
@@ -46,7 +46,8 @@ pub(crate) fn judge_classes(
     requires automaton { IsAutomaton automaton.now }
     requires stubs { All IsSoundStub stubs.items }
     requires classes { All (λ (c : RuleNamedClass). IsChecked c.class) classes.items }
-    ensures told { IfOk result (λ a. LinkOutcome (wanted_of request.now) automaton.now stubs.items classes.items a.status (lines_of a)) }
+    ensures told { IfOk result (λ a. LinkOutcome
+        (record { wanted = wanted_of request.now; property = automaton.now; stubs = stubs.items; classes = classes.items }) a.status (lines_of a)) }
     ensures reported { IfOk result (λ a. IsReported a.status) }
     ensures memory { IfErr result (λ e. e ≡ OutOfMemory) }
 {
@@ -82,8 +83,8 @@ fn judge_program(
     requires stages { 1 ≤ request.now.stages }
     requires automaton { IsAutomaton automaton.now }
     requires object { (object : Class) × (class_named program.now object_name ≡ Some object) }
-    ensures told { IfOk result (λ a. (classes : List RuleNamedClass) → IsTrue named ↔ NamesMethod classes request.now.class.now request.now.method.now
-        → EntryOutcome (wanted_of request.now) automaton.now classes program.now a.status (lines_of a)) }
+    ensures told { IfOk result (λ a. OfInputs (wanted_of request.now) automaton.now (λ i.
+        IsTrue named ↔ NamesMethod i.classes request.now.class.now request.now.method.now → EntryOutcome i program.now a.status (lines_of a))) }
     ensures reported { IfOk result (λ a. IsReported a.status) }
     ensures memory { IfErr result (λ e. e ≡ OutOfMemory) }
 {
@@ -106,7 +107,7 @@ fn judge_entry(
     requires automaton { IsAutomaton automaton.now }
     requires entry { IsMethodNumber program.now entry.0 }
     requires object { (object : Class) × (class_named program.now object_name ≡ Some object) }
-    ensures told { IfOk result (λ a. ClassOutcome (wanted_of request.now) automaton.now program.now entry a.status (lines_of a)) }
+    ensures told { IfOk result (λ a. OfInputs (wanted_of request.now) automaton.now (λ i. ClassOutcome i program.now entry a.status (lines_of a))) }
     ensures reported { IfOk result (λ a. IsReported a.status) }
     ensures memory { IfErr result (λ e. e ≡ OutOfMemory) }
 {
@@ -132,7 +133,7 @@ fn judge_analysis(
     requires object { (object : Class) × (class_named program.now object_name ≡ Some object) }
     requires class { IsClassNumber program.now class.0 }
     requires named { name_at program.now class.0 ≡ automaton.now.class_name }
-    ensures told { IfOk result (λ a. AnalysisOutcome (wanted_of request.now) automaton.now program.now entry a.status (lines_of a)) }
+    ensures told { IfOk result (λ a. OfInputs (wanted_of request.now) automaton.now (λ i. AnalysisOutcome i program.now entry a.status (lines_of a))) }
     ensures reported { IfOk result (λ a. IsReported a.status) }
     ensures memory { IfErr result (λ e. e ≡ OutOfMemory) }
 {
@@ -177,10 +178,10 @@ fn report_on(
     ensures reported { IfOk result (λ a. IsReported a.status) }
     ensures memory { IfErr result (λ e. e ≡ OutOfMemory) }
 {
-    let Report { lines, all_safe } = report_of(alloc, ground, automaton, class)?;
+    let Report { text, all_safe } = report_of(alloc, ground, automaton, class)?;
     Ok(Answer {
         status: report_status(all_safe),
-        lines,
+        text,
     })
 }
 

@@ -1,10 +1,12 @@
 //! The run: the checks in their order, and then the writing of the lines.
 
-ghost use Rattle.std.specs.Prelude.{◌≡◌, ℕ, List, map, string_bytes, IfSome};
+ghost use Rattle.std.specs.Prelude.{◌≡◌, ◌≢◌, ℕ, List, map, string_bytes, IfSome};
 ghost use Rattle.ts_outside.specs.Counts.{Rose};
 ghost use Rattle.run_truth.specs.Truth.{SaysSafe};
-ghost use Rattle.run_outcomes.specs.Inputs.{HaveDifferentNames, IsWholeInput};
+ghost use Rattle.run_outcomes.specs.Inputs.{HaveDifferentNames};
+ghost use Rattle.run_outcomes.specs.WholeInputs.{IsWholeInput};
 ghost use Rattle.run_truth.specs.Claims.{IsTrueOfRun, KeepsProtocol, WroteLine};
+ghost use Rattle.run_truth.specs.Reports.{IsReportedOfRun};
 ghost use Rattle.typestate_core.specs.Answers.{AnswersRun, HandsRun, IsReportOrFault};
 
 use crate::answer::{Answer, ReadFault};
@@ -12,14 +14,16 @@ use crate::files::judge;
 use crate::output::write_lines;
 use failure::Failure;
 use run_outcomes::{Status, whole_input_is_reported};
-use run_truth::run_laws::{safe_runs_keep_the_protocol, written_safe_lines_are_true};
+use run_truth::run_laws::{
+    safe_runs_keep_the_protocol, written_safe_lines_are_reported, written_safe_lines_are_true,
+};
 use std::alloc::Global;
 use ts_outside::{Sink, Tree};
 
 /// Runs the verifier on these words, over a tree of files, and writes what it says to the sink. All
 /// reading and all analysis come before the first write. Each line is handed to the sink as a piece of its own;
-/// where the sink takes a part of a piece, what is left of the line is the next one. `ReadFault` and `WriteFault`
-/// come only where the tree or the sink counted a fault in this run.
+/// where the sink takes a part of a piece, what is left of the line is the next one. No call comes after one that failed.
+/// `ReadFault` and `WriteFault` come only where the tree or the sink counted a fault in this run, and each fault that it counted is answered so.
 ///
 /// What is answered of each input, and which lines are written, is `Outcome`: its last case is the report, with a line for each tracked site. A site is
 /// `safe 1` there exactly where no word over the events that may occur at its objects leads to the error state, by the least sets of the points-to
@@ -27,21 +31,25 @@ use ts_outside::{Sink, Tree};
 /// memory.
 ///
 /// Where the tree tells its files, a line `safe ..` that the sink took in this run is true of the executions of the bytecode of the program that words and
-/// files give: in no state of any of them, of any length, is an object of that site in the error state. Where the status is `AllSafe`, the same holds of
-/// each site that the report is about.
+/// files give: in no state of any of them, of any length, is an object of that site in the error state. The site is one that the report is about. Where the
+/// status is `AllSafe`, the same holds of each site at which the program, or a stub, makes objects of the property's class or of one below it.
 pub fn run<T: Tree, S: Sink>(alloc: Global, words: &[String], tree: &mut T, out: &mut S) -> Status
     ensures told { IfSome (T.files tree.old) (λ files. AnswersRun (map string_bytes words.now) files result (S.taken out.old) (S.taken out.new)) }
     ensures pieces { IfSome (T.files tree.old) (λ files. HandsRun (map string_bytes words.now) files result (S.handed out.old) (S.handed out.new)) }
     ensures complete { IfSome (T.files tree.old) (λ files. HaveDifferentNames files → IsWholeInput (map string_bytes words.now) files → IsReportOrFault result) }
     ensures sound { IfSome (T.files tree.old) (λ files. (line : List ℕ) → WroteLine (S.taken out.old) (S.taken out.new) line → SaysSafe line → IsTrueOfRun (map string_bytes words.now) files line) }
+    ensures about { IfSome (T.files tree.old) (λ files. (line : List ℕ) → WroteLine (S.taken out.old) (S.taken out.new) line → SaysSafe line → IsReportedOfRun (map string_bytes words.now) files line) }
     ensures all_safe { IfSome (T.files tree.old) (λ files. result ≡ Status.AllSafe → KeepsProtocol (map string_bytes words.now) files) }
     ensures read_fault { result ≡ Status.ReadFault → Rose (T.faults tree.old) (T.faults tree.new) }
     ensures write_fault { result ≡ Status.WriteFault → Rose (S.faults out.old) (S.faults out.new) }
+    ensures no_read_fault { result ≢ Status.ReadFault → T.faults tree.new ≡ T.faults tree.old }
+    ensures no_write_fault { result ≢ Status.WriteFault → S.faults out.new ≡ S.faults out.old }
     ensures silent { result ≡ Status.ReadFault → out.new ≡ out.old }
     ensures silent_without_memory { result ≡ Status.Memory → out.new ≡ out.old }
 {
     whole_input_is_reported();
     written_safe_lines_are_true();
+    written_safe_lines_are_reported();
     safe_runs_keep_the_protocol();
     judge_and_write(alloc, words, tree, out)
 }
@@ -57,11 +65,13 @@ fn judge_and_write<T: Tree, S: Sink>(
     ensures pieces { IfSome (T.files tree.old) (λ files. HandsRun (map string_bytes words.now) files result (S.handed out.old) (S.handed out.new)) }
     ensures read_fault { result ≡ Status.ReadFault → Rose (T.faults tree.old) (T.faults tree.new) }
     ensures write_fault { result ≡ Status.WriteFault → Rose (S.faults out.old) (S.faults out.new) }
+    ensures no_read_fault { result ≢ Status.ReadFault → T.faults tree.new ≡ T.faults tree.old }
+    ensures no_write_fault { result ≢ Status.WriteFault → S.faults out.new ≡ S.faults out.old }
     ensures silent { result ≡ Status.ReadFault → out.new ≡ out.old }
     ensures silent_without_memory { result ≡ Status.Memory → out.new ≡ out.old }
 {
     match judge(alloc, words, tree) {
-        Ok(Answer { status, lines }) => match write_lines(out, &lines) {
+        Ok(Answer { status, text }) => match write_lines(out, &text) {
             Ok(()) => status,
             Err(_) => Status::WriteFault,
         },

@@ -5,7 +5,7 @@ use Rattle.std.specs.declared.vec.Vec.{Vec}
 use Rattle.jvm_model.specs.declared.site.Site.{Site}
 use Rattle.points_to_rules.specs.declared.running_method.RunningMethod.{RunningMethod}
 use Rattle.ground.specs.declared.lists.FieldWrite.{FieldWrite}
-use Rattle.ground.specs.Lists.{nodes_of}
+use Rattle.ground.specs.Lists.{nodes_of, number_of}
 use Rattle.call_graph.specs.declared.sets.Sets.{Sets}
 use Rattle.call_graph.specs.Sets.{AreSetsOf}
 use Rattle.call_graph.specs.Written.{AreWrites}
@@ -24,9 +24,11 @@ of-requires c =
     let are = numbered_as s.tables l (ap (λ (ss : Vec Site Global). ss.items) j.sites ∙ c.in_ok-found.ensures.sites) j.holders in
     let same = sets_same l f.sets j.held j.running j.calls j.targets in
     let sets = subst (λ (x : Sets). AreSetsOf s.tables s.items.items.keys x) (sym same) c.in_ok-found.ensures.sets in
+    let numbered : l.numbers.keys ≡ map number_of l.methods.items =
+    (λ i. (j.numbers i).keys) ∙ c.in_ok-found.ensures.numbers ∙ ap (λ (ms : Vec RunningMethod Global). map number_of ms.items) (sym j.methods) in
     let listed = λ (m : RunningMethod) (there : Contains l.methods.items m). subst (λ (ms : Vec RunningMethod Global). Contains ms.items m) j.methods there in
     are_sound c.args.program.now s.tables l are s.items.items.keys found facts sets (λ m there. c.requires.methods m (listed m there))
-    (λ m there. c.requires.names m (listed m there)) c.apart.ensures j.stand targets j.apart j.few
+    (λ m there. c.requires.names m (listed m there)) numbered c.apart.ensures j.stand targets j.apart j.few
 
 pub returns-clause-methods : goal.returns-clause-methods
 returns-clause-methods c = c.of.ensures.methods ∙ ap (λ (ms : Vec RunningMethod Global). map nodes_of ms.items) c.joined.ensures.methods

@@ -1,6 +1,5 @@
 use Rattle.std.proofs.Common.{refl, sym, subst}
 use Rattle.std.proofs.lemmas.Result.{on_ok_weaker}
-use Rattle.op_model.specs.declared.node.NodeRef.{NodeRef}
 use Rattle.points_to_tables.specs.declared.item.Item.{Item}
 use Rattle.points_to_tables.specs.Steps.{IsItemAt}
 use Rattle.call_graph.specs.declared.sets.Sets.{Sets}

@@ -1,5 +1,4 @@
-use Rattle.std.proofs.Common.{◌≡◌, ◌∙◌, sym, ap, Some}
-use Rattle.jvm_model.specs.declared.site.Site.{Site}
+use Rattle.std.proofs.Common.{◌∙◌, sym, ap, Some}
 use Rattle.call_graph.proofs.ReadSites.{read_site}
 use Rattle.call_graph.proofs.sites.site_at.Goals as goal
 

@@ -1,4 +1,4 @@
-use Rattle.std.proofs.Common.{◌≡◌, ◌≤◌, ◌∙◌, length, arith}
+use Rattle.std.proofs.Common.{◌≤◌, ◌∙◌, length, arith}
 use Rattle.slot_names.proofs.ListPlaces.{stands_below}
 use Rattle.call_graph.proofs.ReadSites.{all_read, none_read, one_read}
 use Rattle.call_graph.proofs.sites.sites_of.Goals as goal

@@ -27,7 +27,8 @@ loop-name-preserved g c =
     (g.T.Tree.faults c.args.tree.now) (g.T.Tree.faults c.loop-name.tree) (g.T.Tree.faults c.read_next.new.tree)
     c.loop-name.yielded c.in-Some.name c.loop-name.reading.classes.items c.read_next.new.self.classes.items c.loop-name.reading.size
     c.read_next.new.self.size c.loop-name.invariant
-    c.in_ok-read_next.ensures.read c.in_ok-read_next.ensures.sound c.in_ok-read_next.ensures.size c.read_next.ensures.same_files c.read_next.ensures.never_falls
+    c.in_ok-read_next.ensures.read c.in_ok-read_next.ensures.sound c.in_ok-read_next.ensures.size c.read_next.ensures.same_files
+    (c.read_next.ensures.no_fault (λ failed. (cc (failed, c.in_ok-read_next.was))))
 
 pub returns-clause-read : goal.returns-clause-read
 returns-clause-read g c =

@@ -1,5 +1,5 @@
 use Rattle.std.specs.List.{Contains}
-use Rattle.coverage.specs.Methods.{as_given}
+use Rattle.points_to_rules.specs.WholeMethods.{as_given}
 use Rattle.coverage.proofs.Executions.{own_map, covers_all}
 use Rattle.coverage.proofs.Refused.{calls_unrefused}
 use Rattle.coverage.proofs.laws.closed_lists_cover.Goals as goal

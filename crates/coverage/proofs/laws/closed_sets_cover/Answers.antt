@@ -1,6 +1,6 @@
 use Rattle.std.proofs.Common.{IsTrue}
 use Rattle.points_to_rules.specs.Facts.{Fact}
-use Rattle.coverage.specs.Methods.{as_given}
+use Rattle.points_to_rules.specs.WholeMethods.{as_given}
 use Rattle.coverage.proofs.Executions.{own_map, covers_all}
 use Rattle.coverage.proofs.Refused.{calls_unrefused}
 use Rattle.coverage.proofs.laws.closed_sets_cover.Goals as goal

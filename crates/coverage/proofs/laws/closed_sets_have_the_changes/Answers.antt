@@ -1,6 +1,6 @@
 use Rattle.std.proofs.Common.{IsTrue, inl, inr}
 use Rattle.points_to_rules.specs.Facts.{Fact}
-use Rattle.coverage.specs.Methods.{as_given}
+use Rattle.points_to_rules.specs.WholeMethods.{as_given}
 use Rattle.coverage.proofs.Changed.{changes_written}
 use Rattle.coverage.proofs.Executions.{own_map}
 use Rattle.coverage.proofs.Refused.{calls_unrefused}

@@ -21,10 +21,13 @@ ground_of-requires-clause-methods c m there =
 pub ground_of-requires-clause-names : goal.ground_of-requires-clause-names
 ground_of-requires-clause-names c = c.in_ok-solution.ensures.solved.running.named
 
+pub ground_of-requires-clause-apart : goal.ground_of-requires-clause-apart
+ground_of-requires-clause-apart c = c.in_ok-solution.ensures.solved.running.apart
+
 pub returns-clause-ground : goal.returns-clause-ground
 returns-clause-ground c =
     let p = c.args.program.now in
     let solved = c.in_ok-solution.ensures.solved in
     analysed p (IsSupplied p) c.args.entry c.args.pair_limit solved.facts solved.solution c.in_ok-solution.solution.methods.items solved.running
-    (λ number l given. (c.supplied_methods_are_whole.ensures p number l given).method.number_is)
+    (λ number l given. (c.supplied_methods_are_whole.ensures p number l given).number_is)
     c.in_ok-ground.ground (c.in_ok-ground.ensures.facts solved.facts solved.of) c.in_ok-ground.ensures.methods

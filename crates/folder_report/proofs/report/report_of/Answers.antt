@@ -1,4 +1,4 @@
-use Rattle.std.proofs.Common.{◌≤◌, ℕ, List, Contains, length, map, sym, ap, ◌∙◌, subst}
+use Rattle.std.proofs.Common.{◌≤◌, ℕ, List, Contains, length, sym, ap, ◌∙◌, subst}
 use Rattle.std.specs.List.{AllZip}
 use Rattle.std.proofs.lemmas.Result.{IfOk-weaker}
 use Rattle.folder_supply.specs.Supplied.{IsSupplied}
@@ -8,8 +8,8 @@ use Rattle.ground.specs.Findings.{gives_listed}
 use Rattle.site_report.specs.declared.tracked_site.TrackedSite.{TrackedSite}
 use Rattle.site_report.specs.declared.verdict.Verdict.{Verdict}
 use Rattle.site_report.specs.Sites.{IsKnownSite}
-use Rattle.report_rules.specs.Reports.{IsReport}
 use Rattle.report_rules.specs.Verdicts.{Asked, IsVerdict}
+use Rattle.folder_report.specs.Texts.{IsReportText}
 use Rattle.folder_report.specs.Written.{IsWritten}
 use Rattle.folder_report.proofs.Reported.{as_many_verdicts, reported, sites_are_known}
 use Rattle.folder_report.proofs.report.report_of.Goals as goal
@@ -51,16 +51,16 @@ returns c =
     let verdicts = c.in_ok-verdicts.verdicts.items in
     let (entry, limit, analysis) = c.requires.analysis in
     let whole = c.supplied_methods_are_whole.ensures g.program in
-    IfOk-weaker c.written.result (λ r. IsWritten p c.as_slice-2.result.now c.as_slice-3.result.now (map (λ line. line.items) r.lines.items) r.all_safe)
-    (λ r. (stages : ℕ) → 1 ≤ stages → IsReport g.program (IsSupplied g.program) (Contains g.facts) (record { property = a; stages = stages }) (map (λ line. line.items) r.lines.items) r.all_safe)
+    IfOk-weaker c.written.result (λ r. IsWritten p c.as_slice-2.result.now c.as_slice-3.result.now r.text.items r.all_safe)
+    (λ r. (stages : ℕ) → 1 ≤ stages → IsReportText g.program (IsSupplied g.program) (Contains g.facts) (record { property = a; stages = stages }) r.text.items r.all_safe)
     (λ r w stages some.
     let asked : Asked = record { property = a; stages = stages } in
-    let lines = map (λ line. line.items) r.lines.items in
+    let text = r.text.items in
     let verdict = IsVerdict g.program (gives_listed g.methods) (Contains g.facts) asked in
     let told = subst (λ (ts : List TrackedSite). AllZip verdict ts verdicts) c.as_slice.ensures.value (c.in_ok-verdicts.ensures stages some) in
-    let of_program = subst (λ (q : Program). IsWritten q c.as_slice-2.result.now c.as_slice-3.result.now lines r.all_safe) c.program.ensures w in
-    let of_sites = subst (λ (ts : List TrackedSite). IsWritten g.program ts c.as_slice-3.result.now lines r.all_safe) c.as_slice-2.ensures.value of_program in
-    let of_both = subst (λ (vs : List Verdict). IsWritten g.program sites vs lines r.all_safe) c.as_slice-3.ensures.value of_sites in
-    reported g.program entry limit g analysis whole asked (name_at g.program c.args.upper.0) c.requires.class sites verdicts c.in_ok-sites.ensures told lines
+    let of_program = subst (λ (q : Program). IsWritten q c.as_slice-2.result.now c.as_slice-3.result.now text r.all_safe) c.program.ensures w in
+    let of_sites = subst (λ (ts : List TrackedSite). IsWritten g.program ts c.as_slice-3.result.now text r.all_safe) c.as_slice-2.ensures.value of_program in
+    let of_both = subst (λ (vs : List Verdict). IsWritten g.program sites vs text r.all_safe) c.as_slice-3.ensures.value of_sites in
+    reported g.program entry limit g analysis whole asked (name_at g.program c.args.upper.0) c.requires.class sites verdicts c.in_ok-sites.ensures told text
     r.all_safe of_both)
     c.written.ensures

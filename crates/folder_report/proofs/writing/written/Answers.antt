@@ -1,15 +1,14 @@
-use Rattle.std.proofs.Common.{◌∷◌, [], map, ap, ◌∙◌}
-use Rattle.std.proofs.lemmas.List.{map-append}
-use Rattle.folder_report.proofs.FoundLines.{bytes_of, written_lines}
+use Rattle.std.proofs.Common.{◌∙◌}
+use Rattle.folder_report.proofs.FoundLines.{written_text}
 use Rattle.folder_report.proofs.writing.written.Goals as goal
 
 pub returns : goal.returns
 returns c =
-    let lines = c.in_ok-lines.lines.items in
-    let summary = c.in_ok-summary.summary in
+    let text = c.in_ok-text.text.items in
+    let summary = c.deref.result.now in
     record {
-      lines_are = ap (map bytes_of) c.in_ok-push.ensures.items ∙ map-append bytes_of lines (summary ∷ [])
-          ∙ written_lines c.args.program.now c.args.sites.now c.args.verdicts.now c.requires.pairs (map bytes_of lines) summary.items c.in_ok-counts.counts
-          c.in_ok-lines.ensures c.in_ok-counts.ensures c.in_ok-summary.ensures;
+      text_is = c.in_ok-extend_from_slice.ensures.items
+          ∙ written_text c.args.program.now c.args.sites.now c.args.verdicts.now c.requires.pairs text summary c.in_ok-counts.counts
+          c.in_ok-text.ensures c.in_ok-counts.ensures (c.deref.ensures.value ∙ c.in_ok-summary.ensures);
       safe = c.are_all_safe.ensures;
     }

@@ -5,7 +5,7 @@ use Rattle.hierarchy.proofs.ClassPlaces.{method_there}
 use Rattle.jvm_model.specs.declared.access.AccessFlag.TheVariants.{Native}
 use Rattle.jvm_model.specs.Access.{has_flag}
 use Rattle.jvm_model.specs.Programs.{Method}
-use Rattle.points_to_calls.proofs.CallParted.{file_by_view, described_by_view}
+use Rattle.points_to_rules.proofs.TargetBodies.{file_by_view, described_by_view}
 use Rattle.points_to_calls.proofs.selecting.is_undescribed.Goals as goal
 
 pub returns-in-InFile : goal.returns-in-InFile

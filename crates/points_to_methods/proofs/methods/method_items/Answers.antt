@@ -1,11 +1,11 @@
 use Rattle.std.proofs.Common.{arith}
-use Rattle.points_to_nodes.proofs.NamedSlots.{stands_below}
+use Rattle.slot_names.proofs.ListPlaces.{stands_below}
 use Rattle.points_to_methods.proofs.NodesTaken.{taken_all, taken_next, taken_start}
 use Rattle.points_to_methods.proofs.NumberedCalls.{all_calls}
 use Rattle.points_to_methods.proofs.methods.method_items.Goals as goal
 
 pub names_of-requires : goal.names_of-requires
-names_of-requires c = c.requires.method.reached
+names_of-requires c = c.requires.reached
 
 pub loop-node-init : goal.loop-node-init
 loop-node-init c = taken_start c.args.program.now c.args.method.now c.args.tables.now c.args.steps.now.items
@@ -14,7 +14,7 @@ pub loop-node-preserved : goal.loop-node-preserved
 loop-node-preserved c =
     let l = c.args.method.now in
     let (n, at) = stands_below l.nodes c.loop-node.node (omega arith) in
-    taken_next c.args.program.now l (record { ascend = c.requires.method.reached.ascend }) c.loop-node.node n at
+    taken_next c.args.program.now l (record { ascend = c.requires.reached.ascend }) c.loop-node.node n at
     c.args.tables.now c.loop-node.tables c.node_items.new.tables c.args.steps.now.items c.loop-node.steps.items c.node_items.new.steps.items
     c.loop-node.invariant (c.in_ok-node_items.ensures n at)
 

@@ -1,5 +1,5 @@
 use Rattle.std.proofs.Common.{sym, ◌∙◌}
-use Rattle.points_to_nodes.proofs.NamedSlots.{stands_below}
+use Rattle.slot_names.proofs.ListPlaces.{stands_below}
 use Rattle.points_to_methods.proofs.NodeSums.{node_numbers, operation_is, operation_read, simple_left, simple_made}
 use Rattle.points_to_methods.proofs.nodes.operation_items.Goals as goal
 

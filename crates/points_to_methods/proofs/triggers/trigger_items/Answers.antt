@@ -4,7 +4,7 @@ use Rattle.std.proofs.lemmas.Bool.{eqb-true}
 use Rattle.jvm_model.specs.declared.number.MethodNo.{MethodNo}
 use Rattle.points_to_items.specs.NodeItems.{TriggerItem}
 use Rattle.points_to_nodes.specs.Known.{names_at}
-use Rattle.points_to_nodes.proofs.NamedSlots.{stands_below}
+use Rattle.slot_names.proofs.ListPlaces.{stands_below}
 use Rattle.points_to_tables.proofs.Adding.{OfOne}
 use Rattle.points_to_tables.proofs.Making.{makes_all, makes_grown, makes_next_read, makes_none, makes_same, makes_start}
 use Rattle.points_to_tables.specs.Steps.{Makes}

@@ -4,7 +4,7 @@ use Rattle.points_to_nodes.specs.Fixed.{holder_of}
 use Rattle.points_to_nodes.specs.Known.{names_at}
 use Rattle.points_to_nodes.specs.Raises.{RaisesOf}
 use Rattle.points_to_tables.proofs.Making.{makes_grown, makes_same}
-use Rattle.points_to_nodes.proofs.NamedSlots.{stands_below}
+use Rattle.slot_names.proofs.ListPlaces.{stands_below}
 use Rattle.points_to_nodes.proofs.RaisedObjects.{class_numbered, raised}
 use Rattle.points_to_nodes.proofs.exceptions.raise_class.Goals as goal
 

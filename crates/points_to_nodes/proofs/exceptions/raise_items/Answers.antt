@@ -6,7 +6,8 @@ use Rattle.points_to_tables.proofs.Adding.{OfOne}
 use Rattle.points_to_tables.specs.Steps.{Makes}
 use Rattle.points_to_nodes.specs.Raises.{RaisesOf}
 use Rattle.points_to_tables.proofs.Making.{makes_start, makes_next_read, makes_all, makes_same}
-use Rattle.points_to_nodes.proofs.NamedSlots.{read_node, stands_below}
+use Rattle.points_to_nodes.proofs.NamedSlots.{read_node}
+use Rattle.slot_names.proofs.ListPlaces.{stands_below}
 use Rattle.points_to_nodes.proofs.RaisedObjects.{raises, throws_numbered}
 use Rattle.points_to_nodes.proofs.exceptions.raise_items.Goals as goal
 

@@ -6,10 +6,10 @@ use Rattle.op_model.specs.declared.node.Node.{Node}
 use Rattle.op_model.specs.declared.node.NodeHandler.{NodeHandler}
 use Rattle.points_to_rules.specs.Rules.{uncaught}
 use Rattle.points_to_nodes.specs.Fixed.{holder_of}
-use Rattle.slot_names.proofs.ListPlaces.{place_in}
+use Rattle.slot_names.proofs.ListPlaces.{place_in, stands_below}
 use Rattle.points_to_nodes.proofs.LandedNodes.{handlers_stand}
 use Rattle.points_to_nodes.proofs.RaisedObjects.{caught_first, first_taking, catches_numbered, none_more}
-use Rattle.points_to_nodes.proofs.NamedSlots.{read_node, stands_below}
+use Rattle.points_to_nodes.proofs.NamedSlots.{read_node}
 use Rattle.points_to_nodes.proofs.exceptions.raised_place.Goals as goal
 
 pub takes-requires : goal.takes-requires

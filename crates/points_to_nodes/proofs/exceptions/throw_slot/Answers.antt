@@ -9,7 +9,7 @@ use Rattle.points_to_nodes.specs.Fixed.{holder_of}
 use Rattle.points_to_nodes.specs.Known.{names_at}
 use Rattle.points_to_tables.proofs.Making.{makes_added, makes_grown, makes_same}
 use Rattle.points_to_nodes.proofs.LandedNodes.{thrown_from}
-use Rattle.points_to_nodes.proofs.NamedSlots.{stands_below}
+use Rattle.slot_names.proofs.ListPlaces.{stands_below}
 use Rattle.points_to_nodes.proofs.exceptions.throw_slot.Goals as goal
 
 pub add_use-requires-clause-place : goal.add_use-requires-clause-place

@@ -6,7 +6,8 @@ use Rattle.op_model.specs.declared.node.NodeHandler.{NodeHandler}
 use Rattle.points_to_tables.proofs.Growing.{grows_on, grows_same}
 use Rattle.points_to_nodes.specs.Landings.{StandsForArm}
 use Rattle.points_to_nodes.proofs.LandedNodes.{more_arms, handlers_stand}
-use Rattle.points_to_nodes.proofs.NamedSlots.{read_node, stands_below}
+use Rattle.points_to_nodes.proofs.NamedSlots.{read_node}
+use Rattle.slot_names.proofs.ListPlaces.{stands_below}
 use Rattle.points_to_nodes.proofs.landings.arms_of.Goals as goal
 
 pub loop-handler-init : goal.loop-handler-init

@@ -1,5 +1,5 @@
 use Rattle.points_to_tables.proofs.Growing.{grows_on}
-use Rattle.points_to_nodes.proofs.NamedSlots.{stands_below}
+use Rattle.slot_names.proofs.ListPlaces.{stands_below}
 use Rattle.points_to_nodes.proofs.LandedNodes.{landed, longer_arms}
 use Rattle.points_to_nodes.proofs.landings.landing_of.Goals as goal
 

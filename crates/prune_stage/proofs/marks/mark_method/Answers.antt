@@ -6,30 +6,31 @@ use Rattle.prune_stage.proofs.MarkedCalls.{method_marked, no_run}
 use Rattle.prune_stage.proofs.marks.mark_method.Goals as goal
 
 pub returns-then-not-may_run : goal.returns-then-not-may_run
-returns-then-not-may_run c = λ sites are.
-    no_run c.args.automaton.now c.args.ground.now sites c.args.method c.method-lowered.result.now c.method-lowered.ensures
+returns-then-not-may_run g c =
+    no_run c.args.automaton.now c.args.ground.now (g.M.Marking.stands c.args.marking.now) c.args.method c.method-lowered.result.now c.method-lowered.ensures
     (λ runs. false≢true (sym c.if-not-may_run.true ∙ c.may_run.ensures.1 runs)) c.args.sets.now
 
 pub loop-node-init : goal.loop-node-init
-loop-node-init c = record { marked = λ sites are. marked_below_start (NodeMarks c.args.automaton.now c.args.ground.now sites c.args.method) c.args.sets.now }
+loop-node-init g c = record {
+  marked = marked_below_start (NodeMarks c.args.automaton.now c.args.ground.now (g.M.Marking.stands c.args.marking.now) c.args.method) c.args.sets.now;
+}
 
 pub mark_node-requires-clause-there : goal.mark_node-requires-clause-there
-mark_node-requires-clause-there c = record {
+mark_node-requires-clause-there g c = record {
   lowered = c.method-lowered.result.now;
   stands = c.method-lowered.ensures;
   within = omega arith;
 }
 
 pub loop-node-preserved : goal.loop-node-preserved
-loop-node-preserved c = record {
-  marked = λ sites are.
-      marked_below_more (NodeMarks c.args.automaton.now c.args.ground.now sites c.args.method) c.loop-node.node c.args.sets.now c.loop-node.sets
-      c.mark_node.new.sets (c.loop-node.invariant.marked sites are) (c.mark_node.ensures sites are);
+loop-node-preserved g c = record {
+  marked = marked_below_more (NodeMarks c.args.automaton.now c.args.ground.now (g.M.Marking.stands c.args.marking.now) c.args.method) c.loop-node.node
+      c.args.sets.now c.loop-node.sets c.mark_node.new.sets c.loop-node.invariant.marked c.mark_node.ensures;
 }
 
 pub returns : goal.returns
-returns c = λ sites are.
+returns g c =
     let l = c.method-lowered.result.now in
     let past : length l.nodes ≤ c.loop-node.node = omega arith in
-    method_marked c.args.automaton.now c.args.ground.now sites c.args.method l c.method-lowered.ensures (c.may_run.ensures.0 c.if-not-may_run.false)
-    c.loop-node.node past c.args.sets.now c.loop-node.sets (c.loop-node.invariant.marked sites are)
+    method_marked c.args.automaton.now c.args.ground.now (g.M.Marking.stands c.args.marking.now) c.args.method l c.method-lowered.ensures
+    (c.may_run.ensures.0 c.if-not-may_run.false) c.loop-node.node past c.args.sets.now c.loop-node.sets c.loop-node.invariant.marked

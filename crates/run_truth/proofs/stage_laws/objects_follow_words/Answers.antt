@@ -1,7 +1,7 @@
 use Rattle.std.proofs.Common.{IsTrue}
 use Rattle.std.specs.List.{Contains}
 use Rattle.points_to_rules.specs.Facts.{Fact}
-use Rattle.coverage.specs.Methods.{as_given}
+use Rattle.points_to_rules.specs.WholeMethods.{as_given}
 use Rattle.coverage.proofs.Executions.{own_map}
 use Rattle.coverage.proofs.Refused.{calls_unrefused}
 use Rattle.run_truth.proofs.Words.{follow_words}

@@ -4,12 +4,12 @@ use Rattle.tracked_sites.proofs.nodes.add_given.Goals as goal
 use Rattle.points_to_rules.specs.Rules.{node_of}
 
 pub add_each_target-requires-clause-targets : goal.add_each_target-requires-clause-targets
-add_each_target-requires-clause-targets c = λ m among. c.requires.targets (node_of c.args.method c.args.node.now) m ((c.targets_of-targets.ensures m).0 among)
+add_each_target-requires-clause-targets c = λ m among. c.requires.targets (node_of c.args.method c.args.node.now) m ((c.targets_of-targets.ensures.targets m).0 among)
 
 pub returns : goal.returns
 returns c =
     on_ok_weaker c.add_each_target.result
     (λ added. listed_targets c.args.program.now c.args.ground.now c.args.upper c.args.method c.args.node.now c.targets_of-targets.result.now
-    c.targets_of-targets.ensures
+    c.targets_of-targets.ensures.targets
     c.args.sites.now.items c.add_each_target.new.sites.items added)
     c.add_each_target.ensures

@@ -1,4 +1,4 @@
-use Rattle.std.proofs.Common.{◌≤◌, length}
+use Rattle.std.proofs.Common.{◌≡◌, length}
 use Rattle.typestate_core.proofs.Handing.{HandedUpTo}
 use Rattle.typestate_core.proofs.Written.{Written}
 use Rattle.typestate_core.proofs.output.write_line.Given as goal
@@ -7,7 +7,7 @@ abbrev pub invariant-loop-rest : goal.invariant-loop-rest
 invariant-loop-rest g l = record {
   written : Written (g.S.Sink.taken l.initial.out) (g.S.Sink.taken l.out) l.line l.rest;
   handed : HandedUpTo (g.S.Sink.handed l.initial.out) (g.S.Sink.handed l.out) l.line l.rest;
-  never_falls : g.S.Sink.faults l.initial.out ≤ g.S.Sink.faults l.out;
+  no_fault : g.S.Sink.faults l.out ≡ g.S.Sink.faults l.initial.out;
 }
 
 abbrev pub decreases-loop-rest : goal.decreases-loop-rest

@@ -1,33 +1,33 @@
-use Rattle.std.proofs.Common.{◌<◌, [], ◌∷◌, length, ℕ, List, Vec, Global, arith, subst}
-use Rattle.std.proofs.lemmas.Grind.{common_steps}
-use Rattle.typestate_core.specs.Output.{TakesFront, Hands}
-use Rattle.typestate_core.proofs.Handing.{handed_line, handed_line_front}
-use Rattle.typestate_core.proofs.Written.{front_more, on_err}
+use Rattle.std.proofs.Common.{◌∙◌, ◌∷◌, [], take, sym, subst}
+use Rattle.typestate_core.specs.Output.{Hands, HandsInVain, TakesAll, TakesFront, lines_in}
+use Rattle.typestate_core.proofs.Handing.{handed_line, line_in_vain}
+use Rattle.typestate_core.proofs.Written.{Written, front_of_rest, written_more, on_err}
 use Rattle.typestate_core.proofs.output.write_lines.Goals as goal
 
 pub returns-in_err-write_line-clause-front : goal.returns-in_err-write_line-clause-front
 returns-in_err-write_line-clause-front g c =
-    let below : c.loop-line.line-index < length c.args.lines.now = omega arith in
-    on_err _ _ (front_more (λ (line : Vec ℕ Global). line.items) _ _ _ c.args.lines.now c.loop-line.line-index c.line-item.result below c.line-item.is
-    c.loop-line.invariant.written
-    (subst (λ bytes. TakesFront (g.S.Sink.taken c.loop-line.out) (g.S.Sink.taken c.write_line.new.out) bytes) c.deref.ensures.value c.in_err-write_line.ensures.front))
-
-pub loop-line-preserved : goal.loop-line-preserved
-loop-line-preserved g c =
-    let below : c.loop-line.line-index < length c.args.lines.now = omega arith in
-    record {
-      written = grind (arith, common_steps);
-      handed = handed_line (λ (line : Vec ℕ Global). line.items) _ _ _ c.args.lines.now c.loop-line.line-index c.line-item.result below c.line-item.is
-          c.loop-line.invariant.handed
-          (subst (λ bytes. 0 < length bytes → Hands (g.S.Sink.handed c.loop-line.out) (g.S.Sink.handed c.write_line.new.out) (bytes ∷ []) [])
-          c.deref.ensures.value c.in_ok-write_line.ensures.pieces);
-      never_falls = omega (arith, c.write_line.ensures.never_falls);
-    }
+    on_err _ _ (front_of_rest _ _ _ _ _ c.line_end.result c.loop-rest.invariant.written
+    (subst (λ bytes. TakesFront (g.S.Sink.taken c.loop-rest.out) (g.S.Sink.taken c.write_line.new.out) bytes) c.split_at.ensures.front c.in_err-write_line.ensures.front))
 
 pub returns-in_err-write_line-clause-pieces_front : goal.returns-in_err-write_line-clause-pieces_front
 returns-in_err-write_line-clause-pieces_front g c =
-    let below : c.loop-line.line-index < length c.args.lines.now = omega arith in
-    on_err _ _ (handed_line_front (λ (line : Vec ℕ Global). line.items) _ _ _ c.args.lines.now c.loop-line.line-index c.line-item.result below c.line-item.is
-    c.loop-line.invariant.handed
-    (subst (λ bytes. 0 < length bytes → (rest : List (List ℕ)) × Hands (g.S.Sink.handed c.loop-line.out) (g.S.Sink.handed c.write_line.new.out) (bytes ∷ []) rest)
-    c.deref.ensures.value c.in_err-write_line.ensures.pieces_front))
+    on_err _ _ (line_in_vain _ _ _ _ _ _ _ c.line_end.ensures.first c.loop-rest.invariant.handed
+    (subst (λ line. HandsInVain (g.S.Sink.handed c.loop-rest.out) (g.S.Sink.handed c.write_line.new.out) (line ∷ [])) c.split_at.ensures.front
+    c.in_err-write_line.ensures.pieces_front))
+
+pub loop-rest-preserved : goal.loop-rest-preserved
+loop-rest-preserved g c =
+    let n = c.line_end.result in
+    let rest = c.loop-rest.rest.now in
+    record {
+      written = subst (λ others. Written (g.S.Sink.taken c.args.out.now) (g.S.Sink.taken c.write_line.new.out) c.args.text.now others) (sym c.split_at.ensures.back)
+          (written_more _ _ _ _ _ n c.loop-rest.invariant.written
+          (subst (λ line. TakesAll (g.S.Sink.taken c.loop-rest.out) (g.S.Sink.taken c.write_line.new.out) line) c.split_at.ensures.front
+          c.in_ok-write_line.ensures.all));
+      handed = subst (λ others. Hands (g.S.Sink.handed c.args.out.now) (g.S.Sink.handed c.write_line.new.out) (lines_in c.args.text.now) (lines_in others))
+          (sym c.split_at.ensures.back)
+          (handed_line _ _ _ _ (take n rest) _ _ c.line_end.ensures.first c.loop-rest.invariant.handed
+          (subst (λ line. Hands (g.S.Sink.handed c.loop-rest.out) (g.S.Sink.handed c.write_line.new.out) (line ∷ []) []) c.split_at.ensures.front
+          c.in_ok-write_line.ensures.pieces));
+      no_fault = c.in_ok-write_line.ensures.no_fault ∙ c.loop-rest.invariant.no_fault;
+    }

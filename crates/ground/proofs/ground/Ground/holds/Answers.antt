@@ -1,14 +1,12 @@
 use Rattle.std.proofs.Common.{subst}
 use Rattle.std.specs.List.{Contains}
 use Rattle.jvm_model.specs.declared.number.SiteNo.{SiteNo}
-use Rattle.ground.proofs.ExactKeys.{same_sites, tells_sites}
-use Rattle.ground.proofs.KeySets.{is_there, tells_back}
 use Rattle.ground.proofs.ground.Ground.holds.Goals as goal
 
 pub returns : goal.returns
 returns c = λ h s at_place at_site.
     let numbers = c.sites_at.result.now in
-    let told = is_there (λ (a b : SiteNo). same_sites b a) (tells_back same_sites tells_sites) numbers c.args.site c.contains.result c.contains.ensures.value in
+    let told = c.is_among.ensures in
     let sites = (c.sites_at.ensures.sites h at_place).each s in (
       λ holds. sites.1 (c.args.site, told.0 holds, at_site),
       λ there.

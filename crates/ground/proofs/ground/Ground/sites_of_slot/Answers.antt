@@ -1,3 +1,5 @@
+use Rattle.ground.specs.Ordered.{site_number}
+use Rattle.ground.proofs.AscendingNumbers.{nothing_ascends}
 use Rattle.ground.proofs.ground.Ground.sites_of_slot.Goals as goal
 
 pub returns-in-Some-clause-holder : goal.returns-in-Some-clause-holder
@@ -11,3 +13,6 @@ returns-in-None-clause-holder c = c.in-None.ensures.holder
 
 pub returns-in-None-clause-sites : goal.returns-in-None-clause-sites
 returns-in-None-clause-sites c = λ h of. c.in-None.ensures.none h of
+
+pub returns-in-None-clause-ascend : goal.returns-in-None-clause-ascend
+returns-in-None-clause-ascend c = nothing_ascends site_number

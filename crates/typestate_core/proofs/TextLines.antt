@@ -1,0 +1,45 @@
+-- What a run says is a text of lines: so it is cut into these again.
+use Rattle.std.proofs.Common.{◌≡◌, ◌≢◌, ◌∙◌, ℕ, Bool, List, [], ◌∷◌, All, sym, ap, append-nil, subst}
+use Rattle.std.specs.List.{AllByRecursion, count_by}
+use Rattle.std.proofs.lemmas.List.Elements.{All-cons, All-nil, All-from_recursion}
+use Rattle.jvm_model.specs.Programs.{Program}
+use Rattle.op_model.specs.Supplies.{GivenAs}
+use Rattle.points_to_rules.specs.Facts.{Fact}
+use Rattle.site_report.specs.declared.tracked_site.TrackedSite.{TrackedSite}
+use Rattle.site_report.specs.declared.verdict.Verdict.{Verdict}
+use Rattle.site_report.proofs.PlainLines.{IsLine as IsTold}
+use Rattle.report_rules.specs.Reports.{IsReport, is_limit, is_safe, is_unproved, report_lines}
+use Rattle.report_rules.specs.Verdicts.{Asked}
+use Rattle.folder_report.specs.Texts.{IsReportText}
+use Rattle.run_truth.proofs.LineForms.{report_are_lines}
+use Rattle.folder_report.specs.Texts.{text_of}
+use Rattle.typestate_core.specs.Output.{IsLine, lines_in}
+use Rattle.typestate_core.proofs.Cutting.{lines_of_text}
+
+is_line : (line : List ℕ) → IsTold line → IsLine line
+is_line line told = record {
+  content = told.content;
+  plain = All-from_recursion (λ (b : ℕ). b ≢ 10) told.content told.plain.each;
+  line_is = told.is;
+}
+
+are_lines : (lines : List (List ℕ)) → AllByRecursion IsTold lines → All IsLine lines
+are_lines [] told = All-nil IsLine
+are_lines (line ∷ lines) told = All-cons IsLine line lines (is_line line told.0) (are_lines lines told.1)
+
+-- a text of one line
+pub one_line : (text line : List ℕ) → IsTold line → text ≡ line → lines_in text ≡ line ∷ []
+one_line text line told is =
+    ap lines_in (is ∙ sym (append-nil line)) ∙ lines_of_text (line ∷ []) (are_lines (line ∷ []) (told, tt))
+
+-- the text of a report
+pub report_cut : (p : Program) (gives : GivenAs) (S : Fact → Type 0) (w : Asked) (text : List ℕ) (all_safe : Bool) → IsReportText p gives S w text all_safe
+    → IsReport p gives S w (lines_in text) all_safe
+report_cut p gives S w text all_safe told =
+    let found = told.report.found in
+    let formed = report_are_lines p found (count_by (λ (f : TrackedSite × Verdict). is_safe f.1) found)
+    (count_by (λ (f : TrackedSite × Verdict). is_unproved f.1) found) (count_by (λ (f : TrackedSite × Verdict). is_limit f.1) found) in
+    let cut : lines_in (text_of (report_lines p found)) ≡ report_lines p found =
+    lines_of_text (report_lines p found) (are_lines (report_lines p found) formed) in
+    let same : lines_in text ≡ told.lines = ap lines_in (told.text_is ∙ ap text_of told.report.lines_are) ∙ (cut ∙ sym told.report.lines_are) in
+    subst (λ (lines : List (List ℕ)). IsReport p gives S w lines all_safe) (sym same) told.report
