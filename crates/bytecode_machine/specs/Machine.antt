@@ -1,7 +1,21 @@
 -- Public contracts rest on this module.
 -- The machine (JVMS 2.6, 2.10, 5.5, 6.5): its steps, one instruction each. Every choice that the model leaves open has a step
--- of its own. jsr, ret and invokedynamic have no step, nor has ldc of a method handle or a method type; nor a call of a method
--- that is abstract, or native without a description. Errors of the virtual machine itself (JVMS 6.3) are left out.
+-- of its own. Errors of the virtual machine itself (JVMS 6.3) and of linking are left out. In these places the machine has no step,
+-- but for the start of an initialiser and what it throws:
+-- * after the end; and where no instruction stands, as past the end of the code;
+-- * at jsr, jsr_w, ret and invokedynamic, and at ldc of a method handle or a method type;
+-- * at an operand that is missing, or of another kind than the instruction wants; and at a result of another kind than the method's;
+-- * at a branch to before the code;
+-- * at an index of the constant pool that leads to an entry of another kind;
+-- * at a field or a method that the program lacks, and at one that is static where it may not be, or is not where it has to be;
+-- * at a field of a reference type of an object that is an array;
+-- * at an element, or the length, of an object that is no array; and at an element of an array of the other kind, of references or
+--   of primitives;
+-- * at a receiver that does not fit the class that declares the named method, and at a thrown object that is no Throwable;
+-- * at a call that goes to no method, or to one that is abstract, or native without a description; and at an entry without code;
+-- * at a call of a described method that lists neither a result nor an exception, or `kept` results alone when nothing that fits is
+--   kept;
+-- * at a handler of a frame whose local variables were popped.
 use Rattle.std.specs.Prelude.{codes, ◌≡◌, ◌⊎◌, ℕ, zero, suc, ◌+◌, ◌-◌, Bool, true, false, ◌&&◌, nat_eq, nat_le, nat_lt, List, [], ◌∷◌, ◌++◌, length, map, replicate, drop, Option, Some, None, slice_get, slice_set, slice_index_or, Contains, MatchBool, IsTrue, Ok, if◌then◌else◌}
 use Rattle.std.specs.List.{AllZip}
 use Rattle.jvm_model.specs.declared.access.AccessFlag.TheVariants.{Static}
@@ -155,28 +169,34 @@ is_null primitive_value = false
 is_null null_value = true
 is_null (reference_to place) = false
 
-abbrev pub is_same : Value → Value → Bool
-is_same primitive_value primitive_value = true
-is_same primitive_value null_value = false
-is_same primitive_value (reference_to place) = false
-is_same null_value primitive_value = false
-is_same null_value null_value = true
-is_same null_value (reference_to place) = false
-is_same (reference_to place) primitive_value = false
-is_same (reference_to place) null_value = false
-is_same (reference_to place) (reference_to other) = nat_eq place other
+-- The object at a place was made by an instruction.
+abbrev pub IsMade : World → ℕ → Type 0
+IsMade w place = (o : Object) × (slice_get w.heap place ≡ Some o) × (o.site.kind ≡ New)
 
--- A test of references is exact, and any other may go either way. What leaves the method is a step of its own.
-abbrev pub Goes : Flow → ℕ → List (Option ℕ) → List Value → ℕ → Type 0
-Goes onward after targets units next = next ≡ after
-Goes jump after targets units next = Contains targets (Some next)
-Goes branch after targets units next = (next ≡ after) ⊎ Contains targets (Some next)
-Goes branch_if_null after targets units next = MatchBool (is_null (slot_at units 0)) (Contains targets (Some next)) (next ≡ after)
-Goes branch_if_object after targets units next = MatchBool (is_null (slot_at units 0)) (next ≡ after) (Contains targets (Some next))
-Goes branch_if_same after targets units next = MatchBool (is_same (slot_at units 0) (slot_at units 1)) (Contains targets (Some next)) (next ≡ after)
-Goes branch_if_other after targets units next = MatchBool (is_same (slot_at units 0) (slot_at units 1)) (next ≡ after) (Contains targets (Some next))
-Goes leave after targets units next = ⊥
-Goes subroutine after targets units next = ⊥
+-- What a test of two references may find: whether they are the same. It is exact where one of them is null, and where one of the
+-- objects was made by an instruction. Of other objects, which are constants, what is there from the start, results of the library
+-- and exceptions, a JVM may have one where the machine has two, and two where it has one; so either may be found.
+abbrev pub Compares : World → Value → Value → Bool → Type 0
+Compares w primitive_value other same = same ≡ false
+Compares w null_value other same = same ≡ is_null other
+Compares w (reference_to place) primitive_value same = same ≡ false
+Compares w (reference_to place) null_value same = same ≡ false
+Compares w (reference_to place) (reference_to other) same = IsMade w place ⊎ IsMade w other → same ≡ nat_eq place other
+
+-- Where an instruction goes on, in a world. A test for null is exact, one of two references is as they compare, and any other
+-- test may go either way. What leaves the method is a step of its own.
+abbrev pub Goes : Flow → World → ℕ → List (Option ℕ) → List Value → ℕ → Type 0
+Goes onward w after targets units next = next ≡ after
+Goes jump w after targets units next = Contains targets (Some next)
+Goes branch w after targets units next = (next ≡ after) ⊎ Contains targets (Some next)
+Goes branch_if_null w after targets units next = MatchBool (is_null (slot_at units 0)) (Contains targets (Some next)) (next ≡ after)
+Goes branch_if_object w after targets units next = MatchBool (is_null (slot_at units 0)) (next ≡ after) (Contains targets (Some next))
+Goes branch_if_same w after targets units next =
+    (same : Bool) × Compares w (slot_at units 0) (slot_at units 1) same × MatchBool same (Contains targets (Some next)) (next ≡ after)
+Goes branch_if_other w after targets units next =
+    (same : Bool) × Compares w (slot_at units 0) (slot_at units 1) same × MatchBool same (next ≡ after) (Contains targets (Some next))
+Goes leave w after targets units next = ⊥
+Goes subroutine w after targets units next = ⊥
 
 -- ---- what an action makes
 
@@ -243,7 +263,7 @@ pub record Advances (x : Subject) (s t : State) (at : At x.program s) : Type 0 w
   pub next : ℕ
   pub operands : HasOperands at.now.row at.frame.slots kept units
   pub makes : Makes at.now.row.action x at.frame at.now.here.code.file.pool at.now.instruction units s.world made world
-  pub goes : Goes at.now.row.flow (at.frame.offset + at.now.instruction.size) at.now.instruction.targets units next
+  pub goes : Goes at.now.row.flow s.world (at.frame.offset + at.now.instruction.size) at.now.instruction.targets units next
   pub after : t ≡ runs_on (moved_to at.frame next (effect at.now.row at.now.instruction.operand made kept units) ∷ at.below) world
 
 -- ---- calls (JVMS 6.5.invokevirtual, 6.5.invokespecial, 6.5.invokestatic, 6.5.invokeinterface)

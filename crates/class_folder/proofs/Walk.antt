@@ -92,7 +92,7 @@ folder_failure files names before name after classes size (Cause Unreadable) lis
 folder_failure files names before name after classes size OutOfMemory listed stands so_far h = tt
 
 -- The listing is named by texts.
-names_at_turn : (all done rest : List (String Global)) (name : String Global) → all ≡ done ++ name ∷ rest
+pub names_at_turn : (all done rest : List (String Global)) (name : String Global) → all ≡ done ++ name ∷ rest
     → map (string_bytes {Z = Global}) all ≡ map (string_bytes {Z = Global}) done ++ string_bytes name ∷ map (string_bytes {Z = Global}) rest
 names_at_turn all done rest name is = ap (map (string_bytes {Z = Global})) is ∙ map-append (string_bytes {Z = Global}) done (name ∷ rest)
 

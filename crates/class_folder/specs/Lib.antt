@@ -1,2 +1,3 @@
 pub mod ClassFiles
+pub mod FolderCalls
 pub mod Reading

@@ -1,11 +1,13 @@
 //! Reading class files, one after another.
 
-ghost use Rattle.std.specs.Prelude.{◌≡◌, ◌≢◌, ◌≤◌, All, IfOk, IfErr, IfSome, IsErrOf, OnOk, map, string_bytes};
+ghost use Rattle.std.specs.Prelude.{◌≡◌, ◌≢◌, ◌≤◌, [], ◌∷◌, ◌++◌, Bool, List, true, All, IfOk, IfErr, IfSome, IsErrOf, OnOk, map, string_bytes};
 ghost use Rattle.failure.specs.declared.Failure.TheVariants.{Cause};
 ghost use Rattle.jvm_model.specs.declared.program.NamedClass.{NamedClass as RuleNamedClass};
 ghost use Rattle.jvm_model.specs.Soundness.{IsChecked};
+ghost use Rattle.ts_outside.specs.Calls.{Called, Calls, CallsOne, all_given, listing};
 ghost use Rattle.ts_outside.specs.Counts.{Rose};
 ghost use Rattle.class_folder.specs.ClassFiles.{AreClassFiles, IsFolderFailure, most_bytes_together, unreadable};
+ghost use Rattle.class_folder.specs.FolderCalls.{EndsFile, EndsListing, StopsReading, file_question, folder_questions, names_of_files};
 ghost use Rattle.class_folder.specs.Reading.{AreListed, IsFileFailure, IsFileRead, IsNextFailure, IsReadNext, IsRefusedAs};
 
 use crate::fault::{FolderFailure, FolderFault};
@@ -38,6 +40,8 @@ pub fn read_classes<T: Tree>(alloc: Global, tree: &mut T) -> Result<Vec<NamedCla
     ensures unreadable { IsErrOf result (Cause unreadable) → Rose (T.faults tree.old) (T.faults tree.new) }
     ensures no_fault { result ≢ Err (Cause unreadable) → T.faults tree.new ≡ T.faults tree.old }
     ensures same_files { T.files tree.new ≡ T.files tree.old }
+    ensures calls { IfOk result (λ classes. Calls (T.called tree.old) (T.called tree.new) (all_given (folder_questions (names_of_files classes.items)))) }
+    ensures calls_in_vain { IfErr result (λ failure. (calls : List Called) × Calls (T.called tree.old) (T.called tree.new) calls × StopsReading (T.files tree.old) calls failure) }
     ensures never_falls { T.faults tree.old ≤ T.faults tree.new }
 {
     let names = listed(alloc, tree)?;
@@ -58,6 +62,8 @@ fn listed<T: Tree>(alloc: Global, tree: &mut T) -> Result<Vec<String>, FolderFai
     ensures unreadable { IsErrOf result (Cause unreadable) → Rose (T.faults tree.old) (T.faults tree.new) }
     ensures no_fault { result ≢ Err (Cause unreadable) → T.faults tree.new ≡ T.faults tree.old }
     ensures same_files { T.files tree.new ≡ T.files tree.old }
+    ensures calls { OnOk result (CallsOne (T.called tree.old) (T.called tree.new) listing true) }
+    ensures calls_in_vain { IfErr result (λ failure. (is_given : Bool) × EndsListing failure is_given × CallsOne (T.called tree.old) (T.called tree.new) listing is_given) }
     ensures never_falls { T.faults tree.old ≤ T.faults tree.new }
 {
     let names = match tree.list(alloc) {
@@ -92,6 +98,10 @@ impl Reading {
         ensures unreadable { IsErrOf result (Cause unreadable) → Rose (T.faults tree.old) (T.faults tree.new) }
         ensures no_fault { result ≢ Err (Cause unreadable) → T.faults tree.new ≡ T.faults tree.old }
         ensures same_files { T.files tree.new ≡ T.files tree.old }
+        ensures named { OnOk result (names_of_files self.new.classes.items ≡ names_of_files self.old.classes.items ++ string_bytes name ∷ []) }
+        ensures calls { OnOk result (CallsOne (T.called tree.old) (T.called tree.new) (file_question (string_bytes name)) true) }
+        ensures calls_in_vain { IfErr result (λ failure. (is_given : Bool) × EndsFile failure (string_bytes name) is_given
+            × CallsOne (T.called tree.old) (T.called tree.new) (file_question (string_bytes name)) is_given) }
         ensures never_falls { T.faults tree.old ≤ T.faults tree.new }
     {
         let bytes = match tree.read(alloc, name.as_str(), CLASS_FILE_LIMIT + 1) {

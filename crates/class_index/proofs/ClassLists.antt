@@ -11,9 +11,9 @@ use Rattle.std.proofs.lemmas.Map.Steps.{length-le_from_distinct_below}
 use Rattle.std.proofs.lemmas.List.{take-append-le, take_all, take_more, get_or_append_left, get_or_push}
 use Rattle.std.proofs.lemmas.List.Folds.{list_any-append}
 use Rattle.std.proofs.lemmas.List.Elements.{All-push, All-take, All-head, All-tail, All-contains}
+use Rattle.list_laws.proofs.Members.{contains_first}
+use Rattle.list_laws.proofs.Places.{in_longer, place_of}
 use Rattle.class_index.specs.ClassSets.{Classes, has, with_class, with_classes}
-use Rattle.class_index.proofs.ListPlaces.{in_longer}
-use Rattle.class_index.proofs.OrderPlaces.{contains_first, place_of}
 
 pub has_from_contains : (xs : List ℕ) (x : ℕ) → Contains xs x → has xs x ≡ true
 has_from_contains xs x c = list_any-from_Contains nat_eq_equiv x xs c

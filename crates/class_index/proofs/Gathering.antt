@@ -9,13 +9,14 @@ use Rattle.std.proofs.lemmas.Bool.{cases_eq, cases_lt, eqb-true, eq-eqb, false�
 use Rattle.std.proofs.lemmas.List.{append_assoc, append-nil}
 use Rattle.std.proofs.lemmas.List.Sums.{fails_before_first, passes_at_first}
 use Rattle.std.proofs.lemmas.List.Elements.{Contains-append_left, Contains-append_right, All-contains, All-contains_itself, All-weaker}
+use Rattle.list_laws.proofs.Members.{contains_first}
+use Rattle.list_laws.proofs.Places.{contains_at, in_front, place_of, set_at, set_other, to_front}
 use Rattle.class_index.specs.declared.parents.Parents.{Parents}
 use Rattle.class_index.specs.Supertypes.{AreInRange, IsDirect, at, above}
 use Rattle.class_index.specs.UpwardOrder.{IsUpward}
 use Rattle.class_index.specs.SearchOrder.{ExpandsAll, none_left, first_then, Expands, firsts}
 use Rattle.class_index.specs.ClassSets.{Classes, with_class, with_classes}
 use Rattle.class_index.specs.AboveLists.{IsSearched, IsListed, AreListedAbove, AreListedFrom, IsGathered, AreAboveLists}
-use Rattle.class_index.proofs.OrderPlaces.{place_of, contains_at, contains_first, in_front, to_front, at_set, past_set}
 use Rattle.class_index.proofs.ClassLists.{with_classes-append}
 use Rattle.class_index.proofs.SearchedPlaces.{with_classes_firsts, with_classes_none}
 use Rattle.class_index.proofs.UpwardSteps.{at_or_above_step, direct_from, direct_below, above_below, front_from_upward, above_before}
@@ -168,14 +169,14 @@ listed_still g lists c y list l searched old =
     elim (cases_eq y c) [
       | inl same ↦ record {
         list = list;
-        stands = ap (slice_get (set lists c list)) same ∙ at_set lists c list l;
+        stands = ap (slice_get (set lists c list)) same ∙ set_at lists c list l;
         searched = subst (λ (n : ℕ). IsSearched g n list.items) (sym same) searched;
       }
-      | inr other ↦ record { list = old.list; stands = past_set lists c y list other ∙ old.stands; searched = old.searched }
+      | inr other ↦ record { list = old.list; stands = set_other lists c y list other ∙ old.stands; searched = old.searched }
     ]
 
 pub listed_here : (g : List Parents) (lists : List (Vec ℕ Global)) (c : ℕ) (list : Vec ℕ Global) → c < length lists → IsSearched g c list.items → IsListed g (set lists c list) c
-listed_here g lists c list l searched = record { list = list; stands = at_set lists c list l; searched = searched }
+listed_here g lists c list l searched = record { list = list; stands = set_at lists c list l; searched = searched }
 
 pub all_listed : (g : List Parents) (order : List ℕ) (lists : List (Vec ℕ Global)) → IsUpward g order → length lists ≡ length g → All (IsListed g lists) order → AreAboveLists g lists
 all_listed g order lists upward count all = record {

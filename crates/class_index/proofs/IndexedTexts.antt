@@ -9,9 +9,10 @@ use Rattle.std.proofs.lemmas.Bool.{false≢true}
 use Rattle.std.proofs.lemmas.List.{length-append}
 use Rattle.std.proofs.lemmas.Option.{slice_get_within, same_Some, none-some}
 use Rattle.std.proofs.lemmas.Slice.Eq.{bytes_eq-Decides}
+use Rattle.list_laws.proofs.Places.{in_longer, push_cases, pushed_at}
 use Rattle.class_index.specs.FirstPlaces.{StandsNowhere}
 use Rattle.class_index.specs.OwnedTexts.{owns, AreIndexed}
-use Rattle.class_index.proofs.ListPlaces.{in_longer, pushed_at, push_cases, nowhere_in_longer}
+use Rattle.class_index.proofs.ListPlaces.{nowhere_in_longer}
 use Rattle.class_index.proofs.TextPlaces.{numbered_push}
 
 -- `==` on the vectors

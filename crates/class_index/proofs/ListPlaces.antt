@@ -1,35 +1,8 @@
--- Lists by their places: `slice_get` against `++`, `map` and `position`.
-use Rattle.std.proofs.Common.{◌≡◌, ◌≢◌, ℕ, zero, suc, ◌<◌, List, [], ◌∷◌, ◌++◌, length, map, get_or, Some, refl, sym, ◌∙◌, ap, arith, inl, inr, ◌⊎◌}
-use Rattle.std.specs.List.{slice_get}
-use Rattle.std.specs.Option.{option_map}
-use Rattle.std.proofs.lemmas.Option.{slice_get_within, slice_get-get_or, slice_get-map, same_Some, none-some}
+-- The first place of something in a list with one more.
+use Rattle.std.proofs.Common.{◌≡◌, ◌≢◌, ℕ, ◌<◌, List, [], ◌∷◌, ◌++◌, length, get_or, Some, sym, ◌∙◌, ap, arith, inl, inr}
+use Rattle.std.proofs.lemmas.Option.{slice_get_within, slice_get-get_or, same_Some}
+pub use Rattle.list_laws.proofs.Places.{in_longer, pushed_at, push_cases, map_at, at_map}
 use Rattle.class_index.specs.FirstPlaces.{IsFirstPlace, StandsNowhere}
-
--- what stands in a list stands there when more is added
-pub in_longer : {X : Type 0} (xs ys : List X) (k : ℕ) (x : X) → slice_get xs k ≡ Some x → slice_get (xs ++ ys) k ≡ Some x
-in_longer [] ys k x e = absurd (none-some x e)
-in_longer (y ∷ xs) ys zero x e = e
-in_longer (y ∷ xs) ys (suc k) x e = in_longer xs ys k x e
-
--- one more at the end
-pub pushed_at : {X : Type 0} (xs : List X) (y : X) → slice_get (xs ++ y ∷ []) (length xs) ≡ Some y
-pushed_at [] y = refl
-pushed_at (x ∷ xs) y = pushed_at xs y
-
-pub push_cases : {X : Type 0} (xs : List X) (y : X) (k : ℕ) (x : X) → slice_get (xs ++ y ∷ []) k ≡ Some x → (slice_get xs k ≡ Some x) ⊎ ((k ≡ length xs) × (x ≡ y))
-push_cases [] y zero x e = inr (refl, sym (same_Some _ _ e))
-push_cases [] y (suc k) x e = absurd (none-some x e)
-push_cases (z ∷ xs) y zero x e = inl e
-push_cases (z ∷ xs) y (suc k) x e = elim (push_cases xs y k x e) [ inl h ↦ inl h | inr h ↦ inr (ap suc h.0, h.1) ]
-
--- what stands in the list of the answers is the answer of what stands there
-pub map_at : {X Y : Type 0} (f : X → Y) (xs : List X) (k : ℕ) (y : Y) → slice_get (map f xs) k ≡ Some y → (x : X) × (slice_get xs k ≡ Some x) × (f x ≡ y)
-map_at f [] k y e = absurd (none-some y e)
-map_at f (x ∷ xs) zero y e = (x, refl, same_Some _ _ e)
-map_at f (x ∷ xs) (suc k) y e = map_at f xs k y e
-
-pub at_map : {X Y : Type 0} (f : X → Y) (xs : List X) (k : ℕ) (x : X) → slice_get xs k ≡ Some x → slice_get (map f xs) k ≡ Some (f x)
-at_map f xs k x e = slice_get-map f xs k ∙ ap (option_map f) e
 
 -- a list of one more
 pub first_in_longer : {X : Type 0} (xs ys : List X) (x : X) (place : ℕ) → IsFirstPlace xs x place → IsFirstPlace (xs ++ ys) x place

@@ -9,13 +9,12 @@ use Rattle.std.proofs.lemmas.List.Quantifiers.{Any-push}
 use Rattle.std.proofs.lemmas.Option.{slice_get_within, same_Some}
 use Rattle.std.proofs.lemmas.Bool.{cases_eq, cond_both, false_from_ne_true, false≢true}
 use Rattle.std.proofs.lemmas.List.{take_all, take-append-le, length-set, get_or_append_left}
+use Rattle.list_laws.proofs.Places.{contains_at, front_push as front_push_place, in_front, place_of, push_cases, set_at, set_other, to_front}
 use Rattle.class_index.specs.declared.parents.Parents.{Parents}
 use Rattle.class_index.specs.declared.order.Waiter.{Waiter}
 use Rattle.class_index.specs.Supertypes.{direct_of, IsDirect}
 use Rattle.class_index.specs.ClassSets.{Classes, has, with_class}
 use Rattle.class_index.specs.Sorting.{AreIn, IsReady, IsWaiting, IsFront, IsSorting, IsHeld, in_order, in_a_list, GoesOn, AreHeld, IsFilled}
-use Rattle.class_index.proofs.OrderPlaces.{front_push as front_push_place, at_set, past_set, place_of, contains_at, in_front, to_front}
-use Rattle.class_index.proofs.ListPlaces.{push_cases}
 use Rattle.class_index.proofs.ClassLists.{with_class_old, with_class_front, with_class_longer, has_push_other, contains_from_has, has_from_contains}
 
 -- the superclass is placed, or there is none
@@ -108,12 +107,12 @@ waits_sorting g order lists y list list' w sorting stands pushed here = record {
   count = length-set lists y list' ∙ sorting.count;
   front = sorting.front;
   waiting = λ z held e. elim (cases_eq z y) [
-    | inl same ↦ (let is : held ≡ list' = same_Some held list' (sym e ∙ ap (slice_get (set lists y list')) same ∙ at_set lists y list' (slice_get_within lists y list stands)) in
+    | inl same ↦ (let is : held ≡ list' = same_Some held list' (sym e ∙ ap (slice_get (set lists y list')) same ∙ set_at lists y list' (slice_get_within lists y list stands)) in
         subst (λ (v : Vec Waiter Global). All (IsWaiting g order.items z) v.items) (sym is)
         (subst (λ (n : ℕ). All (IsWaiting g order.items n) list'.items) (sym same)
         (subst (λ (ws : List Waiter). All (IsWaiting g order.items y) ws) (sym pushed)
         (All-push (IsWaiting g order.items y) list.items w (sorting.waiting y list stands) here))))
-    | inr other ↦ sorting.waiting z held (sym (past_set lists y z list' other) ∙ e)
+    | inr other ↦ sorting.waiting z held (sym (set_other lists y z list' other) ∙ e)
   ];
 }
 
@@ -126,11 +125,11 @@ waits_goes_on order lists y list list' w stands pushed = record {
   lists_kept = λ z c held e any. elim (cases_eq z y) [
     | inl same ↦ (let is : held ≡ list = same_Some held list (sym e ∙ ap (slice_get lists) same ∙ stands) in (
       list',
-      ap (slice_get (set lists y list')) same ∙ at_set lists y list' (slice_get_within lists y list stands),
+      ap (slice_get (set lists y list')) same ∙ set_at lists y list' (slice_get_within lists y list stands),
       subst (λ (ws : List Waiter). Any (λ (v : Waiter). v.class ≡ c) ws) (sym pushed)
           (any_longer (λ (v : Waiter). v.class ≡ c) list.items (w ∷ []) (subst (λ (v : Vec Waiter Global). Any (λ (u : Waiter). u.class ≡ c) v.items) is any)),
     ))
-    | inr other ↦ (held, past_set lists y z list' other ∙ e, any)
+    | inr other ↦ (held, set_other lists y z list' other ∙ e, any)
   ];
 }
 
@@ -139,7 +138,7 @@ pub waits_held : (order : List ℕ) (lists : List (Vec Waiter Global)) (y : ℕ)
 waits_held order lists y list list' w stands pushed absent = in_a_list (record {
   y = y;
   list = list';
-  stands = at_set lists y list' (slice_get_within lists y list stands);
+  stands = set_at lists y list' (slice_get_within lists y list stands);
   waits = subst (λ (ws : List Waiter). Any (λ (v : Waiter). v.class ≡ w.class) ws) (sym pushed) (Any-push (λ (v : Waiter). v.class ≡ w.class) list.items w refl);
   later = subst (λ (xs : List ℕ). has xs y ≡ false) (sym (take_all (length order) order (omega arith))) absent;
 })
@@ -183,9 +182,9 @@ taken_sorting g order lists y list' l nothing sorting = record {
   count = length-set lists y list' ∙ sorting.count;
   front = sorting.front;
   waiting = λ z held e. elim (cases_eq z y) [
-    | inl same ↦ (let is : held ≡ list' = same_Some held list' (sym e ∙ ap (slice_get (set lists y list')) same ∙ at_set lists y list' l) in
+    | inl same ↦ (let is : held ≡ list' = same_Some held list' (sym e ∙ ap (slice_get (set lists y list')) same ∙ set_at lists y list' l) in
         subst (λ (ws : List Waiter). All (IsWaiting g order.items z) ws) (sym (ap (λ (v : Vec Waiter Global). v.items) is ∙ nothing)) (All-nil (IsWaiting g order.items z)))
-    | inr other ↦ sorting.waiting z held (sym (past_set lists y z list' other) ∙ e)
+    | inr other ↦ sorting.waiting z held (sym (set_other lists y z list' other) ∙ e)
   ];
 }
 
@@ -212,7 +211,7 @@ held_more order lists order' lists' done y c list list' turn stands on released 
       | inr other ↦ (let later : has (take (done + 1) order) w.y ≡ false = (let front = front_push_at order done y turn in
           subst (λ (xs : List ℕ). has xs w.y ≡ false) (sym front) (has_push_other (take done order) y w.y other ∙ w.later)) in
           held_on order (set lists y list') order' lists' (done + 1) c on (omega arith)
-          (in_a_list (record { y = w.y; list = w.list; stands = past_set lists y w.y list' other ∙ w.stands; waits = w.waits; later = later })))
+          (in_a_list (record { y = w.y; list = w.list; stands = set_other lists y w.y list' other ∙ w.stands; waits = w.waits; later = later })))
     ]
 
 -- in the end each class that is not placed has a direct supertype that is not

@@ -6,11 +6,12 @@ use Rattle.std.specs.Option.{option_to_list}
 use Rattle.std.proofs.lemmas.Option.{slice_get_within, slice_get-get_or, get_or_from_slice_get, same_Some}
 use Rattle.std.proofs.lemmas.List.Sorted.{Contains-permutation, IsPermutation-sym}
 use Rattle.std.proofs.lemmas.List.Elements.{Contains-append_cases, AllZip-get_or, length_all_zip}
+use Rattle.list_laws.proofs.Members.{contains_cases, contains_none}
+use Rattle.list_laws.proofs.Places.{in_front, place_of}
 use Rattle.class_index.specs.declared.parents.Parents.{Parents}
 use Rattle.class_index.specs.Supertypes.{AreInRange, IsDirect, IsAbove, one_step, more_steps, IsAtOrAbove, at, above}
 use Rattle.class_index.specs.UpwardOrder.{IsUpward, HasOrder}
 use Rattle.class_index.specs.AboveLists.{IsSortedCopy, AreAboveLists, AreSortedAbove}
-use Rattle.class_index.proofs.OrderPlaces.{place_of, contains_cases, contains_none, in_front}
 use Rattle.class_index.proofs.ClassLists.{at_most_size}
 use Rattle.class_index.proofs.UpwardSteps.{at_or_above_step, direct_below}
 use Rattle.class_index.proofs.Searching.{listed_from_interface, interface_is_listed}
@@ -53,7 +54,7 @@ in_sorted g sorted x y copy lists l stands has =
 
 only_one : (o : Option ℕ) (z : ℕ) → Contains (option_to_list o) z → o ≡ Some z
 only_one None z c = absurd (contains_none z c)
-only_one (Some y) z c = elim (contains_cases y [] z c) [ inl e ↦ ap Some e | inr later ↦ absurd (contains_none z later) ]
+only_one (Some y) z c = elim (contains_cases y z [] c) [ inl e ↦ ap Some e | inr later ↦ absurd (contains_none z later) ]
 
 -- what is at or above a class, is not the class and not in its ascending list, is at or above its superclass
 up_from : (g : List Parents) (sorted : List (Vec ℕ Global)) (x y z : ℕ) (p : Parents) (copy : Vec ℕ Global) → AreSortedAbove g sorted → x < length g → slice_get g x ≡ Some p

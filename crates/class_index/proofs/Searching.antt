@@ -4,11 +4,11 @@ use Rattle.std.specs.List.{slice_get, Contains}
 use Rattle.std.proofs.lemmas.Option.{same_Some}
 use Rattle.std.proofs.lemmas.List.{append_assoc}
 use Rattle.std.proofs.lemmas.List.Elements.{Contains-append_left, Contains-append_right, Contains-append_cases}
+use Rattle.list_laws.proofs.Members.{contains_cases, contains_first, contains_later, contains_none}
 use Rattle.class_index.specs.declared.parents.Parents.{Parents}
 use Rattle.class_index.specs.Supertypes.{IsDirect, IsInterfaceOf, one_step, more_steps, IsAtOrAbove, at, above, direct_of}
 use Rattle.class_index.specs.SearchOrder.{ExpandsAll, none_left, first_then}
 use Rattle.class_index.specs.AboveLists.{IsSearched}
-use Rattle.class_index.proofs.OrderPlaces.{contains_first, contains_later, contains_cases, contains_none}
 use Rattle.class_index.proofs.SearchedPlaces.{firsts_contains, contains_firsts}
 use Rattle.class_index.proofs.UpwardSteps.{at_or_above_step}
 
@@ -23,12 +23,12 @@ expands_append g (x ∷ xs) ys all more (first_then _ _ _ p inner others stands 
 pub from_searched : (g : List Parents) (xs all : List ℕ) → ExpandsAll g xs all → (y : ℕ) → Contains all y → (i : ℕ) × Contains xs i × IsAtOrAbove g i y
 from_searched g [] all (none_left _ e) y c = absurd (contains_none y (subst (λ (zs : List ℕ). Contains zs y) e c))
 from_searched g (x ∷ xs) all (first_then _ _ _ p inner others stands i o e) y c =
-    elim (contains_cases x (inner ++ others) y (subst (λ (zs : List ℕ). Contains zs y) e c)) [
+    elim (contains_cases x y (inner ++ others) (subst (λ (zs : List ℕ). Contains zs y) e c)) [
       | inl same ↦ (x, contains_first x xs, at same)
       | inr later ↦ elim (Contains-append_cases inner others y later) [
         | inl inside ↦ (let found = from_searched g (direct_of p) inner i y inside in
             (x, contains_first x xs, above (at_or_above_step g x found.0 y (record { parents = p; stands = stands; among = found.1 }) found.2)))
-        | inr after ↦ (let found = from_searched g xs others o y after in (found.0, contains_later x xs found.0 found.1, found.2))
+        | inr after ↦ (let found = from_searched g xs others o y after in (found.0, contains_later x found.0 xs found.1, found.2))
       ]
     ]
 
@@ -37,7 +37,7 @@ searched_inside : (g : List Parents) (x y : ℕ) (p : Parents) (inner others : L
     → (j : ℕ) → slice_get g x ≡ Some p → IsDirect g x j → IsAtOrAbove g j y → Contains (x ∷ (inner ++ others)) y
 searched_inside g x y p inner others known j stands d a =
     let among : Contains (direct_of p) j = subst (λ (q : Parents). Contains (direct_of q) j) (same_Some d.parents p (sym d.stands ∙ stands)) d.among in
-    contains_later x (inner ++ others) y (Contains-append_left inner others y (known j y among a))
+    contains_later x y (inner ++ others) (Contains-append_left inner others y (known j y among a))
 
 searched_first : (g : List Parents) (x y : ℕ) (p : Parents) (inner others : List ℕ) → slice_get g x ≡ Some p
     → ((j z : ℕ) → Contains (direct_of p) j → IsAtOrAbove g j z → Contains inner z) → IsAtOrAbove g x y → Contains (x ∷ (inner ++ others)) y
@@ -49,9 +49,9 @@ pub to_searched : (g : List Parents) (xs all : List ℕ) → ExpandsAll g xs all
 to_searched g [] all (none_left _ e) i y c a = absurd (contains_none i c)
 to_searched g (x ∷ xs) all (first_then _ _ _ p inner others stands ie oe e) i y c a =
     subst (λ (zs : List ℕ). Contains zs y) (sym e)
-    (elim (contains_cases x xs i c) [
+    (elim (contains_cases x i xs c) [
       | inl same ↦ searched_first g x y p inner others stands (to_searched g (direct_of p) inner ie) (subst (λ (z : ℕ). IsAtOrAbove g z y) (sym same) a)
-      | inr later ↦ contains_later x (inner ++ others) y (Contains-append_right inner others y (to_searched g xs others oe i y later a))
+      | inr later ↦ contains_later x y (inner ++ others) (Contains-append_right inner others y (to_searched g xs others oe i y later a))
     ])
 
 -- The list of a class has what is at or above one of its superinterfaces.

@@ -5,6 +5,7 @@ use Rattle.std.proofs.lemmas.Grind.{flat_map-append}
 use Rattle.std.proofs.lemmas.List.{append-nil, length-append, length-map, map-append, get_or_append_left}
 use Rattle.std.proofs.lemmas.List.Elements.{All-push}
 use Rattle.std.proofs.lemmas.Option.{slice_get_within, slice_get-get_or, get_or_from_slice_get, same_Some}
+use Rattle.list_laws.proofs.Places.{at_map, map_at}
 use Rattle.jvm_model.specs.Lookups.{Signature}
 use Rattle.class_index.specs.declared.numbered_key.NumberedKey.{NumberedKey}
 use Rattle.class_index.specs.FirstPlaces.{IsFirstPlace, StandsNowhere}
@@ -12,7 +13,6 @@ use Rattle.class_index.specs.KeyPlaces.{spelled, HasTexts, AreSpelled, IsSpelled
 use Rattle.class_index.specs.Limits.{AreTooMany}
 use Rattle.class_index.specs.MemberKeys.{Key, key_texts, signature_texts}
 use Rattle.class_index.specs.TextNumbers.{different, with_texts, Extends}
-use Rattle.class_index.proofs.ListPlaces.{map_at, at_map}
 use Rattle.class_index.proofs.TextPlaces.{with_texts-append}
 
 -- ---- either outcome

@@ -5,11 +5,11 @@ use Rattle.std.specs.Str.{bytes_eq}
 use Rattle.std.proofs.lemmas.List.{append-nil, length-append}
 use Rattle.std.proofs.lemmas.Option.{same_Some, none-some}
 use Rattle.std.proofs.lemmas.Slice.Eq.{bytes_eq-Decides}
+use Rattle.list_laws.proofs.Places.{in_longer, push_cases}
 use Rattle.class_index.specs.FirstPlaces.{StandsNowhere}
 use Rattle.class_index.specs.Limits.{AreTooMany}
 use Rattle.class_index.specs.TextNumbers.{AreDistinct, with_text, with_texts, Extends}
 use Rattle.class_index.specs.OwnedTexts.{AreNumbered}
-use Rattle.class_index.proofs.ListPlaces.{in_longer, push_cases}
 
 -- whether a text is among texts
 pub among : (texts : List (List ℕ)) (text : List ℕ) (k : ℕ) → slice_get texts k ≡ Some text → list_any (bytes_eq text) texts ≡ true

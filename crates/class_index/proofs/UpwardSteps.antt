@@ -6,12 +6,12 @@ use Rattle.std.proofs.lemmas.Bool.{eq-eqb, false≢true}
 use Rattle.std.proofs.lemmas.Map.Keys.{apart_from_distinct}
 use Rattle.std.proofs.lemmas.Option.{slice_get_within, get_or_from_slice_get}
 use Rattle.std.proofs.lemmas.List.Elements.{All-contains}
+use Rattle.list_laws.proofs.Places.{all_at, in_front, place_of}
 use Rattle.class_index.specs.declared.parents.Parents.{Parents}
 use Rattle.class_index.specs.Supertypes.{AreInRange, IsDirect, IsAbove, IsAtOrAbove, one_step, more_steps, at, above, direct_of}
 use Rattle.class_index.specs.UpwardOrder.{IsUpward, HasNoCycle}
 use Rattle.class_index.specs.ClassSets.{has}
 use Rattle.class_index.specs.Sorting.{IsFront}
-use Rattle.class_index.proofs.OrderPlaces.{place_of, in_front, all_at}
 use Rattle.class_index.proofs.ClassLists.{has_from_contains, contains_from_has}
 
 -- the classes of a step have numbers in range

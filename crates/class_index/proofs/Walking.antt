@@ -4,11 +4,11 @@ use Rattle.std.specs.List.{slice_get, Contains, All}
 use Rattle.std.proofs.lemmas.Option.{slice_get_within, same_Some}
 use Rattle.std.proofs.lemmas.Bool.{cases_lt}
 use Rattle.std.proofs.lemmas.List.Elements.{All-nil, All-weaker, All-contains, All-contains_itself}
+use Rattle.list_laws.proofs.Places.{all_at, place_of, stands_below}
 use Rattle.class_index.specs.declared.parents.Parents.{Parents}
 use Rattle.class_index.specs.Supertypes.{IsDirect, IsAbove, one_step, more_steps, direct_of}
 use Rattle.class_index.specs.ClassSets.{has, with_classes}
 use Rattle.class_index.specs.Walks.{IsWalk}
-use Rattle.class_index.proofs.OrderPlaces.{stands_below, place_of, all_at}
 use Rattle.class_index.proofs.ClassLists.{has_from_contains, contains_from_has, with_classes_old, with_classes_new, with_classes_at, with_classes_all}
 use Rattle.class_index.proofs.UpwardSteps.{above_trans}
 

@@ -1,18 +1,22 @@
 -- An initialiser of a class or of a supertype is declared by the class, or through one of its own superinterfaces, or is one of its
 -- superclass.
-use Rattle.std.proofs.Common.{◌≡◌, ◌↔◌, ◌⊎◌, inl, inr, ℕ, List, Some, refl, sym, ap, ◌∙◌, subst}
+use Rattle.std.proofs.Common.{◌≡◌, ◌↔◌, ◌⊎◌, inl, inr, ℕ, List, [], ◌∷◌, Option, Some, None, Result, Ok, Err, IfOk, refl, sym, ap, ◌∙◌, subst, arith}
+use Rattle.std.specs.declared.alloc.Global.{Global}
+use Rattle.std.specs.declared.vec.Vec.{Vec}
 use Rattle.std.specs.List.{slice_get, Contains}
-use Rattle.std.proofs.lemmas.Option.{none-some, same_Some}
+use Rattle.std.proofs.lemmas.Option.{same_Some}
+use Rattle.std.proofs.lemmas.Result.{IfOk-at_ok, IfOk-weaker}
 use Rattle.jvm_model.specs.declared.number.MethodNo.{MethodNo}
 use Rattle.jvm_model.specs.LinkedPrograms.{IsProgram}
 use Rattle.jvm_model.specs.Programs.{Class, Method, Program}
-use Rattle.jvm_model.specs.Subtypes.{class_named, IsDirectSuper, IsSubtype, same, below}
+use Rattle.jvm_model.specs.Subtypes.{class_named, IsChain, IsDirectSuper, IsSubtype, same, below}
 use Rattle.linked_program.specs.Numbers.{name_at, IsClassNumber}
 use Rattle.linked_program.specs.Whole.{IsThroughInterface}
-use Rattle.hierarchy.proofs.Chains.{IsStep, IsTop}
-use Rattle.hierarchy.proofs.ClassPlaces.{IsClassAt, class_of_method, class_of_number, class_there}
+use Rattle.hierarchy.specs.Upward.{IsFoldedUpward, MakesAlong}
+use Rattle.hierarchy.proofs.ClassPlaces.{name_at-at, number_named, class_of_method}
 use Rattle.node_machine.specs.Nodes.{IsCodedInitialiser}
-use Rattle.class_initialisers.specs.Declaring.{AddsMethods, DeclaresCoded, IsDeclaredAt, OneDeclares}
+use Rattle.class_initialisers.specs.Declaring.{AddsDeclared, AddsMethods, DeclaresCoded, IsDeclaredAt, OneDeclares}
+use Rattle.class_initialisers.proofs.AddedMethods.{both_added, none_added}
 use Rattle.class_initialisers.proofs.CodedMethods.{with_code, code_there}
 
 -- ---- what classes declare
@@ -56,114 +60,117 @@ of_lower p i upper lower h is =
 
 -- ---- a class and its superinterfaces
 
-module _ (p : Program) (n : ℕ) (within : IsClassNumber p n) where
-  module _ (through : List ℕ) (exact : (c : Class) → slice_get p.classes n ≡ Some c → (k : ℕ) → IsClassNumber p k → Contains through k ↔ IsThroughInterface p c k) where
-    pub declared_here : ((k : ℕ) → Contains through k → IsClassNumber p k) → (i : ℕ) → (DeclaresCoded p (name_at p n) i ⊎ OneDeclares p through i) ↔ IsDeclaredAt p n i
+module _ (p : Program) (n : ℕ) (within : IsClassNumber p n) (c : Class) (stands : slice_get p.classes n ≡ Some c) where
+  module _ (through : List ℕ) (exact : (k : ℕ) → IsClassNumber p k → Contains through k ↔ IsThroughInterface p c k) where
+    pub declared_here : ((k : ℕ) → Contains through k → IsClassNumber p k) → (i : ℕ) → (DeclaresCoded p (name_at p n) i ⊎ OneDeclares p through i) ↔ IsDeclaredAt p c i
     declared_here each i = (joined, λ d. parted d d.there)
       where
-        joined : DeclaresCoded p (name_at p n) i ⊎ OneDeclares p through i → IsDeclaredAt p n i
-        joined (inl d) = record { owner = n; within = within; is = d; there = inl refl }
+        joined : DeclaresCoded p (name_at p n) i ⊎ OneDeclares p through i → IsDeclaredAt p c i
+        joined (inl d) = record { owner = n; within = within; is = d; there = inl (name_at-at p n c stands) }
         joined (inr d) = record {
           owner = d.owner;
           within = each d.owner d.among;
           is = d.is;
-          there = inr (λ c stands. (exact c stands d.owner (each d.owner d.among)).0 d.among);
+          there = inr ((exact d.owner (each d.owner d.among)).0 d.among);
         }
 
-        parted : (d : IsDeclaredAt p n i) → (d.owner ≡ n) ⊎ ((c : Class) → slice_get p.classes n ≡ Some c → IsThroughInterface p c d.owner)
-            → DeclaresCoded p (name_at p n) i ⊎ OneDeclares p through i
-        parted d (inl itself) = inl (subst (λ (k : ℕ). DeclaresCoded p (name_at p k) i) itself d.is)
-        parted d (inr above) =
-            let there = class_there p n within in
-            inr (record { owner = d.owner; among = (exact there.0 there.1 d.owner d.within).1 (above there.0 there.1); is = d.is })
+        parted : (d : IsDeclaredAt p c i) → (name_at p d.owner ≡ c.name) ⊎ IsThroughInterface p c d.owner → DeclaresCoded p (name_at p n) i ⊎ OneDeclares p through i
+        parted d (inl itself) = inl (subst (λ (name : List ℕ). DeclaresCoded p name i) (itself ∙ sym (name_at-at p n c stands)) d.is)
+        parted d (inr above) = inr (record { owner = d.owner; among = (exact d.owner d.within).1 above; is = d.is })
 
 -- ---- the walk
 
--- What was found are initialisers of the first class; and each of these was found, or is one of the class to which the walk has come.
-pub record IsFoundBelow (p : Program) (found : List MethodNo) (current first : List ℕ) : Type 0 where
-  pub only : (i : MethodNo) → Contains found i → IsCodedInitialiser p first i.0
-  pub above : (i : ℕ) → IsCodedInitialiser p current i → IsCodedInitialiser p first i
-  pub all : (i : MethodNo) → IsCodedInitialiser p first i.0 → Contains found i ⊎ IsCodedInitialiser p current i.0
+-- The method is an initialiser of the class or of one of its supertypes, if there is a class.
+abbrev pub IsCodedFrom : Program → Option (List ℕ) → ℕ → Type 0
+IsCodedFrom p None = λ number. ⊥
+IsCodedFrom p (Some name) = IsCodedInitialiser p name
 
--- what the superclass has
-from_above : (p : Program) (n up : ℕ) → IsStep p n up → (i : ℕ) → IsCodedInitialiser p (name_at p up) i → IsCodedInitialiser p (name_at p n) i
-from_above p n up step i h = of_lower p i (name_at p up) (name_at p n) h (below (name_at p n) step.class (name_at p up) step.at.named (inl step.super) h.above)
+module _ (p : Program) (program : IsProgram p) (name : List ℕ) (c : Class) (named : class_named p name ≡ Some c) (i : ℕ) where
+  name_is : c.name ≡ name
+  name_is = (number_named p name c named).2
 
-module _ (p : Program) (program : IsProgram p) (n : ℕ) (within : IsClassNumber p n) where
   -- what the class declares, or a superinterface
-  from_here : (i : ℕ) → IsDeclaredAt p n i → IsCodedInitialiser p (name_at p n) i
-  from_here i d = by d.there
+  from_here : IsDeclaredAt p c i → IsCodedInitialiser p name i
+  from_here d = by d.there
     where
-      by : (d.owner ≡ n) ⊎ ((c : Class) → slice_get p.classes n ≡ Some c → IsThroughInterface p c d.owner) → IsCodedInitialiser p (name_at p n) i
-      by (inl itself) = declared_above p program (name_at p d.owner) (name_at p n) i d.is (same (name_at p n) (ap (name_at p) (sym itself)))
-      by (inr above) =
-          let there = class_of_number p program n within in
-          let through = above there.0 there.1.stands in
-          declared_above p program (name_at p d.owner) (name_at p n) i d.is (below (name_at p n) there.0 through.interface there.1.named (inr through.among) through.above)
+      by : (name_at p d.owner ≡ c.name) ⊎ IsThroughInterface p c d.owner → IsCodedInitialiser p name i
+      by (inl itself) = declared_above p program (name_at p d.owner) name i d.is (same name (sym name_is ∙ sym itself))
+      by (inr through) = declared_above p program (name_at p d.owner) name i d.is (below name c through.interface named (inr through.among) through.above)
 
-  abbrev OfSuper : Class → ℕ → Type 0
-  OfSuper c i = (super : List ℕ) × (c.super_class ≡ Some super) × IsCodedInitialiser p super i
+  -- what the superclass has
+  from_above : (super : Option (List ℕ)) → c.super_class ≡ super → IsCodedFrom p super i → IsCodedInitialiser p name i
+  from_above None is h = absurd h
+  from_above (Some up) is h = of_lower p i up name h (below name c up named (inl is) h.above)
 
-  where_declared : (c : Class) → IsClassAt p n c → (i : ℕ) → IsCodedInitialiser p (name_at p n) i → IsDeclaredAt p n i ⊎ OfSuper c i
-  where_declared c at i h = split (name_at p n) refl h.above
+  -- there are no others
+  where_declared : IsCodedInitialiser p name i → IsDeclaredAt p c i ⊎ IsCodedFrom p c.super_class i
+  where_declared h = split name refl h.above
     where
-      through : (interface : List ℕ) → Contains c.interfaces interface → IsSubtype p h.method.class interface → IsDeclaredAt p n i
+      through : (interface : List ℕ) → Contains c.interfaces interface → IsSubtype p h.method.class interface → IsDeclaredAt p c i
       through interface among above =
           let k = class_of_method p program i h.method h.stands in
           record {
             owner = k.0;
             within = k.1;
-            is = declared_by p program (name_at p n) (name_at p k.0) i h (sym k.2);
-            there = inr (λ d stands. record {
-              interface = interface;
-              among = subst (λ (x : Class). Contains x.interfaces interface) (same_Some c d (sym at.stands ∙ stands)) among;
-              above = subst (λ (name : List ℕ). IsSubtype p name interface) (sym k.2) above;
-            });
+            is = declared_by p program name (name_at p k.0) i h (sym k.2);
+            there = inr (record { interface = interface; among = among; above = subst (λ (x : List ℕ). IsSubtype p x interface) (sym k.2) above });
           }
 
-      direct : (super : List ℕ) → IsDirectSuper c super → IsSubtype p h.method.class super → IsDeclaredAt p n i ⊎ OfSuper c i
-      direct super (inl is) above = inr (super, is, of_lower p i (name_at p n) super h above)
+      direct : (super : List ℕ) → IsDirectSuper c super → IsSubtype p h.method.class super → IsDeclaredAt p c i ⊎ IsCodedFrom p c.super_class i
+      direct super (inl is) above = inr (subst (λ (s : Option (List ℕ)). IsCodedFrom p s i) (sym is) (of_lower p i name super h above))
       direct super (inr among) above = inl (through super among above)
 
-      split : (name : List ℕ) → name_at p n ≡ name → IsSubtype p h.method.class name → IsDeclaredAt p n i ⊎ OfSuper c i
-      split name is (same _ e) = inl (record { owner = n; within = within; is = declared_by p program (name_at p n) (name_at p n) i h (sym (is ∙ e)); there = inl refl })
-      split name is (below _ d super named is_direct above) =
-          let one : d ≡ c = same_Some d c (sym named ∙ ap (class_named p) (sym is) ∙ at.named) in
+      split : (upper : List ℕ) → name ≡ upper → IsSubtype p h.method.class upper → IsDeclaredAt p c i ⊎ IsCodedFrom p c.super_class i
+      split upper is (same _ e) =
+          let k = class_of_method p program i h.method h.stands in
+          inl (record { owner = k.0; within = k.1; is = declared_by p program name (name_at p k.0) i h (sym k.2); there = inl (k.2 ∙ sym e ∙ sym is ∙ sym name_is) })
+      split upper is (below _ d super upper_named is_direct above) =
+          let one : d ≡ c = same_Some d c (sym upper_named ∙ ap (class_named p) (sym is) ∙ named) in
           direct super (subst (λ (x : Class). IsDirectSuper x super) one is_direct) above
 
-  module _ (old new : List MethodNo) (adds : AddsMethods (IsDeclaredAt p n) old new) (first : List ℕ) (far : IsFoundBelow p old (name_at p n) first) where
-    -- with what the class adds, only initialisers of the first class were found
-    still_only : (i : MethodNo) → Contains new i → IsCodedInitialiser p first i.0
-    still_only i there = by (adds.only i there)
-      where
-        by : Contains old i ⊎ IsDeclaredAt p n i.0 → IsCodedInitialiser p first i.0
-        by (inl before) = far.only i before
-        by (inr here) = far.above i.0 (from_here i.0 here)
+  from_class : (IsDeclaredAt p c i ⊎ IsCodedFrom p c.super_class i) ↔ IsCodedInitialiser p name i
+  from_class = (λ either. elim either [ inl d ↦ from_here d | inr above ↦ from_above c.super_class refl above ], where_declared)
 
-    -- and the walk goes on to the superclass
-    pub found_more : (up : ℕ) → IsStep p n up → IsFoundBelow p new (name_at p up) first
-    found_more up step = record {
-      only = still_only;
-      above = λ i h. far.above i (from_above p n up step i h);
-      all = λ i h. before i (far.all i h);
+-- There were methods before, and all initialisers from a class upward were added to them.
+record AddsFrom {E : Type 0} (p : Program) (start : Option (List ℕ)) (before : Result (Vec MethodNo Global) E) (now : Vec MethodNo Global) : Type 0 where
+  found : Vec MethodNo Global
+  were : before ≡ Ok found
+  adds : AddsMethods (IsCodedFrom p start) found.items now.items
+
+-- classes that each add what they declare add all initialisers
+adds_along : {E : Type 0} (p : Program) → IsProgram p → (chain : List Class) (start : Option (List ℕ)) → IsChain p start chain → (before now : Result (Vec MethodNo Global) E)
+    → MakesAlong (λ c old new. IfOk new (AddsDeclared p c old)) chain before now → IfOk now (AddsFrom p start before)
+adds_along p program chain start of_start before (Err e) makes = tt
+adds_along p program [] None of_start before (Ok now) makes = record { found = now; were = makes; adds = none_added (IsCodedFrom p None) now.items (λ i h. h) }
+adds_along p program [] (Some name) of_start before (Ok now) makes = absurd of_start
+adds_along p program (c ∷ chain) None of_start before (Ok now) makes = absurd of_start
+adds_along p program (c ∷ chain) (Some name) of_start before (Ok now) makes =
+    let rest = adds_along p program chain c.super_class of_start.1 makes.0 (Ok now) makes.2 in
+    let first = IfOk-at_ok (AddsDeclared p c before) rest.were makes.1 in
+    record {
+      found = first.found;
+      were = first.were;
+      adds = both_added (IsDeclaredAt p c) (IsCodedFrom p c.super_class) (IsCodedInitialiser p name) first.found.items rest.found.items now.items
+          (from_class p program name c of_start.0) first.adds rest.adds;
     }
+
+-- where there were none before, all initialisers of the class are there, and no others
+pub all_found : {E : Type 0} (p : Program) → IsProgram p → (class : List ℕ) (first : Vec MethodNo Global) → first.items ≡ [] → (found : Result (Vec MethodNo Global) E)
+    → IsFoldedUpward p (λ c old new. IfOk new (AddsDeclared p c old)) class (Ok first) found
+    → IfOk found (λ v. (i : MethodNo) → Contains v.items i ↔ IsCodedInitialiser p class i.0)
+all_found {E} p program class first none found walk =
+    IfOk-weaker found (AddsFrom p (Some class) (Ok first)) (λ v. (i : MethodNo) → Contains v.items i ↔ IsCodedInitialiser p class i.0) all
+    (adds_along p program walk.chain (Some class) walk.of_class (Ok first) found walk.makes)
+  where
+    all : (v : Vec MethodNo Global) → AddsFrom {E = E} p (Some class) (Ok first) v → (i : MethodNo) → Contains v.items i ↔ IsCodedInitialiser p class i.0
+    all v h i = (λ there. by (h.adds.only i there), λ is. h.adds.added i is)
       where
-        now : (i : MethodNo) → IsDeclaredAt p n i.0 ⊎ OfSuper step.class i.0 → Contains new i ⊎ IsCodedInitialiser p (name_at p up) i.0
-        now i (inl here) = inl (adds.added i here)
-        now i (inr above) = inr (subst (λ (name : List ℕ). IsCodedInitialiser p name i.0) (same_Some above.0 (name_at p up) (sym above.1 ∙ step.super)) above.2)
+        empty : h.found.items ≡ []
+        empty = let one : first ≡ h.found = cc in ap (λ (x : Vec MethodNo Global). x.items) (sym one) ∙ none
 
-        before : (i : MethodNo) → Contains old i ⊎ IsCodedInitialiser p (name_at p n) i.0 → Contains new i ⊎ IsCodedInitialiser p (name_at p up) i.0
-        before i (inl there) = inl (adds.kept i there)
-        before i (inr h) = now i (where_declared step.class step.at i.0 h)
-
-    -- or ends with all of them
-    pub found_all : IsTop p n → (i : MethodNo) → Contains new i ↔ IsCodedInitialiser p first i.0
-    found_all top i = (still_only i, λ h. before (far.all i h))
-      where
-        now : IsDeclaredAt p n i.0 ⊎ OfSuper top.class i.0 → Contains new i
-        now (inl here) = adds.added i here
-        now (inr above) = absurd (none-some above.0 (sym top.super ∙ above.1))
-
-        before : Contains old i ⊎ IsCodedInitialiser p (name_at p n) i.0 → Contains new i
-        before (inl there) = adds.kept i there
-        before (inr h) = now (where_declared top.class top.at i.0 h)
+        by : Contains h.found.items i ⊎ IsCodedInitialiser p class i.0 → IsCodedInitialiser p class i.0
+        by (inl before) =
+            let there = subst (λ (xs : List MethodNo). Contains xs i) empty before in
+            let few = there.1 in
+            absurd (omega (arith, few))
+        by (inr is) = is

@@ -1,16 +1,42 @@
 //! The initialisers that the initialisation of a class runs: its own, and those of its supertypes (JVMS 5.5).
 
-ghost use Rattle.std.specs.Prelude.{◌↔◌, ℕ, All, Contains, IfNone, IfOk, IfSome, OnOk};
+ghost use Rattle.std.specs.Prelude.{◌≡◌, ◌↔◌, ℕ, All, Contains, IfNone, IfOk, IfSome, OnOk, Some, slice_get};
+ghost use Rattle.jvm_model.specs.Programs.{Class};
 ghost use Rattle.jvm_model.specs.declared.number.MethodNo.{MethodNo};
 ghost use Rattle.linked_program.specs.Numbers.{name_at, IsClassNumber};
 ghost use Rattle.node_machine.specs.Nodes.{IsCodedInitialiser};
 ghost use Rattle.class_initialisers.specs.Declaring.{AddsMethods, DeclaresCoded, IsDeclaredAt, OneDeclares};
 
 use crate::coded::is_coded;
+use hierarchy::upward::{Fold, fold_upward};
 use jvm_model::lookup::Signature;
 use jvm_model::{ClassNo, MethodNo};
 use linked_program::program::Program;
 use std::alloc::{AllocError, Global};
+
+/// The initialisers of classes upward, each with those of its superinterfaces.
+#[derive(Clone, Copy)]
+struct Initialisers;
+
+impl Fold for Initialisers {
+    ghost use Rattle.std.specs.Prelude.{IfOk};
+    ghost use Rattle.class_initialisers.specs.Declaring.{AddsDeclared};
+
+    type Value = Result<Vec<MethodNo>, AllocError>;
+
+    ghost makes = { λ x p c before now. IfOk now (AddsDeclared p c before) };
+
+    fn at(
+        &self,
+        program: &Program,
+        class: ClassNo,
+        value: Result<Vec<MethodNo>, AllocError>,
+    ) -> Result<Vec<MethodNo>, AllocError> {
+        let mut found = value?;
+        add_at(program, class, &mut found)?;
+        Ok(found)
+    }
+}
 
 /// The initialisers of a class and of its supertypes for which class files have code. One of a supertype that is reached in several
 /// ways may stand there several times. It walks up the superclasses.
@@ -23,22 +49,13 @@ pub fn coded_initialisers(
     ensures { IfOk result (λ found. (i : MethodNo) → Contains found.items i ↔ IsCodedInitialiser program.now (name_at program.now class.0) i.0) }
 {
     program.well_formed();
-    let mut found = Vec::new(alloc);
-    let mut current = class;
-    'upward: for _passed in 0..program.class_count() {
-        add_at(program, current, &mut found)?;
-        let Some(above) = program.super_class(current) else {
-            return Ok(found);
-        };
-        current = above;
-    }
-    unreachable!()
+    fold_upward(program, class, &Initialisers, Ok(Vec::new(alloc)))
 }
 
 /// Adds the initialisers of a class and of its supertypes through its own superinterfaces.
 fn add_at(program: &Program, class: ClassNo, found: &mut Vec<MethodNo>) -> Result<(), AllocError>
     requires { IsClassNumber program.now class.0 }
-    ensures { OnOk result (AddsMethods (IsDeclaredAt program.now class.0) found.old.items found.new.items) }
+    ensures { (c : Class) → slice_get program.now.classes class.0 ≡ Some c → OnOk result (AddsMethods (IsDeclaredAt program.now c) found.old.items found.new.items) }
 {
     add_declared(program, class, found)?;
     add_each(program, program.through_interfaces(class), found)

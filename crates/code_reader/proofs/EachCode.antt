@@ -2,6 +2,7 @@
 use Rattle.std.proofs.Common.{◌≡◌, ℕ, zero, suc, ◌+◌, ◌<◌, ◌≤◌, Bool, true, false, ◌||◌, List, [], ◌∷◌, length, take, inl, inr, ◌⊎◌, Contains, Option, Some, None, Result, Ok, Err, refl, sym, ap, ◌∙◌, sum_by, arith}
 use Rattle.std.specs.List.{list_any, flat_map}
 use Rattle.std.proofs.lemmas.Bool.{cases_lt}
+use Rattle.list_laws.proofs.Places.{contains_at}
 use Rattle.jvm_model.specs.declared.class_file.Attribute.{Attribute}
 use Rattle.jvm_model.specs.declared.class_file.ClassFile.{ClassFile}
 use Rattle.jvm_model.specs.declared.class_file.Member.{Member}
@@ -22,7 +23,6 @@ use Rattle.jvm_model.specs.DescriptorValues.{kind_units}
 use Rattle.code_reader.specs.Division.{Spot, instruction_in, Divides, at_end, stops, goes_on}
 use Rattle.code_reader.proofs.Sizes.{inside}
 use Rattle.code_reader.proofs.SoundMethods.{text_there, is_method_descriptor, method_of}
-use Rattle.code_reader.proofs.ToldCodes.{Contains-from_slice_get}
 
 -- ---- the division
 
@@ -120,7 +120,7 @@ each_code_is_told c method sound has =
     let before = length (flat_map attribute first.1.before) in
     let place = methods_offset c + length (flat_map member (take method c.methods)) + 8 + before + 6 in
     let is = place_is c method has.owner place before has.there (record { before = first.1.before; code = first.0; after = first.1.after; first = first.1.first; counted = refl }) refl in
-    let locals = locals_taken c has.owner sound (Contains-from_slice_get c.methods method has.owner has.there) in
+    let locals = locals_taken c has.owner sound (contains_at c.methods method has.owner has.there) in
     let told = body_is_told c.pool locals.0 (record { offset = place; rest = first.0.body }) in (
       told.0,
       record {

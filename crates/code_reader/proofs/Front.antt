@@ -1,7 +1,6 @@
 -- What a loop over a list has seen: the front of the list, one item longer each time.
-use Rattle.std.proofs.Common.{◌≡◌, ℕ, ◌+◌, ◌<◌, ◌≤◌, List, [], ◌∷◌, ◌++◌, length, take, get_or, sum_by, Option, Some, None, refl, sym, ap, ◌∙◌, subst, arith}
+use Rattle.std.proofs.Common.{◌≡◌, ℕ, ◌+◌, ◌<◌, List, [], ◌∷◌, ◌++◌, length, take, get_or, Option, Some, None, refl, sym, ap, ◌∙◌}
 use Rattle.std.proofs.lemmas.List.{take_more}
-use Rattle.std.proofs.lemmas.List.Sums.{sum_by-take-le, sum_by-append, sum_by-cons}
 use Rattle.code_reader.specs.CodeReading.{known_targets}
 
 known_parts : (xs ys : List (Option ℕ)) → known_targets (xs ++ ys) ≡ known_targets xs ++ known_targets ys

@@ -4,6 +4,7 @@ use Rattle.std.specs.List.{list_any}
 use Rattle.std.proofs.lemmas.Bool.{false_from_ne_true}
 use Rattle.std.proofs.lemmas.List.Elements.{All-contains, All-from_recursion, Contains-append_right, filter-append}
 use Rattle.std.proofs.lemmas.Option.{same_Some}
+use Rattle.list_laws.proofs.Places.{contains_at}
 use Rattle.jvm_model.specs.declared.class_file.Attribute.{Attribute}
 use Rattle.jvm_model.specs.declared.class_file.ClassFile.{ClassFile}
 use Rattle.jvm_model.specs.declared.class_file.Member.{Member}
@@ -22,7 +23,7 @@ use Rattle.code_reader.specs.MachineCode.{ReadsSame, IsCodeOf}
 use Rattle.code_reader.proofs.CodeParts.{HasParts, parts_of, Stands, stands, some_there}
 use Rattle.code_reader.proofs.OneReading.{one_place}
 use Rattle.code_reader.proofs.SpelledBodies.{head_stands, head_takes, tail_takes, one_spelled}
-use Rattle.code_reader.proofs.ToldCodes.{Contains-from_slice_get, not_before, later}
+use Rattle.code_reader.proofs.ToldCodes.{not_before, later}
 
 -- ---- the attribute
 
@@ -110,7 +111,7 @@ pub code_is_the_body : (c : ClassFile) (method : ℕ) (m : Member) (code : Code)
 code_is_the_body c method m code fits sound there read =
     let owner : read.owner ≡ m = same_Some _ _ (sym read.there ∙ there) in
     let first : HasFirstCode c.pool m.attributes read.code = subst (λ (n : Member). HasFirstCode c.pool n.attributes read.code) owner read.first in
-    let inside = Contains-from_slice_get c.methods method m there in
+    let inside = contains_at c.methods method m there in
     let bytes_fit = bytes_of_each read.code.body (attribute_fits c m read.code fits inside first).bytes in
     let place : Place = record { offset = read.place; rest = read.code.body } in
     let s = spelled_body c.pool place code bytes_fit (parts_of c.pool read.parameters place code (Ok code) refl read.body) in

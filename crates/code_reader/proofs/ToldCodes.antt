@@ -1,7 +1,7 @@
 -- What is answered on the code of a method is what its first attribute named Code gives.
-use Rattle.std.proofs.Common.{◌≡◌, ℕ, ◌+◌, ◌≤◌, Bool, true, false, ◌||◌, List, [], ◌∷◌, ◌++◌, length, get_or, Contains, Some, slice_get, Result, Ok, Err, refl, sym, ap, ◌∙◌, subst, arith}
+use Rattle.std.proofs.Common.{◌≡◌, ℕ, ◌+◌, ◌≤◌, Bool, true, false, ◌||◌, List, [], ◌∷◌, ◌++◌, length, get_or, Some, slice_get, Result, Ok, Err, refl, sym, ap, ◌∙◌, subst, arith}
 use Rattle.std.specs.List.{list_any}
-use Rattle.std.proofs.lemmas.Option.{same_Some, slice_get_within, get_or_from_slice_get}
+use Rattle.std.proofs.lemmas.Option.{same_Some, get_or_from_slice_get}
 use Rattle.jvm_model.specs.declared.class_file.Attribute.{Attribute}
 use Rattle.jvm_model.specs.declared.class_file.ClassFile.{ClassFile}
 use Rattle.jvm_model.specs.declared.class_file.Member.{Member}
@@ -17,10 +17,7 @@ use Rattle.jvm_model.proofs.CodePlaces.{StandsAt-fits, place_is}
 use Rattle.code_reader.specs.Bodies.{TellsBody}
 use Rattle.code_reader.specs.Places.{method_offset, IsCodeAfter}
 use Rattle.code_reader.specs.CodeReading.{TakesLocals, TellsCode}
-
--- an item at a place is one of the list
-pub Contains-from_slice_get : {X : Type 0} (xs : List X) (k : ℕ) (x : X) → slice_get xs k ≡ Some x → Contains xs x
-Contains-from_slice_get xs k x e = (k, slice_get_within xs k x e, get_or_from_slice_get xs k x x e)
+pub use Rattle.list_laws.proofs.Places.{contains_at as Contains-from_slice_get}
 
 -- the method that is read is the one at its place
 pub stands_there : (c : ClassFile) (method : ℕ) (owner d read : Member) (items : List Member) → slice_get c.methods method ≡ Some owner → items ≡ c.methods → read ≡ get_or items method d

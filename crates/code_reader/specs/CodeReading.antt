@@ -1,6 +1,6 @@
 -- Public contracts rest on this module.
 -- Reading the code of a method (JVMS 4.7.3): the code, or its first fault.
-use Rattle.std.specs.Prelude.{codes, ◌≡◌, ℕ, ◌+◌, ◌&&◌, ◌||◌, ◌==◌, nat_lt, List, [], ◌∷◌, length, map, sum_by, slice_get, Option, Some, None, Result, Ok, Err, if◌then◌else◌}
+use Rattle.std.specs.Prelude.{◌≡◌, ℕ, ◌+◌, ◌||◌, ◌==◌, nat_lt, List, [], ◌∷◌, length, map, sum_by, slice_get, Option, Some, None, Result, Ok, Err, if◌then◌else◌}
 use Rattle.std.specs.Int.{w16, w32}
 use Rattle.jvm_model.specs.declared.access.AccessFlag.TheVariants.{Static}
 use Rattle.jvm_model.specs.declared.class_file.Attribute.{Attribute}

@@ -3,11 +3,11 @@ use Rattle.std.proofs.Common.{◌≡◌, ◌⊎◌, inl, inr, ℕ, zero, suc, �
 use Rattle.std.specs.Prelude.{slice_get}
 use Rattle.std.proofs.Math.Nat.{suc-mul}
 use Rattle.std.proofs.lemmas.Option.{same_Some, none-some}
+use Rattle.list_laws.proofs.Members.{contains_cases, contains_first, contains_later, contains_none}
+use Rattle.list_laws.proofs.Places.{in_longer}
 use Rattle.jvm_model.specs.declared.site.Site.{Site}
 use Rattle.bytecode_machine.specs.States.{Value, primitive_value, null_value, reference_to, elements, Object, default_value, is_reference_type, default_element, new_array, Dimension, references_from, arrays_of_arrays, arrays_from}
 use Rattle.coverage.specs.References.{LeadsTo, IsCovered}
-use Rattle.program_laws.proofs.Orders.{first_there, more_there, where_there, none_there}
-use Rattle.least_sets.proofs.Places.{in_longer}
 use Rattle.coverage.proofs.Lists.{behind, IsBehind, where_joined}
 
 -- ---- values that are no references
@@ -27,8 +27,8 @@ replicated (suc n) x y zero e = sym (same_Some x y e)
 replicated (suc n) x y (suc k) e = replicated n x y k e
 
 contains_replicated : {X : Type 0} (n : ℕ) (x y : X) → Contains (replicate n x) y → y ≡ x
-contains_replicated zero x y there = absurd (none_there y there)
-contains_replicated {X = X} (suc n) x y there = by (contains_replicated n x y) (where_there x y (replicate n x) there)
+contains_replicated zero x y there = absurd (contains_none y there)
+contains_replicated {X = X} (suc n) x y there = by (contains_replicated n x y) (contains_cases x y (replicate n x) there)
   where
     by : (Contains (replicate n x) y → y ≡ x) → (x ≡ y) ⊎ Contains (replicate n x) y → y ≡ x
     by rest (inl e) = sym e
@@ -91,8 +91,8 @@ record IsReferenceIn (first long : ℕ) (v : Value) : Type 0 where
   is : v ≡ reference_to place
 
 reference_in : (first long : ℕ) (v : Value) → Contains (references_from first long) v → IsReferenceIn first long v
-reference_in first zero v there = absurd (none_there v there)
-reference_in first (suc long) v there = by (reference_in (first + 1) long v) (where_there (reference_to first) v (references_from (first + 1) long) there)
+reference_in first zero v there = absurd (contains_none v there)
+reference_in first (suc long) v there = by (reference_in (first + 1) long v) (contains_cases (reference_to first) v (references_from (first + 1) long) there)
   where
     by : (Contains (references_from (first + 1) long) v → IsReferenceIn (first + 1) long v) → (reference_to first ≡ v) ⊎ Contains (references_from (first + 1) long) v → IsReferenceIn first (suc long) v
     by rest (inl e) = record { place = first; low = omega arith; high = omega arith; is = sym e }
@@ -164,7 +164,7 @@ module _ (Inner : Site → Site → Type 0) (state : ℕ) (heap : List Object) w
   outer_or_inner d e deeper place count nested stand k o inner (inl held) =
       let r = row_at d state (place + count) count k o held in
       same_array (d.site ∷ e.site ∷ map site_of deeper) o _ r.is (record {
-        among = first_there d.site (e.site ∷ map site_of deeper);
+        among = contains_first d.site (e.site ∷ map site_of deeper);
         of_class = refl;
         values = references_from r.from d.long;
         holds = refl;
@@ -172,14 +172,14 @@ module _ (Inner : Site → Site → Type 0) (state : ℕ) (heap : List Object) w
       })
   outer_or_inner d e deeper place count nested stand k o inner (inr late) =
       let a = inner late.after o late.held in
-      record { among = more_there d.site o.site (e.site ∷ map site_of deeper) a.among; of_class = a.of_class; values = a.values; holds = a.holds; covered = a.covered }
+      record { among = contains_later d.site o.site (e.site ∷ map site_of deeper) a.among; of_class = a.of_class; values = a.values; holds = a.holds; covered = a.covered }
 
   pub arrays_at : (dimensions : List Dimension) (place count : ℕ) → AreNested Inner (map site_of dimensions) → AreAt place (arrays_from state place count dimensions)
       → (k : ℕ) (o : Object) → slice_get (arrays_from state place count dimensions) k ≡ Some o → IsArrayOf Inner (map site_of dimensions) heap o
   arrays_at [] place count nested stand k o e = absurd (none-some o e)
   arrays_at (d ∷ []) place count nested stand k o e =
       same_array (d.site ∷ []) o _ (replicated count _ o k e) (record {
-        among = first_there d.site [];
+        among = contains_first d.site [];
         of_class = refl;
         values = replicate d.long (default_element d.site.class);
         holds = refl;

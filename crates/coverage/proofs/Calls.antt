@@ -3,6 +3,7 @@ use Rattle.std.proofs.Common.{◌≡◌, ◌⊎◌, inl, inr, ℕ, ◌+◌, ◌<
 use Rattle.std.specs.Prelude.{slice_get}
 use Rattle.std.proofs.lemmas.Bool.{false≢true}
 use Rattle.std.proofs.lemmas.Option.{same_Some, none-some}
+use Rattle.list_laws.proofs.Members.{contained_or_not, contains_first, contains_none}
 use Rattle.jvm_model.specs.declared.number.MethodNo.{MethodNo}
 use Rattle.jvm_model.specs.Programs.{Method}
 use Rattle.least_sets.specs.Rules.{IsClosedSet}
@@ -28,8 +29,6 @@ use Rattle.points_to_rules.specs.WholeMethods.{AreWholeMethods}
 use Rattle.coverage.proofs.RefusedCalls.{HasNoRefusedCall}
 use Rattle.coverage.specs.References.{IsCovered}
 use Rattle.coverage.specs.Covering.{MayHold, StandsIn, StandsSomewhere, IsCoveredFrame, node_at, HasPassed, WaitsForCall, AreCoveredBelow, Covers}
-use Rattle.program_laws.proofs.Orders.{none_there, first_there}
-use Rattle.coverage.proofs.Lists.{listed_or_not}
 use Rattle.coverage.proofs.Values.{grows_not, covered_on, covered_by, covered_at, covered_as}
 use Rattle.coverage.proofs.Worlds.{IsLater, events_later}
 use Rattle.coverage.proofs.Frames.{frame_on, below_on, frames_are, caller_is}
@@ -94,7 +93,7 @@ module _ (x : Subject) (given : Given) (gives : GivenAs) (S : Fact → Type 0) (
   -- its arguments are taken
   pub waiting_frame : (heap : List Object) (f : Frame) (operands : List ℕ) (left : List Value) → AreLeft operands None primitive_value f.slots left → IsCoveredFrame gives S heap f
       → IsCoveredFrame gives S heap (waiting f left)
-  waiting_frame heap f operands left are c = record { runs = c.runs; slots = λ m l n z v here inside named. by m l n z v here inside named (listed_or_not operands z) }
+  waiting_frame heap f operands left are c = record { runs = c.runs; slots = λ m l n z v here inside named. by m l n z v here inside named (contained_or_not operands z) }
     where
       by : (m : MethodNo) (l : LoweredMethod) (n : Node) (z : ℕ) (v : Variable) → StandsIn gives (waiting f left) m l n → z < l.slots + l.stack → IsVariable l n z v → Contains operands z ⊎ (Contains operands z → ⊥)
           → IsCovered (MayHold S (variable v)) heap (slot_at left z)
@@ -203,7 +202,7 @@ module _ (x : Subject) (given : Given) (gives : GivenAs) (S : Fact → Type 0) (
       → IsCoveredFrame gives S heap f → IsCovered (MayHold S (returned_by m)) heap (returned_value value f.slots)
   returned heap f now None m l here is_return c = tt
   returned heap f now (Some z) m l here is_return c =
-      let o = operand_of x gives S closed whole m l now.node (Return (Some z)) z heap f.slots here.node is_return (first_there z []) (slots_here x given gives S map closed whole heap f m l now.node here c) in
+      let o = operand_of x gives S closed whole m l now.node (Return (Some z)) z heap f.slots here.node is_return (contains_first z []) (slots_here x given gives S map closed whole heap f m l now.node here c) in
       covered_by (MayHold S o.holder) (MayHold S (returned_by m)) heap (slot_at f.slots z)
       (λ s held. closed _ _ (return m l now.node z o.holder s here.node is_return o.slot) (c.runs m here.in_method, (held, tt))) o.covered
 
@@ -225,8 +224,8 @@ module _ (x : Subject) (given : Given) (gives : GivenAs) (S : Fact → Type 0) (
           subst (λ (us : List (Option ℕ)). (z : ℕ) → Contains (argument_slots us) z → slot_at f.slots z ≡ primitive_value) same passed.taken in
           let both : AreLeft (argument_slots call.arguments) call.result value f.slots left = record {
             given = are.given;
-            cleared = λ z among other. are.kept z (none_there z) other ∙ taken z among;
-            kept = λ z free other. are.kept z (none_there z) other;
+            cleared = λ z among other. are.kept z (contains_none z) other ∙ taken z among;
+            kept = λ z free other. are.kept z (contains_none z) other;
           } in
           let target : S (may_call (node_of m now.node) k) = subst (λ (r : NodeRef). S (may_call r k)) (node_is gives f m l now.node here) waits.target in
           left_slots x gives S closed whole m l now.node n here.node (c.runs m here.in_method) to (argument_slots call.arguments) call.result value f.slots left heap heap both

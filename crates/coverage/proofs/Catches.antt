@@ -3,6 +3,8 @@ use Rattle.std.proofs.Common.{◌≡◌, ◌⊎◌, inl, inr, ℕ, ◌+◌, ◌<
 use Rattle.std.proofs.Math.Nat.{eq-or-lt_of_le}
 use Rattle.std.proofs.lemmas.Bool.{cases_lt}
 use Rattle.std.proofs.lemmas.Option.{same_Some, none-some}
+use Rattle.list_laws.proofs.Members.{contains_cases, contains_none}
+use Rattle.list_laws.proofs.Places.{contains_at}
 use Rattle.jvm_model.specs.declared.number.MethodNo.{MethodNo}
 use Rattle.jvm_model.specs.declared.site.SiteKind.TheVariants as kinds
 use Rattle.least_sets.specs.Rules.{IsClosedSet}
@@ -26,8 +28,6 @@ use Rattle.coverage.proofs.RefusedCalls.{HasNoRefusedCall}
 use Rattle.coverage.specs.References.{LeadsTo, IsCovered}
 use Rattle.coverage.specs.Sites.{of_node, of_thrown}
 use Rattle.coverage.specs.Covering.{MayHold, StandsIn, IsCoveredFrame, IsCoveredCaller, AreCoveredBelow, IsCoveredThrow, IsCoveredMode, Covers}
-use Rattle.program_laws.proofs.Orders.{none_there, where_there}
-use Rattle.least_sets.proofs.Places.{contains_at}
 use Rattle.coverage.proofs.Values.{covered_by, covered_as}
 use Rattle.coverage.proofs.Worlds.{kept_later}
 use Rattle.coverage.proofs.Frames.{frame_on, below_on, frames_are, caller_is}
@@ -35,7 +35,8 @@ use Rattle.coverage.proofs.Places.{stands_in, node_is}
 use Rattle.coverage.proofs.Slots.{named}
 use Rattle.coverage.proofs.Calls.{same_method, one_node, of_file, IsInside, inside_of, IsCalled, called_by}
 use Rattle.coverage.proofs.Stubs.{site_is, described, kept_world, kept_covered}
-use Rattle.coverage.proofs.Throws.{among_handlers, LandsAll, throws_new_covers, raise_lands, thrown_site}
+use Rattle.slot_laws.proofs.Frames.{among_handlers}
+use Rattle.coverage.proofs.Throws.{LandsAll, throws_new_covers, raise_lands, thrown_site}
 
 module _ (x : Subject) (given : Given) (gives : GivenAs) (S : Fact → Type 0) (map : IsMapOf given gives) (closed : IsClosedSet (Instance x.program gives (record { 0 = x.entry })) S)
     (whole : AreWholeMethods x.program gives) where
@@ -165,9 +166,9 @@ module _ (x : Subject) (given : Given) (gives : GivenAs) (S : Fact → Type 0) (
       let waits = below.0.for_initialiser a.triggered in
       let out = left_with s at c k below.0.is_called a.uncaught in
       let keeps : S (may_hold kept_objects at.object.site) = closed _ _ (keep_thrown waits.premises k at.object.site waits.may_start) (out, waits.hold) in
-      let later = kept_later x gives S s.world (at.place ∷ []) (λ place there. elim (where_there at.place place [] there) [
+      let later = kept_later x gives S s.world (at.place ∷ []) (λ place there. elim (contains_cases at.place place [] there) [
         | inl e ↦ subst (λ (p : ℕ). LeadsTo (MayHold S kept_objects) heap p) e (record { object = at.object; held = at.held; among = keeps })
-        | inr none ↦ absurd (none_there place none)
+        | inr none ↦ absurd (contains_none place none)
       ]) c.world in
       throws_new_covers x given gives S map closed whole (with_kept s.world (at.place ∷ [])) a.caller a.rest _ t a.throws later.covered
       (thrown_site x given gives S map closed whole heap a.caller a.caller_at a.number _ a.listed a.is_class below.0.frame) below.0.frame a.triggered below.1

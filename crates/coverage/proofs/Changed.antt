@@ -1,6 +1,7 @@
 -- While a frame is there, only what its method may write changes.
 use Rattle.std.proofs.Common.{◌≡◌, ◌⊎◌, inl, inr, ℕ, ◌<◌, ◌≤◌, Bool, true, false, List, [], ◌∷◌, length, Option, Some, None, Contains, refl, sym, ap, ◌∙◌, subst, arith}
 use Rattle.std.proofs.lemmas.Option.{none-some}
+use Rattle.list_laws.proofs.Members.{contains_cases, contains_none}
 use Rattle.jvm_model.specs.declared.number.FieldNo.{FieldNo}
 use Rattle.jvm_model.specs.declared.number.MethodNo.{MethodNo}
 use Rattle.jvm_model.specs.declared.stub.StubResult.{StubResult}
@@ -17,7 +18,7 @@ use Rattle.bytecode_machine.specs.Described.{DescribedMethod, Gives}
 use Rattle.bytecode_machine.specs.Events.{HasEvents, moved, unmoved}
 use Rattle.bytecode_machine.specs.Machine.{unwound}
 use Rattle.bytecode_machine.specs.Objects.{Subject}
-use Rattle.bytecode_machine.specs.States.{Value, fields, elements, Object, Frame, World, State, moved_to, waiting}
+use Rattle.bytecode_machine.specs.States.{Value, Object, Frame, World, State, moved_to, waiting}
 use Rattle.node_machine.specs.NodeExecutions.{AreNodeSteps}
 use Rattle.node_machine.specs.NodeSteps.{Leads, NodeStep, advances, enters, gets_result, gets_exception, enters_entry, returns, resumes, ends, raises, throws, catches, unwinds, starts, wraps}
 use Rattle.points_to_rules.specs.Facts.{Fact, may_run, may_call, may_write}
@@ -27,13 +28,13 @@ use Rattle.points_to_rules.specs.WholeMethods.{AreWholeMethods}
 use Rattle.coverage.proofs.RefusedCalls.{HasNoRefusedCall}
 use Rattle.coverage.specs.Covering.{IsCoveredFrame, AreCoveredBelow, Covers}
 use Rattle.coverage.specs.Changes.{ChangesOnly, StayAbove, ChangesAreWritten}
-use Rattle.program_laws.proofs.Orders.{none_there, where_there}
 use Rattle.coverage.proofs.Frames.{frames_are}
 use Rattle.coverage.proofs.Places.{Place, in_method, at_start, place_of, node_is}
 use Rattle.coverage.proofs.Advancing.{start_leads_not}
 use Rattle.coverage.proofs.Calls.{same_method}
 use Rattle.coverage.proofs.KeptFields.{fields_kept, none_changed, more_changed, one_changed, field_changed, changed_on, changed_more}
 use Rattle.coverage.proofs.Executions.{step_covers, covers_all}
+use Rattle.coverage.proofs.Within.{fields_elements}
 
 abbrev new_frame : ℕ → List Value → Frame
 new_frame number slots = record { method = Some number; offset = 0; slots = slots; waits = false }
@@ -58,9 +59,6 @@ less_base f below depth m le (inr later) = later.1
 
 base_at : (frames below : List Frame) (f : Frame) (depth : ℕ) (m : MethodNo) → frames ≡ f ∷ below → HasBase frames depth m → HasBase (f ∷ below) depth m
 base_at frames below f depth m e base = subst (λ (fs : List Frame). HasBase fs depth m) e base
-
-fields_elements : (values : ℕ → Value) (others : List Value) → fields values ≡ elements others → ⊥
-fields_elements values others e = cc
 
 module _ (x : Subject) (given : Given) (gives : GivenAs) (S : Fact → Type 0) (map : IsMapOf given gives) (closed : IsClosedSet (Instance x.program gives (record { 0 = x.entry })) S)
     (writes : IsClosedSet (WriteInstance x.program gives) S) (whole : AreWholeMethods x.program gives) (unrefused : HasNoRefusedCall x.program gives S) where
@@ -258,13 +256,13 @@ module _ (x : Subject) (given : Given) (gives : GivenAs) (S : Fact → Type 0) (
   steps_change : (depth : ℕ) (m : MethodNo) (s : State) (states : List State) → AreNodeSteps x given s states → StayAbove depth states → Covers x gives S s → HasBase s.frames depth m
       → (t : State) → Contains (s ∷ states) t → ChangesOnly (WrittenBy m) s.world.heap t.world.heap
   steps_change depth m s [] steps above c base t there =
-      elim (where_there s t [] there) [
+      elim (contains_cases s t [] there) [
         | inl e ↦ subst (λ (u : State). ChangesOnly (WrittenBy m) s.world.heap u.world.heap) e (none_changed (WrittenBy m) s.world.heap)
-        | inr later ↦ absurd (none_there t later)
+        | inr later ↦ absurd (contains_none t later)
       ]
   steps_change depth m s (u ∷ states) steps above c base t there =
       let first = step_changes depth m s u steps.0 c base in
-      elim (where_there s t (u ∷ states) there) [
+      elim (contains_cases s t (u ∷ states) there) [
         | inl e ↦ subst (λ (v : State). ChangesOnly (WrittenBy m) s.world.heap v.world.heap) e (none_changed (WrittenBy m) s.world.heap)
         | inr later ↦ changed_on (WrittenBy m) s.world.heap u.world.heap t.world.heap first.kept
             (steps_change depth m u states steps.1 above.1 (step_covers x given gives S map closed whole unrefused s u steps.0 c) (first.base above.0) t later)

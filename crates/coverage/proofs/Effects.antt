@@ -1,39 +1,36 @@
 -- What an operation does to a slot, and how the slot reads after it.
-use Rattle.std.proofs.Common.{◌≡◌, ◌⊎◌, inl, inr, ℕ, Bool, true, false, cond, List, [], ◌∷◌, ◌++◌, Option, Some, None, nat_eq, if◌then◌else◌, ◌||◌, Contains, find, option_to_list, flat_map, refl, sym, ap, ◌∙◌, subst}
+use Rattle.std.proofs.Common.{◌≡◌, ◌⊎◌, inl, inr, ℕ, Bool, true, false, cond, List, [], ◌∷◌, ◌++◌, Option, Some, None, nat_eq, ◌||◌, Contains, find, option_to_list, flat_map, refl, sym, ap, ◌∙◌, subst}
 use Rattle.std.specs.List.{list_any}
 use Rattle.std.proofs.lemmas.Bool.{cases_Bool, eq-eqb, eqb-true}
 use Rattle.std.proofs.lemmas.List.Elements.{Contains-append_left, Contains-append_right, Contains-append_cases}
+use Rattle.list_laws.proofs.Members.{contains_cases, contains_first, contains_later, contains_none}
+use Rattle.list_laws.proofs.Tests.{IsFound, found, not_found}
 use Rattle.op_model.specs.declared.op.Move.{Move}
 use Rattle.op_model.specs.declared.op.Op.TheVariants.{Assign}
 use Rattle.op_model.specs.declared.op.Source.{Source}
 use Rattle.op_model.specs.declared.op.Source.TheVariants.{Slot, Null, Primitive}
 use Rattle.bytecode_machine.specs.States.{Value, primitive_value, null_value, slot_at}
 use Rattle.node_machine.specs.Slots.{source_value, AreMoved}
-use Rattle.slot_names.specs.Variables.{Effect, keeps, moves, writes, effect_on, effect_of_move}
+use Rattle.slot_names.specs.Variables.{keeps, moves, writes, effect_on, effect_of_move}
+use Rattle.slot_laws.proofs.Effects.{effect_of_writes, is_to}
 use Rattle.points_to_rules.specs.ReadSlots.{source_slots, read_slots}
-use Rattle.program_laws.proofs.Orders.{first_there, more_there, where_there, none_there}
-use Rattle.coverage.proofs.Lists.{IsFound, found, not_found}
 
 -- ---- operations that write some slots
 
--- by the slots that an operation writes which is no assignment
-abbrev pub effect_of_writes : ℕ → List ℕ → Effect
-effect_of_writes z slots = if list_any (λ (y : ℕ). nat_eq y z) slots then writes else keeps
-
 none_taken : (z : ℕ) (slots : List ℕ) → (Contains slots z → ⊥) → list_any (λ (y : ℕ). nat_eq y z) slots ≡ false
 none_taken z [] free = refl
-none_taken z (y ∷ slots) free = by (none_taken z slots (λ there. free (more_there y z slots there))) (cases_Bool (nat_eq y z))
+none_taken z (y ∷ slots) free = by (none_taken z slots (λ there. free (contains_later y z slots there))) (cases_Bool (nat_eq y z))
   where
     by : list_any (λ (x : ℕ). nat_eq x z) slots ≡ false → (nat_eq y z ≡ true) ⊎ (nat_eq y z ≡ false) → (nat_eq y z || list_any (λ (x : ℕ). nat_eq x z) slots) ≡ false
-    by rest (inl is) = absurd (free (subst (λ (x : ℕ). Contains (y ∷ slots) x) (eqb-true y z is) (first_there y slots)))
+    by rest (inl is) = absurd (free (subst (λ (x : ℕ). Contains (y ∷ slots) x) (eqb-true y z is) (contains_first y slots)))
     by rest (inr is) = rw (is, rest) refl
 
 pub no_write : (z : ℕ) (slots : List ℕ) → (Contains slots z → ⊥) → effect_of_writes z slots ≡ keeps
 no_write z slots free = ap (λ (b : Bool). cond b writes keeps) (none_taken z slots free)
 
 target_there : (target : Option ℕ) (z : ℕ) → Contains (option_to_list target) z → target ≡ Some z
-target_there None z there = absurd (none_there z there)
-target_there (Some y) z there = elim (where_there y z [] there) [ inl e ↦ ap Some e | inr later ↦ absurd (none_there z later) ]
+target_there None z there = absurd (contains_none z there)
+target_there (Some y) z there = elim (contains_cases y z [] there) [ inl e ↦ ap Some e | inr later ↦ absurd (contains_none z later) ]
 
 -- a slot that is no operand and not the target
 pub kept_after : (operands : List ℕ) (target : Option ℕ) (z : ℕ) → (Contains operands z → ⊥) → (target ≡ Some z → ⊥) → effect_of_writes z (operands ++ option_to_list target) ≡ keeps
@@ -48,9 +45,6 @@ kept_before operands target z free other =
 
 -- ---- moves
 
-abbrev is_to : ℕ → Move → Bool
-is_to z m = nat_eq m.target z
-
 -- what a slot is after moves: as it was, as another one was, or no reference
 pub data IsMovedSlot (changes : List Move) (before after : List Value) (z : ℕ) : Type 0 where
   as_before : effect_on z (Assign changes) ≡ keeps → slot_at after z ≡ slot_at before z → IsMovedSlot changes before after z
@@ -60,8 +54,8 @@ pub data IsMovedSlot (changes : List Move) (before after : List Value) (z : ℕ)
 
 -- the source of a move is read
 source_there : (changes : List Move) (m : Move) (y : ℕ) → Contains changes m → Contains (source_slots m.source) y → Contains (flat_map (λ (k : Move). source_slots k.source) changes) y
-source_there [] m y there of = absurd (none_there m there)
-source_there (k ∷ changes) m y there of = by (source_there changes m y) (where_there k m changes there)
+source_there [] m y there of = absurd (contains_none m there)
+source_there (k ∷ changes) m y there of = by (source_there changes m y) (contains_cases k m changes there)
   where
     by : (Contains changes m → Contains (source_slots m.source) y → Contains (flat_map (λ (j : Move). source_slots j.source) changes) y) → (k ≡ m) ⊎ Contains changes m
         → Contains (source_slots k.source ++ flat_map (λ (j : Move). source_slots j.source) changes) y
@@ -88,7 +82,7 @@ moved_slot changes before after z are = by (find (is_to z) changes) refl
 
         of : (s : Source) → m.source ≡ s → IsMovedSlot changes before after z
         of (Slot y) from =
-            let reads : Contains (source_slots m.source) y = subst (λ (s : Source). Contains (source_slots s) y) (sym from) (first_there y []) in
+            let reads : Contains (source_slots m.source) y = subst (λ (s : Source). Contains (source_slots s) y) (sym from) (contains_first y []) in
             as_source y (effect ∙ ap (λ (s : Source). effect_of_move (Some (record { source = s; target = m.target }))) from)
             (source_there changes m y at.there reads) (here ∙ ap (λ (s : Source). source_value s before) from)
         of Null from = as_null (here ∙ ap (λ (s : Source). source_value s before) from)

@@ -1,5 +1,6 @@
 -- Each step keeps covered states covered, and so each state of an execution is.
 use Rattle.std.proofs.Common.{inl, inr, List, [], ◌∷◌, Contains, subst}
+use Rattle.list_laws.proofs.Members.{contains_cases, contains_none}
 use Rattle.least_sets.specs.Rules.{IsClosedSet}
 use Rattle.op_model.specs.Supplies.{Given, GivenAs, IsMapOf}
 use Rattle.bytecode_machine.specs.Objects.{Subject}
@@ -11,7 +12,6 @@ use Rattle.points_to_rules.specs.Rules.{Instance}
 use Rattle.points_to_rules.specs.WholeMethods.{AreWholeMethods, as_given}
 use Rattle.coverage.proofs.RefusedCalls.{HasNoRefusedCall}
 use Rattle.coverage.specs.Covering.{Covers, CoversAll}
-use Rattle.program_laws.proofs.Orders.{none_there, where_there}
 use Rattle.coverage.proofs.Advancing.{advances_cover}
 use Rattle.coverage.proofs.Calls.{enters_cover, returns_cover, resumes_cover, ends_cover}
 use Rattle.coverage.proofs.Stubs.{gets_result_covers}
@@ -39,9 +39,9 @@ module _ (x : Subject) (given : Given) (gives : GivenAs) (S : Fact → Type 0) (
   step_covers s t (wraps at h) c = wraps_cover x given gives S map closed whole s t at h c
 
   pub steps_cover : (s : State) (states : List State) → AreNodeSteps x given s states → Covers x gives S s → (t : State) → Contains (s ∷ states) t → Covers x gives S t
-  steps_cover s [] steps c t there = elim (where_there s t [] there) [ inl e ↦ subst (λ (u : State). Covers x gives S u) e c | inr later ↦ absurd (none_there t later) ]
+  steps_cover s [] steps c t there = elim (contains_cases s t [] there) [ inl e ↦ subst (λ (u : State). Covers x gives S u) e c | inr later ↦ absurd (contains_none t later) ]
   steps_cover s (u ∷ states) steps c t there =
-      elim (where_there s t (u ∷ states) there) [
+      elim (contains_cases s t (u ∷ states) there) [
         | inl e ↦ subst (λ (r : State). Covers x gives S r) e c
         | inr later ↦ steps_cover u states steps.1 (step_covers s u steps.0 c) t later
       ]

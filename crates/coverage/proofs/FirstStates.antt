@@ -7,6 +7,8 @@ use Rattle.std.proofs.lemmas.List.{length-append, length-map}
 use Rattle.std.proofs.lemmas.List.Elements.{All-contains}
 use Rattle.std.proofs.lemmas.Option.{same_Some, none-some, slice_get-map}
 use Rattle.std.proofs.lemmas.Slice.Eq.{bytes_eq-Decides}
+use Rattle.list_laws.proofs.Members.{contains_none}
+use Rattle.list_laws.proofs.Places.{contains_at, in_longer}
 use Rattle.jvm_model.specs.declared.number.FieldNo.{FieldNo}
 use Rattle.jvm_model.specs.declared.site.Site.{Site}
 use Rattle.jvm_model.specs.Programs.{Program, Field, Method}
@@ -22,8 +24,6 @@ use Rattle.points_to_rules.specs.Rules as rules
 use Rattle.coverage.specs.References.{LeadsTo, IsCovered}
 use Rattle.coverage.specs.Sites.{of_start, of_arguments}
 use Rattle.coverage.specs.Covering.{MayHold, MayHoldStatic, IsCoveredObject, Covers}
-use Rattle.program_laws.proofs.Orders.{none_there}
-use Rattle.least_sets.proofs.Places.{contains_at, in_longer}
 use Rattle.coverage.proofs.Lists.{single, behind, IsBehind, where_joined}
 use Rattle.coverage.proofs.Values.{leads_by, covered_as, covered_by}
 use Rattle.coverage.proofs.Arrays.{default_covered}
@@ -140,7 +140,7 @@ module _ (x : Subject) (gives : GivenAs) (S : Fact → Type 0) (closed : IsClose
         world = record {
           objects = λ place o held. object_covered h.entry h.stands h.objects h.arguments place o (where_joined (map (boot_object x) (boot_classes x.program)) h.objects place o held);
           statics = λ field. static_covered h.entry h.stands h.objects h.arguments field (h.statics field.0) (h.begins field.0);
-          kept = λ place there. absurd (none_there place there);
+          kept = λ place there. absurd (contains_none place there);
           start = record {
             constants = λ place class there. boot_leads h.entry h.stands h.objects h.arguments place class (in_longer constant_classes (held_classes x.program.fields) place class there);
             arguments = λ entry there some.

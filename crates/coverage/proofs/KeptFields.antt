@@ -3,13 +3,13 @@ use Rattle.std.proofs.Common.{◌≡◌, ◌⊎◌, inl, inr, ℕ, Bool, true, f
 use Rattle.std.specs.Prelude.{slice_get, slice_set}
 use Rattle.std.proofs.lemmas.Bool.{cases_eq, eqb-true}
 use Rattle.std.proofs.lemmas.Option.{same_Some}
+use Rattle.list_laws.proofs.Places.{in_longer}
 use Rattle.jvm_model.specs.declared.number.FieldNo.{FieldNo}
 use Rattle.bytecode_machine.specs.States.{Value, fields, Object, updated}
 use Rattle.coverage.specs.Changes.{HasFields, KeepsFields, ChangesOnly}
-use Rattle.least_sets.proofs.Places.{in_longer}
 use Rattle.coverage.proofs.Lists.{set_here, set_there}
 
-same_fields : (values others : ℕ → Value) → fields values ≡ fields others → values ≡ others
+pub same_fields : (values others : ℕ → Value) → fields values ≡ fields others → values ≡ others
 same_fields values others e = cc
 
 module _ (Written : FieldNo → Type 0) where

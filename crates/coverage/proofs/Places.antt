@@ -2,6 +2,8 @@
 use Rattle.std.proofs.Common.{◌≡◌, ◌⊎◌, inl, inr, ℕ, List, [], ◌∷◌, Option, Some, None, Ok, nat_eq, Contains, sym, ap, ◌∙◌, subst}
 use Rattle.std.proofs.lemmas.Bool.{eqb-true}
 use Rattle.std.proofs.lemmas.Option.{same_Some, none-some}
+use Rattle.list_laws.proofs.Members.{contains_cases, contains_none}
+use Rattle.list_laws.proofs.Tests.{IsFound, found}
 use Rattle.jvm_model.specs.declared.number.MethodNo.{MethodNo}
 use Rattle.op_model.specs.declared.lowered.LoweredMethod.{LoweredMethod}
 use Rattle.op_model.specs.declared.node.Node.{Node}
@@ -11,8 +13,6 @@ use Rattle.bytecode_machine.specs.States.{Frame}
 use Rattle.node_machine.specs.Nodes.{IsStartCall, IsStartReturn, AreStartNodes, HasNodes, of_start, of_method, StandsAt}
 use Rattle.points_to_rules.specs.Rules.{node_of}
 use Rattle.coverage.specs.Covering.{StandsIn, node_at}
-use Rattle.program_laws.proofs.Orders.{none_there, where_there}
-use Rattle.coverage.proofs.Lists.{IsFound, found}
 
 -- a node of the start
 abbrev pub IsStartNode : Subject → Node → Type 0
@@ -23,14 +23,14 @@ pub data Place (x : Subject) (gives : GivenAs) (f : Frame) (locals : ℕ) (n : N
   at_start : f.method ≡ None → n.offset ≡ f.offset → IsStartNode x n → Place x gives f locals n
 
 start_node : (x : Subject) (nodes : List Node) (n : Node) → AreStartNodes x nodes → Contains nodes n → IsStartNode x n
-start_node x nodes n are there = by (where_there are.call n (are.return ∷ []) (subst (λ (ns : List Node). Contains ns n) are.is there))
+start_node x nodes n are there = by (contains_cases are.call n (are.return ∷ []) (subst (λ (ns : List Node). Contains ns n) are.is there))
   where
     by : (are.call ≡ n) ⊎ Contains (are.return ∷ []) n → IsStartNode x n
     by (inl e) = inl (subst (λ (k : Node). IsStartCall x k) e are.is_call)
     by (inr later) =
-        elim (where_there are.return n [] later) [
+        elim (contains_cases are.return n [] later) [
           | inl e ↦ inr (subst (λ (k : Node). IsStartReturn k) e are.is_return)
-          | inr none ↦ absurd (none_there n none)
+          | inr none ↦ absurd (contains_none n none)
         ]
 
 -- the node of a frame, by its reference

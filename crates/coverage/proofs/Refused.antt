@@ -5,6 +5,8 @@ use Rattle.std.specs.Str.{bytes_eq}
 use Rattle.std.proofs.lemmas.Bool.{false≢true}
 use Rattle.std.proofs.lemmas.List.Elements.{All-contains}
 use Rattle.std.proofs.lemmas.Slice.Eq.{bytes_eq-Decides}
+use Rattle.list_laws.proofs.Members.{contains_cases, contains_none}
+use Rattle.list_laws.proofs.Places.{contains_at}
 use Rattle.jvm_model.specs.declared.class_file.Attribute.{Attribute}
 use Rattle.jvm_model.specs.declared.class_file.ClassFile.{ClassFile}
 use Rattle.jvm_model.specs.declared.number.MethodNo.{MethodNo}
@@ -20,8 +22,6 @@ use Rattle.points_to_rules.specs.Facts.{Fact}
 use Rattle.points_to_rules.specs.Refusals.{IsCodeStart, of_call, IsUnrefused}
 use Rattle.points_to_rules.specs.WholeMethods.{AreWholeMethods}
 use Rattle.coverage.proofs.RefusedCalls.{HasNoRefusedCall}
-use Rattle.program_laws.proofs.Orders.{none_there, where_there}
-use Rattle.least_sets.proofs.Places.{contains_at}
 
 -- ---- the first that passes a test
 
@@ -58,8 +58,8 @@ some_place file number h =
 -- ---- the class of a name
 
 class_among : (classes : List Class) (name : List ℕ) → Contains (map (λ (c : Class). c.name) classes) name → (c : Class) × (find (λ (k : Class). bytes_eq k.name name) classes ≡ Some c)
-class_among [] name there = absurd (none_there name there)
-class_among (c ∷ classes) name there = by (class_among classes name) (bytes_eq c.name name) refl (where_there c.name name (map (λ (k : Class). k.name) classes) there)
+class_among [] name there = absurd (contains_none name there)
+class_among (c ∷ classes) name there = by (class_among classes name) (bytes_eq c.name name) refl (contains_cases c.name name (map (λ (k : Class). k.name) classes) there)
   where
     by : (Contains (map (λ (k : Class). k.name) classes) name → (k : Class) × (find (λ (j : Class). bytes_eq j.name name) classes ≡ Some k)) → (b : Bool) → bytes_eq c.name name ≡ b
         → (c.name ≡ name) ⊎ Contains (map (λ (k : Class). k.name) classes) name → (k : Class) × (find (λ (j : Class). bytes_eq j.name name) (c ∷ classes) ≡ Some k)

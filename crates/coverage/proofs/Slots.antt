@@ -1,6 +1,7 @@
 -- The slots of a frame after a node: what was covered there is covered at the nodes to which it leads.
 use Rattle.std.proofs.Common.{◌≡◌, ◌⊎◌, inl, inr, ℕ, ◌+◌, ◌<◌, List, [], ◌∷◌, ◌++◌, Option, Some, None, Contains, refl, sym, ap, ◌∙◌, subst}
 use Rattle.std.proofs.lemmas.Option.{same_Some, none-some}
+use Rattle.list_laws.proofs.Members.{contained_or_not}
 use Rattle.jvm_model.specs.declared.number.MethodNo.{MethodNo}
 use Rattle.least_sets.specs.Rules.{IsClosedSet}
 use Rattle.op_model.specs.declared.lowered.LoweredMethod.{LoweredMethod}
@@ -21,9 +22,10 @@ use Rattle.points_to_rules.specs.WholeMethods.{AreWholeMethods}
 use Rattle.points_to_rules.specs.ReadSlots.{read_slots}
 use Rattle.coverage.specs.References.{IsCovered}
 use Rattle.coverage.specs.Covering.{MayHold}
-use Rattle.coverage.proofs.Lists.{listed_or_not, some_or_not}
+use Rattle.coverage.proofs.Lists.{some_or_not}
 use Rattle.coverage.proofs.Values.{Grows, covered_on, covered_by, covered_as}
-use Rattle.coverage.proofs.Effects.{effect_of_writes, kept_after, IsMovedSlot, as_before, as_source, as_null, as_primitive, moved_slot}
+use Rattle.slot_laws.proofs.Effects.{effect_of_writes}
+use Rattle.coverage.proofs.Effects.{kept_after, IsMovedSlot, as_before, as_source, as_null, as_primitive, moved_slot}
 
 -- each slot of a method is covered by its variable at a node
 abbrev pub AreSlotsCovered : (Fact → Type 0) → LoweredMethod → Node → List Object → List Value → Type 0
@@ -96,7 +98,7 @@ module _ (x : Subject) (gives : GivenAs) (S : Fact → Type 0) (closed : IsClose
     pub left_slots : (operands : List ℕ) (target : Option ℕ) (value : Value) (old new : List Value) (heap later : List Object) → AreLeft operands target value old new
         → ((z : ℕ) → (Contains operands z → ⊥) → (target ≡ Some z → ⊥) → effect_on z n.op ≡ keeps) → Grows heap later
         → ((z : ℕ) (to : Holder) → target ≡ Some z → IsSlotAfter l n z to → IsCovered (MayHold S to) later value) → AreSlotsCovered S l n heap old → AreSlotsCovered S l k later new
-    left_slots operands target value old new heap later left effect grows gets before z v inside after = by (some_or_not target z) (listed_or_not operands z)
+    left_slots operands target value old new heap later left effect grows gets before z v inside after = by (some_or_not target z) (contained_or_not operands z)
       where
         by : (target ≡ Some z) ⊎ (target ≡ Some z → ⊥) → Contains operands z ⊎ (Contains operands z → ⊥) → IsCovered (MayHold S (variable v)) later (slot_at new z)
         by (inl e) there = covered_as (MayHold S (variable v)) later value _ (left.given z e) (gets z (variable v) e (slot_after l n k z v next after))

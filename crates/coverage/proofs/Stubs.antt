@@ -3,6 +3,8 @@ use Rattle.std.proofs.Common.{◌≡◌, inl, inr, ℕ, false, List, [], Option,
 use Rattle.std.specs.Prelude.{slice_get}
 use Rattle.std.specs.List.{flat_map}
 use Rattle.std.proofs.lemmas.Option.{same_Some}
+use Rattle.list_laws.proofs.Members.{contains_cases, contains_none}
+use Rattle.list_laws.proofs.Places.{contains_at}
 use Rattle.jvm_model.specs.declared.number.MethodNo.{MethodNo}
 use Rattle.jvm_model.specs.declared.site.Site.{Site}
 use Rattle.jvm_model.specs.declared.site.SiteKind.{SiteKind}
@@ -30,8 +32,6 @@ use Rattle.coverage.proofs.RefusedCalls.{HasNoRefusedCall}
 use Rattle.coverage.specs.References.{LeadsTo, IsCovered}
 use Rattle.coverage.specs.Sites.{of_node, of_result}
 use Rattle.coverage.specs.Covering.{MayHold, StandsIn, IsCoveredWorld, Covers}
-use Rattle.program_laws.proofs.Orders.{none_there, where_there}
-use Rattle.least_sets.proofs.Places.{contains_at}
 use Rattle.coverage.proofs.Values.{Grows, grows_on, covered_on, covered_by, covered_at, covered_as, leads_from, leads_by}
 use Rattle.coverage.proofs.Worlds.{IsLater, kept_later, object_made}
 use Rattle.coverage.proofs.Frames.{below_on}
@@ -59,9 +59,9 @@ fits_at x gives S w c class v f place o at held =
 
 -- the place that a value leads to
 place_given : (v : Value) (place : ℕ) → Contains (places_of v) place → v ≡ reference_to place
-place_given primitive_value place there = absurd (none_there place there)
-place_given null_value place there = absurd (none_there place there)
-place_given (reference_to other) place there = elim (where_there other place [] there) [ inl e ↦ ap reference_to e | inr none ↦ absurd (none_there place none) ]
+place_given primitive_value place there = absurd (contains_none place there)
+place_given null_value place there = absurd (contains_none place there)
+place_given (reference_to other) place there = elim (contains_cases other place [] there) [ inl e ↦ ap reference_to e | inr none ↦ absurd (contains_none place none) ]
 
 module _ (x : Subject) (given : Given) (gives : GivenAs) (S : Fact → Type 0) (map : IsMapOf given gives) (closed : IsClosedSet (Instance x.program gives (record { 0 = x.entry })) S)
     (whole : AreWholeMethods x.program gives) (unrefused : HasNoRefusedCall x.program gives S) where

@@ -1,6 +1,7 @@
 -- Throws, handlers, and frames that go.
-use Rattle.std.proofs.Common.{codes, ◌≡◌, inl, inr, ℕ, false, List, [], ◌∷◌, Option, Some, None, Contains, sym, ap, ◌∙◌, subst}
+use Rattle.std.proofs.Common.{codes, ◌≡◌, inl, inr, ℕ, false, List, [], Option, Some, None, Contains, sym, ap, ◌∙◌, subst}
 use Rattle.std.proofs.lemmas.Option.{same_Some}
+use Rattle.list_laws.proofs.Members.{contains_first, contains_none}
 use Rattle.jvm_model.specs.declared.number.ClassNo.{ClassNo}
 use Rattle.jvm_model.specs.declared.number.MethodNo.{MethodNo}
 use Rattle.jvm_model.specs.declared.site.Site.{Site}
@@ -9,21 +10,19 @@ use Rattle.jvm_model.specs.Programs.{Program, Class}
 use Rattle.least_sets.specs.Rules.{IsClosedSet}
 use Rattle.op_model.specs.declared.lowered.LoweredMethod.{LoweredMethod}
 use Rattle.op_model.specs.declared.node.Node.{Node}
-use Rattle.op_model.specs.declared.node.NodeHandler.{NodeHandler}
 use Rattle.op_model.specs.declared.op.Op.TheVariants.{Throw}
 use Rattle.op_model.specs.Supplies.{Given, GivenAs, IsMapOf}
 use Rattle.bytecode_machine.specs.Machine.{ThrowsNew}
 use Rattle.bytecode_machine.specs.Objects.{Subject}
 use Rattle.bytecode_machine.specs.States.{reference_to, Object, Frame, State, World, slot_at, site_at}
 use Rattle.node_machine.specs.Nodes.{IsClassNumber, IsThrownAt, raised, initialising, IsInitialisationError, StandsAt, IsStartCall}
-use Rattle.node_machine.specs.NodeSteps.{AtNode, Raises, Throws, IsFirstTaking}
+use Rattle.node_machine.specs.NodeSteps.{AtNode, Raises, Throws}
 use Rattle.points_to_rules.specs.Facts.{Holder, Fact, may_hold}
 use Rattle.points_to_rules.specs.Rules.{Lands, site_of, Instance, throw, raise}
 use Rattle.points_to_rules.specs.WholeMethods.{AreWholeMethods}
 use Rattle.coverage.specs.References.{LeadsTo}
 use Rattle.coverage.specs.Sites.{IsSite, of_node, of_raised, before_entry}
 use Rattle.coverage.specs.Covering.{MayHold, StandsIn, IsCoveredFrame, AreCoveredBelow, IsCoveredWorld, Covers}
-use Rattle.program_laws.proofs.Orders.{none_there, first_there, more_there}
 use Rattle.coverage.proofs.Values.{among_from}
 use Rattle.coverage.proofs.Worlds.{object_made}
 use Rattle.coverage.proofs.Frames.{frame_on, below_on, frames_are}
@@ -38,12 +37,6 @@ pub class_is : (p : Program) (number : ClassNo) (a b : List ℕ) → IsClassNumb
 class_is p number a b first second =
     let classes : first.class ≡ second.class = same_Some first.class second.class (sym first.stands ∙ second.stands) in
     sym first.named ∙ ap (λ (c : Class). c.name) classes ∙ second.named
-
--- the first handler that takes an object is one of them
-pub among_handlers : (p : Program) (class : List ℕ) (handlers : List NodeHandler) (h : NodeHandler) → IsFirstTaking p class handlers h → Contains handlers h
-among_handlers p class [] h taking = absurd taking
-among_handlers p class (g ∷ handlers) h (inl this) = subst (λ (k : NodeHandler). Contains (g ∷ handlers) k) (sym this.1) (first_there g handlers)
-among_handlers p class (g ∷ handlers) h (inr later) = more_there g h handlers (among_handlers p class handlers h later.1)
 
 module _ (x : Subject) (given : Given) (gives : GivenAs) (S : Fact → Type 0) (map : IsMapOf given gives) (closed : IsClosedSet (Instance x.program gives (record { 0 = x.entry })) S)
     (whole : AreWholeMethods x.program gives) where
@@ -88,7 +81,7 @@ module _ (x : Subject) (given : Given) (gives : GivenAs) (S : Fact → Type 0) (
           subst IsInitialisationError (class_is x.program number only.0 class only.1 is_class) (of_name only.0 only.2)
         where
           of_name : (name : List ℕ) → IsThrownAt x.program [] (Some call.entry.class) name → IsInitialisationError name
-          of_name name (raised kind there is) = absurd (none_there kind there)
+          of_name name (raised kind there is) = absurd (contains_none kind there)
           of_name name (initialising concerned trigger has is) = is
 
       start_site : f.method ≡ None → f.offset ≡ 0 → site_at kinds.Thrown f class ≡ record { kind = kinds.Thrown; method = None; offset = 0; class = class }
@@ -100,7 +93,7 @@ module _ (x : Subject) (given : Given) (gives : GivenAs) (S : Fact → Type 0) (
       by (in_method m l here count) =
           of_node m l now.node (c.runs m here.in_method) here.node (of_raised number class listed is_class (site_is kinds.Thrown gives f m l now.node class here))
       by (at_start no_method offset (inl call)) = before_entry class (error call) (start_site no_method (sym offset ∙ call.offset))
-      by (at_start no_method offset (inr return)) = absurd (none_there number (subst (λ (cs : List ClassNo). Contains cs number) return.throws listed))
+      by (at_start no_method offset (inr return)) = absurd (contains_none number (subst (λ (cs : List ClassNo). Contains cs number) return.throws listed))
 
   pub raises_cover : (s t : State) (at : AtNode x given s) → Raises x given s t at → Covers x gives S s → Covers x gives S t
   raises_cover s t at a c =
@@ -123,7 +116,7 @@ module _ (x : Subject) (given : Given) (gives : GivenAs) (S : Fact → Type 0) (
           lands = λ m l n to there landing.
               let same = one_node x given gives S map closed whole at.frame m l at.now.node n (stands_in x given gives map at.frame at.now m l there.in_method there.node.given) there in
               let is_throw = subst (λ (k : Node). k.op ≡ Throw a.value) same a.is_throw in
-              let o = operand_of x gives S closed whole m l n (Throw a.value) a.value s.world.heap at.frame.slots there.node is_throw (first_there a.value [])
+              let o = operand_of x gives S closed whole m l n (Throw a.value) a.value s.world.heap at.frame.slots there.node is_throw (contains_first a.value [])
               (slots_here x given gives S map closed whole s.world.heap at.frame m l n there frames.0) in
               let held : S (may_hold o.holder to_object.object.site) =
               among_from (MayHold S o.holder) s.world.heap (slot_at at.frame.slots a.value) to_object.place to_object.object o.covered to_object.is to_object.held in

@@ -3,9 +3,9 @@ use Rattle.std.proofs.Common.{◌≡◌, ℕ, zero, suc, List, [], ◌∷◌, Op
 use Rattle.std.specs.Prelude.{slice_get}
 use Rattle.std.proofs.lemmas.List.Elements.{Contains-append_left, Contains-append_right}
 use Rattle.std.proofs.lemmas.Option.{same_Some, none-some}
+use Rattle.list_laws.proofs.Members.{contains_first}
 use Rattle.bytecode_machine.specs.States.{Value, primitive_value, slot_at}
 use Rattle.node_machine.specs.Slots.{argument_values, argument_slots}
-use Rattle.program_laws.proofs.Orders.{first_there}
 
 -- what a unit of a call is
 pub data IsUnit (arguments : List (Option ℕ)) (slots : List Value) (unit : ℕ) : Type 0 where
@@ -26,5 +26,5 @@ pub argument_there : (arguments : List (Option ℕ)) (unit z : ℕ) → slice_ge
 argument_there [] unit z e = absurd (none-some (Some z) e)
 argument_there (a ∷ arguments) zero z e =
     Contains-append_left (option_to_list a) (argument_slots arguments) z
-    (subst (λ (o : Option ℕ). Contains (option_to_list o) z) (sym (same_Some a (Some z) e)) (first_there z []))
+    (subst (λ (o : Option ℕ). Contains (option_to_list o) z) (sym (same_Some a (Some z) e)) (contains_first z []))
 argument_there (a ∷ arguments) (suc unit) z e = Contains-append_right (option_to_list a) (argument_slots arguments) z (argument_there arguments unit z e)

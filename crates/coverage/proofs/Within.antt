@@ -3,6 +3,7 @@ use Rattle.std.proofs.Common.{◌≡◌, ◌⊎◌, inl, inr, arith, ℕ, ◌+�
 use Rattle.std.specs.Prelude.{slice_get, slice_set, suc}
 use Rattle.std.proofs.lemmas.Bool.{cases_eq, eqb-true}
 use Rattle.std.proofs.lemmas.Option.{same_Some}
+use Rattle.list_laws.proofs.Members.{contains_cases, contains_first, contains_later, contains_none}
 use Rattle.jvm_model.specs.declared.number.FieldNo.{FieldNo}
 use Rattle.jvm_model.specs.declared.number.MethodNo.{MethodNo}
 use Rattle.jvm_model.specs.declared.site.Site.{Site}
@@ -25,21 +26,18 @@ use Rattle.points_to_rules.specs.WholeMethods.{AreWholeMethods}
 use Rattle.coverage.specs.References.{IsCovered}
 use Rattle.coverage.specs.Sites.{IsSite, of_node, IsMadeAt, of_new, of_new_array}
 use Rattle.coverage.specs.Covering.{MayHold, MayHoldStatic, IsCoveredWorld}
-use Rattle.program_laws.proofs.Orders.{none_there, first_there, more_there, where_there}
 use Rattle.coverage.proofs.Lists.{where_set}
 use Rattle.coverage.proofs.Values.{grows_not, covered_by, covered_at, covered_as, among_from}
 use Rattle.coverage.proofs.Arrays.{AreNested}
 use Rattle.coverage.proofs.Effects.{no_write}
 use Rattle.coverage.proofs.Worlds.{Inner, IsLater, later_same, object_made, arrays_made, contents_later, static_later}
 use Rattle.coverage.proofs.Slots.{AreSlotsCovered, IsNext, slot_after, operand_of, moved_slots, gets_slots, puts_slots, kept_slot}
-
-same_fields : (values others : ℕ → Value) → fields values ≡ fields others → values ≡ others
-same_fields values others e = cc
+use Rattle.coverage.proofs.KeptFields.{same_fields}
 
 same_elements : (values others : List Value) → elements values ≡ elements others → values ≡ others
 same_elements values others e = cc
 
-fields_elements : (values : ℕ → Value) (others : List Value) → fields values ≡ elements others → ⊥
+pub fields_elements : (values : ℕ → Value) (others : List Value) → fields values ≡ elements others → ⊥
 fields_elements values others e = cc
 
 from_zero : (sites : List Site) (k : ℕ) → slice_get sites (0 + k) ≡ slice_get sites k
@@ -101,7 +99,7 @@ module _ (x : Subject) (gives : GivenAs) (S : Fact → Type 0) (closed : IsClose
 
         by : (slot ≡ z) ⊎ (slot ≡ z → ⊥) → IsCovered (MayHold S (variable v)) before.heap (slot_at left z)
         by (inl e) =
-            let o = operand_of x gives S closed whole m l n (Cast class slot) slot before.heap old is is_op (first_there slot []) slots in
+            let o = operand_of x gives S closed whole m l n (Cast class slot) slot before.heap old is is_op (contains_first slot []) slots in
             let after_slot : IsSlotAfter l n slot (variable v) = subst (λ (y : ℕ). IsSlotAfter l n y (variable v)) (sym e) (slot_after l n k z v next after) in
             covered_as (MayHold S (variable v)) before.heap (slot_at old slot) _ (same z ∙ ap (slot_at old) (sym e))
             (covered_at (MayHold S o.holder) (MayHold S (variable v)) before.heap (slot_at old slot)
@@ -109,7 +107,7 @@ module _ (x : Subject) (gives : GivenAs) (S : Fact → Type 0) (closed : IsClose
         by (inr other) =
             covered_as (MayHold S (variable v)) before.heap (slot_at old z) _ (same z)
             (kept_slot x gives S closed whole m l n k is runs next z v before.heap old inside
-            (ap (effect_on z) is_op ∙ no_write z (slot ∷ []) (λ there. elim (where_there slot z [] there) [ inl e ↦ other e | inr none ↦ none_there z none ])) after slots)
+            (ap (effect_on z) is_op ∙ no_write z (slot ∷ []) (λ there. elim (contains_cases slot z [] there) [ inl e ↦ other e | inr none ↦ contains_none z none ])) after slots)
 
     -- a field that is written, and the others
     field_written : (values others : ℕ → Value) (field other : FieldNo) (heap : List Object) (v : Value) (base : Site) → fields (updated values field.0 v) ≡ fields others
@@ -140,7 +138,7 @@ module _ (x : Subject) (gives : GivenAs) (S : Fact → Type 0) (closed : IsClose
           slots = λ k next. moved_slots x gives S closed whole m l n k is runs next changes before.heap old left is_op h.0 slots;
         })
     leads_covered (Load object field target) before after old left is_op h w slots =
-        let o = operand_of x gives S closed whole m l n (Load object field target) object before.heap old is is_op (first_there object []) slots in
+        let o = operand_of x gives S closed whole m l n (Load object field target) object before.heap old is is_op (contains_first object []) slots in
         let to = h.is_read.to in
         let base : S (may_hold o.holder to.object.site) = among_from (MayHold S o.holder) before.heap (slot_at old object) to.place to.object o.covered to.is to.held in
         let value : IsCovered (MayHold S (field_of to.object.site field)) before.heap h.value =
@@ -154,8 +152,8 @@ module _ (x : Subject) (gives : GivenAs) (S : Fact → Type 0) (closed : IsClose
         })
     leads_covered (Store object field value) before after old left is_op h w slots =
         let op = Store object field value in
-        let o = operand_of x gives S closed whole m l n op object before.heap old is is_op (first_there object (value ∷ [])) slots in
-        let v = operand_of x gives S closed whole m l n op value before.heap old is is_op (more_there object value (value ∷ []) (first_there value [])) slots in
+        let o = operand_of x gives S closed whole m l n op object before.heap old is is_op (contains_first object (value ∷ [])) slots in
+        let v = operand_of x gives S closed whole m l n op value before.heap old is is_op (contains_later object value (value ∷ []) (contains_first value [])) slots in
         let to = h.0.to in
         let base : S (may_hold o.holder to.object.site) = among_from (MayHold S o.holder) before.heap (slot_at old object) to.place to.object o.covered to.is to.held in
         let new : IsCovered (MayHold S (field_of to.object.site field)) before.heap (slot_at old value) =
@@ -170,7 +168,7 @@ module _ (x : Subject) (gives : GivenAs) (S : Fact → Type 0) (closed : IsClose
         })
     leads_covered (LoadElement array target) before after old left is_op h w slots =
         let op = LoadElement array target in
-        let o = operand_of x gives S closed whole m l n op array before.heap old is is_op (first_there array []) slots in
+        let o = operand_of x gives S closed whole m l n op array before.heap old is is_op (contains_first array []) slots in
         let a = h.is_read.of.array in
         let base : S (may_hold o.holder a.to.object.site) = among_from (MayHold S o.holder) before.heap (slot_at old array) a.to.place a.to.object o.covered a.to.is a.to.held in
         let value : IsCovered (MayHold S (elements_of a.to.object.site)) before.heap h.value =
@@ -183,8 +181,8 @@ module _ (x : Subject) (gives : GivenAs) (S : Fact → Type 0) (closed : IsClose
         })
     leads_covered (StoreElement array value) before after old left is_op h w slots =
         let op = StoreElement array value in
-        let o = operand_of x gives S closed whole m l n op array before.heap old is is_op (first_there array (value ∷ [])) slots in
-        let v = operand_of x gives S closed whole m l n op value before.heap old is is_op (more_there array value (value ∷ []) (first_there value [])) slots in
+        let o = operand_of x gives S closed whole m l n op array before.heap old is is_op (contains_first array (value ∷ [])) slots in
+        let v = operand_of x gives S closed whole m l n op value before.heap old is is_op (contains_later array value (value ∷ []) (contains_first value [])) slots in
         let a = h.0.of.array in
         let base : S (may_hold o.holder a.to.object.site) = among_from (MayHold S o.holder) before.heap (slot_at old array) a.to.place a.to.object o.covered a.to.is a.to.held in
         let new : IsCovered (MayHold S (elements_of a.to.object.site)) before.heap (slot_at old value) =
@@ -210,7 +208,7 @@ module _ (x : Subject) (gives : GivenAs) (S : Fact → Type 0) (closed : IsClose
         })
     leads_covered (StoreStatic field value) before after old left is_op h w slots =
         let op = StoreStatic field value in
-        let v = operand_of x gives S closed whole m l n op value before.heap old is is_op (first_there value []) slots in
+        let v = operand_of x gives S closed whole m l n op value before.heap old is is_op (contains_first value []) slots in
         let new : IsCovered (MayHold S (static_field field)) before.heap (slot_at old value) =
         covered_by (MayHold S v.holder) (MayHold S (static_field field)) before.heap (slot_at old value)
         (λ s held. closed _ _ (store_static m l n value field v.holder s is is_op v.slot) (runs, (held, tt))) v.covered in

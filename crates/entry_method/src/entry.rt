@@ -1,13 +1,12 @@
 //! The entry of a program.
 
-ghost use Rattle.std.specs.Prelude.{◌≡◌, ◌↔◌, ℕ, IfSome, IfNone, IsTrue, slice_get, Some};
-ghost use Rattle.jvm_model.specs.Programs.{Method, is_static};
-ghost use Rattle.linked_program.specs.Numbers.{IsMethodNumber};
+ghost use Rattle.std.specs.Prelude.{ℕ, IfSome, IfNone};
 ghost use Rattle.entry_method.specs.Entries.{IsEntry, IsStarting};
 
 use class_initialisers::is_coded;
+use hierarchy::methods::is_static;
+use jvm_model::MethodNo;
 use jvm_model::lookup::Signature;
-use jvm_model::{AccessFlag, MethodNo};
 use linked_program::program::Program;
 
 /// The method of a class file of this class and this name that a program can begin with: a static one with code that takes an array of strings, or
@@ -46,13 +45,4 @@ fn starting(program: &Program, class: &[u8], method: &[u8], descriptor: &[u8]) -
     } else {
         None
     }
-}
-
-/// Whether a method is static (JVMS 4.6).
-fn is_static(program: &Program, method: MethodNo) -> bool
-    requires { IsMethodNumber program.now method.0 }
-    ensures { (m : Method) → slice_get program.now.methods method.0 ≡ Some m → result ≡ is_static m }
-{
-    let view = program.method(method);
-    AccessFlag::Static.is_set_in(view.flags) || view.signature.is_class_initialiser()
 }

@@ -1,8 +1,6 @@
 //! The analysis of a linked program, from an entry.
 
-ghost use Rattle.std.specs.Prelude.{◌≡◌, ◌↔◌, Some, IfErr, IfOk, IsTrue};
-ghost use Rattle.jvm_model.specs.Programs.{Class, object_name};
-ghost use Rattle.jvm_model.specs.Subtypes.{class_named};
+ghost use Rattle.std.specs.Prelude.{IfErr, IfOk};
 ghost use Rattle.linked_program.specs.Numbers.{IsMethodNumber};
 ghost use Rattle.folder_supply.specs.Supplied.{IsSupplied};
 ghost use Rattle.points_to.specs.Solutions.{IsSolved};
@@ -28,7 +26,6 @@ pub fn solve_folder(
     pair_limit: u64,
 ) -> Result<Solution, SolveFailure>
     requires entry { IsMethodNumber program.now entry.0 }
-    requires object { (object : Class) × (class_named program.now object_name ≡ Some object) }
     ensures solved { IfOk result (IsSolved program.now (IsSupplied program.now) entry pair_limit) }
     ensures end { IfErr result (IsSolveEnd program.now (IsSupplied program.now) entry pair_limit) }
 {
@@ -47,7 +44,6 @@ pub fn analyse(
     pair_limit: u64,
 ) -> Result<Ground<'_>, SolveFailure>
     requires entry { IsMethodNumber program.now entry.0 }
-    requires object { (object : Class) × (class_named program.now object_name ≡ Some object) }
     ensures ground { IfOk result (IsAnalysis program.now (IsSupplied program.now) entry pair_limit) }
     ensures end { IfErr result (IsSolveEnd program.now (IsSupplied program.now) entry pair_limit) }
 {
@@ -55,12 +51,4 @@ pub fn analyse(
     let solution = solve_folder(alloc, program, entry, pair_limit)?;
     let ground = ground_of(alloc, program, solution)?;
     Ok(ground)
-}
-
-/// Whether the class `java/lang/Object` is in the program, as the analysis asks.
-pub fn has_object(program: &Program) -> bool
-    ensures { IsTrue result ↔ ((object : Class) × (class_named program.now object_name ≡ Some object)) }
-{
-    program.well_formed();
-    program.find(b"java/lang/Object").is_some()
 }

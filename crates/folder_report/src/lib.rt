@@ -8,5 +8,5 @@ mod report;
 mod verdicts;
 mod writing;
 
-pub use analysis::{analyse, has_object, solve_folder};
+pub use analysis::{analyse, solve_folder};
 pub use report::{Report, report_of};

@@ -1,9 +1,11 @@
 -- The walk over the code of a method ends, with its graph or its first fault.
-use Rattle.std.proofs.Common.{◌≡◌, ◌⊎◌, inl, inr, ℕ, zero, suc, ◌+◌, ◌<◌, ◌≤◌, List, [], ◌∷◌, length, get_or, set, replicate, IsSome, Option, Some, None, Result, Ok, Err, IfOk, refl, ◌∙◌, arith}
+use Rattle.std.proofs.Common.{◌≡◌, ◌⊎◌, inl, inr, ℕ, zero, suc, ◌+◌, ◌≤◌, List, length, get_or, set, replicate, IsSome, Option, Some, None, Result, Ok, Err, IfOk, refl, ◌∙◌, arith}
 use Rattle.std.specs.List.{slice_get, position}
 use Rattle.std.specs.Option.{option_map_or}
 use Rattle.std.proofs.lemmas.List.{length-replicate, length-set}
 use Rattle.std.proofs.lemmas.Option.{slice_get_within}
+use Rattle.list_laws.proofs.Places.{stands_below}
+use Rattle.std.proofs.lemmas.Slice.Zip.{AllZip-long}
 use Rattle.failure.specs.declared.Failure.{Failure}
 use Rattle.failure.specs.declared.Failure.TheVariants.{Cause}
 use Rattle.jvm_model.specs.declared.class_file.ClassFile.{ClassFile}
@@ -19,17 +21,11 @@ use Rattle.flow_graph.specs.Effects.{HasEffect}
 use Rattle.flow_graph.specs.Graphing.{IsCodeOf, IsFlow}
 use Rattle.flow_graph.specs.Graphs.{first_fault, steps_of, IsWalked, IsGraph, IsFault, TellsGraph, IsTold}
 use Rattle.flow_graph.specs.Walks.{unreached, reached, is_waiting, Waits, after_walk, Walk, ends, goes_on, at_start}
-use Rattle.flow_graph.proofs.Effects.{zip_length}
 use Rattle.flow_graph.proofs.Walked.{IsOneLess, unwalked, one_less, first_waits}
 use Rattle.flow_graph.proofs.WholeFlow.{flow_told}
 use Rattle.graph_laws.proofs.EachEffect.{code_effects}
 
 -- ---- the first instruction that waits
-
-some_at : {A : Type 0} (xs : List A) (k : ℕ) → k < length xs → (x : A) × (slice_get xs k ≡ Some x)
-some_at [] k lt = absurd (omega (arith, lt))
-some_at (x ∷ xs) zero lt = (x, refl)
-some_at (x ∷ xs) (suc k) lt = some_at xs k (omega (arith, lt))
 
 some_height : (o : Option ℕ) → IsSome o → (h : ℕ) × (o ≡ Some h)
 some_height None is = absurd cc
@@ -41,8 +37,8 @@ waits_first code effects marks number es ms first =
     let w = first_waits marks number unreached first in
     let m = get_or marks number unreached in
     let lt = slice_get_within marks number m w.known in
-    let p = some_at code.instructions number (omega (arith, lt, ms)) in
-    let e = some_at effects number (omega (arith, lt, ms, es)) in
+    let p = stands_below code.instructions number (omega (arith, lt, ms)) in
+    let e = stands_below effects number (omega (arith, lt, ms, es)) in
     let h = some_height m.height w.reached_at in
     record { number = number; first = first; placed = p.0; stands = p.1; effect = e.0; has = e.1; mark = m; known = w.known; height = h.0; reached_at = h.1 }
 
@@ -80,7 +76,7 @@ start_length code = by (slice_get start 0) ∙ length-replicate (length code.ins
 pub some_walk : (c : ClassFile) (code : Code) → IsSoundClass c → IsCodeOf c code → (marks : List Mark) × IsWalked c code marks
 some_walk c code sound is =
     let e = code_effects c code sound is in
-    let count = zip_length (λ (p : PlacedInstruction) (f : Effect). HasEffect c.pool p.instruction f) code.instructions e.0 e.1 in
+    let count = AllZip-long (λ (p : PlacedInstruction) (f : Effect). HasEffect c.pool p.instruction f) code.instructions e.0 e.1 in
     let w = walk_ends code e.0 (unwalked (at_start code)) (at_start code) count (start_length code) (omega arith) in
     (w.0, record { effects = e.0; known = e.1; walk = w.1 })
 

@@ -3,9 +3,9 @@ use Rattle.std.proofs.Common.{◌≡◌, ◌⊎◌, ◌↔◌, ℕ, ◌+◌, ◌
 use Rattle.std.specs.List.{slice_get, Contains}
 use Rattle.std.proofs.lemmas.List.{take_all}
 use Rattle.std.proofs.lemmas.List.Elements.{Contains-append_left, Contains-push, Contains-push_cases}
-use Rattle.least_sets.proofs.Places.{nothing_in}
+use Rattle.list_laws.proofs.Members.{contains_none}
+use Rattle.list_laws.proofs.Places.{before_there, last_or_before, last_there}
 use Rattle.ground.specs.Added.{AreAdded, OfOne}
-use Rattle.ground.proofs.Fronts.{last_or_before, last_there, before_there}
 
 -- one thing at the end
 pub pushed_adds : {X : Type 0} (xs : List X) (y : X) → AreAdded (λ x. y ≡ x) xs (xs ++ y ∷ [])
@@ -54,7 +54,7 @@ module _ {X : Type 0} (P : X → Type 0) where
   -- to nothing
   pub added_alone : (new : List X) → AreAdded P [] new → (x : X) → Contains new x ↔ P x
   added_alone new added x = (
-    λ there. elim ((added.each x).0 there) [ inl before ↦ absurd (nothing_in x before) | inr p ↦ p ],
+    λ there. elim ((added.each x).0 there) [ inl before ↦ absurd (contains_none x before) | inr p ↦ p ],
     λ p. (added.each x).1 (inr p),
   )
 

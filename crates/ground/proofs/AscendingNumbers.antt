@@ -10,12 +10,13 @@ use Rattle.std.proofs.lemmas.Cmp.{nat_cmp_total, ranked, tied_itself}
 use Rattle.std.proofs.lemmas.List.Sorted.{searchable_from_sorted}
 use Rattle.std.proofs.lemmas.Map.Keys.{Less-from_sorted}
 use Rattle.std.proofs.lemmas.Option.{none-some, slice_get_within, slice_get-get_or, get_or_from_slice_get}
+use Rattle.list_laws.proofs.Members.{contains_first, contains_none}
+use Rattle.list_laws.proofs.Places.{contains_at, place_of}
 use Rattle.jvm_model.specs.declared.number.MethodNo.{MethodNo}
 use Rattle.jvm_model.specs.declared.number.SiteNo.{SiteNo}
 use Rattle.jvm_model.specs.contracts.number.MethodNoOrd.TheImpl as method_order
 use Rattle.jvm_model.specs.contracts.number.SiteNoOrd.TheImpl as site_order
 use Rattle.jvm_model.specs.contracts.number.SiteNoOrd.TheImpl.Laws as site_order_laws
-use Rattle.least_sets.proofs.Places.{contains_at, first, first_or_later, nothing_in, place_of}
 use Rattle.ground.specs.Ordered.{DoAscend, method_number, site_number}
 
 -- ---- numbers
@@ -57,15 +58,12 @@ module _ {X : Type 0} (number : X → ℕ) where
 
   -- where all are one, there is one
   pub one_alone : (xs : List X) (x : X) → DoAscend number xs → Contains xs x → ((y : X) → Contains xs y → y ≡ x) → xs ≡ x ∷ []
-  one_alone [] x ascend there all = absurd (nothing_in x there)
-  one_alone (y ∷ []) x ascend there all = ap (λ (z : X). z ∷ []) (all y (first y []))
+  one_alone [] x ascend there all = absurd (contains_none x there)
+  one_alone (y ∷ []) x ascend there all = ap (λ (z : X). z ∷ []) (all y (contains_first y []))
   one_alone (y ∷ z ∷ rest) x ascend there all =
       let less = ascend.each 0 1 y z (omega arith) refl refl in
-      let same : y ≡ z = all y (first y (z ∷ rest)) ∙ sym (all z (contains_at (y ∷ z ∷ rest) 1 z refl)) in
+      let same : y ≡ z = all y (contains_first y (z ∷ rest)) ∙ sym (all z (contains_at (y ∷ z ∷ rest) 1 z refl)) in
       absurd (omega (arith, less, ap number same))
-
-pub alone_is : {X : Type 0} (x y : X) → Contains (x ∷ []) y → x ≡ y
-alone_is x y there = elim (first_or_later x [] y there) [ inl same ↦ same | inr more ↦ absurd (nothing_in y more) ]
 
 -- ---- what is found by halving
 

@@ -1,6 +1,5 @@
 -- `==` on the keys of sets tells each two apart.
-use Rattle.std.proofs.Common.{◌≡◌, Bool, true, eqb, Option, Some, None, refl}
-use Rattle.std.specs.Option.{option_eq}
+use Rattle.std.proofs.Common.{Bool, eqb}
 use Rattle.std.proofs.lemmas.Bool.{and_parts}
 use Rattle.std.proofs.lemmas.Map.Views.{exact_unsigned_eq}
 use Rattle.jvm_model.specs.declared.number.MethodNo.{MethodNo}
@@ -15,6 +14,7 @@ use Rattle.op_model.specs.contracts.node.NodeRefPartialEq.TheImpl as call_block
 use Rattle.op_model.specs.contracts.node.NodeRefEq.TheImpl.Laws as call_laws
 use Rattle.ground.specs.contracts.lists.FieldWritePartialEq.TheImpl as write_block
 use Rattle.ground.specs.contracts.lists.FieldWriteEq.TheImpl.Laws as write_laws
+use Rattle.points_to_rules.proofs.ExactParts.{same_maybe, exact_maybe}
 use Rattle.ground.proofs.KeySets.{Tells}
 
 abbrev pub same_methods : MethodNo → MethodNo → Bool
@@ -47,14 +47,6 @@ tells_writes = record {
       let fields = exact_unsigned_eq a.field.0 b.field.0 parts.1 in
       (λ i. record { method = record { 0 = methods i }; field = record { 0 = fields i } });
 }
-
-abbrev same_maybe : Option MethodNo → Option MethodNo → Bool
-same_maybe = option_eq (λ (a b : MethodNo). eqb a.0 b.0)
-
-exact_maybe : (a b : Option MethodNo) → same_maybe a b ≡ true → a ≡ b
-exact_maybe None None h = refl
-exact_maybe (Some a) (Some b) h = let methods = exact_unsigned_eq a.0 b.0 h in (λ i. Some (record { 0 = methods i }))
-exact_maybe _ _ h = cc
 
 abbrev pub same_calls : NodeRef → NodeRef → Bool
 same_calls = (call_block.ghosts).eq

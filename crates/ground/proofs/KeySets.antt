@@ -7,10 +7,10 @@ use Rattle.std.proofs.lemmas.List.Elements.{Contains-push_cases, Contains-append
 use Rattle.std.proofs.lemmas.List.Quantifiers.{position-Some}
 use Rattle.std.proofs.lemmas.Map.Keys.{any_passes_from_place, apart_from_distinct}
 use Rattle.std.proofs.lemmas.Option.{slice_get_within, slice_get-get_or, get_or_from_slice_get}
+use Rattle.list_laws.proofs.Places.{place_of}
 use Rattle.indexmap.specs.IndexSet.{insert_key}
 use Rattle.indexmap.proofs.CallerLemmas.{Contains-list_any}
 use Rattle.least_sets.specs.Rules.{IsWithoutDoubles}
-use Rattle.least_sets.proofs.Places.{place_of}
 use Rattle.slot_names.specs.Branches.{Extends}
 use Rattle.slot_names.proofs.ListPlaces.{Extends-itself, Extends-push}
 use Rattle.ground.specs.Added.{AreAdded}

@@ -2,23 +2,23 @@
 use Rattle.std.proofs.Common.{◌≡◌, ◌<◌, List, [], ◌∷◌, length, Some, sym, ◌∙◌, ap, subst}
 use Rattle.std.specs.List.{slice_get, Contains}
 use Rattle.std.proofs.lemmas.Option.{same_Some}
+use Rattle.list_laws.proofs.Members.{contains_first, contains_only}
+use Rattle.list_laws.proofs.Places.{stands_below}
 use Rattle.jvm_model.specs.declared.number.SiteNo.{SiteNo}
 use Rattle.jvm_model.specs.declared.site.Site.{Site}
 use Rattle.least_sets.specs.Rules.{IsWithoutDoubles}
-use Rattle.least_sets.proofs.Places.{first}
 use Rattle.points_to_rules.specs.Facts.{Holder}
-use Rattle.slot_names.proofs.ListPlaces.{stands_below}
 use Rattle.ground.specs.Findings.{AreSitesOf, Findings, HoldsAlone}
 use Rattle.ground.specs.Ordered.{DoAscend, site_number}
-use Rattle.ground.proofs.AscendingNumbers.{alone_is, one_alone}
+use Rattle.ground.proofs.AscendingNumbers.{one_alone}
 
 module _ (g : Findings) (h : Holder) (s : Site) (site : SiteNo) (numbers : List SiteNo) (sites : AreSitesOf g h numbers) (at : slice_get g.sites site.0 ≡ Some s) where
   pub alone_held : numbers ≡ site ∷ [] → HoldsAlone g h s
   alone_held is = record {
-    holds = (sites.each s).1 (site, subst (λ (ns : List SiteNo). Contains ns site) (sym is) (first site []), at);
+    holds = (sites.each s).1 (site, subst (λ (ns : List SiteNo). Contains ns site) (sym is) (contains_first site []), at);
     only = λ other there.
         let (number, among, stands) = (sites.each other).0 there in
-        let same = alone_is site number (subst (λ (ns : List SiteNo). Contains ns number) is among) in
+        let same = contains_only site number (subst (λ (ns : List SiteNo). Contains ns number) is among) in
         same_Some other s (sym stands ∙ ap (λ (n : SiteNo). slice_get g.sites n.0) (sym same) ∙ at);
   }
 

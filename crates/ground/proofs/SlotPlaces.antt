@@ -3,9 +3,8 @@ use Rattle.std.proofs.Common.{◌≡◌, ℕ, ◌<◌, [], length, Option, Some,
 use Rattle.std.specs.List.{slice_get, Contains}
 use Rattle.std.specs.Option.{IfSome, IfNone}
 use Rattle.std.proofs.lemmas.Option.{same_Some}
+use Rattle.list_laws.proofs.Places.{at_map, contains_at, map_at, place_of, stands_below}
 use Rattle.jvm_model.specs.Programs.{Program}
-use Rattle.class_index.proofs.ListPlaces.{map_at, at_map}
-use Rattle.least_sets.proofs.Places.{place_of, contains_at}
 use Rattle.op_model.specs.declared.lowered.LoweredMethod.{LoweredMethod}
 use Rattle.points_to_rules.specs.declared.place.PlaceNo.{PlaceNo}
 use Rattle.points_to_rules.specs.declared.place.Place.TheVariants as places
@@ -18,7 +17,6 @@ use Rattle.points_to_rules.proofs.PlaceHolders.{place_stands, places_differ}
 use Rattle.slot_names.specs.declared.variable.Variable.{Variable}
 use Rattle.slot_names.specs.KeptNames.{name_table}
 use Rattle.slot_names.specs.NodePlaces.{AreInOrder}
-use Rattle.slot_names.proofs.ListPlaces.{stands_below}
 use Rattle.slot_laws.proofs.OneVariable.{one_variable}
 use Rattle.ground.specs.declared.lists.Lists.{Lists}
 use Rattle.ground.specs.declared.node_place.NodePlace.{NodePlace}

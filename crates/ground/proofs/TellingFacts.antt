@@ -5,10 +5,10 @@ use Rattle.std.specs.declared.alloc.Global.{Global}
 use Rattle.std.specs.declared.vec.Vec.{Vec}
 use Rattle.std.proofs.lemmas.List.Elements.{Contains-append_left, Contains-append_right, Contains-append_cases}
 use Rattle.std.proofs.lemmas.Option.{none-some, same_Some}
+use Rattle.list_laws.proofs.Members.{contains_cases, contains_first, contains_later, contains_none, contains_only}
+use Rattle.list_laws.proofs.Places.{at_map, contains_at, map_at, place_of}
 use Rattle.jvm_model.specs.declared.site.Site.{Site}
 use Rattle.grouped_lists.specs.Groups.{values_at}
-use Rattle.class_index.proofs.ListPlaces.{map_at, at_map}
-use Rattle.least_sets.proofs.Places.{place_of, contains_at, first, first_or_later, later, nothing_in}
 use Rattle.points_to_rules.specs.Facts.{Fact, Holder, may_hold, may_run, may_call, may_write}
 use Rattle.ground.specs.declared.lists.FieldWrite.{FieldWrite}
 use Rattle.ground.specs.declared.lists.Lists.{Lists}
@@ -28,24 +28,24 @@ record IsTold {K V : Type 0} (tells : K → V → List Fact) (keys : List K) (gr
 
 module _ {K V : Type 0} (tells : K → V → List Fact) where
   by_value : (k : K) (vs : List V) (v : V) (fact : Fact) → Contains vs v → Contains (tells k v) fact → Contains (told_by tells k vs) fact
-  by_value k [] v fact there tell = absurd (nothing_in v there)
-  by_value k (w ∷ vs) v fact there tell = elim (first_or_later w vs v there) [
+  by_value k [] v fact there tell = absurd (contains_none v there)
+  by_value k (w ∷ vs) v fact there tell = elim (contains_cases w v vs there) [
     | inl same ↦ Contains-append_left (tells k w) (told_by tells k vs) fact (subst (λ (x : V). Contains (tells k x) fact) (sym same) tell)
     | inr more ↦ Contains-append_right (tells k w) (told_by tells k vs) fact (by_value k vs v fact more tell)
   ]
 
   value_of : (k : K) (vs : List V) (fact : Fact) → Contains (told_by tells k vs) fact → (v : V) × Contains vs v × Contains (tells k v) fact
-  value_of k [] fact there = absurd (nothing_in fact there)
+  value_of k [] fact there = absurd (contains_none fact there)
   value_of k (w ∷ vs) fact there = elim (Contains-append_cases (tells k w) (told_by tells k vs) fact there) [
-    | inl here ↦ (w, first w vs, here)
-    | inr more ↦ let rest = value_of k vs fact more in (rest.0, later w vs rest.0 rest.1, rest.2)
+    | inl here ↦ (w, contains_first w vs, here)
+    | inr more ↦ let rest = value_of k vs fact more in (rest.0, contains_later w rest.0 vs rest.1, rest.2)
   ]
 
   by_key : (keys : List K) (groups : List (Vec V Global)) (number : ℕ) (key : K) (value : V) (fact : Fact) → slice_get keys number ≡ Some key
       → Contains (values_at groups number) value
       → Contains (tells key value) fact → Contains (told tells keys groups) fact
   by_key [] groups number key value fact at listed tell = absurd (none-some key at)
-  by_key (k ∷ ks) [] number key value fact at listed tell = absurd (nothing_in value listed)
+  by_key (k ∷ ks) [] number key value fact at listed tell = absurd (contains_none value listed)
   by_key (k ∷ ks) (group ∷ groups) zero key value fact at listed tell =
       Contains-append_left (told_by tells k group.items) (told tells ks groups) fact
       (by_value k group.items value fact listed (subst (λ (x : K). Contains (tells x value) fact) (sym (same_Some k key at)) tell))
@@ -53,18 +53,14 @@ module _ {K V : Type 0} (tells : K → V → List Fact) where
       Contains-append_right (told_by tells k group.items) (told tells ks groups) fact (by_key ks groups n key value fact at listed tell)
 
   key_of : (keys : List K) (groups : List (Vec V Global)) (fact : Fact) → Contains (told tells keys groups) fact → IsTold tells keys groups fact
-  key_of [] groups fact there = absurd (nothing_in fact there)
-  key_of (k ∷ ks) [] fact there = absurd (nothing_in fact there)
+  key_of [] groups fact there = absurd (contains_none fact there)
+  key_of (k ∷ ks) [] fact there = absurd (contains_none fact there)
   key_of (k ∷ ks) (group ∷ groups) fact there = elim (Contains-append_cases (told_by tells k group.items) (told tells ks groups) fact there) [
     | inl here ↦ let one = value_of k group.items fact here in record { number = 0; key = k; value = one.0; at = refl; listed = one.1; tell = one.2 }
     | inr more ↦
         let rest = key_of ks groups fact more in
         record { number = suc rest.number; key = rest.key; value = rest.value; at = rest.at; listed = rest.listed; tell = rest.tell }
   ]
-
--- the only one of a list of one
-only : {X : Type 0} (x y : X) → Contains (x ∷ []) y → x ≡ y
-only x y there = elim (first_or_later x [] y there) [ inl same ↦ same | inr more ↦ absurd (nothing_in y more) ]
 
 -- ---- the facts of lists
 
@@ -76,11 +72,11 @@ Says l (may_call call target) = IsTargetIn l call target
 Says l (may_write m field) = Contains l.writes.keys (record { method = m; field = field })
 
 held_is : (h : Holder) (o : Option Site) (fact : Fact) → Contains (held_fact h o) fact → (s : Site) × (o ≡ Some s) × (may_hold h s ≡ fact)
-held_is h None fact there = absurd (nothing_in fact there)
-held_is h (Some s) fact there = (s, refl, only (may_hold h s) fact there)
+held_is h None fact there = absurd (contains_none fact there)
+held_is h (Some s) fact there = (s, refl, contains_only (may_hold h s) fact there)
 
 is_held : (h : Holder) (o : Option Site) (s : Site) → o ≡ Some s → Contains (held_fact h o) (may_hold h s)
-is_held h o s is = subst (λ (x : Option Site). Contains (held_fact h x) (may_hold h s)) (sym is) (first (may_hold h s) [])
+is_held h o s is = subst (λ (x : Option Site). Contains (held_fact h x) (may_hold h s)) (sym is) (contains_first (may_hold h s) [])
 
 module _ (l : Lists) where
   abbrev held : List Fact
@@ -112,7 +108,7 @@ module _ (l : Lists) where
   called_so : (fact : Fact) → Contains called fact → Says l fact
   called_so fact there =
       let tells = key_of call_facts l.calls.keys l.targets.groups.items fact there in
-      subst (Says l) (only (may_call tells.key tells.value) fact tells.tell)
+      subst (Says l) (contains_only (may_call tells.key tells.value) fact tells.tell)
       (tells.number, tells.at, tells.listed)
 
   written_so : (fact : Fact) → Contains written fact → Says l fact
@@ -147,7 +143,7 @@ module _ (l : Lists) where
       (Contains-append_left called written (may_call call target)
       (by_key call_facts l.calls.keys l.targets.groups.items number call target
       (may_call call target) at listed
-      (first (may_call call target) []))))
+      (contains_first (may_call call target) []))))
   is_there (may_write m field) writes =
       let w : FieldWrite = record { method = m; field = field } in
       let (k, at) = place_of l.writes.keys w writes in

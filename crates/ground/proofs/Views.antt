@@ -3,15 +3,15 @@ use Rattle.std.proofs.Common.{◌≡◌, ◌↔◌, ℕ, ◌<◌, List, [], map,
 use Rattle.std.specs.List.{slice_get, Contains}
 use Rattle.std.proofs.lemmas.List.{length-map}
 use Rattle.std.proofs.lemmas.Option.{same_Some, none-some, slice_get_within}
+use Rattle.list_laws.proofs.Members.{contains_none}
+use Rattle.list_laws.proofs.Places.{at_map, contains_at, map_at, place_of}
 use Rattle.jvm_model.specs.declared.number.MethodNo.{MethodNo}
 use Rattle.jvm_model.specs.declared.number.SiteNo.{SiteNo}
 use Rattle.jvm_model.specs.declared.site.Site.{Site}
 use Rattle.jvm_model.specs.Programs.{Program}
 use Rattle.linked_program.specs.Numbers.{IsMethodNumber}
 use Rattle.grouped_lists.specs.Groups.{values_at}
-use Rattle.class_index.proofs.ListPlaces.{map_at, at_map}
 use Rattle.least_sets.specs.Rules.{IsWithoutDoubles}
-use Rattle.least_sets.proofs.Places.{place_of, contains_at, nothing_in}
 use Rattle.op_model.specs.declared.lowered.LoweredMethod.{LoweredMethod}
 use Rattle.op_model.specs.declared.node.NodeRef.{NodeRef}
 use Rattle.points_to_rules.specs.declared.place.Place.{Place}
@@ -152,7 +152,7 @@ module _ (p : Program) (l : Lists) (g : Findings) (is : findings_of p l ≡ g) w
     none_listed h none = record {
       each = λ s. (
         λ there. let (place, site, at_place, at_site, among) = (so (may_hold h s)).0 there in absurd (none (contains_at g.holders place h (holder_at place h at_place))),
-        λ (site, among, at_site). absurd (nothing_in site among),
+        λ (site, among, at_site). absurd (contains_none site among),
       );
     }
 
@@ -181,6 +181,6 @@ module _ (p : Program) (l : Lists) (g : Findings) (is : findings_of p l ≡ g) w
   pub no_targets : (call : NodeRef) (m : MethodNo) → ((k : ℕ) → slice_get l.calls.keys k ≡ Some call → ◌≡◌ {A = Option ℕ} None (Some k))
       → Contains [] m ↔ Contains g.facts (may_call call m)
   no_targets call m none = (
-    λ among. absurd (nothing_in m among),
+    λ among. absurd (contains_none m among),
     λ there. let (k, at, among) = (so (may_call call m)).0 there in absurd (none-some k (none k at)),
   )

@@ -1,5 +1,5 @@
 -- Values that are put into ascending order, each once.
-use Rattle.std.proofs.Common.{◌≡◌, ℕ, zero, suc, ◌+◌, ◌<◌, ◌≤◌, Bool, List, [], ◌∷◌, length, Option, Some, refl, sym, ◌∙◌, ap, subst, inl, inr, arith}
+use Rattle.std.proofs.Common.{◌≡◌, ℕ, ◌+◌, ◌<◌, ◌≤◌, Bool, List, [], length, Option, Some, refl, sym, ◌∙◌, ap, subst, inl, inr, arith}
 use Rattle.std.specs.declared.alloc.Global.{Global}
 use Rattle.std.specs.declared.cmp.Ordering.{Ordering}
 use Rattle.std.specs.declared.vec.Vec.{Vec}
@@ -12,22 +12,11 @@ use Rattle.std.proofs.lemmas.Bool.{cases_lt}
 use Rattle.std.proofs.lemmas.List.Kept.{Contains-dedup, Contains-from_dedup, IsStrictlySortedBy-dedup}
 use Rattle.std.proofs.lemmas.List.Sorted.{Contains-permutation, IsPermutation-sym}
 use Rattle.std.proofs.lemmas.Option.{slice_get_past}
+use Rattle.list_laws.proofs.Places.{set_at, set_other}
 use Rattle.grouped_lists.specs.Groups.{values_at, values_in}
 use Rattle.grouped_lists.specs.Ordered.{AreOrdered, IsOrdered}
 
 -- ---- a group that is replaced
-
-set_at : {X : Type 0} (xs : List X) (place : ℕ) (y : X) → place < length xs → slice_get (set xs place y) place ≡ Some y
-set_at [] place y less = absurd (omega (arith, less))
-set_at (x ∷ xs) zero y less = refl
-set_at (x ∷ xs) (suc place) y less = set_at xs place y (omega (arith, less))
-
-set_other : {X : Type 0} (xs : List X) (place k : ℕ) (y : X) → (k ≡ place → ⊥) → slice_get (set xs place y) k ≡ slice_get xs k
-set_other [] place k y apart = refl
-set_other (x ∷ xs) zero zero y apart = absurd (apart refl)
-set_other (x ∷ xs) zero (suc k) y apart = refl
-set_other (x ∷ xs) (suc place) zero y apart = refl
-set_other (x ∷ xs) (suc place) (suc k) y apart = set_other xs place k y (λ e. apart (ap suc e))
 
 -- ---- values in order
 

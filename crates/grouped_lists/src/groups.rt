@@ -1,6 +1,6 @@
 //! Lists by number.
 
-ghost use Rattle.std.specs.Prelude.{◌≡◌, ◌<◌, ℕ, [], length, OnOk};
+ghost use Rattle.std.specs.Prelude.{◌≡◌, ◌<◌, ℕ, [], length, OnErr, OnOk};
 ghost use Rattle.grouped_lists.specs.Groups.{values_at, IsPut, IsSame};
 ghost use Rattle.grouped_lists.specs.Ordered.{AreOrdered, IsOrdered};
 
@@ -41,16 +41,19 @@ impl<V: Copy> Groups<V> {
         }
     }
 
-    /// Adds a value to those of a number of 32 bits.
+    /// Adds a value to those of a number of 32 bits. Where memory runs out, each number has the values that it had.
     pub fn add(&mut self, number: u32, value: V) -> Result<(), AllocError>
-        ensures { OnOk result (IsPut self.old.groups.items self.new.groups.items number value) }
+        ensures put { OnOk result (IsPut self.old.groups.items self.new.groups.items number value) }
+        ensures same { OnErr result (IsSame self.old.groups.items self.new.groups.items) }
     {
         self.add_at(number as usize, value)
     }
 
-    /// Adds a value to those of a number. It takes memory for each number up to this one.
+    /// Adds a value to those of a number. It takes memory for each number up to this one. Where that runs out, each number has the
+    /// values that it had.
     pub fn add_at(&mut self, number: usize, value: V) -> Result<(), AllocError>
-        ensures { OnOk result (IsPut self.old.groups.items self.new.groups.items number value) }
+        ensures put { OnOk result (IsPut self.old.groups.items self.new.groups.items number value) }
+        ensures same { OnErr result (IsSame self.old.groups.items self.new.groups.items) }
     {
         self.grow(number)?;
         let group = &mut self.groups[number];

@@ -1,6 +1,9 @@
 -- A walk up the superclasses, by one step, and at its ends.
-use Rattle.std.proofs.Common.{◌≡◌, ◌⊎◌, ℕ, List, [], ◌∷◌, Option, Some, None, refl, sym, subst, inl, inr}
-use Rattle.std.specs.List.{slice_get}
+use Rattle.std.proofs.Common.{◌≡◌, ◌↔◌, ◌⊎◌, ℕ, List, [], ◌∷◌, Option, Some, None, refl, sym, subst, inl, inr}
+use Rattle.std.specs.Bool.{IsTrue}
+use Rattle.std.specs.List.{slice_get, Contains}
+use Rattle.std.specs.Option.{is_some}
+use Rattle.std.proofs.lemmas.Bool.{false≢true}
 use Rattle.jvm_model.specs.LinkedPrograms.{IsProgram}
 use Rattle.jvm_model.specs.Programs.{Class, Program}
 use Rattle.jvm_model.specs.Subtypes.{IsChain}
@@ -8,7 +11,8 @@ use Rattle.jvm_model.specs.declared.number.MethodNo.{MethodNo}
 use Rattle.linked_program.specs.Numbers.{name_at, IsClassNumber}
 use Rattle.linked_program.specs.Ranks.{IsRanked}
 use Rattle.hierarchy.specs.Searches.{Finds}
-use Rattle.hierarchy.specs.Upward.{AnswersFirst, IsFirstUpward, IsFoldedUpward}
+use Rattle.class_index.proofs.OrderPlaces.{contains_first, contains_later, contains_cases, contains_none}
+use Rattle.hierarchy.specs.Upward.{AnswersFirst, AnswersWhere, IsFirstUpward, IsFoldedUpward}
 use Rattle.hierarchy.proofs.ClassPlaces.{class_of_number}
 use Rattle.hierarchy.proofs.Chains.{IsStep, IsTop, chain_above}
 
@@ -82,3 +86,29 @@ first_along Q [] None h = λ number along. along
 first_along Q (c ∷ chain) (Some number) (inl here) = inl here
 first_along Q (c ∷ chain) (Some number) (inr above) = inr (first_along Q chain (Some number) above.1)
 first_along Q (c ∷ chain) None h = λ number along. elim along [ inl here ↦ h.0 number here | inr above ↦ first_along Q chain None h.1 number above ]
+
+-- ---- whether a fact holds of a class of the chain
+
+-- A class of the chain of which the fact holds.
+pub record HasOne (Holds : Class → Type 0) (chain : List Class) : Type 0 where
+  pub one : Class
+  pub among : Contains chain one
+  pub holds : Holds one
+
+-- where each class answers just where the fact holds of it, there is an answer just where it holds of one of them
+pub first_tells : {A : Type 0} (Holds : Class → Type 0) (chain : List Class) (found : Option A) → AnswersFirst (AnswersWhere Holds) chain found
+    → IsTrue (is_some found) ↔ HasOne Holds chain
+first_tells Holds [] (Some answer) h = absurd h
+first_tells Holds [] None h = (λ t. absurd (false≢true t), λ one. absurd (contains_none one.one one.among))
+first_tells Holds (c ∷ chain) (Some answer) (inl here) = (λ t. record { one = c; among = contains_first c chain; holds = here.0 refl }, λ one. refl)
+first_tells Holds (c ∷ chain) (Some answer) (inr above) =
+    let later = (first_tells Holds chain (Some answer) above.1).0 refl in
+    (λ t. record { one = later.one; among = contains_later c chain later.one later.among; holds = later.holds }, λ one. refl)
+first_tells Holds (c ∷ chain) None h =
+    let rest = first_tells Holds chain None h.1 in (
+      λ t. absurd (false≢true t),
+      λ one. elim (contains_cases c chain one.one one.among) [
+        | inl e ↦ h.0.1 (subst Holds (sym e) one.holds)
+        | inr later ↦ rest.1 (record { one = one.one; among = later; holds = one.holds })
+      ],
+    )

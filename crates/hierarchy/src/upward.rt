@@ -1,4 +1,5 @@
-//! Walks up the superclasses of a class: to the first class that answers, or over all of them.
+//! Walks up the superclasses of a class: to the first class that answers, or over all of them. Each rule that goes from a class to its
+//! superclass, and so on, is one of the two (JVMS 5.4.3.2, 5.4.3.3, 5.5, 6.5.invokevirtual).
 
 ghost use Rattle.std.specs.Prelude.{◌≡◌, Option, Some, slice_get};
 ghost use Rattle.jvm_model.specs.Programs.{Class, Program as LinkedProgram};
@@ -9,7 +10,7 @@ use jvm_model::ClassNo;
 use linked_program::program::Program;
 
 /// What a walk up the superclasses asks of each class.
-pub(crate) trait Step {
+pub trait Step {
     /// What a class answers.
     type Answer;
 
@@ -26,12 +27,11 @@ pub(crate) trait Step {
         ensures { (c : Class) → slice_get program.now.classes class.0 ≡ Some c → answers self.now program.now c result };
 }
 
-/// What the first class answers that does, from a class upward through its superclasses; `None` if no class answers.
-pub(crate) fn first_upward<S: Step>(
-    program: &Program,
-    class: ClassNo,
-    step: &S,
-) -> Option<S::Answer>
+/// What the first class answers that does, from a class upward through its superclasses; `None` if no class answers. So a member is
+/// looked for in a class, then in its superclass, and so on (JVMS 5.4.3.3).
+///
+/// It asks each of these classes once at most, so time is linear in them, and takes no memory of its own.
+pub fn first_upward<S: Step>(program: &Program, class: ClassNo, step: &S) -> Option<S::Answer>
     requires class { IsClassNumber program.now class.0 }
     requires fits { S.fits step.now program.now }
     ensures { IsFirstUpward program.now (S.answers step.now program.now) (name_at program.now class.0) result }
@@ -51,9 +51,9 @@ pub(crate) fn first_upward<S: Step>(
 }
 
 /// What a walk up the superclasses makes of a value at each class.
-pub(crate) trait Fold {
-    /// What is carried from class to class.
-    type Value: Copy;
+pub trait Fold {
+    /// What is carried from class to class. Where a step may fail it is a `Result`, and a failure is handed on from class to class.
+    type Value;
 
     /// Whether a class makes the second value of the first.
     ghost makes: { Self → LinkedProgram → Class → Self.Value → Self.Value → Type 0 };
@@ -64,8 +64,11 @@ pub(crate) trait Fold {
         ensures { (c : Class) → slice_get program.now.classes class.0 ≡ Some c → makes self.now program.now c value result };
 }
 
-/// What a class and then its superclasses, one after the other, make of a value.
-pub(crate) fn fold_upward<F: Fold>(
+/// What a class and then its superclasses, one after the other, make of a value. So the methods are gathered that a class inherits from
+/// the superinterfaces of all of them (JVMS 5.4.3.3).
+///
+/// It asks each of these classes once, so time is linear in them, and takes no memory of its own.
+pub fn fold_upward<F: Fold>(
     program: &Program,
     class: ClassNo,
     fold: &F,

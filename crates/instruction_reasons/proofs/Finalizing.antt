@@ -1,8 +1,8 @@
 -- Finalizers: which methods of a class are some, and the walk up its superclasses.
-use Rattle.std.proofs.Common.{◌≡◌, ◌⊎◌, inl, inr, ℕ, List, [], ◌∷◌, Option, Some, None, refl, sym, ◌∙◌, subst, codes}
-use Rattle.std.specs.Prelude.{◌↔◌, Contains, IsTrue, IfSome, IfNone, is_some, slice_get}
+use Rattle.std.proofs.Common.{◌≡◌, ◌⊎◌, inl, inr, ℕ, List, [], ◌∷◌, Option, Some, None, refl, sym, subst, codes}
+use Rattle.std.specs.Prelude.{◌↔◌, Contains, IsTrue, IfSome, IfNone, is_some}
 use Rattle.std.proofs.lemmas.Bool.{false≢true}
-use Rattle.std.proofs.lemmas.Option.{same_Some}
+use Rattle.jvm_model.specs.declared.number.ClassNo.{ClassNo}
 use Rattle.jvm_model.specs.declared.number.MethodNo.{MethodNo}
 use Rattle.jvm_model.specs.LinkedPrograms.{IsProgram}
 use Rattle.jvm_model.specs.Lookups.{Signature}
@@ -12,7 +12,9 @@ use Rattle.jvm_model.specs.Subtypes.{class_named, IsChain}
 use Rattle.linked_program.specs.Numbers.{name_at, IsClassNumber}
 use Rattle.linked_program.specs.Ranks.{IsRanked}
 use Rattle.hierarchy.proofs.ClassPlaces.{IsNowhere, class_of_number, somewhere}
-use Rattle.hierarchy.proofs.Chains.{IsStep, IsTop, chain_above}
+use Rattle.hierarchy.proofs.Chains.{chain_above, chain_same}
+use Rattle.hierarchy.proofs.Walks.{first_tells}
+use Rattle.hierarchy.specs.Upward.{AnswersWhere, IsFirstUpward}
 use Rattle.program_laws.proofs.Orders.{none_there, first_there, more_there, where_there}
 use Rattle.instruction_reasons.specs.Looked.{DeclaresFinalizer, DeclaresOne, HasFolderFinalizer, IsFolderFinalizer}
 use Rattle.instruction_reasons.specs.Reasons.{finalizers, IsFinalizer, HasFinalizer}
@@ -56,70 +58,18 @@ finalizer_parts p class = record {
 
 -- ---- the walk upward
 
-pub folder_here : (p : Program) → IsProgram p → IsRanked p → (n : ℕ) → IsClassNumber p n → ((c : Class) → slice_get p.classes n ≡ Some c → IsFolderFinalizer p c)
-    → HasFolderFinalizer p (name_at p n)
-folder_here p program ranked n within here =
-    let there = class_of_number p program n within in
-    let rest = chain_above p program ranked (name_at p n) there.0 there.1.named in
-    record {
-      chain = there.0 ∷ rest.0;
-      of_start = (there.1.named, rest.1);
-      owner = there.0;
-      above = first_there there.0 rest.0;
-      finalizes = here there.0 there.1.stands;
-    }
-
-pub folder_above : (p : Program) (n up : ℕ) → IsStep p n up → HasFolderFinalizer p (name_at p up) → HasFolderFinalizer p (name_at p n)
-folder_above p n up step h =
-    record {
-      chain = step.class ∷ h.chain;
-      of_start = (step.at.named, subst (λ (v : Option (List ℕ)). IsChain p v h.chain) (sym step.super) h.of_start);
-      owner = h.owner;
-      above = more_there step.class h.owner h.chain h.above;
-      finalizes = h.finalizes;
-    }
-
--- the owner is the class itself, or stands in the chain of its superclass
-record IsLater (p : Program) (c owner : Class) : Type 0 where
-  rest : List Class
-  of_super : IsChain p c.super_class rest
-  above : Contains rest owner
-
-where_owner : (p : Program) (name : List ℕ) (c owner : Class) (chain : List Class) → class_named p name ≡ Some c → IsChain p (Some name) chain → Contains chain owner
-    → (c ≡ owner) ⊎ IsLater p c owner
-where_owner p name c owner [] named of_start above = absurd of_start
-where_owner p name c owner (d ∷ chain) named of_start above = by (where_there d owner chain above)
-  where
-    same_class : d ≡ c
-    same_class = same_Some d c (sym of_start.0 ∙ named)
-
-    by : (d ≡ owner) ⊎ Contains chain owner → (c ≡ owner) ⊎ IsLater p c owner
-    by (inl e) = inl (sym same_class ∙ e)
-    by (inr later) = inr (record { rest = chain; of_super = subst (λ (x : Class). IsChain p x.super_class chain) same_class of_start.1; above = later })
-
-pub folder_below : (p : Program) (n up : ℕ) (step : IsStep p n up) → (IsFolderFinalizer p step.class → ⊥) → HasFolderFinalizer p (name_at p n) → HasFolderFinalizer p (name_at p up)
-folder_below p n up step none h = by (where_owner p (name_at p n) step.class h.owner h.chain step.at.named h.of_start h.above)
-  where
-    by : (step.class ≡ h.owner) ⊎ IsLater p step.class h.owner → HasFolderFinalizer p (name_at p up)
-    by (inl e) = absurd (none (subst (λ (x : Class). IsFolderFinalizer p x) (sym e) h.finalizes))
-    by (inr later) = record {
-      chain = later.rest;
-      of_start = subst (λ (v : Option (List ℕ)). IsChain p v later.rest) step.super later.of_super;
-      owner = h.owner;
-      above = later.above;
-      finalizes = h.finalizes;
-    }
-
-no_chain : (p : Program) (chain : List Class) (owner : Class) → IsChain p None chain → Contains chain owner → ⊥
-no_chain p [] owner of_none there = none_there owner there
-no_chain p (c ∷ chain) owner of_none there = of_none
-
-pub folder_top : (p : Program) (n : ℕ) (top : IsTop p n) → (IsFolderFinalizer p top.class → ⊥) → HasFolderFinalizer p (name_at p n) → ⊥
-folder_top p n top none h = by (where_owner p (name_at p n) top.class h.owner h.chain top.at.named h.of_start h.above)
-  where
-    by : (top.class ≡ h.owner) ⊎ IsLater p top.class h.owner → ⊥
-    by (inl e) = none (subst (λ (x : Class). IsFolderFinalizer p x) (sym e) h.finalizes)
-    by (inr later) = no_chain p later.rest h.owner (subst (λ (v : Option (List ℕ)). IsChain p v later.rest) top.super later.of_super) later.above
+-- what a walk finds that looks for a class of the folder with a finalizer
+pub folder_found : (p : Program) (start : List ℕ) (found : Option ClassNo) → IsFirstUpward p (AnswersWhere (IsFolderFinalizer p)) start found
+    → IsTrue (is_some found) ↔ HasFolderFinalizer p start
+folder_found p start found walk =
+    let tells = first_tells (IsFolderFinalizer p) walk.chain found walk.first in (
+      λ t.
+          let has = tells.0 t in
+          record { chain = walk.chain; of_start = walk.of_start; owner = has.one; above = has.among; finalizes = has.holds },
+      λ h.
+          let same = chain_same p (Some start) h.chain walk.chain h.of_start walk.of_start in
+          tells.1 (record { one = h.owner; among = subst (λ (chain : List Class). Contains chain h.owner) same h.above; holds = h.finalizes }),
+    )
 
 -- ---- the class, and its superclasses of the folder
 

@@ -12,6 +12,7 @@ ghost use Rattle.instruction_reasons.specs.Reasons.{HasFinalizer, MakesFinalized
 use crate::judgement::JudgedInstruction;
 use crate::names::named_class;
 use hierarchy::classes::find_class;
+use hierarchy::upward::{Step, first_upward};
 use jvm_model::opcode::Action;
 use jvm_model::{ClassNo, Signature};
 use linked_program::program::Program;
@@ -49,23 +50,35 @@ fn is_folder_finalizer(program: &Program, class: ClassNo) -> bool
     program.is_folder(class) && declares_finalizer(program, class)
 }
 
+/// A class of the folder that declares such a method, looked for upward.
+#[derive(Clone, Copy)]
+struct FolderFinalizer;
+
+impl Step for FolderFinalizer {
+    ghost use Rattle.hierarchy.specs.Upward.{AnswersWhere};
+    ghost use Rattle.instruction_reasons.specs.Looked.{IsFolderFinalizer};
+
+    type Answer = ClassNo;
+
+    ghost fits = { λ x p. Unit {0} };
+
+    ghost answers = { λ x p. AnswersWhere (IsFolderFinalizer p) };
+
+    fn at(&self, program: &Program, class: ClassNo) -> Option<ClassNo> {
+        if is_folder_finalizer(program, class) {
+            Some(class)
+        } else {
+            None
+        }
+    }
+}
+
 /// Whether a class of the folder, from a class upward through its superclasses, declares such a method.
 fn has_folder_finalizer(program: &Program, class: ClassNo) -> bool
     requires { IsClassNumber program.now class.0 }
     ensures { IsTrue result ↔ HasFolderFinalizer program.now (name_at program.now class.0) }
 {
-    program.well_formed();
-    let mut current = class;
-    'upward: for _passed in 0..program.class_count() {
-        if is_folder_finalizer(program, current) {
-            return true;
-        }
-        let Some(above) = program.super_class(current) else {
-            return false;
-        };
-        current = above;
-    }
-    unreachable!()
+    first_upward(program, class, &FolderFinalizer).is_some()
 }
 
 /// Whether a class declares such a method, or a superclass of the folder does.

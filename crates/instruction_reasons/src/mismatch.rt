@@ -9,9 +9,9 @@ ghost use Rattle.instruction_reasons.specs.Looked.{CallsOtherKind, IsInternal, I
 ghost use Rattle.instruction_reasons.specs.Reasons.{Calls, IsMismatched, LooksUpField, LooksUpMethod};
 
 use crate::judgement::JudgedInstruction;
-use crate::methods::{is_private, is_static};
 use crate::names::{called, is_interface_call, is_special_call, wants_static};
 use crate::texts::is_text;
+use hierarchy::methods::{is_private, is_static};
 use jvm_model::opcode::Action;
 use jvm_model::{FieldNo, MethodNo, Reason};
 use linked_program::program::Program;

@@ -9,9 +9,10 @@ ghost use Rattle.jvm_model.specs.Programs.{IsUndescribed};
 
 use crate::judgement::JudgedInstruction;
 use crate::lookups::Lookups;
-use crate::methods::{is_abstract, is_undescribed};
+use crate::methods::is_undescribed;
 use crate::names::{called, is_special_call, is_static_call};
 use hierarchy::classes::find_class;
+use hierarchy::methods::is_abstract;
 use hierarchy::special::special_search;
 use jvm_model::{MethodNo, Reason};
 

@@ -18,6 +18,7 @@ pub mod opcode;
 pub mod pool;
 pub mod program;
 pub mod reason;
+pub mod result_class;
 pub mod sequence;
 pub mod site;
 pub mod sound;

@@ -5,9 +5,10 @@ use Rattle.std.specs.List.{slice_get, Contains, All}
 use Rattle.std.proofs.lemmas.Option.{slice_get_within, slice_get-get_or, same_Some, none-some}
 use Rattle.std.proofs.lemmas.Bool.{cases_lt}
 use Rattle.std.proofs.lemmas.List.{take_all}
-use Rattle.std.proofs.lemmas.List.Elements.{All-contains, All-same}
+use Rattle.std.proofs.lemmas.List.Elements.{All-contains}
+pub use Rattle.list_laws.proofs.Members.{all_from_front as All-whole}
+use Rattle.list_laws.proofs.Places.{contains_at, in_front, place_of, push_cases, stands_below, to_front}
 use Rattle.least_sets.specs.Rules.{Hold, Follows, IsDerivation, IsLeast, IsWithoutDoubles}
-use Rattle.least_sets.proofs.Places.{place_of, contains_at, in_front, to_front, push_cases}
 use Rattle.least_sets.proofs.Derivations.{Hold-larger, All-derivable, Follows-more}
 
 -- Whatever these premises lead to is in the list.
@@ -83,17 +84,12 @@ last_or_not facts n popped e (p ∷ ps) hold =
       ]
     ]
 
-something_at : {F : Type 0} (xs : List F) (n : ℕ) → n < length xs → (x : F) × (slice_get xs n ≡ Some x)
-something_at [] n l = absurd (omega arith)
-something_at (x ∷ xs) zero l = (x, refl)
-something_at (x ∷ xs) (suc n) l = something_at xs n (omega arith)
-
 -- one more fact in front
 pub IsClosedFront-more : {F : Type 0} (I : List F → F → Type 0) (old new : List F) (n : ℕ) (conclusions : List F) → n + 1 ≤ length old → Extends old new
     → IsClosedFront I new n → HasConclusions I old n conclusions → All (Contains new) conclusions → IsClosedFront I new (n + 1)
 IsClosedFront-more {F} I old new n conclusions l grown h has held = record {
   closed = λ premises fact i hold.
-      let known = something_at old n (omega arith) in
+      let known = stands_below old n (omega arith) in
       let hold_old = Hold-larger (Contains (take (n + 1) new)) (Contains (take (n + 1) old)) (front_back old new grown (n + 1) l) premises hold in
       elim (last_or_not new n known.0 (grown n known.0 known.1) premises hold) [
         | inl before ↦ h.closed premises fact i before
@@ -103,7 +99,7 @@ IsClosedFront-more {F} I old new n conclusions l grown h has held = record {
 
 pub length_extends : {F : Type 0} (old new : List F) (at : ℕ) → at < length old → Extends old new → at + 1 ≤ length new
 length_extends old new at l grown =
-    let known = something_at old at l in omega (arith, slice_get_within new at known.0 (grown at known.0 known.1))
+    let known = stands_below old at l in omega (arith, slice_get_within new at known.0 (grown at known.0 known.1))
 
 -- the fronts are the same
 pub take_extends : {F : Type 0} (old new : List F) → Extends old new → (n : ℕ) → n ≤ length old → take n new ≡ take n old
@@ -126,6 +122,3 @@ pub Follows-later : {F : Type 0} (I : List F → F → Type 0) (old new : List F
 Follows-later I old new n fact grown f = Follows-more I (take n old) new fact (λ x c.
     let p = place_of (take n old) x c in
     let q = in_front old n p.0 x p.1 in contains_at new p.0 x (grown p.0 x q.1)) f
-
-pub All-whole : {X : Type 0} (P : X → Type 0) (xs : List X) (i : ℕ) → length xs ≤ i → All P (take i xs) → All P xs
-All-whole P xs i l all = All-same P xs (take i xs) (sym (take_all i xs l)) all

@@ -6,9 +6,9 @@ use Rattle.std.proofs.lemmas.List.{get_or_default}
 use Rattle.std.proofs.lemmas.List.Elements.{recursion_from_All}
 use Rattle.std.proofs.lemmas.Map.Steps.{length-le_from_distinct_below}
 use Rattle.std.proofs.lemmas.Map.Views.{exact_unsigned_eq}
+use Rattle.list_laws.proofs.Places.{place_of}
 use Rattle.least_sets.specs.Rules.{IsDerivable, IsLeast, IsWithoutDoubles}
 use Rattle.least_sets.proofs.Least.{derivable_in_least}
-use Rattle.least_sets.proofs.Places.{place_of}
 
 -- where each element stands in the other list
 places : {F : Type 0} (xs ys : List F) → AllByRecursion (Contains xs) ys → List ℕ

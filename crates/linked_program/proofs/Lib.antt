@@ -8,6 +8,7 @@ pub mod MembersTold
 pub mod MemberPlaces
 pub mod Accessing
 pub mod MemberUses
+pub mod Roots
 pub mod SoundMembers
 pub mod OneFile
 pub mod SoundBodies

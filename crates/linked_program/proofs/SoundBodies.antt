@@ -45,7 +45,7 @@ name_sound (Folder f natives) sound =
     let there = class_there c c.this_class checked (this_leads c checked) in
     let is : class_or_none c.pool c.this_class ≡ there.name = ap (λ (o : Option (List ℕ)). unwrap_or o []) there.named in
     subst IsClassName (sym is) (class_only there.name there.grammar (this_no_array c there.name checked there.named))
-name_sound (Stub c) sound = sound.name
+name_sound (Stub c) sound = sound.0.name
 
 pub names_sound : (order : List Origin) → All IsSoundOrigin order → All IsClassName (class_names (program_from order))
 names_sound order sound =
@@ -108,7 +108,7 @@ bodies_of (Folder f natives) sound =
 bodies_of (Stub c) sound =
     All-map (λ (m : Method). IsBodyOf m m.body) (method_of_stub c.name) c.methods (λ k d lt.
     let m = get_or c.methods k d in
-    record { sound = sound.methods k d lt; same_call = refl; same_static = stub_static m.is_static m.is_abstract })
+    record { sound = sound.0.methods k d lt; same_call = refl; same_static = stub_static m.is_static m.is_abstract })
 
 pub bodies_sound : (order : List Origin) → All IsSoundOrigin order → All (λ (m : Method). IsBodyOf m m.body) (program_from order).methods
 bodies_sound order sound = each_piece (λ (m : Method). IsBodyOf m m.body) methods_from order (λ k d lt. bodies_of (get_or order k d) (sound k d lt))
@@ -137,7 +137,7 @@ entries_of (Folder f natives) sound =
 entries_of (Stub c) sound =
     All-map IsSoundEntry (field_of_stub c.name) c.fields (λ k d lt.
     let f = get_or c.fields k d in
-    let is = sound.fields k d lt in
+    let is = sound.0.fields k d lt in
     record {
       name = is.name;
       kind = is.kind;

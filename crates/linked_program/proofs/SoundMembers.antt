@@ -116,7 +116,7 @@ methods_apart (Folder f natives) sound =
     let second = enumerated_at 0 c.methods q y at_q in
     all.apart p q x.1 y.1 first.1 second.1 same)
 methods_apart (Stub c) sound =
-    let differ = all_apart is_same_method c.methods sound.methods_differ in
+    let differ = all_apart is_same_method c.methods sound.0.methods_differ in
     let all = apart_from_earlier (λ (m : StubMethod). record { name = m.name; descriptor = m.descriptor }) c.methods
     (λ p q m n lt at_p at_q same. differ p q m n lt at_p at_q
     (same_texts m.name n.name m.descriptor n.descriptor (ap (λ (s : Signature). s.name) same) (ap (λ (s : Signature). s.descriptor) same))) in
@@ -128,7 +128,7 @@ fields_apart (Folder f natives) sound =
     let all = members_apart c.pool FieldName FieldDescriptor c.fields (field_uses c sound.0.sound) in
     apart_map (field_of c) (λ (f : Field). f.signature) c.fields all.apart
 fields_apart (Stub c) sound =
-    let differ = all_apart is_same_field c.fields sound.fields_differ in
+    let differ = all_apart is_same_field c.fields sound.0.fields_differ in
     let all = apart_from_earlier (λ (f : StubField). record { name = f.name; descriptor = f.descriptor }) c.fields
     (λ p q m n lt at_p at_q same. differ p q m n lt at_p at_q
     (same_texts m.name n.name m.descriptor n.descriptor (ap (λ (s : Signature). s.name) same) (ap (λ (s : Signature). s.descriptor) same))) in

@@ -8,6 +8,7 @@ pub mod MemberLists
 pub mod Bodies
 pub mod Files
 pub mod Ranks
+pub mod Roots
 pub mod Whole
 pub mod Indexes
 pub mod Assembling

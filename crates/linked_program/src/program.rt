@@ -11,6 +11,7 @@ ghost use Rattle.linked_program.specs.FieldSearches.{IsSearchOrder};
 ghost use Rattle.linked_program.specs.Files.{HaveOneFile};
 ghost use Rattle.linked_program.specs.Numbers.{name_at, IsClassNumber, IsFieldNumber, IsMethodNumber, IsNumber};
 ghost use Rattle.linked_program.specs.Ranks.{IsRanked};
+ghost use Rattle.linked_program.specs.Roots.{HasRoot};
 ghost use Rattle.linked_program.specs.Assembling.{Assembles, IsCycleFailure};
 ghost use Rattle.linked_program.specs.Origins.{IsSoundOrigin};
 ghost use Rattle.linked_program.specs.Whole.{IsLinkable, IsThroughInterface, IsMethodView, IsFieldView};
@@ -92,11 +93,12 @@ impl Program {
     }
 
     /// What holds of each linked program: no class is above itself, all supertypes are there, and of the right kind; members
-    /// differ, and each method has a body that was checked; the methods of one class are members of one class file. It does
-    /// nothing.
+    /// differ, and each method has a body that was checked; the methods of one class are members of one class file; and where
+    /// there is a class, there is java/lang/Object (JVMS 4.1). It does nothing.
     pub fn well_formed(&self)
         ensures program { IsProgram self.now }
         ensures ranked { IsRanked self.now }
+        ensures root { HasRoot self.now }
         ensures files { HaveOneFile self.now }
     {
         let _classes = self.origins.len();

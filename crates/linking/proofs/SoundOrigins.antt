@@ -124,26 +124,41 @@ told_of file (m ∷ methods) = ap (λ (ms : List StubMethod). m ∷ ms) (told_of
 file_sound : (stubs : List StubClass) → All IsSoundStub stubs → (f : NamedClass) → IsSoundFile f → IsSoundOrigin (folder_origin stubs f)
 file_sound stubs sound f checked = (checked, told_sound (native_descriptions stubs f.class) (natives_sound stubs f.class _ sound))
 
-stub_sound : (stubs : List StubClass) → All IsSoundStub stubs → (c : StubClass) → IsSoundStub c → IsSoundOrigin (stub_origin stubs c)
-stub_sound stubs all c sound = record {
-  name = sound.name;
-  super_class = sound.super_class;
-  interfaces = sound.interfaces;
-  methods = told_sound (stub_descriptions stubs c) (sound_with_all (descriptions c) (patches_of c.name stubs) (own_sound c sound) (patches_sound c.name stubs all));
-  fields = sound.fields;
-  methods_differ =
-      let own : all_differ is_same_method (described_methods (descriptions c)) ≡ true = ap (all_differ is_same_method) (told_of c.file c.methods) ∙ sound.methods_differ in
-      differ_with_all (descriptions c) (patches_of c.name stubs) own;
-  fields_differ = sound.fields_differ;
-  patch = sound.patch;
-}
+-- a stub that is a class of its own
+abbrev IsOwnStub : StubClass → Type 0
+IsOwnStub c = IsSoundStub c × (c.is_patch ≡ false)
+
+own_stubs : (stubs : List StubClass) → All IsSoundStub stubs → All IsOwnStub (own_classes stubs)
+own_stubs [] sound = All-nil IsOwnStub
+own_stubs (c ∷ stubs) sound =
+    by c.is_patch refl (All-head IsSoundStub c stubs sound) (own_stubs stubs (All-tail IsSoundStub c stubs sound))
+  where
+    by : (patch : Bool) → c.is_patch ≡ patch → IsSoundStub c → All IsOwnStub (own_classes stubs) → All IsOwnStub (if not patch then c ∷ own_classes stubs else own_classes stubs)
+    by true is first rest = rest
+    by false is first rest = All-cons IsOwnStub c (own_classes stubs) (first, is) rest
+
+stub_sound : (stubs : List StubClass) → All IsSoundStub stubs → (c : StubClass) → IsOwnStub c → IsSoundOrigin (stub_origin stubs c)
+stub_sound stubs all c (sound, own) = (
+  record {
+    name = sound.name;
+    super_class = sound.super_class;
+    interfaces = sound.interfaces;
+    methods = told_sound (stub_descriptions stubs c) (sound_with_all (descriptions c) (patches_of c.name stubs) (own_sound c sound) (patches_sound c.name stubs all));
+    fields = sound.fields;
+    methods_differ =
+        let own : all_differ is_same_method (described_methods (descriptions c)) ≡ true = ap (all_differ is_same_method) (told_of c.file c.methods) ∙ sound.methods_differ in
+        differ_with_all (descriptions c) (patches_of c.name stubs) own;
+    fields_differ = sound.fields_differ;
+    patch = sound.patch;
+  },
+  own,
+)
 
 -- The classes that are linked come from where they may come from.
 sound_origins : (files : List NamedClass) (stubs : List StubClass) → All IsSoundFile files → All IsSoundStub stubs → All IsSoundOrigin (origins files stubs)
 sound_origins files stubs checked sound =
     let of_files = All-weaker IsSoundFile (λ (f : NamedClass). IsSoundOrigin (folder_origin stubs f)) (file_sound stubs sound) files checked in
-    let own = All-filter (λ (s : StubClass). not s.is_patch) IsSoundStub stubs sound in
-    let of_stubs = All-weaker IsSoundStub (λ (c : StubClass). IsSoundOrigin (stub_origin stubs c)) (stub_sound stubs sound) (own_classes stubs) own in
+    let of_stubs = All-weaker IsOwnStub (λ (c : StubClass). IsSoundOrigin (stub_origin stubs c)) (stub_sound stubs sound) (own_classes stubs) (own_stubs stubs sound) in
     All-append IsSoundOrigin (map (folder_origin stubs) files) (map (stub_origin stubs) (own_classes stubs))
     (All-map IsSoundOrigin (folder_origin stubs) files of_files)
     (All-map IsSoundOrigin (stub_origin stubs) (own_classes stubs) of_stubs)

@@ -1,11 +1,11 @@
 //! The classes that stubs mention are there.
 
-ghost use Rattle.std.specs.Prelude.{◌≡◌, false, not, ◌&&◌, ◌==◌, if◌then◌else◌, [], ◌∷◌, map, flat_map, option_map};
+ghost use Rattle.std.specs.Prelude.{[], ◌∷◌, map, flat_map};
 ghost use Rattle.linking.specs.Claims.{TellsClaims, TellsClaimsOrLarge, of_own};
 ghost use Rattle.linking.specs.Patching.{description_of, own_one};
 ghost use Rattle.linking.specs.TooLarge.{AreTooManyDescriptions, AreTooManyNatives, HasLargeFile, HasLargeStub};
 ghost use Rattle.jvm_model.specs.Linking.{stub_descriptions, mention_claim, description_claims, stub_there_claims, native_claims, own_classes};
-ghost use Rattle.jvm_model.specs.Stubs.{after_parameters, class_in, result_class, result_names, method_names, field_names};
+ghost use Rattle.jvm_model.specs.Stubs.{result_names, method_names, field_names};
 
 use crate::descriptions::{Described, Descriptions};
 use crate::known::Known;
@@ -13,56 +13,10 @@ use crate::patch_index::Patches;
 use crate::patches::{native_descriptions, stub_descriptions};
 use crate::supers::{SuperRule, check_stub_supers, check_there};
 use failure::Failure;
+use jvm_model::result_class::result_class;
 use jvm_model::{Name, NamedClass, StubClass, StubField, StubMethod, StubResult};
 use linked_program::link_failure::LinkFailure;
 use std::alloc::Global;
-
-/// The class of the result of a method descriptor, if it is a class (JVMS 4.3.3).
-fn result_class(descriptor: &[u8]) -> Option<&[u8]>
-    ensures { option_map (λ name. name.now) result ≡ result_class descriptor.now }
-{
-    class_in(after_parameters(descriptor))
-}
-
-/// What follows the parameters of a method descriptor.
-fn after_parameters(descriptor: &[u8]) -> &[u8]
-    ensures { result.now ≡ after_parameters false descriptor.now }
-{
-    let mut in_class = false;
-    for (place, byte) in descriptor.iter().enumerate() {
-        if ends_parameters(in_class, *byte) {
-            return &descriptor[place + 1..];
-        }
-        in_class = is_then_in_class(in_class, *byte);
-    }
-    &[]
-}
-
-/// The parenthesis after the parameters, which is none in the name of a class.
-fn ends_parameters(in_class: bool, byte: u8) -> bool
-    ensures { result ≡ (not in_class && (byte == 41)) }
-{
-    !in_class && byte == b')'
-}
-
-/// Whether what follows a byte is in the name of a class: from an L up to a semicolon.
-fn is_then_in_class(in_class: bool, byte: u8) -> bool
-    ensures { result ≡ (if in_class then not (byte == 59) else (byte == 76)) }
-{
-    if in_class { byte != b';' } else { byte == b'L' }
-}
-
-/// The class of a field descriptor of a class (JVMS 4.3.2).
-fn class_in(descriptor: &[u8]) -> Option<&[u8]>
-    ensures { option_map (λ name. name.now) result ≡ class_in descriptor.now }
-{
-    let (first, rest) = descriptor.split_first()?;
-    if *first == b'L' {
-        Some(&rest[..rest.len().saturating_sub(1)])
-    } else {
-        None
-    }
-}
 
 /// A class that a file mentions.
 fn check_mention(alloc: Global, known: &Known, file: &Name, name: &[u8]) -> Result<(), LinkFailure>

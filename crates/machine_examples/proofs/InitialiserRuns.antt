@@ -1,5 +1,5 @@
 -- The programs with initialisers, up to the first instruction of `main`; and their steps.
-use Rattle.std.proofs.Common.{codes, ◌≡◌, inl, ℕ, true, List, [], ◌∷◌, All, Some, refl, arith}
+use Rattle.std.proofs.Common.{codes, ◌≡◌, inl, inr, ℕ, true, List, [], ◌∷◌, All, Some, refl, arith}
 use Rattle.std.proofs.lemmas.List.Elements.{All-nil}
 use Rattle.jvm_model.specs.declared.code.Handler.{Handler}
 use Rattle.jvm_model.specs.declared.site.SiteKind.TheVariants.{New, Thrown}
@@ -14,7 +14,7 @@ use Rattle.bytecode_machine.specs.Start.{start_frame, boot_site}
 use Rattle.bytecode_machine.specs.States.{Value, primitive_value, reference_to, Object, Frame, World, State, throwing, throws_on, waiting, new_object, with_object, with_kept, with_started, site_at}
 use Rattle.machine_examples.specs.Building.{handler}
 use Rattle.machine_examples.specs.Calling.{only_returns}
-use Rattle.machine_examples.specs.Initialising.{initialiser_name, broken_pool, broken_class, breaks, ready_class, main_class, program_with, runs, makes_ready, makes_late, calls_ready, reads_ready, reads_late, makes_broken}
+use Rattle.machine_examples.specs.Initialising.{initialiser_name, broken_pool, broken_class, breaks, ready_class, main_class, steady_class, program_with, runs, makes_ready, makes_late, makes_table, calls_ready, reads_ready, writes_ready, reads_late, makes_broken}
 use Rattle.machine_examples.specs.Taking.{Takes, Shows, RunsIn, HasObject, Advancing, Unwinding, Starting, Resuming, Wrapping, Denying}
 use Rattle.machine_examples.proofs.Facts.{call_row, declared_field, field_row, has_object, runs_in, shows}
 use Rattle.machine_examples.proofs.Runs.{Arrives, goes, takes, built, body_fits, starts_at, started_in, enters_at, entered_in, first_world, frame_at, on, advance, plainly}
@@ -52,6 +52,12 @@ module _ (k : CodeBody) where
 
   abbrev initialises_late : IsInitialiser (program_with k) (codes "Late") 3
   initialises_late = record { code = ready_of; named = refl; above = below _ _ _ refl (inl refl) (same _ refl) }
+
+  abbrev steady_of : MethodCode (program_with k) 5
+  steady_of = built (program_with k) 5 _ steady_class 0 8 6 7 only_returns refl refl refl refl
+
+  abbrev initialises_table : IsInitialiser (program_with k) (codes "Table") 5
+  initialises_table = record { code = steady_of; named = refl; above = below _ _ _ refl (inr (0, omega arith, refl)) (same _ refl) }
 
 module _ (k : CodeBody) (fits : body_fits k ≡ true) where
   abbrev main_of : MethodCode (program_with k) 1
@@ -107,6 +113,13 @@ an_initialiser_of_a_superclass_starts =
     (of_class (record { class = _; named = refl }) refl) 3 (initialises_late makes_late) (nothing_there 3) in
     takes _ _ _ _ (begun makes_late refl) (starts step.step) (step, runs_in _ _ _ _ _ _ refl refl refl)
 
+pub an_initialiser_of_a_superinterface_starts : Takes (runs makes_table)
+    (λ s t. Starting (runs makes_table) (codes "Table") s t × RunsIn (runs makes_table) (codes "Steady") initialiser_name t)
+an_initialiser_of_a_superinterface_starts =
+    let step = start (runs makes_table) 1 (main_of makes_table refl) outside 0 [] (world makes_table refl) _ refl _ refl refl (codes "Table")
+    (of_class (record { class = _; named = refl }) refl) 5 (initialises_table makes_table) (nothing_there 5) in
+    takes _ _ _ _ (begun makes_table refl) (starts step.step) (step, runs_in _ _ _ _ _ _ refl refl refl)
+
 pub an_initialiser_starts_at_a_call : Takes (runs calls_ready) (λ s t. Starting (runs calls_ready) (codes "Ready") s t × RunsIn (runs calls_ready) (codes "Ready") initialiser_name t)
 an_initialiser_starts_at_a_call =
     let step = start (runs calls_ready) 1 (main_of calls_ready refl) outside 0 [] (world calls_ready refl) _ refl _
@@ -135,6 +148,14 @@ an_initialiser_starts_at_a_field =
     (field_row _ _ _ _ _ refl (base_type 73 refl)) refl (codes "Ready")
     (of_field (declared_field _ _ _ _ 0 _ _ refl refl refl refl refl) refl) 3 (initialises_ready reads_ready) (nothing_there 3) in
     takes _ _ _ _ (begun reads_ready refl) (starts step.step) (step, runs_in _ _ _ _ _ _ refl refl refl)
+
+pub an_initialiser_starts_at_a_write : Takes (runs writes_ready) (λ s t. Starting (runs writes_ready) (codes "Ready") s t × RunsIn (runs writes_ready) (codes "Ready") initialiser_name t)
+an_initialiser_starts_at_a_write =
+    let pushed = plainly (runs writes_ready) 1 (main_of writes_ready refl) outside 1 0 [] (world writes_ready refl) _ refl (begun writes_ready refl) in
+    let step = start (runs writes_ready) 1 (main_of writes_ready refl) outside 1 (primitive_value ∷ []) (world writes_ready refl) _ refl _
+    (field_row _ _ _ _ _ refl (base_type 73 refl)) refl (codes "Ready")
+    (of_field (declared_field _ _ _ _ 0 _ _ refl refl refl refl refl) refl) 3 (initialises_ready writes_ready) (nothing_there 3) in
+    takes _ _ _ _ pushed (starts step.step) (step, runs_in _ _ _ _ _ _ refl refl refl)
 
 -- the class Late declares no field
 none_in_late : (other : ℕ) → DeclaresField (program_with reads_late) (record { name = codes "size"; descriptor = codes "I" }) (codes "Late") other → ⊥

@@ -8,6 +8,8 @@ pub mod WithinStart
 pub mod WithinRuns
 pub mod WithinArrays
 pub mod WithinTests
+pub mod WithinCompared
+pub mod WithinUnits
 pub mod CallStart
 pub mod CallRuns
 pub mod CallResults

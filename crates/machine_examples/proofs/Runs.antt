@@ -251,9 +251,9 @@ plain_makes : (a : Action) (x : Subject) (f : Frame) (pool : List PoolEntry) (i 
 plain_makes plain x f pool i units w e = (refl, refl)
 plain_makes _ x f pool i units w e = absurd cc
 
-onward_goes : (f : Flow) (after : ℕ) (targets : List (Option ℕ)) (units : List Value) → is_onward f ≡ true → Goes f after targets units after
-onward_goes onward after targets units e = refl
-onward_goes _ after targets units e = absurd cc
+onward_goes : (f : Flow) (w : World) (after : ℕ) (targets : List (Option ℕ)) (units : List Value) → is_onward f ≡ true → Goes f w after targets units after
+onward_goes onward w after targets units e = refl
+onward_goes _ w after targets units e = absurd cc
 
 -- where so many plain instructions lead to, and the slots after them
 abbrev pub next_by : ℕ → List Value → Result DecodedInstruction Reason → Option (ℕ × List Value)
@@ -272,7 +272,7 @@ module _ (x : Subject) (number : ℕ) (c : MethodCode x.program number) (below :
   pub advance : (offset : ℕ) (slots : List Value) (w : World) (i : DecodedInstruction) → instruction_at c.body.bytes offset ≡ Ok i
       → (r : Row) → IsRowAt c.file.pool i r → operands_fit r slots ≡ true → (made : Value) (after : World) (next : ℕ)
       → Makes r.action x (frame_at number offset slots) c.file.pool i (units_of r slots) w made after
-      → Goes r.flow (offset + i.size) i.targets (units_of r slots) next
+      → Goes r.flow w (offset + i.size) i.targets (units_of r slots) next
       → Advancing x r.mnemonic (on offset slots w) (on next (effect r i.operand made (kept_of r slots) (units_of r slots)) after)
   advance offset slots w i is r of_row fits made after next makes goes_there = record {
     at = runs_at x.program (frame_at number offset slots) below w (stands_at x.program number c offset slots false i is r of_row);
@@ -296,7 +296,7 @@ module _ (x : Subject) (number : ℕ) (c : MethodCode x.program number) (below :
       let a = and_parts (is_plain i.row.action) _ there in
       let b = and_parts (is_onward i.row.flow) _ a.1 in
       advance offset slots w i is i.row (plain_row i.row.action c.file.pool i a.0) b.1 primitive_value w (offset + i.size)
-      (plain_makes i.row.action x (frame_at number offset slots) c.file.pool i _ w a.0) (onward_goes i.row.flow _ i.targets _ b.0)
+      (plain_makes i.row.action x (frame_at number offset slots) c.file.pool i _ w a.0) (onward_goes i.row.flow w _ i.targets _ b.0)
 
   -- a step alone, and a step on the way
   pub advanced : (s t : State) (mnemonic : List ℕ) → Arrives x s → Advancing x mnemonic s t → Arrives x t

@@ -1,7 +1,7 @@
 -- The steps within a method on arrays, casts, and steps that raise.
-use Rattle.std.proofs.Common.{codes, [], ◌∷◌, refl, arith}
+use Rattle.std.proofs.Common.{codes, inl, [], ◌∷◌, refl, arith}
 use Rattle.jvm_model.specs.Programs.{object_name}
-use Rattle.jvm_model.specs.Subtypes.{same, by_class, Fits}
+use Rattle.jvm_model.specs.Subtypes.{same, below, by_class, by_elements, Fits}
 use Rattle.jvm_model.specs.Table.{arithmetic, array_store, class_cast}
 use Rattle.bytecode_machine.specs.Machine.{advances, raises, of_primitives, of_references, nested}
 use Rattle.bytecode_machine.specs.Objects.{string_name, fitting}
@@ -9,7 +9,7 @@ use Rattle.bytecode_machine.specs.Objects.Passes.{no_object as passes_null, fitt
 use Rattle.bytecode_machine.specs.States.{Value, primitive_value, null_value, reference_to, World, with_object, new_array, site_at}
 use Rattle.jvm_model.specs.declared.site.SiteKind.TheVariants.{New, Thrown}
 use Rattle.machine_examples.specs.Taking.{Takes, Shows, HasObject, HasArray, Advancing, Raising}
-use Rattle.machine_examples.specs.Within.{program_with, runs, runs_with_arguments, numbers, tables, boxes, misfit, division, null_cast, box_cast, string_cast, argument}
+use Rattle.machine_examples.specs.Within.{program_with, runs, runs_with_arguments, numbers, tables, boxes, misfit, division, null_cast, box_cast, string_cast, array_cast, argument}
 use Rattle.machine_examples.proofs.WithinStart.{outside, main_of, world, main_at, begun, names_it, box_type, argument_array, main_with_argument, begun_with_argument}
 use Rattle.machine_examples.proofs.Facts.{field_row, has_array, has_object, is_array, makes_array, refers_to, shows}
 use Rattle.machine_examples.proofs.Runs.{Arrives, raise, goes, takes, first_world, frame_at, advance, plainly}
@@ -106,6 +106,20 @@ a_cast_passes_an_object =
     let step = advance (runs box_cast) 0 (main_of box_cast refl) outside 3 (reference_to 2 ∷ []) (world box_cast refl) _ refl _
     refl refl primitive_value _ _ (record { class = _; named = refl }, passes_fitting (record { to = refers_to _ 2 _ refl; fits = by_class _ _ _ refl (same _ refl) }), (refl, refl)) refl in
     takes _ _ _ _ (goes _ _ _ (begun box_cast refl) (advances first.at first.step)) (advances step.at step.step) (step, shows _ _ _)
+
+abbrev with_boxes_to_cast : World
+with_boxes_to_cast = with_object (world array_cast refl) (new_array (site_at New (frame_at 0 1 (primitive_value ∷ [])) (codes "[Llib/Box;")) (null_value ∷ []) 0)
+
+pub a_cast_passes_an_array : Takes (runs array_cast)
+    (λ s t. Advancing (runs array_cast) (codes "checkcast") s t × Shows 7 (reference_to 3 ∷ []) t × HasArray 3 (codes "[Llib/Box;") (null_value ∷ []) t)
+a_cast_passes_an_array =
+    let made = advance (runs array_cast) 0 (main_of array_cast refl) outside 1 (primitive_value ∷ []) (world array_cast refl) _ refl _
+    refl refl (reference_to 3) with_boxes_to_cast _ (codes "[Llib/Box;" ∷ [], of_references refl (record { class = _; named = refl }) refl, makes_array _ _ 1 _) refl in
+    let elements : Fits (program_with 7 array_cast) object_name (codes "lib/Box") = by_class _ _ _ refl (below _ _ _ refl (inl refl) (same _ refl)) in
+    let step = advance (runs array_cast) 0 (main_of array_cast refl) outside 4 (reference_to 3 ∷ []) with_boxes_to_cast _ refl _
+    refl refl primitive_value _ _ (record { class = _; named = refl }, passes_fitting (record { to = refers_to _ 3 _ refl; fits = by_elements _ _ object_name (codes "lib/Box") refl refl elements }), (refl, refl)) refl in
+    takes _ _ _ _ (goes _ _ _ (plainly (runs array_cast) 0 (main_of array_cast refl) outside 1 0 [] _ _ refl (begun array_cast refl)) (advances made.at made.step)) (advances step.at step.step)
+    (step, shows _ _ _, has_array _ _ _ _ refl refl)
 
 pub a_cast_raises : Takes (runs string_cast)
     (λ s t. Raising (runs string_cast) (codes "checkcast") (codes "java/lang/ClassCastException") s t × HasObject 3 Thrown (codes "java/lang/ClassCastException") t)

@@ -1,5 +1,5 @@
 -- The steps within a method that test references, load other constants, or raise.
-use Rattle.std.proofs.Common.{codes, ◌≡◌, [], ◌∷◌, refl, arith}
+use Rattle.std.proofs.Common.{codes, ◌≡◌, true, false, [], ◌∷◌, refl, arith}
 use Rattle.jvm_model.specs.declared.site.SiteKind.TheVariants.{Boot, New, Thrown}
 use Rattle.jvm_model.specs.Table.{null_pointer, array_index, negative_size}
 use Rattle.bytecode_machine.specs.Machine.LoadsConstant.{of_class as loads_class}
@@ -32,7 +32,7 @@ a_test_of_one_object_jumps =
     let second = advance (runs same_branch) 0 (main_of same_branch refl) outside 3 (reference_to 2 ∷ []) (world same_branch refl) _ refl _
     (field_row _ _ _ _ _ refl box_type) refl (reference_to 2) _ _ (names_it same_branch, (refl, refl)) refl in
     let step = advance (runs same_branch) 0 (main_of same_branch refl) outside 6 (reference_to 2 ∷ reference_to 2 ∷ []) (world same_branch refl) _ refl _
-    refl refl primitive_value _ 10 (refl, refl) (0, omega arith, refl) in
+    refl refl primitive_value _ 10 (refl, refl) (true, (λ made. refl), (0, omega arith, refl)) in
     takes _ _ _ _ (goes _ _ _ (goes _ _ _ (begun same_branch refl) (advances first.at first.step)) (advances second.at second.step)) (advances step.at step.step) (step, shows _ _ _)
 
 pub a_test_of_two_references_goes_on : Takes (runs other_branch) (λ s t. Advancing (runs other_branch) (codes "if_acmpeq") s t × Shows 7 [] t)
@@ -41,7 +41,7 @@ a_test_of_two_references_goes_on =
     (field_row _ _ _ _ _ refl box_type) refl (reference_to 2) _ _ (names_it other_branch, (refl, refl)) refl in
     let pushed = plainly (runs other_branch) 0 (main_of other_branch refl) outside 1 3 (reference_to 2 ∷ []) _ _ refl (goes _ _ _ (begun other_branch refl) (advances first.at first.step)) in
     let step = advance (runs other_branch) 0 (main_of other_branch refl) outside 4 (reference_to 2 ∷ null_value ∷ []) (world other_branch refl) _ refl _
-    refl refl primitive_value _ _ (refl, refl) refl in
+    refl refl primitive_value _ _ (refl, refl) (false, refl, refl) in
     takes _ _ _ _ pushed (advances step.at step.step) (step, shows _ _ _)
 
 pub a_lookup_goes_to_a_target : Takes (runs lookup) (λ s t. Advancing (runs lookup) (codes "lookupswitch") s t × Shows 21 [] t)

@@ -1,6 +1,6 @@
 -- Public contracts rest on this module.
--- Programs with initialisers of classes: those of Main and Ready only return, and that of Broken throws. The entry is `main` of the
--- class Main, which gets a code each time.
+-- Programs with initialisers of classes: those of Main, Ready and the interface Steady only return, and that of Broken throws. The
+-- entry is `main` of the class Main, which gets a code each time.
 use Rattle.std.specs.Prelude.{codes, ℕ, List, [], ◌∷◌}
 use Rattle.jvm_model.specs.declared.class_file.ClassFile.{ClassFile}
 use Rattle.jvm_model.specs.declared.pool.PoolEntry.{PoolEntry}
@@ -73,6 +73,8 @@ main_pool = pool_of (codes "Main") object_name (
     ∷ Utf8 (codes "Late")  -- 20
     ∷ Class 20  -- 21
     ∷ Fieldref 21 18  -- 22: Late.size
+    ∷ Utf8 (codes "Table")  -- 23
+    ∷ Class 23  -- 24
     ∷ [])
 
 abbrev pub main_class : CodeBody → ClassFile
@@ -82,6 +84,21 @@ main_class k = class_with main_pool 0x21 [] [] (method 9 6 7 k ∷ method 8 8 7 
 abbrev pub late_class : ClassFile
 late_class = class_with (pool_of (codes "Late") (codes "Ready") []) 0x21 [] [] []
 
+abbrev pub steady_pool : List PoolEntry
+steady_pool = pool_of (codes "Steady") object_name (
+    Utf8 initialiser_name  -- 6
+    ∷ Utf8 plain_descriptor  -- 7
+    ∷ Utf8 (codes "stand")  -- 8
+    ∷ [])
+
+-- An interface with an initialiser, and with a method that is not abstract, which the version 52 allows (JVMS 4.6).
+abbrev pub steady_class : ClassFile
+steady_class = record (class_with steady_pool 0x601 [] [] (method 8 6 7 only_returns ∷ method 1 8 7 only_returns ∷ [])) { major = 52 }
+
+-- A class of that interface, without an initialiser of its own.
+abbrev pub table_class : ClassFile
+table_class = class_with (pool_of (codes "Table") object_name (Utf8 (codes "Steady") ∷ Class 6 ∷ [])) 0x21 (7 ∷ []) [] []
+
 -- The classes in byte order of their names.
 abbrev pub order : CodeBody → List Origin
 order k =
@@ -89,6 +106,8 @@ order k =
     ∷ in_folder (codes "Late.class") late_class
     ∷ in_folder (codes "Main.class") (main_class k)
     ∷ in_folder (codes "Ready.class") ready_class
+    ∷ in_folder (codes "Steady.class") steady_class
+    ∷ in_folder (codes "Table.class") table_class
     ∷ library_class (codes "java/lang/Exception") (codes "java/lang/Throwable")
     ∷ object
     ∷ library_class string_name object_name
@@ -129,6 +148,20 @@ abbrev pub reads_ready : CodeBody
 reads_ready = code 1 0 (
     178 ∷ 0 ∷ 19  -- 0: getstatic Ready.size
     ∷ 87  -- 3: pop
+    ∷ 177  -- 4: return
+    ∷ []) []
+
+abbrev pub makes_table : CodeBody
+makes_table = code 1 0 (
+    187 ∷ 0 ∷ 24  -- 0: new Table
+    ∷ 87  -- 3: pop
+    ∷ 177  -- 4: return
+    ∷ []) []
+
+abbrev pub writes_ready : CodeBody
+writes_ready = code 1 0 (
+    3  -- 0: iconst_0
+    ∷ 179 ∷ 0 ∷ 19  -- 1: putstatic Ready.size
     ∷ 177  -- 4: return
     ∷ []) []
 

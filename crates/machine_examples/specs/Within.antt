@@ -10,6 +10,7 @@ use Rattle.jvm_model.specs.declared.stub.StubResult.TheVariants.{Void}
 use Rattle.jvm_model.specs.Code.{CodeBody}
 use Rattle.jvm_model.specs.Linking.{program_from}
 use Rattle.jvm_model.specs.Programs.{Program, object_name}
+use Rattle.jvm_model.specs.Subtypes.{array_of}
 use Rattle.bytecode_machine.specs.Objects.{Subject, string_name}
 use Rattle.machine_examples.specs.Building.{code, pool_of, method, field, class_with, in_folder, gives, holding, instance_field, library, library_class, run_of}
 
@@ -41,6 +42,8 @@ main_pool = pool_of (codes "Main") object_name (
     ∷ Class 26  -- 27
     ∷ Utf8 string_name  -- 28
     ∷ Class 28  -- 29
+    ∷ Utf8 (array_of object_name)  -- 30
+    ∷ Class 30  -- 31
     ∷ [])
 
 -- Main has one static field, `last`, and one method, `main`, which is static and has the descriptor at an index.
@@ -223,6 +226,16 @@ string_cast = code 1 0 (
     ∷ 177  -- 7: return
     ∷ []) []
 
+-- An array of boxes is cast to an array of objects.
+abbrev pub array_cast : CodeBody
+array_cast = code 1 0 (
+    4  -- 0: iconst_1
+    ∷ 189 ∷ 0 ∷ 10  -- 1: anewarray Box
+    ∷ 192 ∷ 0 ∷ 31  -- 4: checkcast Object[]
+    ∷ 87  -- 7: pop
+    ∷ 177  -- 8: return
+    ∷ []) []
+
 -- An element of the argument of `main` is read.
 abbrev pub argument : CodeBody
 argument = code 2 1 (
@@ -264,6 +277,61 @@ abbrev pub other_branch : CodeBody
 other_branch = code 2 0 (
     178 ∷ 0 ∷ 14  -- 0: getstatic Box.it
     ∷ 1  -- 3: aconst_null
+    ∷ 165 ∷ 0 ∷ 4  -- 4: if_acmpeq 8
+    ∷ 177  -- 7: return
+    ∷ 177  -- 8: return
+    ∷ []) []
+
+abbrev pub null_jump : CodeBody
+null_jump = code 1 0 (
+    1  -- 0: aconst_null
+    ∷ 199 ∷ 0 ∷ 4  -- 1: ifnonnull 5
+    ∷ 177  -- 4: return
+    ∷ 177  -- 5: return
+    ∷ []) []
+
+abbrev pub box_jump : CodeBody
+box_jump = code 1 0 (
+    178 ∷ 0 ∷ 14  -- 0: getstatic Box.it
+    ∷ 199 ∷ 0 ∷ 4  -- 3: ifnonnull 7
+    ∷ 177  -- 6: return
+    ∷ 177  -- 7: return
+    ∷ []) []
+
+-- A box is compared with itself.
+abbrev pub same_jump : CodeBody
+same_jump = code 2 0 (
+    187 ∷ 0 ∷ 10  -- 0: new Box
+    ∷ 89  -- 3: dup
+    ∷ 166 ∷ 0 ∷ 4  -- 4: if_acmpne 8
+    ∷ 177  -- 7: return
+    ∷ 177  -- 8: return
+    ∷ []) []
+
+abbrev pub other_jump : CodeBody
+other_jump = code 2 0 (
+    178 ∷ 0 ∷ 14  -- 0: getstatic Box.it
+    ∷ 1  -- 3: aconst_null
+    ∷ 166 ∷ 0 ∷ 4  -- 4: if_acmpne 8
+    ∷ 177  -- 7: return
+    ∷ 177  -- 8: return
+    ∷ []) []
+
+-- Two boxes are compared.
+abbrev pub two_branch : CodeBody
+two_branch = code 2 0 (
+    187 ∷ 0 ∷ 10  -- 0: new Box
+    ∷ 187 ∷ 0 ∷ 10  -- 3: new Box
+    ∷ 165 ∷ 0 ∷ 4  -- 6: if_acmpeq 10
+    ∷ 177  -- 9: return
+    ∷ 177  -- 10: return
+    ∷ []) []
+
+-- A string is compared with a string.
+abbrev pub string_branch : CodeBody
+string_branch = code 2 0 (
+    18 ∷ 25  -- 0: ldc "main"
+    ∷ 18 ∷ 25  -- 2: ldc "main"
     ∷ 165 ∷ 0 ∷ 4  -- 4: if_acmpeq 8
     ∷ 177  -- 7: return
     ∷ 177  -- 8: return
@@ -318,4 +386,19 @@ abbrev pub null_throw : CodeBody
 null_throw = code 1 0 (
     1  -- 0: aconst_null
     ∷ 191  -- 1: athrow
+    ∷ []) []
+
+-- ---- units that are put in another order
+
+abbrev pub shuffles : CodeBody
+shuffles = code 10 0 (
+    1  -- 0: aconst_null
+    ∷ 3  -- 1: iconst_0
+    ∷ 90  -- 2: dup_x1
+    ∷ 91  -- 3: dup_x2
+    ∷ 92  -- 4: dup2
+    ∷ 93  -- 5: dup2_x1
+    ∷ 94  -- 6: dup2_x2
+    ∷ 95  -- 7: swap
+    ∷ 177  -- 8: return
     ∷ []) []

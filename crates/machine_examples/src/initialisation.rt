@@ -4,10 +4,11 @@ ghost use Rattle.std.specs.Prelude.{codes, ◌≡◌, [], ◌∷◌};
 ghost use Rattle.jvm_model.specs.declared.site.SiteKind.TheVariants.{New, Thrown};
 ghost use Rattle.bytecode_machine.specs.States.{throwing};
 ghost use Rattle.bytecode_machine.specs.Start.{start_frame};
-ghost use Rattle.machine_examples.specs.Initialising.{runs, initialiser_name, makes_ready, makes_late, calls_ready, reads_ready, reads_late, makes_broken};
+ghost use Rattle.machine_examples.specs.Initialising.{runs, initialiser_name, makes_ready, makes_late, makes_table, calls_ready, reads_ready, writes_ready, reads_late, makes_broken};
 ghost use Rattle.machine_examples.specs.Taking.{Takes, Shows, RunsIn, HasObject, Advancing, Unwinding, Starting, Resuming, Wrapping, Denying};
 
-/// An initialiser starts at `new`. The initialisers of the program are those of the methods 0, 2 and 3: of Broken, Main and Ready.
+/// An initialiser starts at `new`. The initialisers of the program are those of the methods 0, 2, 3 and 5: of Broken, Main, Ready
+/// and Steady.
 pub fn an_initialiser_starts()
     ensures { Takes (runs makes_ready) (λ s t. Starting (runs makes_ready) (codes "Ready") s t × RunsIn (runs makes_ready) (codes "Ready") initialiser_name t × (t.world.started ≡ 3 ∷ [])) }
 {}
@@ -27,6 +28,11 @@ pub fn an_initialiser_of_a_superclass_starts()
     ensures { Takes (runs makes_late) (λ s t. Starting (runs makes_late) (codes "Late") s t × RunsIn (runs makes_late) (codes "Ready") initialiser_name t) }
 {}
 
+/// That of a superinterface may start there too.
+pub fn an_initialiser_of_a_superinterface_starts()
+    ensures { Takes (runs makes_table) (λ s t. Starting (runs makes_table) (codes "Table") s t × RunsIn (runs makes_table) (codes "Steady") initialiser_name t) }
+{}
+
 /// An initialiser starts at a call of a static method.
 pub fn an_initialiser_starts_at_a_call()
     ensures { Takes (runs calls_ready) (λ s t. Starting (runs calls_ready) (codes "Ready") s t × RunsIn (runs calls_ready) (codes "Ready") initialiser_name t) }
@@ -35,6 +41,11 @@ pub fn an_initialiser_starts_at_a_call()
 /// It starts where a static field is read.
 pub fn an_initialiser_starts_at_a_field()
     ensures { Takes (runs reads_ready) (λ s t. Starting (runs reads_ready) (codes "Ready") s t × RunsIn (runs reads_ready) (codes "Ready") initialiser_name t) }
+{}
+
+/// It starts where a static field is written.
+pub fn an_initialiser_starts_at_a_write()
+    ensures { Takes (runs writes_ready) (λ s t. Starting (runs writes_ready) (codes "Ready") s t × RunsIn (runs writes_ready) (codes "Ready") initialiser_name t) }
 {}
 
 /// Where a class inherits the field, it is the initialiser of the class that declares it.

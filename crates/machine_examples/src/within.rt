@@ -5,7 +5,7 @@ ghost use Rattle.jvm_model.specs.declared.site.SiteKind.TheVariants.{Boot, New, 
 ghost use Rattle.bytecode_machine.specs.Objects.{ReadsField};
 ghost use Rattle.bytecode_machine.specs.States.{primitive_value, null_value, reference_to};
 ghost use Rattle.machine_examples.specs.Taking.{Takes, Shows, HasObject, HasArray, Advancing, Raising};
-ghost use Rattle.machine_examples.specs.Within.{runs, runs_with_arguments, branch, switch, wide_iinc, links, counts, statics, constant, makes, numbers, tables, boxes, misfit, division, null_cast, box_cast, string_cast, argument, null_branch, box_branch, same_branch, other_branch, lookup, class_constant, monitor, first_number, null_field, null_throw};
+ghost use Rattle.machine_examples.specs.Within.{runs, runs_with_arguments, branch, switch, wide_iinc, links, counts, statics, constant, makes, numbers, tables, boxes, misfit, division, null_cast, box_cast, string_cast, argument, array_cast, null_branch, box_branch, same_branch, other_branch, null_jump, box_jump, same_jump, other_jump, two_branch, string_branch, shuffles, lookup, class_constant, monitor, first_number, null_field, null_throw};
 
 /// A constant is pushed: a plain step.
 pub fn a_constant_is_pushed()
@@ -133,6 +133,11 @@ pub fn a_cast_passes_an_object()
     ensures { Takes (runs box_cast) (λ s t. Advancing (runs box_cast) (codes "checkcast") s t × Shows 6 (reference_to 2 ∷ []) t) }
 {}
 
+/// So does an array whose elements are of a subclass.
+pub fn a_cast_passes_an_array()
+    ensures { Takes (runs array_cast) (λ s t. Advancing (runs array_cast) (codes "checkcast") s t × Shows 7 (reference_to 3 ∷ []) t × HasArray 3 (codes "[Llib/Box;") (null_value ∷ []) t) }
+{}
+
 /// A cast of an object that does not fit raises an exception.
 pub fn a_cast_raises()
     ensures { Takes (runs string_cast) (λ s t. Raising (runs string_cast) (codes "checkcast") (codes "java/lang/ClassCastException") s t × HasObject 3 Thrown (codes "java/lang/ClassCastException") t) }
@@ -161,6 +166,41 @@ pub fn a_test_of_one_object_jumps()
 /// At an object and null it goes on.
 pub fn a_test_of_two_references_goes_on()
     ensures { Takes (runs other_branch) (λ s t. Advancing (runs other_branch) (codes "if_acmpeq") s t × Shows 7 [] t) }
+{}
+
+/// A test for an object jumps at an object.
+pub fn a_test_for_an_object_jumps()
+    ensures { Takes (runs box_jump) (λ s t. Advancing (runs box_jump) (codes "ifnonnull") s t × Shows 7 [] t) }
+{}
+
+/// At null it goes on.
+pub fn a_test_for_an_object_goes_on()
+    ensures { Takes (runs null_jump) (λ s t. Advancing (runs null_jump) (codes "ifnonnull") s t × Shows 4 [] t) }
+{}
+
+/// A test whether two references differ jumps at an object and null.
+pub fn a_test_of_two_references_jumps()
+    ensures { Takes (runs other_jump) (λ s t. Advancing (runs other_jump) (codes "if_acmpne") s t × Shows 8 [] t) }
+{}
+
+/// At one object that was made it goes on.
+pub fn a_test_of_one_object_goes_on()
+    ensures { Takes (runs same_jump) (λ s t. Advancing (runs same_jump) (codes "if_acmpne") s t × Shows 7 [] t) }
+{}
+
+/// A test whether two references are the same goes on at two objects that were made.
+pub fn a_test_of_two_objects_goes_on()
+    ensures { Takes (runs two_branch) (λ s t. Advancing (runs two_branch) (codes "if_acmpeq") s t × Shows 9 [] t) }
+{}
+
+/// At two strings it may jump, since they may be one object.
+pub fn a_test_of_two_strings_jumps()
+    ensures { Takes (runs string_branch) (λ s t. Advancing (runs string_branch) (codes "if_acmpeq") s t × Shows 8 [] t) }
+{}
+
+/// It may go on, since one object stands for all strings.
+pub fn a_test_of_two_strings_goes_on()
+    ensures { Takes (runs string_branch) (λ s t. Advancing (runs string_branch) (codes "if_acmpeq") s t × Shows 7 [] t) }
 {}
 
 /// A `lookupswitch` may go to the target of a key.
@@ -201,4 +241,34 @@ pub fn a_field_of_null_raises()
 /// Null is thrown.
 pub fn a_throw_of_null_raises()
     ensures { Takes (runs null_throw) (λ s t. Raising (runs null_throw) (codes "athrow") (codes "java/lang/NullPointerException") s t × HasObject 3 Thrown (codes "java/lang/NullPointerException") t) }
+{}
+
+/// The upper unit is copied below the one under it. From here on each unit is null or a primitive.
+pub fn a_unit_is_copied_below_one()
+    ensures { Takes (runs shuffles) (λ s t. Advancing (runs shuffles) (codes "dup_x1") s t × Shows 3 (primitive_value ∷ null_value ∷ primitive_value ∷ []) t) }
+{}
+
+/// It is copied below the two under it.
+pub fn a_unit_is_copied_below_two()
+    ensures { Takes (runs shuffles) (λ s t. Advancing (runs shuffles) (codes "dup_x2") s t × Shows 4 (primitive_value ∷ primitive_value ∷ null_value ∷ primitive_value ∷ []) t) }
+{}
+
+/// The two upper units are copied.
+pub fn two_units_are_copied()
+    ensures { Takes (runs shuffles) (λ s t. Advancing (runs shuffles) (codes "dup2") s t × Shows 5 (primitive_value ∷ primitive_value ∷ null_value ∷ primitive_value ∷ null_value ∷ primitive_value ∷ []) t) }
+{}
+
+/// They are copied below the one under them.
+pub fn two_units_are_copied_below_one()
+    ensures { Takes (runs shuffles) (λ s t. Advancing (runs shuffles) (codes "dup2_x1") s t × Shows 6 (primitive_value ∷ primitive_value ∷ null_value ∷ null_value ∷ primitive_value ∷ primitive_value ∷ null_value ∷ primitive_value ∷ []) t) }
+{}
+
+/// They are copied below the two under them.
+pub fn two_units_are_copied_below_two()
+    ensures { Takes (runs shuffles) (λ s t. Advancing (runs shuffles) (codes "dup2_x2") s t × Shows 7 (primitive_value ∷ primitive_value ∷ null_value ∷ null_value ∷ null_value ∷ primitive_value ∷ primitive_value ∷ primitive_value ∷ null_value ∷ primitive_value ∷ []) t) }
+{}
+
+/// They change places.
+pub fn two_units_are_swapped()
+    ensures { Takes (runs shuffles) (λ s t. Advancing (runs shuffles) (codes "swap") s t × Shows 8 (primitive_value ∷ primitive_value ∷ null_value ∷ null_value ∷ null_value ∷ primitive_value ∷ primitive_value ∷ primitive_value ∷ primitive_value ∷ null_value ∷ []) t) }
 {}

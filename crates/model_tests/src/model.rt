@@ -3,4 +3,5 @@
 mod descriptor;
 mod grammar;
 mod layout;
+mod result_class;
 mod sound;

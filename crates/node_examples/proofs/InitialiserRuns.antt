@@ -173,7 +173,7 @@ wrapped_world = with_object (with_kept broken_world (2 ∷ [])) (new_object (pro
 
 wraps_failure : WrappingNode (runs_with_errors makes_broken) given_broken 2 (throws_on (frame_at 0 3 (reference_to 2 ∷ []) ∷ main_below) broken_world 2) (throws_on main_below wrapped_world 3)
 wraps_failure = wrap (runs_with_errors makes_broken) given_broken 0 breaks_nodes refl (frame_at 1 0 []) outside 3 (reference_to 2 ∷ []) broken_world _ refl 2 fire refl (none_there (program_with_errors makes_broken) (codes "java/lang/Exception")) refl
-    (stands_on (runs_with_errors makes_broken) given_broken 1 makes_broken_nodes refl 0 [] false _ refl) (class_no 9) (0, omega arith, refl) (record { class = _; stands = refl; named = refl })
+    (stands_on (runs_with_errors makes_broken) given_broken 1 makes_broken_nodes refl 0 [] false _ refl) (class_no 11) (0, omega arith, refl) (record { class = _; stands = refl; named = refl })
 
 pub an_exception_is_wrapped : BrokenSteps (λ s t. WrappingNode (runs_with_errors makes_broken) given_broken 2 s t × HasObject 3 Thrown (codes "java/lang/ExceptionInInitializerError") t × (t.world.kept ≡ 2 ∷ []))
 an_exception_is_wrapped =
@@ -191,7 +191,7 @@ a_failed_class_is_denied =
     let popped = plainly x given_broken 1 c makes_broken_nodes refl outside 1 5 (reference_to 3 ∷ []) wrapped_world _ refl at_handler in
     let step = deny x 1 c outside 6 [] wrapped_world _ refl _
     refl refl (codes "Broken") (of_class (record { class = _; named = refl }) refl) 0 initialises_broken (0, omega arith, refl) in
-    let node_step = raise x given_broken 1 makes_broken_nodes refl outside 6 [] wrapped_world _ refl (class_no 10) (1, omega arith, refl) (codes "java/lang/NoClassDefFoundError") (record { class = _; stands = refl; named = refl }) (λ value is_throw e. absurd cc) in
+    let node_step = raise x given_broken 1 makes_broken_nodes refl outside 6 [] wrapped_world _ refl (class_no 12) (1, omega arith, refl) (codes "java/lang/NoClassDefFoundError") (record { class = _; stands = refl; named = refl }) (λ value is_throw e. absurd cc) in
     takes _ _ _ _ _ popped (denies step.step) (raises_node node_step.at node_step.step) (node_step, shows _ _ _, has_object _ _ _ refl)
 
 -- it may leave the initialiser as it is

@@ -1,4 +1,3 @@
-mod GoingOn
 mod Slots
 mod Steps
 mod StartNodes
@@ -10,6 +9,7 @@ mod InitialiserRuns
 mod RaiseRuns
 mod ReturnRuns
 mod WithinTests
+mod ComparedRuns
 mod ResultRuns
 mod TriggerRuns
 mod MoveLists
@@ -18,6 +18,7 @@ mod LoweredRuns
 mod LoweredCalls
 mod LoweredThrows
 mod LoweredTests
+mod LoweredCompared
 mod LoweredResults
 mod LoweredTriggers
 mod LoweredErrors

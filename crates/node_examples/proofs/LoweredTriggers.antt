@@ -2,14 +2,14 @@
 -- rules give.
 use Rattle.std.proofs.Common.{codes, true, [], Some, None, refl}
 use Rattle.bytecode_machine.specs.Machine.{NamesField, of_class, of_field, of_method}
-use Rattle.machine_examples.specs.Initialising.{main_pool, broken_pool, program_with, makes_ready, makes_late, reads_ready}
+use Rattle.machine_examples.specs.Initialising.{main_pool, broken_pool, program_with, makes_ready, makes_late, makes_table, reads_ready, writes_ready}
 use Rattle.machine_examples.proofs.CallStart.{plain_units, door_units, door_type}
 use Rattle.machine_examples.proofs.Facts.{call_row, declared_field, field_row}
 use Rattle.machine_examples.proofs.Types.{base_type}
 use Rattle.method_nodes.specs.LoweredMethods.{IsLowered, no_trigger, for_class}
-use Rattle.node_examples.specs.DecodedCalls.{makes_ready_code, makes_ready_graph, makes_late_code, makes_late_graph, reads_ready_code, reads_ready_graph, breaks_code, breaks_graph, ready_starts_code, ready_starts_graph, finds_code, finds_graph, find_gate_code, find_gate_graph}
+use Rattle.node_examples.specs.DecodedCalls.{makes_ready_code, makes_ready_graph, makes_late_code, makes_late_graph, makes_table_code, makes_table_graph, reads_ready_code, reads_ready_graph, writes_ready_code, writes_ready_graph, breaks_code, breaks_graph, ready_starts_code, ready_starts_graph, finds_code, finds_graph, find_gate_code, find_gate_graph}
 use Rattle.node_examples.specs.Giving.{main_pool as finding_pool, finding, finds_nodes, find_gate_nodes}
-use Rattle.node_examples.specs.Initialising.{makes_ready_nodes, makes_late_nodes, reads_ready_nodes, breaks_nodes, initialiser_nodes}
+use Rattle.node_examples.specs.Initialising.{makes_ready_nodes, makes_late_nodes, makes_table_nodes, reads_ready_nodes, writes_ready_nodes, breaks_nodes, initialiser_nodes}
 use Rattle.node_examples.specs.Lowering.{method_no}
 use Rattle.node_examples.proofs.ExceptionRuns.{exception_type}
 use Rattle.node_examples.proofs.MoveLists.{are_moves_of}
@@ -18,6 +18,9 @@ use Rattle.node_examples.proofs.ReturnRuns.{find_named, gate_named}
 
 abbrev size_named : NamesField (program_with reads_ready) main_pool 19 true
 size_named = declared_field _ _ _ _ 0 _ _ refl refl refl refl refl
+
+abbrev written_named : NamesField (program_with writes_ready) main_pool 19 true
+written_named = declared_field _ _ _ _ 0 _ _ refl refl refl refl refl
 
 abbrev fire_named : NamesField (program_with makes_ready) broken_pool 13 true
 fire_named = declared_field _ _ _ _ 1 _ _ refl refl refl refl refl
@@ -68,6 +71,29 @@ nodes_of_makes_late = record {
   );
 }
 
+pub nodes_of_makes_table : IsLowered (program_with makes_table) 1 main_pool makes_table_code makes_table_graph makes_table_nodes
+nodes_of_makes_table = record {
+  method = _;
+  stands = refl;
+  number_is = refl;
+  slots = refl;
+  stack = refl;
+  params = record { parameters = []; results = []; of_descriptor = plain_units; is = refl };
+  nodes = (
+    node_is (program_with makes_table) 1 _ main_pool makes_table_code _ _ _ 0 refl refl _ refl _ refl 0 refl refl (record { class = _; named = refl }, refl) refl tt
+        (Some (codes "Table")) (for_class refl (codes "Table") _ (of_class (record { class = _; named = refl }) refl) (record { class = _; stands = refl; named = refl }) refl refl) (throws_nothing _ refl _ refl _),
+    (
+      node_is (program_with makes_table) 1 _ main_pool makes_table_code _ _ _ 1 refl refl _ refl _ refl 0 refl refl (record { moves = _; is = refl; each = are_moves_of _ _ _ refl }) refl tt
+          None (no_trigger refl refl refl) (throws_nothing _ refl _ refl _),
+      (
+        node_is (program_with makes_table) 1 _ main_pool makes_table_code _ _ _ 2 refl refl _ refl _ refl 0 refl refl refl refl tt
+            None (no_trigger refl refl refl) (throws_nothing _ refl _ refl _),
+        tt,
+      ),
+    ),
+  );
+}
+
 pub nodes_of_reads_ready : IsLowered (program_with reads_ready) 1 main_pool reads_ready_code reads_ready_graph reads_ready_nodes
 nodes_of_reads_ready = record {
   method = _;
@@ -84,6 +110,29 @@ nodes_of_reads_ready = record {
           None (no_trigger refl refl refl) (throws_nothing _ refl _ refl _),
       (
         node_is (program_with reads_ready) 1 _ main_pool reads_ready_code _ _ _ 2 refl refl _ refl _ refl 0 refl refl refl refl tt
+            None (no_trigger refl refl refl) (throws_nothing _ refl _ refl _),
+        tt,
+      ),
+    ),
+  );
+}
+
+pub nodes_of_writes_ready : IsLowered (program_with writes_ready) 1 main_pool writes_ready_code writes_ready_graph writes_ready_nodes
+nodes_of_writes_ready = record {
+  method = _;
+  stands = refl;
+  number_is = refl;
+  slots = refl;
+  stack = refl;
+  params = record { parameters = []; results = []; of_descriptor = plain_units; is = refl };
+  nodes = (
+    node_is (program_with writes_ready) 1 _ main_pool writes_ready_code _ _ _ 0 refl refl _ refl _ refl 0 refl refl (record { moves = _; is = refl; each = are_moves_of _ _ _ refl }) refl tt
+        None (no_trigger refl refl refl) (throws_nothing _ refl _ refl _),
+    (
+      node_is (program_with writes_ready) 1 _ main_pool writes_ready_code _ _ _ 1 refl refl _ refl _ (field_row _ _ _ _ _ refl (base_type 73 refl)) 0 refl refl (record { names = written_named; is = record { moves = _; is = refl; each = are_moves_of _ _ _ refl } }) refl tt
+          (Some (codes "Ready")) (for_class refl (codes "Ready") _ (of_field written_named refl) (record { class = _; stands = refl; named = refl }) refl refl) (throws_nothing _ refl _ refl _),
+      (
+        node_is (program_with writes_ready) 1 _ main_pool writes_ready_code _ _ _ 2 refl refl _ refl _ refl 0 refl refl refl refl tt
             None (no_trigger refl refl refl) (throws_nothing _ refl _ refl _),
         tt,
       ),

@@ -6,11 +6,21 @@ use Rattle.std.proofs.lemmas.List.Elements.{All-contains}
 use Rattle.std.proofs.lemmas.List.Sums.{AllPass-from_list_all}
 use Rattle.std.proofs.lemmas.Option.{none-some, same_Some}
 use Rattle.op_model.specs.declared.op.Move.{Move}
-use Rattle.bytecode_machine.specs.Machine.{is_same}
 use Rattle.bytecode_machine.specs.States.{Value, primitive_value, null_value, reference_to, slot_at}
 use Rattle.node_machine.specs.Slots.{source_value, AreMoved, AreLeft, AreSame, AreCaught}
 
 -- ---- values
+
+abbrev pub is_same : Value → Value → Bool
+is_same primitive_value primitive_value = true
+is_same primitive_value null_value = false
+is_same primitive_value (reference_to place) = false
+is_same null_value primitive_value = false
+is_same null_value null_value = true
+is_same null_value (reference_to place) = false
+is_same (reference_to place) primitive_value = false
+is_same (reference_to place) null_value = false
+is_same (reference_to place) (reference_to other) = nat_eq place other
 
 pub same_is : (v w : Value) → is_same v w ≡ true → v ≡ w
 same_is primitive_value primitive_value e = refl

@@ -25,7 +25,7 @@ use Rattle.node_machine.specs.NodeExecutions.{IsNodeExecution}
 use Rattle.node_machine.specs.Nodes.{StandsAt, of_method}
 use Rattle.node_machine.specs.NodeSteps.{AtNode, NodeStep, Leads, advances as advances_node, enters_entry as enters_entry_node}
 use Rattle.node_examples.specs.Taking.{TakesNode, Operating, OperatesTo}
-use Rattle.node_examples.proofs.GoingOn.{goes_on as goes_on_node}
+use Rattle.node_machine.proofs.GoingOn.{goes_on as goes_on_node}
 use Rattle.node_examples.proofs.Slots.{moves_to, are_moved_by, is_among, stands_among, reads_alike, read_alike}
 
 -- ---- executions up to a state
@@ -126,9 +126,9 @@ plain_makes : (a : Action) (x : Subject) (f : Frame) (pool : List PoolEntry) (i 
 plain_makes plain x f pool i units w e = (refl, refl)
 plain_makes _ x f pool i units w e = absurd cc
 
-onward_goes : (f : Flow) (after : ℕ) (targets : List (Option ℕ)) (units : List Value) → is_onward f ≡ true → Goes f after targets units after
-onward_goes onward after targets units e = refl
-onward_goes _ after targets units e = absurd cc
+onward_goes : (f : Flow) (w : World) (after : ℕ) (targets : List (Option ℕ)) (units : List Value) → is_onward f ≡ true → Goes f w after targets units after
+onward_goes onward w after targets units e = refl
+onward_goes _ w after targets units e = absurd cc
 
 -- the slots after a plain instruction
 abbrev plain_effect : DecodedInstruction → List Value → List Value
@@ -170,7 +170,7 @@ module _ (x : Subject) (given : Given) (number : ℕ) (c : MethodCode x.program 
       let b = and_parts (is_onward i.row.flow) (operands_fit i.row slots) a.1 in
       let d = and_parts (assigns n.op slots (plain_effect i slots)) (is_among n.successors (offset + i.size)) both.1 in
       let step = advance x number c below offset slots w i is i.row (plain_row i.row.action c.file.pool i a.0) b.1 primitive_value w (offset + i.size)
-      (plain_makes i.row.action x (frame_at number offset slots) c.file.pool i (units_of i.row slots) w a.0) (onward_goes i.row.flow (offset + i.size) i.targets (units_of i.row slots) b.0) in
+      (plain_makes i.row.action x (frame_at number offset slots) c.file.pool i (units_of i.row slots) w a.0) (onward_goes i.row.flow w (offset + i.size) i.targets (units_of i.row slots) b.0) in
       let node_step = operate offset slots w n stands (plain_effect i slots) w (offset + i.size) (assigns_leads n.op x w slots (plain_effect i slots) d.0) d.1 in
       (advances step.at step.step, advances_node node_step.at node_step.step)
 

@@ -1,12 +1,12 @@
 -- The starts of an initialiser at other triggers.
-use Rattle.std.proofs.Common.{codes, ◌≡◌, inl, true, [], ◌∷◌, Some, refl}
+use Rattle.std.proofs.Common.{codes, ◌≡◌, inl, inr, true, [], ◌∷◌, Some, refl, arith}
 use Rattle.jvm_model.specs.Code.{CodeBody}
 use Rattle.jvm_model.specs.Resolution.ResolvesFrom.{itself as resolved_there}
 use Rattle.jvm_model.specs.Subtypes.{same, below}
 use Rattle.bytecode_machine.specs.Machine.{MethodCode, IsInitialiser, of_class, of_field, of_method, starts}
 use Rattle.bytecode_machine.specs.States.{primitive_value}
 use Rattle.machine_examples.specs.Calling.{only_returns}
-use Rattle.machine_examples.specs.Initialising.{ready_class, main_class, program_with, runs, makes_late, calls_ready, reads_ready}
+use Rattle.machine_examples.specs.Initialising.{ready_class, steady_class, main_class, program_with, runs, makes_late, makes_table, calls_ready, reads_ready, writes_ready}
 use Rattle.machine_examples.proofs.Facts.{call_row, declared_field, field_row}
 use Rattle.machine_examples.proofs.Runs.{body_fits, built, first_world}
 use Rattle.machine_examples.proofs.Searches.{chain_up}
@@ -14,10 +14,10 @@ use Rattle.machine_examples.proofs.Types.{base_type}
 use Rattle.machine_examples.proofs.CallStart.{outside, plain_units}
 use Rattle.machine_examples.proofs.Initialisers.{nothing_there, start as start_code}
 use Rattle.node_machine.specs.NodeSteps.{starts as starts_node}
-use Rattle.node_examples.specs.Initialising.{given_with, StartsReady, initialiser_nodes, makes_late_nodes, calls_ready_nodes, reads_ready_nodes}
+use Rattle.node_examples.specs.Initialising.{given_with, StartsInitialiser, StartsReady, initialiser_nodes, makes_late_nodes, makes_table_nodes, calls_ready_nodes, reads_ready_nodes, writes_ready_nodes}
 use Rattle.node_examples.specs.Lowering.{class_no}
 use Rattle.node_examples.proofs.CallSteps.{start}
-use Rattle.node_examples.proofs.Steps.{takes, starts_at, enters_at}
+use Rattle.node_examples.proofs.Steps.{takes, starts_at, enters_at, plainly}
 
 abbrev main_at_start : (k : CodeBody) → body_fits k ≡ true → MethodCode (program_with k) 1
 main_at_start k fits = built (program_with k) 1 _ (main_class k) 0 9 6 7 k refl refl refl fits
@@ -31,6 +31,12 @@ initialises_ready k = record { code = ready_of k; named = refl; above = same _ r
 abbrev initialises_late : (k : CodeBody) → IsInitialiser (program_with k) (codes "Late") 3
 initialises_late k = record { code = ready_of k; named = refl; above = below _ _ _ refl (inl refl) (same _ refl) }
 
+abbrev steady_of : (k : CodeBody) → MethodCode (program_with k) 5
+steady_of k = built (program_with k) 5 _ steady_class 0 8 6 7 only_returns refl refl refl refl
+
+abbrev initialises_table : (k : CodeBody) → IsInitialiser (program_with k) (codes "Table") 5
+initialises_table k = record { code = steady_of k; named = refl; above = below _ _ _ refl (inr (0, omega arith, refl)) (same _ refl) }
+
 pub an_initialiser_of_a_superclass_starts : StartsReady makes_late makes_late_nodes
 an_initialiser_of_a_superclass_starts =
     let x = runs makes_late in
@@ -40,6 +46,17 @@ an_initialiser_of_a_superclass_starts =
     let step = start_code x 1 c outside 0 [] w _ refl _ refl refl (codes "Late") (of_class (record { class = _; named = refl }) refl) 3 (initialises_late makes_late) (nothing_there 3) in
     let node_step = start x (given_with makes_late_nodes) 1 makes_late_nodes refl outside 0 [] w _ refl (class_no 1) refl (codes "Late") (record { class = _; stands = refl; named = refl }) 3 (initialises_late makes_late) (nothing_there 3)
     (initialiser_nodes 3) refl (primitive_value ∷ []) refl in
+    takes _ _ _ _ _ begins (starts step.step) (starts_node node_step.at node_step.step) node_step
+
+pub an_initialiser_of_a_superinterface_starts : StartsInitialiser 5 makes_table makes_table_nodes
+an_initialiser_of_a_superinterface_starts =
+    let x = runs makes_table in
+    let c = main_at_start makes_table refl in
+    let w = first_world x [] in
+    let begins = enters_at x (given_with makes_table_nodes) c makes_table_nodes refl refl w (starts_at x (given_with makes_table_nodes) c [] refl) in
+    let step = start_code x 1 c outside 0 [] w _ refl _ refl refl (codes "Table") (of_class (record { class = _; named = refl }) refl) 5 (initialises_table makes_table) (nothing_there 5) in
+    let node_step = start x (given_with makes_table_nodes) 1 makes_table_nodes refl outside 0 [] w _ refl (class_no 5) refl (codes "Table") (record { class = _; stands = refl; named = refl }) 5 (initialises_table makes_table) (nothing_there 5)
+    (initialiser_nodes 5) refl (primitive_value ∷ []) refl in
     takes _ _ _ _ _ begins (starts step.step) (starts_node node_step.at node_step.step) node_step
 
 pub an_initialiser_starts_at_a_call : StartsReady calls_ready calls_ready_nodes
@@ -78,3 +95,17 @@ an_initialiser_starts_at_a_field =
     let node_step = start x (given_with reads_ready_nodes) 1 reads_ready_nodes refl outside 0 [] w _ refl (class_no 3) refl (codes "Ready") (record { class = _; stands = refl; named = refl }) 3 (initialises_ready reads_ready) (nothing_there 3)
     (initialiser_nodes 3) refl (primitive_value ∷ []) refl in
     takes _ _ _ _ _ begins (starts step.step) (starts_node node_step.at node_step.step) node_step
+
+pub an_initialiser_starts_at_a_write : StartsReady writes_ready writes_ready_nodes
+an_initialiser_starts_at_a_write =
+    let x = runs writes_ready in
+    let given = given_with writes_ready_nodes in
+    let c = main_at_start writes_ready refl in
+    let w = first_world x [] in
+    let begins = enters_at x given c writes_ready_nodes refl refl w (starts_at x given c [] refl) in
+    let pushed = plainly x given 1 c writes_ready_nodes refl outside 1 0 [] w _ refl begins in
+    let step = start_code x 1 c outside 1 (primitive_value ∷ []) w _ refl _ (field_row _ _ _ _ _ refl (base_type 73 refl)) refl (codes "Ready")
+    (of_field (declared_field _ _ _ _ 0 _ _ refl refl refl refl refl) refl) 3 (initialises_ready writes_ready) (nothing_there 3) in
+    let node_step = start x given 1 writes_ready_nodes refl outside 1 (primitive_value ∷ []) w _ refl (class_no 3) refl (codes "Ready") (record { class = _; stands = refl; named = refl }) 3 (initialises_ready writes_ready) (nothing_there 3)
+    (initialiser_nodes 3) refl (primitive_value ∷ []) refl in
+    takes _ _ _ _ _ pushed (starts step.step) (starts_node node_step.at node_step.step) node_step

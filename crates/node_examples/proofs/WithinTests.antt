@@ -1,5 +1,5 @@
 -- The steps within a method that test, load other constants, or look at an object that must be there.
-use Rattle.std.proofs.Common.{codes, inl, inr, [], ◌∷◌, refl, arith}
+use Rattle.std.proofs.Common.{codes, inl, inr, true, false, [], ◌∷◌, refl, arith}
 use Rattle.jvm_model.specs.declared.site.SiteKind.TheVariants.{New as new_kind}
 use Rattle.op_model.specs.declared.op.Op.TheVariants.{Assign, Constant, Cast, Probe}
 use Rattle.bytecode_machine.specs.Machine.{of_primitives}
@@ -85,7 +85,7 @@ a_test_of_one_object_jumps =
     (record { value = reference_to 2; is_read = refl; are_left = are_left_by _ _ _ _ _ refl; same = refl }) refl) in
     takes_operation _ _ _ _ _ _ _ _ second
     (advance (runs same_branch) 0 (main_of same_branch refl) outside 6 (reference_to 2 ∷ reference_to 2 ∷ []) (world same_branch refl) _ refl _
-    refl refl primitive_value _ 10 (refl, refl) (0, omega arith, refl))
+    refl refl primitive_value _ 10 (refl, refl) (true, (λ made. refl), (0, omega arith, refl)))
     (operate (runs same_branch) (given_main same_branch_nodes) 0 (main_of same_branch refl) same_branch_nodes refl outside 6 (reference_to 2 ∷ reference_to 2 ∷ []) (world same_branch refl) _ refl _ _ _
     (are_moved_by _ _ _ refl, refl) refl)
     (shows _ _ _)
@@ -99,7 +99,7 @@ a_test_of_two_references_goes_on =
     (record { value = reference_to 2; is_read = refl; are_left = are_left_by _ _ _ _ _ refl; same = refl }) refl) in
     takes_operation _ _ _ _ _ _ _ _ (plainly (runs other_branch) (given_main other_branch_nodes) 0 (main_of other_branch refl) other_branch_nodes refl outside 1 3 (reference_to 2 ∷ []) (world other_branch refl) _ refl first)
     (advance (runs other_branch) 0 (main_of other_branch refl) outside 4 (reference_to 2 ∷ null_value ∷ []) (world other_branch refl) _ refl _
-    refl refl primitive_value _ 7 (refl, refl) refl)
+    refl refl primitive_value _ 7 (refl, refl) (false, refl, refl))
     (operate (runs other_branch) (given_main other_branch_nodes) 0 (main_of other_branch refl) other_branch_nodes refl outside 4 (reference_to 2 ∷ null_value ∷ []) (world other_branch refl) _ refl _ _ _
     (are_moved_by _ _ _ refl, refl) refl)
     (shows _ _ _)

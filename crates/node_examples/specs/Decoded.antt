@@ -546,3 +546,151 @@ middle_graph = graph_of (
     ∷ step 4 1 (5 ∷ [])
     ∷ step 5 0 []
     ∷ [])
+
+abbrev pub null_jump_code : Code
+null_jump_code = code_of 1 0 (
+    plainly_placed 0 1 0
+    ∷ instruction_with 1 199 0 0 (5 ∷ [])
+    ∷ plainly_placed 4 177 0
+    ∷ plainly_placed 5 177 0
+    ∷ [])
+
+abbrev pub null_jump_graph : Graph
+null_jump_graph = graph_of (
+    step 0 0 (1 ∷ [])
+    ∷ step 1 1 (4 ∷ 5 ∷ [])
+    ∷ step 4 0 []
+    ∷ step 5 0 []
+    ∷ [])
+
+abbrev pub box_jump_code : Code
+box_jump_code = code_of 1 0 (
+    plainly_placed 0 178 14
+    ∷ instruction_with 3 199 0 0 (7 ∷ [])
+    ∷ plainly_placed 6 177 0
+    ∷ plainly_placed 7 177 0
+    ∷ [])
+
+abbrev pub box_jump_graph : Graph
+box_jump_graph = graph_of (
+    step 0 0 (3 ∷ [])
+    ∷ step 3 1 (6 ∷ 7 ∷ [])
+    ∷ step 6 0 []
+    ∷ step 7 0 []
+    ∷ [])
+
+abbrev pub same_jump_code : Code
+same_jump_code = code_of 2 0 (
+    plainly_placed 0 187 10
+    ∷ plainly_placed 3 89 0
+    ∷ instruction_with 4 166 0 0 (8 ∷ [])
+    ∷ plainly_placed 7 177 0
+    ∷ plainly_placed 8 177 0
+    ∷ [])
+
+abbrev pub same_jump_graph : Graph
+same_jump_graph = graph_of (
+    step 0 0 (3 ∷ [])
+    ∷ step 3 1 (4 ∷ [])
+    ∷ step 4 2 (7 ∷ 8 ∷ [])
+    ∷ step 7 0 []
+    ∷ step 8 0 []
+    ∷ [])
+
+abbrev pub other_jump_code : Code
+other_jump_code = code_of 2 0 (
+    plainly_placed 0 178 14
+    ∷ plainly_placed 3 1 0
+    ∷ instruction_with 4 166 0 0 (8 ∷ [])
+    ∷ plainly_placed 7 177 0
+    ∷ plainly_placed 8 177 0
+    ∷ [])
+
+abbrev pub other_jump_graph : Graph
+other_jump_graph = graph_of (
+    step 0 0 (3 ∷ [])
+    ∷ step 3 1 (4 ∷ [])
+    ∷ step 4 2 (7 ∷ 8 ∷ [])
+    ∷ step 7 0 []
+    ∷ step 8 0 []
+    ∷ [])
+
+abbrev pub two_branch_code : Code
+two_branch_code = code_of 2 0 (
+    plainly_placed 0 187 10
+    ∷ plainly_placed 3 187 10
+    ∷ instruction_with 6 165 0 0 (10 ∷ [])
+    ∷ plainly_placed 9 177 0
+    ∷ plainly_placed 10 177 0
+    ∷ [])
+
+abbrev pub two_branch_graph : Graph
+two_branch_graph = graph_of (
+    step 0 0 (3 ∷ [])
+    ∷ step 3 1 (6 ∷ [])
+    ∷ step 6 2 (9 ∷ 10 ∷ [])
+    ∷ step 9 0 []
+    ∷ step 10 0 []
+    ∷ [])
+
+abbrev pub string_branch_code : Code
+string_branch_code = code_of 2 0 (
+    plainly_placed 0 18 25
+    ∷ plainly_placed 2 18 25
+    ∷ instruction_with 4 165 0 0 (8 ∷ [])
+    ∷ plainly_placed 7 177 0
+    ∷ plainly_placed 8 177 0
+    ∷ [])
+
+abbrev pub string_branch_graph : Graph
+string_branch_graph = graph_of (
+    step 0 0 (2 ∷ [])
+    ∷ step 2 1 (4 ∷ [])
+    ∷ step 4 2 (7 ∷ 8 ∷ [])
+    ∷ step 7 0 []
+    ∷ step 8 0 []
+    ∷ [])
+
+abbrev pub array_cast_code : Code
+array_cast_code = code_of 1 0 (
+    plainly_placed 0 4 0
+    ∷ plainly_placed 1 189 10
+    ∷ plainly_placed 4 192 31
+    ∷ plainly_placed 7 87 0
+    ∷ plainly_placed 8 177 0
+    ∷ [])
+
+abbrev pub array_cast_graph : Graph
+array_cast_graph = graph_of (
+    step 0 0 (1 ∷ [])
+    ∷ step 1 1 (4 ∷ [])
+    ∷ step 4 1 (7 ∷ [])
+    ∷ step 7 1 (8 ∷ [])
+    ∷ step 8 0 []
+    ∷ [])
+
+abbrev pub shuffles_code : Code
+shuffles_code = code_of 10 0 (
+    plainly_placed 0 1 0
+    ∷ plainly_placed 1 3 0
+    ∷ plainly_placed 2 90 0
+    ∷ plainly_placed 3 91 0
+    ∷ plainly_placed 4 92 0
+    ∷ plainly_placed 5 93 0
+    ∷ plainly_placed 6 94 0
+    ∷ plainly_placed 7 95 0
+    ∷ plainly_placed 8 177 0
+    ∷ [])
+
+abbrev pub shuffles_graph : Graph
+shuffles_graph = graph_of (
+    step 0 0 (1 ∷ [])
+    ∷ step 1 1 (2 ∷ [])
+    ∷ step 2 2 (3 ∷ [])
+    ∷ step 3 3 (4 ∷ [])
+    ∷ step 4 4 (5 ∷ [])
+    ∷ step 5 6 (6 ∷ [])
+    ∷ step 6 8 (7 ∷ [])
+    ∷ step 7 10 (8 ∷ [])
+    ∷ step 8 10 []
+    ∷ [])

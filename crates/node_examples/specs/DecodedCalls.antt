@@ -254,6 +254,34 @@ reads_ready_graph = graph_of (
     ∷ step 4 0 []
     ∷ [])
 
+abbrev pub makes_table_code : Code
+makes_table_code = code_of 1 0 (
+    plainly_placed 0 187 24
+    ∷ plainly_placed 3 87 0
+    ∷ plainly_placed 4 177 0
+    ∷ [])
+
+abbrev pub makes_table_graph : Graph
+makes_table_graph = graph_of (
+    step 0 0 (3 ∷ [])
+    ∷ step 3 1 (4 ∷ [])
+    ∷ step 4 0 []
+    ∷ [])
+
+abbrev pub writes_ready_code : Code
+writes_ready_code = code_of 1 0 (
+    plainly_placed 0 3 0
+    ∷ plainly_placed 1 179 19
+    ∷ plainly_placed 4 177 0
+    ∷ [])
+
+abbrev pub writes_ready_graph : Graph
+writes_ready_graph = graph_of (
+    step 0 0 (1 ∷ [])
+    ∷ step 1 1 (4 ∷ [])
+    ∷ step 4 0 []
+    ∷ [])
+
 abbrev pub breaks_code : Code
 breaks_code = code_of 1 0 (
     plainly_placed 0 178 13

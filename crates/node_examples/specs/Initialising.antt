@@ -1,8 +1,8 @@
 -- Public contracts rest on this module.
--- The methods of the programs with initialisers, as nodes. The classes have the numbers 0 to 8: Broken, Late, Main, Ready,
--- Exception, Object, String, Throwable and Alarm. The initialisers have the numbers 0 in Broken, 2 in Main and 3 in Ready, and
--- `main` the number 1. Where an error of initialisation is to be thrown, the program has the classes of both, with the numbers 9
--- and 10: nodes throw new objects of the program's classes alone.
+-- The methods of the programs with initialisers, as nodes. The classes have the numbers 0 to 10: Broken, Late, Main, Ready, Steady,
+-- Table, Exception, Object, String, Throwable and Alarm. The initialisers have the numbers 0 in Broken, 2 in Main, 3 in Ready and 5
+-- in Steady, and `main` the number 1. Where an error of initialisation is to be thrown, the program has the classes of both, with the
+-- numbers 11 and 12: nodes throw new objects of the program's classes alone.
 use Rattle.std.specs.Prelude.{codes, ℕ, List, [], ◌∷◌, None, Some}
 use Rattle.jvm_model.specs.declared.number.ClassNo.{ClassNo}
 use Rattle.jvm_model.specs.Code.{CodeBody}
@@ -19,7 +19,7 @@ use Rattle.bytecode_machine.specs.States.{State}
 use Rattle.machine_examples.specs.Building.{in_folder, library_class, run_of}
 use Rattle.machine_examples.specs.Calling.{object}
 use Rattle.machine_examples.specs.Excepting.{alarm}
-use Rattle.machine_examples.specs.Initialising.{broken_class, late_class, main_class, ready_class, runs, makes_ready, makes_broken}
+use Rattle.machine_examples.specs.Initialising.{broken_class, late_class, main_class, ready_class, steady_class, table_class, runs, makes_ready, makes_broken}
 use Rattle.node_examples.specs.Excepting.{throws}
 use Rattle.node_examples.specs.Lowering.{node, with_trigger, with_throws, with_handlers, catching, lowered, given_by, site_in, primitive_in, class_no, field_no, method_no, call_of}
 use Rattle.node_examples.specs.Taking.{TakesNode, StartingNode}
@@ -35,16 +35,20 @@ initialiser_nodes number = lowered number 1 0 0 (returns 0 ∷ [])  -- return
 abbrev pub ready_go_nodes : LoweredMethod
 ready_go_nodes = lowered 4 1 0 0 (returns 0 ∷ [])  -- return
 
+-- The method of Steady that is not static.
+abbrev pub steady_stand_nodes : LoweredMethod
+steady_stand_nodes = lowered 6 1 0 1 (returns 0 ∷ [])  -- return
+
 -- The initialiser of Broken.
 abbrev pub breaks_nodes : LoweredMethod
 breaks_nodes = lowered 0 0 1 0 (
-    with_trigger 8 (node 0 (LoadStatic (field_no 1) 0) (3 ∷ []))  -- getstatic Alarm.fire
+    with_trigger 10 (node 0 (LoadStatic (field_no 1) 0) (3 ∷ []))  -- getstatic Alarm.fire
     ∷ throws 3 0  -- athrow
     ∷ [])
 
 -- Besides main these are given: the other methods with code.
 abbrev pub given_with : LoweredMethod → Given
-given_with m = given_by (breaks_nodes ∷ m ∷ initialiser_nodes 2 ∷ initialiser_nodes 3 ∷ ready_go_nodes ∷ [])
+given_with m = given_by (breaks_nodes ∷ m ∷ initialiser_nodes 2 ∷ initialiser_nodes 3 ∷ ready_go_nodes ∷ initialiser_nodes 5 ∷ steady_stand_nodes ∷ [])
 
 -- ---- an initialiser that returns
 
@@ -72,6 +76,14 @@ makes_late_nodes = lowered 1 0 1 0 (
     ∷ returns 4  -- return
     ∷ [])
 
+-- The interface of Table has one.
+abbrev pub makes_table_nodes : LoweredMethod
+makes_table_nodes = lowered 1 0 1 0 (
+    with_trigger 5 (node 0 (New (site_in 1 0 (codes "Table")) 0) (3 ∷ []))  -- new Table
+    ∷ pops 3 0 4  -- pop
+    ∷ returns 4  -- return
+    ∷ [])
+
 abbrev pub calls_ready_nodes : LoweredMethod
 calls_ready_nodes = lowered 1 0 1 0 (
     with_trigger 3 (node 0 (Call (call_of Static 4 (Some (method_no 4)) (codes "go") plain_descriptor [] None)) (3 ∷ []))  -- invokestatic Ready.go
@@ -86,9 +98,20 @@ reads_ready_nodes = lowered 1 0 1 0 (
     ∷ returns 4  -- return
     ∷ [])
 
--- `main` of a code, as nodes, starts the initialiser of Ready.
+-- It is of a primitive type, so that nothing is written.
+abbrev pub writes_ready_nodes : LoweredMethod
+writes_ready_nodes = lowered 1 0 1 0 (
+    node 0 (Assign (primitive_in 0 ∷ [])) (1 ∷ [])  -- iconst_0
+    ∷ with_trigger 3 (node 1 (Assign (primitive_in 0 ∷ [])) (4 ∷ []))  -- putstatic Ready.size
+    ∷ returns 4  -- return
+    ∷ [])
+
+-- `main` of a code, as nodes, starts the initialiser of a number; and that of Ready.
+abbrev pub StartsInitialiser : ℕ → CodeBody → LoweredMethod → Type 0
+StartsInitialiser number k m = TakesNode (runs k) (given_with m) (StartingNode (runs k) (given_with m) number)
+
 abbrev pub StartsReady : CodeBody → LoweredMethod → Type 0
-StartsReady k m = TakesNode (runs k) (given_with m) (StartingNode (runs k) (given_with m) 3)
+StartsReady k m = StartsInitialiser 3 k m
 
 -- ---- one that fails
 
@@ -99,6 +122,8 @@ program_with_errors k = program_from (
     ∷ in_folder (codes "Late.class") late_class
     ∷ in_folder (codes "Main.class") (main_class k)
     ∷ in_folder (codes "Ready.class") ready_class
+    ∷ in_folder (codes "Steady.class") steady_class
+    ∷ in_folder (codes "Table.class") table_class
     ∷ library_class (codes "java/lang/Exception") (codes "java/lang/Throwable")
     ∷ object
     ∷ library_class string_name object_name
@@ -112,7 +137,7 @@ abbrev pub runs_with_errors : CodeBody → Subject
 runs_with_errors k = run_of (program_with_errors k) 1 (codes "Ready")
 
 abbrev pub errors : List ClassNo
-errors = class_no 9 ∷ class_no 10 ∷ []
+errors = class_no 11 ∷ class_no 12 ∷ []
 
 -- An object of Broken is made, at an offset.
 abbrev pub makes_one : (offset next : ℕ) → Node

@@ -5,9 +5,12 @@ use Rattle.std.specs.Prelude.{codes, ℕ, List, [], ◌∷◌, None}
 use Rattle.jvm_model.specs.Code.{CodeBody}
 use Rattle.op_model.specs.declared.lowered.LoweredMethod.{LoweredMethod}
 use Rattle.op_model.specs.declared.node.Node.{Node}
+use Rattle.op_model.specs.declared.op.Move.{Move}
 use Rattle.op_model.specs.declared.op.Op.{Op}
 use Rattle.op_model.specs.declared.op.Op.TheVariants.{Assign, Load, Store, LoadElement, StoreElement, LoadStatic, StoreStatic, New, NewArray, Constant, Return, Cast, Probe}
 use Rattle.op_model.specs.Supplies.{Given}
+use Rattle.jvm_model.specs.Programs.{object_name}
+use Rattle.jvm_model.specs.Subtypes.{array_of}
 use Rattle.bytecode_machine.specs.Objects.{string_name}
 use Rattle.bytecode_machine.specs.Start.{boot_site}
 use Rattle.bytecode_machine.specs.States.{Value}
@@ -240,4 +243,106 @@ first_number_nodes = lowered 0 0 2 0 (
     ∷ node 4 (Probe 0) (5 ∷ [])  -- iaload
     ∷ pops 5 0 6  -- pop
     ∷ returns 6  -- return
+    ∷ [])
+
+-- ---- comparisons, a cast of an array, and units that are put in another order
+
+abbrev pub makes_box : (offset slot next : ℕ) → Node
+makes_box offset slot next = with_trigger 3 (node offset (New (site_in 0 offset (codes "lib/Box")) slot) (next ∷ []))
+
+-- The two upper units of a stack of two are compared.
+abbrev pub compares : (offset next target : ℕ) → Node
+compares offset next target = node offset (Assign (primitive_in 0 ∷ primitive_in 1 ∷ [])) (next ∷ target ∷ [])
+
+abbrev pub null_jump_nodes : LoweredMethod
+null_jump_nodes = lowered 0 0 1 0 (
+    pushes_null 0 0 1  -- aconst_null
+    ∷ node 1 (Assign (primitive_in 0 ∷ [])) (4 ∷ 5 ∷ [])  -- ifnonnull 5
+    ∷ returns 4  -- return
+    ∷ returns 5  -- return
+    ∷ [])
+
+abbrev pub box_jump_nodes : LoweredMethod
+box_jump_nodes = lowered 0 0 1 0 (
+    reads_it 0 0 3  -- getstatic Box.it
+    ∷ node 3 (Assign (primitive_in 0 ∷ [])) (6 ∷ 7 ∷ [])  -- ifnonnull 7
+    ∷ returns 6  -- return
+    ∷ returns 7  -- return
+    ∷ [])
+
+abbrev pub same_jump_nodes : LoweredMethod
+same_jump_nodes = lowered 0 0 2 0 (
+    makes_box 0 0 3  -- new Box
+    ∷ node 3 (Assign (copy_of 0 1 ∷ [])) (4 ∷ [])  -- dup
+    ∷ compares 4 7 8  -- if_acmpne 8
+    ∷ returns 7  -- return
+    ∷ returns 8  -- return
+    ∷ [])
+
+abbrev pub other_jump_nodes : LoweredMethod
+other_jump_nodes = lowered 0 0 2 0 (
+    reads_it 0 0 3  -- getstatic Box.it
+    ∷ pushes_null 3 1 4  -- aconst_null
+    ∷ compares 4 7 8  -- if_acmpne 8
+    ∷ returns 7  -- return
+    ∷ returns 8  -- return
+    ∷ [])
+
+abbrev pub two_branch_nodes : LoweredMethod
+two_branch_nodes = lowered 0 0 2 0 (
+    makes_box 0 0 3  -- new Box
+    ∷ makes_box 3 1 6  -- new Box
+    ∷ compares 6 9 10  -- if_acmpeq 10
+    ∷ returns 9  -- return
+    ∷ returns 10  -- return
+    ∷ [])
+
+abbrev pub string_branch_nodes : LoweredMethod
+string_branch_nodes = lowered 0 0 2 0 (
+    node 0 (Constant (boot_site string_name) 0) (2 ∷ [])  -- ldc "main"
+    ∷ node 2 (Constant (boot_site string_name) 1) (4 ∷ [])  -- ldc "main"
+    ∷ compares 4 7 8  -- if_acmpeq 8
+    ∷ returns 7  -- return
+    ∷ returns 8  -- return
+    ∷ [])
+
+abbrev pub array_cast_nodes : LoweredMethod
+array_cast_nodes = lowered 0 0 1 0 (
+    pushes_number 0 0 1  -- iconst_1
+    ∷ node 1 (NewArray (site_in 0 1 (codes "[Llib/Box;") ∷ []) 0) (4 ∷ [])  -- anewarray Box
+    ∷ node 4 (Cast (array_of object_name) 0) (7 ∷ [])  -- checkcast Object[]
+    ∷ pops 7 0 8  -- pop
+    ∷ returns 8  -- return
+    ∷ [])
+
+-- The moves of each instruction that puts units in another order, in the program `shuffles`.
+abbrev pub below_one : List Move
+below_one = copy_of 1 0 ∷ copy_of 0 1 ∷ copy_of 1 2 ∷ []
+
+abbrev pub below_two : List Move
+below_two = copy_of 2 0 ∷ copy_of 0 1 ∷ copy_of 1 2 ∷ copy_of 2 3 ∷ []
+
+abbrev pub both : List Move
+both = copy_of 2 4 ∷ copy_of 3 5 ∷ []
+
+abbrev pub both_below_one : List Move
+both_below_one = copy_of 4 3 ∷ copy_of 5 4 ∷ copy_of 3 5 ∷ copy_of 4 6 ∷ copy_of 5 7 ∷ []
+
+abbrev pub both_below_two : List Move
+both_below_two = copy_of 6 4 ∷ copy_of 7 5 ∷ copy_of 4 6 ∷ copy_of 5 7 ∷ copy_of 6 8 ∷ copy_of 7 9 ∷ []
+
+abbrev pub swapped : List Move
+swapped = copy_of 9 8 ∷ copy_of 8 9 ∷ []
+
+abbrev pub shuffles_nodes : LoweredMethod
+shuffles_nodes = lowered 0 0 10 0 (
+    pushes_null 0 0 1  -- aconst_null
+    ∷ pushes_number 1 1 2  -- iconst_0
+    ∷ node 2 (Assign below_one) (3 ∷ [])  -- dup_x1
+    ∷ node 3 (Assign below_two) (4 ∷ [])  -- dup_x2
+    ∷ node 4 (Assign both) (5 ∷ [])  -- dup2
+    ∷ node 5 (Assign both_below_one) (6 ∷ [])  -- dup2_x1
+    ∷ node 6 (Assign both_below_two) (7 ∷ [])  -- dup2_x2
+    ∷ node 7 (Assign swapped) (8 ∷ [])  -- swap
+    ∷ returns 8  -- return
     ∷ [])

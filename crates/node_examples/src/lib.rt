@@ -4,10 +4,12 @@
 #![tactic(auto)]
 
 pub mod calls;
+pub mod compared;
 pub mod exceptions;
 pub mod initialisation;
 pub mod lowering;
 pub mod lowering_calls;
+pub mod lowering_compared;
 pub mod lowering_results;
 pub mod lowering_tests;
 pub mod lowering_throws;

@@ -2,11 +2,11 @@
 //! are those that the rules give.
 
 ghost use Rattle.std.specs.Prelude.{[]};
-ghost use Rattle.machine_examples.specs.Initialising.{main_pool, broken_pool, program_with, makes_ready, makes_late, reads_ready, makes_broken};
+ghost use Rattle.machine_examples.specs.Initialising.{main_pool, broken_pool, program_with, makes_ready, makes_late, makes_table, reads_ready, writes_ready, makes_broken};
 ghost use Rattle.method_nodes.specs.LoweredMethods.{IsLowered};
-ghost use Rattle.node_examples.specs.DecodedCalls.{makes_ready_code, makes_ready_graph, makes_late_code, makes_late_graph, reads_ready_code, reads_ready_graph, breaks_code, breaks_graph, ready_starts_code, ready_starts_graph, finds_code, finds_graph, find_gate_code, find_gate_graph, makes_broken_code, makes_broken_graph};
+ghost use Rattle.node_examples.specs.DecodedCalls.{makes_ready_code, makes_ready_graph, makes_late_code, makes_late_graph, makes_table_code, makes_table_graph, reads_ready_code, reads_ready_graph, writes_ready_code, writes_ready_graph, breaks_code, breaks_graph, ready_starts_code, ready_starts_graph, finds_code, finds_graph, find_gate_code, find_gate_graph, makes_broken_code, makes_broken_graph};
 ghost use Rattle.node_examples.specs.Giving.{main_pool as finding_pool, finding, finds_nodes, find_gate_nodes};
-ghost use Rattle.node_examples.specs.Initialising.{makes_ready_nodes, makes_late_nodes, reads_ready_nodes, breaks_nodes, initialiser_nodes, program_with_errors, makes_broken_nodes};
+ghost use Rattle.node_examples.specs.Initialising.{makes_ready_nodes, makes_late_nodes, makes_table_nodes, reads_ready_nodes, writes_ready_nodes, breaks_nodes, initialiser_nodes, program_with_errors, makes_broken_nodes};
 
 /// The nodes of a method that may start an initialiser.
 pub fn nodes_of_makes_ready()
@@ -21,6 +21,16 @@ pub fn nodes_of_makes_late()
 /// Those of one that reads a static field of a primitive type.
 pub fn nodes_of_reads_ready()
     ensures { IsLowered (program_with reads_ready) 1 main_pool reads_ready_code reads_ready_graph reads_ready_nodes }
+{}
+
+/// Those of one that may start that of a superinterface.
+pub fn nodes_of_makes_table()
+    ensures { IsLowered (program_with makes_table) 1 main_pool makes_table_code makes_table_graph makes_table_nodes }
+{}
+
+/// Those of one that writes a static field of a primitive type.
+pub fn nodes_of_writes_ready()
+    ensures { IsLowered (program_with writes_ready) 1 main_pool writes_ready_code writes_ready_graph writes_ready_nodes }
 {}
 
 /// Those of an initialiser that throws.

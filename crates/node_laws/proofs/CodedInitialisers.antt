@@ -1,8 +1,9 @@
 -- Whether a class has an initialiser that its class file has code for is decided; and each initialiser of the machine is one.
-use Rattle.std.proofs.Common.{codes, ◌≡◌, ◌⊎◌, inl, inr, ℕ, ◌<◌, Bool, true, false, ◌||◌, List, [], ◌∷◌, length, filter, cond, Option, Some, None, refl, sym, ap, ◌∙◌, subst}
+use Rattle.std.proofs.Common.{codes, ◌≡◌, inr, ℕ, ◌<◌, List, [], length, Option, Some, None, refl, sym, ap, ◌∙◌, subst}
 use Rattle.std.specs.Bool.{IsTrue}
 use Rattle.std.specs.List.{slice_get, list_any}
 use Rattle.std.proofs.lemmas.Option.{none-some, same_Some, slice_get_within}
+use Rattle.list_laws.proofs.Tests.{some_of_filter}
 use Rattle.jvm_model.specs.declared.class_file.ClassFile.{ClassFile}
 use Rattle.jvm_model.specs.declared.class_file.Member.{Member}
 use Rattle.jvm_model.specs.Lookups.{Signature}
@@ -61,14 +62,6 @@ has_initialiser_or_not p class = carried_over to back (some_below (IsCodedInitia
     back h = (h.number, slice_get_within p.methods h.number h.initialiser.method h.initialiser.stands, h.initialiser)
 
 -- ---- the initialisers of the machine
-
-some_of_filter : {X : Type 0} (f : X → Bool) (xs : List X) (y : X) (ys : List X) → filter f xs ≡ y ∷ ys → list_any f xs ≡ true
-some_of_filter f [] y ys e = absurd cc
-some_of_filter f (x ∷ xs) y ys e = by (f x) refl (λ other. some_of_filter f xs y ys other)
-  where
-    by : (b : Bool) → f x ≡ b → (filter f xs ≡ y ∷ ys → list_any f xs ≡ true) → list_any f (x ∷ xs) ≡ true
-    by true is later = ap (λ (b : Bool). b || list_any f xs) is
-    by false is later = ap (λ (b : Bool). b || list_any f xs) is ∙ later (sym (ap (λ (b : Bool). cond b (x ∷ filter f xs) (filter f xs)) is) ∙ e)
 
 pub coded_initialiser : (p : Program) (class : List ℕ) (number : ℕ) → IsInitialiser p class number → IsCodedInitialiser p class number
 coded_initialiser p class number i = record {

@@ -6,4 +6,4 @@ mod Thrown
 mod Starts
 mod Running
 pub mod CodedInitialisers
-mod StartNodes
+pub mod StartNodes

@@ -6,6 +6,7 @@ use Rattle.std.proofs.Math.Nat.{eq-or-lt_of_le}
 use Rattle.std.proofs.lemmas.Bool.{cases_lt}
 use Rattle.std.proofs.lemmas.List.{get_or_past}
 use Rattle.std.proofs.lemmas.Option.{none-some, same_Some}
+use Rattle.list_laws.proofs.Members.{contains_cases, contains_none}
 use Rattle.op_model.specs.declared.op.Move.{Move}
 use Rattle.op_model.specs.declared.op.Source.{Source}
 use Rattle.bytecode_machine.specs.States.{Value, primitive_value, slot_at}
@@ -13,7 +14,6 @@ use Rattle.node_machine.specs.Slots.{source_value, AreMoved, AreLeft, AreCaught}
 use Rattle.machine_laws.proofs.Heaps.{same_or_not}
 use Rattle.machine_laws.proofs.ProgressDecided.{contains_or_not}
 use Rattle.program_laws.proofs.Choices.{OrNot, some_or_not}
-use Rattle.program_laws.proofs.Orders.{where_there, none_there}
 use Rattle.node_laws.specs.Progress.{HaveOneSource}
 
 -- ---- the list of some values
@@ -140,8 +140,8 @@ past_targets (m ∷ moves) = suc m.target + past_targets moves
 
 target_within : (moves : List Move) (m : Move) → Contains moves m → m.target < past_targets moves
 unfolding past_targets
-target_within [] m c = absurd (none_there m c)
-target_within (n ∷ moves) m c = by (where_there n m moves c) (target_within moves m) where
+target_within [] m c = absurd (contains_none m c)
+target_within (n ∷ moves) m c = by (contains_cases n m moves c) (target_within moves m) where
   by : (n ≡ m) ⊎ Contains moves m → (Contains moves m → m.target < past_targets moves) → m.target < suc n.target + past_targets moves
   by (inl e) deeper = let same : n.target ≡ m.target = ap (λ (k : Move). k.target) e in omega (arith, same)
   by (inr there) deeper = let l = deeper there in omega (arith, l)

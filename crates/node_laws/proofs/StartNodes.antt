@@ -4,6 +4,8 @@ use Rattle.std.specs.List.{slice_get, Contains}
 use Rattle.std.specs.Prelude.{codes, map}
 use Rattle.std.proofs.lemmas.List.Elements.{All-contains}
 use Rattle.std.proofs.lemmas.Option.{none-some, same_Some}
+use Rattle.list_laws.proofs.Members.{contained_in_map, contains_cases, contains_first, contains_later, contains_none}
+use Rattle.list_laws.proofs.Places.{contains_at, place_of}
 use Rattle.jvm_model.specs.declared.number.ClassNo.{ClassNo}
 use Rattle.jvm_model.specs.LinkedPrograms.{IsProgram, IsThere}
 use Rattle.jvm_model.specs.Programs.{Program, Class, Method}
@@ -14,7 +16,6 @@ use Rattle.bytecode_machine.specs.Objects.{Subject}
 use Rattle.node_laws.proofs.CodedInitialisers.{has_initialiser_or_not}
 use Rattle.node_machine.specs.Nodes.{IsClassNumber, HasInitialiser, IsInitialisationError, IsThrownAt, raised, initialising, AreThrownAt, AreStartNodes}
 use Rattle.program_laws.proofs.Choices.{OrNot, either_or_not, same_or_not}
-use Rattle.program_laws.proofs.Orders.{none_there, first_there, more_there, where_there}
 
 -- ---- the numbers of the errors of initialisation
 
@@ -43,7 +44,7 @@ error_deeper c classes number at e = let n = e.numbered in record { place = suc 
 
 only_errors : (classes : List Class) (number : ℕ) (at : ClassNo) → Contains (errors_from classes number) at → IsErrorAt classes number at
 unfolding errors_from
-only_errors [] number at c = absurd (none_there at c)
+only_errors [] number at c = absurd (contains_none at c)
 only_errors (k ∷ classes) number at c = by (error_or_not k.name) c (only_errors classes (suc number) at)
   where
     here : IsInitialisationError k.name → record { 0 = number } ≡ at → IsErrorAt (k ∷ classes) number at
@@ -52,7 +53,7 @@ only_errors (k ∷ classes) number at c = by (error_or_not k.name) c (only_error
     by : (d : OrNot (IsInitialisationError k.name)) → Contains (with_number d number (errors_from classes (suc number))) at
         → (Contains (errors_from classes (suc number)) at → IsErrorAt classes (suc number) at) → IsErrorAt (k ∷ classes) number at
     by (inr not_so) c deeper = error_deeper k classes number at (deeper c)
-    by (inl is) c deeper = or (where_there (record { 0 = number }) at (errors_from classes (suc number)) c)
+    by (inl is) c deeper = or (contains_cases (record { 0 = number }) at (errors_from classes (suc number)) c)
       where
         or : (record { 0 = number } ≡ at) ⊎ Contains (errors_from classes (suc number)) at → IsErrorAt (k ∷ classes) number at
         or (inl e) = here is e
@@ -70,7 +71,7 @@ all_errors (k ∷ classes) number zero c held is = by (error_or_not k.name)
     numbered = omega arith
 
     by : (d : OrNot (IsInitialisationError k.name)) → Contains (with_number d number (errors_from classes (suc number))) (record { 0 = number + zero })
-    by (inl yes_it) = subst (λ (n : ℕ). Contains (record { 0 = number } ∷ errors_from classes (suc number)) (record { 0 = n })) numbered (first_there (record { 0 = number }) (errors_from classes (suc number)))
+    by (inl yes_it) = subst (λ (n : ℕ). Contains (record { 0 = number } ∷ errors_from classes (suc number)) (record { 0 = n })) numbered (contains_first (record { 0 = number }) (errors_from classes (suc number)))
     by (inr not_so) = absurd (not_so (subst (λ (d : Class). IsInitialisationError d.name) (sym same) is))
 all_errors (k ∷ classes) number (suc place) c held is = by (error_or_not k.name) (all_errors classes (suc number) place c held is)
   where
@@ -79,7 +80,7 @@ all_errors (k ∷ classes) number (suc place) c held is = by (error_or_not k.nam
 
     by : (d : OrNot (IsInitialisationError k.name)) → Contains (errors_from classes (suc number)) (record { 0 = suc number + place })
         → Contains (with_number d number (errors_from classes (suc number))) (record { 0 = number + suc place })
-    by (inl yes_it) there = more_there (record { 0 = number }) _ _ (subst (λ (n : ℕ). Contains (errors_from classes (suc number)) (record { 0 = n })) numbered there)
+    by (inl yes_it) there = contains_later (record { 0 = number }) _ _ (subst (λ (n : ℕ). Contains (errors_from classes (suc number)) (record { 0 = n })) numbered there)
     by (inr not_so) there = subst (λ (n : ℕ). Contains (errors_from classes (suc number)) (record { 0 = n })) numbered there
 
 -- ---- what the call of the start may throw
@@ -112,17 +113,17 @@ with_initialiser p class has = record {
         (all_errors p.classes 0 at.0 is.class is.stands (subst IsInitialisationError (sym is.named) error))
 
     every : (at : ClassNo) (name : List ℕ) → IsClassNumber p at name → IsThrownAt p [] (Some class) name → Contains (errors_from p.classes 0) at
-    every at name is (raised raise c e) = absurd (none_there raise c)
+    every at name is (raised raise c e) = absurd (contains_none raise c)
     every at name is (initialising other e has_one error) = listed at name is error
 
 without_initialiser : (p : Program) (class : List ℕ) → (HasInitialiser p class → ⊥) → SomeThrown p class
 without_initialiser p class none = record {
   throws = [];
-  are = record { only = λ at c. absurd (none_there at c); all = λ at name is thrown. every at name is thrown };
+  are = record { only = λ at c. absurd (contains_none at c); all = λ at name is thrown. every at name is thrown };
 }
   where
     every : (at : ClassNo) (name : List ℕ) → IsClassNumber p at name → IsThrownAt p [] (Some class) name → Contains [] at
-    every at name is (raised raise c e) = absurd (none_there raise c)
+    every at name is (raised raise c e) = absurd (contains_none raise c)
     every at name is (initialising other e has_one error) = absurd (none (subst (HasInitialiser p) (sym (same_Some class other e)) has_one))
 
 some_thrown : (p : Program) (class : List ℕ) → SomeThrown p class
@@ -134,29 +135,20 @@ some_thrown p class = by (has_initialiser_or_not p class)
 
 -- ---- the number of the entry's class
 
-record HasNumber (p : Program) (name : List ℕ) : Type 0 where
+pub record HasNumber (p : Program) (name : List ℕ) : Type 0 where
   pub number : ClassNo
   pub is : IsClassNumber p number name
 
-numbered_among : (classes : List Class) (name : List ℕ) → Contains (map (λ (c : Class). c.name) classes) name → (place : ℕ) × (c : Class) × (slice_get classes place ≡ Some c) × (c.name ≡ name)
-numbered_among [] name there = absurd (none_there name there)
-numbered_among (c ∷ classes) name there = by (where_there c.name name (map (λ (d : Class). d.name) classes) there) (numbered_among classes name)
-  where
-    by : (c.name ≡ name) ⊎ Contains (map (λ (d : Class). d.name) classes) name
-        → (Contains (map (λ (d : Class). d.name) classes) name → (place : ℕ) × (d : Class) × (slice_get classes place ≡ Some d) × (d.name ≡ name))
-        → (place : ℕ) × (d : Class) × (slice_get (c ∷ classes) place ≡ Some d) × (d.name ≡ name)
-    by (inl e) deeper = (0, c, refl, e)
-    by (inr more) deeper = let d = deeper more in (suc d.0, d.1, d.2, d.3)
+pub numbered_among : (classes : List Class) (name : List ℕ) → Contains (map (λ (c : Class). c.name) classes) name → (place : ℕ) × (c : Class) × (slice_get classes place ≡ Some c) × (c.name ≡ name)
+numbered_among classes name there =
+    let class = contained_in_map (λ (c : Class). c.name) classes name there in
+    let place = place_of classes class.0 class.1 in
+    (place.0, class.0, place.1, class.2)
 
-has_number : (p : Program) (name : List ℕ) → IsThere p name → HasNumber p name
+pub has_number : (p : Program) (name : List ℕ) → IsThere p name → HasNumber p name
 has_number p name there =
     let n = numbered_among p.classes name there in
     record { number = record { 0 = n.0 }; is = record { class = n.1; stands = n.2; named = n.3 } }
-
-slice_among : {X : Type 0} (xs : List X) (k : ℕ) (x : X) → slice_get xs k ≡ Some x → Contains xs x
-slice_among [] k x e = absurd (none-some x e)
-slice_among (y ∷ xs) zero x e = subst (λ (z : _). Contains (y ∷ xs) z) (same_Some y x e) (first_there y xs)
-slice_among (y ∷ xs) (suc k) x e = more_there y x xs (slice_among xs k x e)
 
 -- ---- the nodes
 
@@ -200,4 +192,4 @@ some_start x entry stands program = (
     thrown = some_thrown x.program entry.class
 
     named : HasNumber x.program entry.class
-    named = has_number x.program entry.class (All-contains (λ (m : Method). IsThere x.program m.class) x.program.methods entry program.methods (slice_among x.program.methods x.entry entry stands))
+    named = has_number x.program entry.class (All-contains (λ (m : Method). IsThere x.program m.class) x.program.methods entry program.methods (contains_at x.program.methods x.entry entry stands))

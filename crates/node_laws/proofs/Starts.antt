@@ -2,6 +2,7 @@
 use Rattle.std.proofs.Common.{◌≡◌, ℕ, true, false, List, [], ◌∷◌, Option, Some, None, refl, sym, ap, subst}
 use Rattle.std.specs.List.{slice_get, Contains, find}
 use Rattle.std.specs.Prelude.{nat_eq}
+use Rattle.list_laws.proofs.Members.{contains_first}
 use Rattle.jvm_model.specs.declared.number.ClassNo.{ClassNo}
 use Rattle.jvm_model.specs.Programs.{Method}
 use Rattle.op_model.specs.declared.node.Node.{Node}
@@ -15,7 +16,6 @@ use Rattle.node_machine.specs.Nodes.{IsClassNumber, AreStartNodes, StandsAt, of_
 use Rattle.node_machine.specs.NodeSteps.{AtNode, EntersEntry, Ends}
 use Rattle.node_laws.specs.Progress.{IsGiven, ReturnsTo, StartsOne}
 use Rattle.node_laws.proofs.Calls.{returns_to, ends_it}
-use Rattle.program_laws.proofs.Orders.{first_there}
 
 pub enters_it : (x : Subject) (given : Given) (s : State) (at : AtStart s 0) (entry : Method) → slice_get x.program.methods x.entry ≡ Some entry → IsGiven given x.entry
     → (t : State) × EntersEntry x given s t at
@@ -109,5 +109,5 @@ pub entries_return : (x : Subject) (given : Given) (s : State) (at : AtNode x gi
 unfolding stands_at_call
 entries_return x given s at value is caller rest below no_method stands waits nodes are =
     let now : StandsAt x given caller = stands_at_call x given caller no_method stands nodes are in
-    let goes : Contains are.call.successors 1 = subst (λ (ns : List ℕ). Contains ns 1) (sym are.is_call.successors) (first_there 1 []) in
+    let goes : Contains are.call.successors 1 = subst (λ (ns : List ℕ). Contains ns 1) (sym are.is_call.successors) (contains_first 1 []) in
     returns_to x given s at value is caller rest below waits now _ are.is_call.op 1 goes

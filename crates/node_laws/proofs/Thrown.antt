@@ -5,6 +5,7 @@ use Rattle.std.specs.List.{slice_get, Contains}
 use Rattle.std.specs.Prelude.{codes}
 use Rattle.std.proofs.lemmas.List.{append-nil}
 use Rattle.std.proofs.lemmas.Option.{none-some, same_Some}
+use Rattle.list_laws.proofs.Members.{contains_cases, contains_none}
 use Rattle.jvm_model.specs.declared.number.ClassNo.{ClassNo}
 use Rattle.jvm_model.specs.Programs.{Program, Class}
 use Rattle.jvm_model.specs.Subtypes.{Fits}
@@ -19,7 +20,6 @@ use Rattle.node_machine.specs.NodeSteps.{AtNode, Takes, all, fitting, IsFirstTak
 use Rattle.machine_laws.proofs.ProgressDecided.{DecidesFits}
 use Rattle.machine_laws.proofs.ProgressSteps.{thrown_by, throws_new}
 use Rattle.program_laws.proofs.Choices.{OrNot}
-use Rattle.program_laws.proofs.Orders.{none_there, where_there}
 use Rattle.node_laws.specs.Progress.{MayRaise, ThrowsOne}
 use Rattle.node_laws.proofs.Slots.{some_caught}
 
@@ -63,13 +63,13 @@ abbrev IsNone : Program → List ℕ → List NodeHandler → Type 0
 IsNone p class handlers = (h : NodeHandler) → Contains handlers h → Takes p h class → ⊥
 
 none_here : (p : Program) (class : List ℕ) (g : NodeHandler) (handlers : List NodeHandler) → (Takes p g class → ⊥) → IsNone p class handlers → IsNone p class (g ∷ handlers)
-none_here p class g handlers not_it none h c takes = by (where_there g h handlers c) where
+none_here p class g handlers not_it none h c takes = by (contains_cases g h handlers c) where
   by : (g ≡ h) ⊎ Contains handlers h → ⊥
   by (inl e) = not_it (subst (λ (k : NodeHandler). Takes p k class) (sym e) takes)
   by (inr there) = none h there takes
 
 handler_or_none : (p : Program) → DecidesFits p → (class : List ℕ) (handlers : List NodeHandler) → IsFound p class handlers ⊎ IsNone p class handlers
-handler_or_none p decides class [] = inr (λ h c takes. none_there h c)
+handler_or_none p decides class [] = inr (λ h c takes. contains_none h c)
 handler_or_none p decides class (g ∷ handlers) = by (takes_or_not p decides g class) (handler_or_none p decides class handlers) where
   by : OrNot (Takes p g class) → IsFound p class handlers ⊎ IsNone p class handlers → IsFound p class (g ∷ handlers) ⊎ IsNone p class (g ∷ handlers)
   by (inl takes) rest = inl (g, inl (takes, refl))

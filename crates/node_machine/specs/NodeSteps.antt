@@ -7,7 +7,6 @@ use Rattle.jvm_model.specs.Programs.{Program, Method}
 use Rattle.jvm_model.specs.Subtypes.{Fits}
 use Rattle.jvm_model.specs.Table.{null_pointer}
 use Rattle.op_model.specs.declared.lowered.LoweredMethod.{LoweredMethod}
-use Rattle.op_model.specs.declared.node.Node.{Node}
 use Rattle.op_model.specs.declared.node.NodeHandler.{NodeHandler}
 use Rattle.op_model.specs.declared.op.Call.{Call as NodeCall}
 use Rattle.op_model.specs.declared.op.CallKind.{CallKind}

@@ -1,6 +1,6 @@
 -- Public contracts rest on this module.
 -- Programs of nodes: the nodes of a method, and those of the start of the program, where they stand, and what they may throw.
-use Rattle.std.specs.Prelude.{codes, ◌≡◌, ◌⊎◌, ◌↔◌, ℕ, nat_eq, find, List, [], ◌∷◌, Option, Some, None, Ok, slice_get, Contains, IsTrue}
+use Rattle.std.specs.Prelude.{codes, ◌≡◌, ◌⊎◌, ℕ, nat_eq, find, List, [], ◌∷◌, Option, Some, None, Ok, slice_get, Contains, IsTrue}
 use Rattle.std.specs.List.{list_any}
 use Rattle.jvm_model.specs.declared.class_file.ClassFile.{ClassFile}
 use Rattle.jvm_model.specs.declared.class_file.Member.{Member}

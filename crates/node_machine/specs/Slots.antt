@@ -1,7 +1,7 @@
 -- Public contracts rest on this module.
 -- What nodes do to the slots of a frame. It is said of each slot how it reads afterwards, and of no list how long it is: a push
 -- writes a slot past the list's end, and a slot outside counts as that of a primitive.
-use Rattle.std.specs.Prelude.{◌≡◌, ◌≢◌, ℕ, ◌<◌, List, [], ◌∷◌, map, Option, Some, None, Contains}
+use Rattle.std.specs.Prelude.{◌≡◌, ◌≢◌, ℕ, ◌<◌, List, map, Option, Some, Contains}
 use Rattle.std.specs.List.{flat_map}
 use Rattle.std.specs.Option.{option_to_list, option_map_or}
 use Rattle.op_model.specs.declared.op.Move.{Move}

@@ -36,9 +36,9 @@ plain_array : (o : Operands) (i : DecodedInstruction) → is_nested o ≡ false 
 plain_array pool_2_and_dimensions i e = absurd (false≢true (sym e))
 plain_array _ i e = refl
 
-same_action : (o : Operands) (i : DecodedInstruction) → (array_row o i).action ≡ i.row.action
-same_action pool_2_and_dimensions i = refl
-same_action _ i = refl
+pub array_action : (o : Operands) (i : DecodedInstruction) → (array_row o i).action ≡ i.row.action
+array_action pool_2_and_dimensions i = refl
+array_action _ i = refl
 
 module _ (at : Placement) (known : row_of at.instruction.now.opcode ≡ Some (row_view at.row.now)) (action : (row_view at.row.now).action ≡ make_array) where
   abbrev listed : Row
@@ -70,7 +70,7 @@ module _ (at : Placement) (known : row_of at.instruction.now.opcode ≡ Some (ro
   pub makes_arrays : (units : ℕ) (arrays : List (List ℕ)) (op : Op) → Pops units → NamesArrays at.class.now.pool here arrays → IsArrayOperation at units arrays op → IsOperation at op
   makes_arrays units arrays op pops names is = record {
     for_row = λ row of_row base lowest.
-        (let same : row.action ≡ make_array = ap (λ (r : Row). r.action) (array_row_of row of_row) ∙ same_action listed.operands here ∙ action in
+        (let same : row.action ≡ make_array = ap (λ (r : Row). r.action) (array_row_of row of_row) ∙ array_action listed.operands here ∙ action in
         let count = pops row of_row in
         let there = is.lowest in
         let bases : is.base ≡ base = omega (arith, count, there, lowest) in

@@ -42,7 +42,7 @@ by_tests false false true e = refl
 by_tests false false false e = refl
 
 -- a value of no reference type has primitives
-all_primitive : (text : List ℕ) → is_reference_type text ≡ false → list_all is_primitive (kinds_of text) ≡ true
+pub all_primitive : (text : List ℕ) → is_reference_type text ≡ false → list_all is_primitive (kinds_of text) ≡ true
 all_primitive [] e = refl
 all_primitive (letter ∷ rest) e = by_tests (eqb letter 74 || eqb letter 68) (eqb letter 76 || eqb letter 91) (eqb letter 86) e
 

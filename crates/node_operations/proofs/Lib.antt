@@ -1,4 +1,4 @@
-mod ArrayOperations
+pub mod ArrayOperations
 mod CallOperations
 pub mod ConstantOperations
 pub mod FieldOperations

@@ -5,6 +5,8 @@ use Rattle.std.proofs.lemmas.Bool.{and_parts, false≢true, eq-eqb, eqb-true}
 use Rattle.std.proofs.lemmas.List.{take_more, length-take, length-map, append-nil}
 use Rattle.std.proofs.lemmas.List.Elements.{Contains-append_left, Contains-append_right, Contains-append_cases}
 use Rattle.std.proofs.lemmas.Option.{same_Some, none-some}
+use Rattle.list_laws.proofs.Members.{contains_cases, contains_first, contains_later, contains_none}
+use Rattle.list_laws.proofs.Tests.{passes_at}
 use Rattle.jvm_model.specs.declared.opcode.UnitSource.{UnitSource as CodeUnitSource}
 use Rattle.jvm_model.specs.RowViews.{source_view}
 use Rattle.jvm_model.specs.Table.{Row, UnitSource, popped, the_local, a_null, a_primitive, the_made}
@@ -62,19 +64,6 @@ cleared_more z (suc n) =
 
 -- ---- what stands in a list
 
-first_there : {X : Type 0} (x : X) (xs : List X) → Contains (x ∷ xs) x
-first_there x xs = (0, omega arith, refl)
-
-more_there : {X : Type 0} (x y : X) (xs : List X) → Contains xs y → Contains (x ∷ xs) y
-more_there x y xs there = let few = there.1 in (suc there.0, omega arith, there.2)
-
-where_there : {X : Type 0} (x y : X) (xs : List X) → Contains (x ∷ xs) y → (x ≡ y) ⊎ Contains xs y
-where_there x y xs (zero, few, e) = inl e
-where_there x y xs (suc n, few, e) = inr (n, omega arith, e)
-
-none_there : {X : Type 0} (y : X) → Contains [] y → ⊥
-none_there y there = let few = there.1 in omega arith
-
 same_move : (m : Move) (s : Source) (t : ℕ) → m.source ≡ s → m.target ≡ t → record { source = s; target = t } ≡ m
 same_move m s t e f = sym (subst (λ (z : ℕ). m ≡ record { source = s; target = z }) f (subst (λ (q : Source). m ≡ record { source = q; target = m.target }) e refl))
 
@@ -105,18 +94,18 @@ in_move_to : (s : Source) (z : ℕ) (m : Move) → Contains (move_to s z) m → 
 in_move_to s z m held = go (is_self s z) refl
   where
     one : Contains (record { source = s; target = z } ∷ []) m → record { source = s; target = z } ≡ m
-    one h = by (where_there (record { source = s; target = z }) m [] h)
+    one h = by (contains_cases (record { source = s; target = z }) m [] h)
       where
         by : (record { source = s; target = z } ≡ m) ⊎ Contains [] m → record { source = s; target = z } ≡ m
         by (inl e) = e
-        by (inr none) = absurd (none_there m none)
+        by (inr none) = absurd (contains_none m none)
 
     go : (b : Bool) → is_self s z ≡ b → (record { source = s; target = z } ≡ m) × (s ≢ sources.Slot z)
-    go true e = absurd (none_there m (subst (λ b. Contains (cond b [] (record { source = s; target = z } ∷ [])) m) e held))
+    go true e = absurd (contains_none m (subst (λ b. Contains (cond b [] (record { source = s; target = z } ∷ [])) m) e held))
     go false e = (one (subst (λ b. Contains (cond b [] (record { source = s; target = z } ∷ [])) m) e held), not_self s z e)
 
 in_moves : (operand base z : ℕ) (units : List UnitSource) (m : Move) → Contains (moves_from operand base z units) m → IsUnit operand base z units m
-in_moves operand base z [] m held = absurd (none_there m held)
+in_moves operand base z [] m held = absurd (contains_none m held)
 in_moves operand base z (u ∷ units) m held = by (Contains-append_cases (move_to (source_of operand base u) z) (moves_from operand base (z + 1) units) m held) (in_moves operand base (z + 1) units m)
   where
     by : Contains (move_to (source_of operand base u) z) m ⊎ Contains (moves_from operand base (z + 1) units) m
@@ -145,7 +134,7 @@ out_moves operand base z (u ∷ units) m w = by w.place w.stands w.there (λ v. 
         let ne : source_of operand base u ≢ sources.Slot z = λ e. w.other (source ∙ e ∙ ap sources.Slot (sym t)) in
         let held : Contains (move_to (source_of operand base u) z) m =
         subst (λ (b : Bool). Contains (cond b [] (made ∷ [])) m) (sym (is_other (source_of operand base u) z ne))
-        (subst (λ (k : Move). Contains (made ∷ []) k) (same_move m (source_of operand base u) z source t) (first_there made [])) in
+        (subst (λ (k : Move). Contains (made ∷ []) k) (same_move m (source_of operand base u) z source t) (contains_first made [])) in
         Contains-append_left (move_to (source_of operand base u) z) (moves_from operand base (z + 1) units) m held
     by (suc n) stands there deeper =
         Contains-append_right (move_to (source_of operand base u) z) (moves_from operand base (z + 1) units) m
@@ -158,8 +147,8 @@ record IsCleared (count target : ℕ) (m : Move) : Type 0 where
   pub reads : m.source ≡ sources.Primitive
 
 cleared_is : (count target : ℕ) (m : Move) → Contains (cleared_from count target) m → IsCleared count target m
-cleared_is zero target m there = absurd (none_there m there)
-cleared_is (suc count) target m there = by (where_there (record { source = sources.Primitive; target = target }) m (cleared_from count (target + 1)) there) (cleared_is count (target + 1) m)
+cleared_is zero target m there = absurd (contains_none m there)
+cleared_is (suc count) target m there = by (contains_cases (record { source = sources.Primitive; target = target }) m (cleared_from count (target + 1)) there) (cleared_is count (target + 1) m)
   where
     by : (record { source = sources.Primitive; target = target } ≡ m) ⊎ Contains (cleared_from count (target + 1)) m → (Contains (cleared_from count (target + 1)) m → IsCleared count (target + 1) m) → IsCleared (suc count) target m
     by (inl e) deeper =
@@ -174,8 +163,8 @@ is_cleared (suc count) target m w = by w.place w.inside w.there (λ v. is_cleare
     by : (place : ℕ) → place < suc count → m.target ≡ target + place → (IsCleared count (target + 1) m → Contains (cleared_from count (target + 1)) m) → Contains (cleared_from (suc count) target) m
     by zero l there deeper =
         let t : m.target ≡ target = omega (arith, there) in
-        subst (λ (k : Move). Contains (record { source = sources.Primitive; target = target } ∷ cleared_from count (target + 1)) k) (same_move m sources.Primitive target w.reads t) (first_there _ _)
-    by (suc n) l there deeper = more_there _ m _ (deeper (record { place = n; inside = omega (arith, l); there = omega (arith, there); reads = w.reads }))
+        subst (λ (k : Move). Contains (record { source = sources.Primitive; target = target } ∷ cleared_from count (target + 1)) k) (same_move m sources.Primitive target w.reads t) (contains_first _ _)
+    by (suc n) l there deeper = contains_later _ m _ (deeper (record { place = n; inside = omega (arith, l); there = omega (arith, there); reads = w.reads }))
 
 -- ---- sources
 
@@ -204,11 +193,6 @@ source_read operand base a_null s f = f
 source_read operand base a_primitive s f = f
 source_read operand base the_made s f = absurd f
 
-pub stands_passes : {X : Type 0} (test : X → Bool) (xs : List X) (n : ℕ) (x : X) → list_all test xs ≡ true → slice_get xs n ≡ Some x → test x ≡ true
-stands_passes test [] n x h e = absurd (none-some x e)
-stands_passes {X} test (y ∷ ys) zero x h e = subst (λ (z : X). test z ≡ true) (same_Some y x e) (and_parts (test y) (list_all test ys) h).0
-stands_passes test (y ∷ ys) (suc n) x h e = stands_passes test ys n x (and_parts (test y) (list_all test ys) h).1 e
-
 -- ---- the list is all of them
 
 none_to_itself : (m : Move) → m.source ≡ sources.Primitive → m.source ≢ sources.Slot m.target
@@ -236,10 +220,10 @@ module _ (r : Row) (operand base : ℕ) (reads : makes_nothing r ≡ true) where
       written : Contains of_stores m ⊎ Contains of_pushes m → Wanted m
       written (inl s) =
           let w = in_moves operand base operand r.stores m s in
-          (stored w.place w.unit w.stands w.there (read_source operand base w.unit m.source (stands_passes is_read r.stores w.place w.unit both.0 w.stands) w.reads), w.other)
+          (stored w.place w.unit w.stands w.there (read_source operand base w.unit m.source (passes_at is_read r.stores w.place w.unit both.0 w.stands) w.reads), w.other)
       written (inr s) =
           let w = in_moves operand base base r.pushes m s in
-          (pushed w.place w.unit w.stands w.there (read_source operand base w.unit m.source (stands_passes is_read r.pushes w.place w.unit both.1 w.stands) w.reads), w.other)
+          (pushed w.place w.unit w.stands w.there (read_source operand base w.unit m.source (passes_at is_read r.pushes w.place w.unit both.1 w.stands) w.reads), w.other)
 
       by : Contains (of_stores ++ of_pushes) m ⊎ Contains of_pops m → Wanted m
       by (inl s) = written (Contains-append_cases of_stores of_pushes m s)

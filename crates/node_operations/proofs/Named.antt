@@ -2,6 +2,7 @@
 use Rattle.std.proofs.Common.{◌≡◌, ℕ, Bool, List, length, Option, Some, None, Result, Ok, refl, sym, ap, ◌∙◌, subst}
 use Rattle.std.specs.List.{slice_get}
 use Rattle.std.proofs.lemmas.Option.{same_Some, none-some}
+use Rattle.list_laws.proofs.Places.{stands_below}
 use Rattle.jvm_model.specs.declared.number.FieldNo.{FieldNo}
 use Rattle.jvm_model.specs.declared.number.MethodNo.{MethodNo}
 use Rattle.jvm_model.specs.declared.reason.Reason.{Reason}
@@ -16,7 +17,7 @@ use Rattle.jvm_model.specs.Selection.{SelectsSpecial}
 use Rattle.jvm_model.specs.Table.{Action, invoke_virtual, invoke_special, invoke_static, invoke_interface}
 use Rattle.bytecode_machine.specs.Machine.{NamesField, NamesMethod}
 use Rattle.bytecode_machine.specs.States.{is_reference_type}
-use Rattle.hierarchy.proofs.ClassPlaces.{number_named, place_there}
+use Rattle.hierarchy.proofs.ClassPlaces.{number_named}
 use Rattle.hierarchy.proofs.Resolving.{resolves_within}
 use Rattle.instruction_reasons.specs.declared.judgement.NamedMember.{NamedMember}
 use Rattle.instruction_reasons.specs.declared.judgement.NamedMember.TheVariants as members
@@ -32,7 +33,7 @@ use Rattle.node_operations.specs.Placements.{judged_at}
 
 -- the field that is found has the name and the descriptor that are looked for
 mutual
-  found_signature : (p : Program) (s : Signature) (class : List ℕ) (o : Option ℕ) (n : ℕ) (f : Field) → FindsField p s class o → o ≡ Some n → slice_get p.fields n ≡ Some f → f.signature ≡ s
+  pub found_signature : (p : Program) (s : Signature) (class : List ℕ) (o : Option ℕ) (n : ℕ) (f : Field) → FindsField p s class o → o ≡ Some n → slice_get p.fields n ≡ Some f → f.signature ≡ s
   found_signature p s class o n f (itself _ k d) e at =
       let number : k ≡ n = same_Some k n e in
       let same : d.field ≡ f = same_Some d.field f (sym d.stands ∙ ap (slice_get p.fields) number ∙ at) in
@@ -112,7 +113,7 @@ resolves_to p c by_interface m n o name e (not_found none is) = absurd (cc (e, i
 method_there : (j : Judged) (n : ℕ) (l : LooksUpMethod j (Ok n)) → MethodThere j l.method n
 method_there j n l =
     let resolves = resolves_to j.program l.class l.by_interface l.method n (Ok n) (number_named j.program l.method.class l.class l.named).2 refl l.is in
-    let there = place_there j.program.methods n (resolves_within j.program l.method.class l.method.signature n resolves) in
+    let there = stands_below j.program.methods n (resolves_within j.program l.method.class l.method.signature n resolves) in
     record { names = record { called = l.method; named = l.calls.1; resolved = n; resolves = resolves; method = there.0; stands = there.1 }; number = refl; as_called = refl }
 
 special_target : (j : Judged) (target : ℕ) (m : MemberReference) → j.action ≡ invoke_special → member_at j.pool j.operand ≡ Some m → HasTarget j target → SelectsSpecial j.program j.current m target

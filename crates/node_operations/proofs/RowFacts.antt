@@ -4,6 +4,7 @@ use Rattle.std.specs.List.{list_all}
 use Rattle.std.specs.Option.{option_map_or}
 use Rattle.std.proofs.lemmas.Bool.{and_parts, leb-true, eqb-true, false≢true}
 use Rattle.std.proofs.lemmas.Option.{same_Some}
+use Rattle.list_laws.proofs.Tests.{passes_at}
 use Rattle.jvm_model.specs.declared.class_file.ClassFile.{ClassFile}
 use Rattle.jvm_model.specs.declared.code.Instruction.{Instruction as Given}
 use Rattle.jvm_model.specs.declared.opcode.Operands.{Operands as CodeOperands}
@@ -20,14 +21,14 @@ use Rattle.bytecode_machine.specs.Machine.{NamesClass}
 use Rattle.flow_graph.specs.Effects.{with_row}
 use Rattle.flow_graph.specs.Reading.{IsSoundInstruction}
 use Rattle.node_operations.specs.ByAction.{names_class}
-use Rattle.node_operations.proofs.MovesMade.{makes_nothing, stands_passes}
+use Rattle.node_operations.proofs.MovesMade.{makes_nothing}
 
 pub implied_by : (a b : Bool) → (not a || b) ≡ true → a ≡ true → b ≡ true
 implied_by true b h e = h
 implied_by false b h e = absurd (false≢true e)
 
 pub of_row : (test : Row → Bool) (opcode : ℕ) (r : Row) → list_all test rows ≡ true → row_of opcode ≡ Some r → test r ≡ true
-of_row test opcode r all is = stands_passes test rows opcode r all is
+of_row test opcode r all is = passes_at test rows opcode r all is
 
 abbrev stores_few : Row → Bool
 stores_few r = leb (length r.stores) 255

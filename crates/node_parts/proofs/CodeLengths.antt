@@ -1,8 +1,9 @@
 -- The length of the code of a method, as its attribute says it, and where the table of handlers stands.
-use Rattle.std.proofs.Common.{◌≡◌, ℕ, ◌+◌, ◌*◌, ◌^◌, ◌<◌, ◌≤◌, Bool, true, false, ◌||◌, if◌then◌else◌, List, [], ◌∷◌, ◌++◌, length, filter, Some, Ok, refl, sym, ap, ◌∙◌, subst, arith, length-append}
+use Rattle.std.proofs.Common.{◌≡◌, ℕ, ◌+◌, ◌*◌, ◌^◌, ◌<◌, ◌≤◌, Bool, true, false, if◌then◌else◌, List, [], ◌∷◌, ◌++◌, length, filter, Some, Ok, refl, sym, ap, ◌∙◌, subst, arith, length-append}
 use Rattle.std.specs.List.{slice_get, list_any, flat_map}
 use Rattle.std.proofs.lemmas.Nat.{from_be_bytes-to_be_bytes_4}
 use Rattle.std.proofs.lemmas.Option.{same_Some}
+use Rattle.list_laws.proofs.Tests.{some_passes as some_first}
 use Rattle.jvm_model.specs.declared.class_file.Attribute.{Attribute}
 use Rattle.jvm_model.specs.declared.class_file.ClassFile.{ClassFile}
 use Rattle.jvm_model.specs.declared.class_file.Member.{Member}
@@ -42,14 +43,6 @@ first_is c m a body first has =
     first_filtered (is_code c.pool) first.before a first.after has.code first.first.none_before first.first.named_code
     (ap (λ (xs : List Attribute). filter (is_code c.pool) xs) (sym first.first.parts) ∙ has.only) in
     subst (λ (b : Attribute). IsCode b.body body) (sym same) has.body
-
-some_first : {X : Type 0} (f : X → Bool) (before : List X) (a : X) (after : List X) → f a ≡ true → list_any f (before ++ a ∷ after) ≡ true
-some_first f [] a after is = ap (λ (b : Bool). b || list_any f after) is
-some_first f (x ∷ before) a after is = ap (λ (b : Bool). f x || b) (some_first f before a after is) ∙ or_true (f x)
-  where
-    or_true : (b : Bool) → (b || true) ≡ true
-    or_true true = refl
-    or_true false = refl
 
 some_code : (pool : List PoolEntry) (attributes : List Attribute) (a : Attribute) → HasFirstCode pool attributes a → list_any (is_code pool) attributes ≡ true
 some_code pool attributes a first =

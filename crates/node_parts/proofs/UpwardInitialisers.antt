@@ -1,15 +1,20 @@
 -- An initialiser of a class or of a supertype is declared by the class, or through one of its own superinterfaces, or is one of its
 -- superclass.
-use Rattle.std.proofs.Common.{◌≡◌, ◌↔◌, ◌⊎◌, inl, inr, ℕ, List, Some, refl, sym, ap, ◌∙◌, subst}
+use Rattle.std.proofs.Common.{◌≡◌, ◌↔◌, ◌⊎◌, inl, inr, ℕ, List, [], ◌∷◌, Option, Some, None, refl, sym, ap, ◌∙◌, subst}
+use Rattle.std.specs.Bool.{IsTrue}
 use Rattle.std.specs.List.{slice_get, Contains}
-use Rattle.std.proofs.lemmas.Option.{none-some, same_Some}
+use Rattle.std.specs.Option.{is_some}
+use Rattle.std.proofs.lemmas.Option.{same_Some}
 use Rattle.jvm_model.specs.LinkedPrograms.{IsProgram}
 use Rattle.jvm_model.specs.Programs.{Class, Program}
-use Rattle.jvm_model.specs.Subtypes.{class_named, IsDirectSuper, IsSubtype, same, below}
+use Rattle.jvm_model.specs.Subtypes.{class_named, IsChain, IsDirectSuper, IsSubtype, same, below}
+use Rattle.jvm_model.specs.declared.number.ClassNo.{ClassNo}
 use Rattle.linked_program.specs.Numbers.{name_at, IsClassNumber}
 use Rattle.linked_program.specs.Whole.{IsThroughInterface}
-use Rattle.hierarchy.proofs.Chains.{IsStep, IsTop}
-use Rattle.hierarchy.proofs.ClassPlaces.{IsClassAt, class_there, class_of_number, class_of_method}
+use Rattle.class_index.proofs.OrderPlaces.{contains_first, contains_later, contains_cases, contains_none}
+use Rattle.hierarchy.specs.Upward.{AnswersWhere, IsFirstUpward}
+use Rattle.hierarchy.proofs.ClassPlaces.{name_at-at, number_named, class_of_method}
+use Rattle.hierarchy.proofs.Walks.{HasOne, first_tells}
 use Rattle.node_machine.specs.Nodes.{HasInitialiser, IsCodedInitialiser}
 use Rattle.node_parts.specs.Initialisers.{DeclaresInitialiser, DeclaresAt}
 
@@ -20,24 +25,21 @@ SomeDeclares p numbers = (number : ℕ) × Contains numbers number × DeclaresIn
 
 -- ---- a class and its superinterfaces
 
-module _ (p : Program) (n : ℕ) (within : IsClassNumber p n) where
-  module _ (through : List ℕ) (exact : (c : Class) → slice_get p.classes n ≡ Some c → (k : ℕ) → IsClassNumber p k → Contains through k ↔ IsThroughInterface p c k) where
-    pub declares_through : ((k : ℕ) → Contains through k → IsClassNumber p k) → SomeDeclares p through → DeclaresAt p n
-    declares_through each h = record {
-      owner = h.0;
-      within = each h.0 h.1;
-      is = h.2;
-      there = inr (λ c stands. (exact c stands h.0 (each h.0 h.1)).0 h.1);
-    }
+module _ (p : Program) (n : ℕ) where
+  pub declares_itself : IsClassNumber p n → (c : Class) → slice_get p.classes n ≡ Some c → DeclaresInitialiser p (name_at p n) → DeclaresAt p c
+  declares_itself within c stands d = record { owner = n; within = within; is = d; there = inl (name_at-at p n c stands) }
 
-    pub declared_through : (DeclaresInitialiser p (name_at p n) → ⊥) → DeclaresAt p n → SomeDeclares p through
+  module _ (c : Class) (stands : slice_get p.classes n ≡ Some c) (through : List ℕ)
+      (exact : (k : ℕ) → IsClassNumber p k → Contains through k ↔ IsThroughInterface p c k) where
+    pub declares_through : ((k : ℕ) → Contains through k → IsClassNumber p k) → SomeDeclares p through → DeclaresAt p c
+    declares_through each h = record { owner = h.0; within = each h.0 h.1; is = h.2; there = inr ((exact h.0 (each h.0 h.1)).0 h.1) }
+
+    pub declared_through : (DeclaresInitialiser p (name_at p n) → ⊥) → DeclaresAt p c → SomeDeclares p through
     declared_through not_itself d = by d.there
       where
-        by : (d.owner ≡ n) ⊎ ((c : Class) → slice_get p.classes n ≡ Some c → IsThroughInterface p c d.owner) → SomeDeclares p through
-        by (inl itself) = absurd (not_itself (subst (λ (k : ℕ). DeclaresInitialiser p (name_at p k)) itself d.is))
-        by (inr above) =
-            let there = class_there p n within in
-            (d.owner, (exact there.0 there.1 d.owner d.within).1 (above there.0 there.1), d.is)
+        by : (name_at p d.owner ≡ c.name) ⊎ IsThroughInterface p c d.owner → SomeDeclares p through
+        by (inl itself) = absurd (not_itself (subst (DeclaresInitialiser p) (itself ∙ sym (name_at-at p n c stands)) d.is))
+        by (inr above) = (d.owner, (exact d.owner d.within).1 above, d.is)
 
 -- ---- the walk
 
@@ -77,67 +79,79 @@ declares_of p number class owner i is = record {
   code = i.code;
 }
 
--- what a class declares, or a superinterface
-pub has_here : (p : Program) → IsProgram p → (n : ℕ) → IsClassNumber p n → DeclaresAt p n → HasInitialiser p (name_at p n)
-has_here p program n within d = by d.there
-  where
-    by : (d.owner ≡ n) ⊎ ((c : Class) → slice_get p.classes n ≡ Some c → IsThroughInterface p c d.owner) → HasInitialiser p (name_at p n)
-    by (inl itself) = coded_above p (name_at p d.owner) (name_at p n) d.is (same (name_at p n) (ap (name_at p) (sym itself)))
-    by (inr above) =
-        let there = class_of_number p program n within in
-        let through = above there.0 there.1.stands in
-        coded_above p (name_at p d.owner) (name_at p n) d.is (below (name_at p n) there.0 through.interface there.1.named (inr through.among) through.above)
+-- A class has an initialiser, if there is a class.
+abbrev pub HasFrom : Program → Option (List ℕ) → Type 0
+HasFrom p None = ⊥
+HasFrom p (Some name) = HasInitialiser p name
 
--- what the superclass has
-pub has_above : (p : Program) (n up : ℕ) → IsStep p n up → HasInitialiser p (name_at p up) → HasInitialiser p (name_at p n)
-has_above p n up step h =
-    has_by p h.number (name_at p up) (name_at p n) h.initialiser (below (name_at p n) step.class (name_at p up) step.at.named (inl step.super) h.initialiser.above)
+module _ (p : Program) (program : IsProgram p) (name : List ℕ) (c : Class) (named : class_named p name ≡ Some c) where
+  name_is : c.name ≡ name
+  name_is = (number_named p name c named).2
 
-module _ (p : Program) (program : IsProgram p) (n : ℕ) (within : IsClassNumber p n) where
-  abbrev OfSuper : Class → Type 0
-  OfSuper c = (super : List ℕ) × (c.super_class ≡ Some super) × HasInitialiser p super
-
-  where_declared : (c : Class) → IsClassAt p n c → HasInitialiser p (name_at p n) → DeclaresAt p n ⊎ OfSuper c
-  where_declared c at h = split (name_at p n) refl i.above
+  -- what a class declares, or a superinterface
+  has_here : DeclaresAt p c → HasInitialiser p name
+  has_here d = by d.there
     where
-      i : IsCodedInitialiser p (name_at p n) h.number
+      by : (name_at p d.owner ≡ c.name) ⊎ IsThroughInterface p c d.owner → HasInitialiser p name
+      by (inl itself) = coded_above p (name_at p d.owner) name d.is (same name (sym name_is ∙ sym itself))
+      by (inr through) = coded_above p (name_at p d.owner) name d.is (below name c through.interface named (inr through.among) through.above)
+
+  -- what the superclass has
+  has_above : (super : Option (List ℕ)) → c.super_class ≡ super → HasFrom p super → HasInitialiser p name
+  has_above None is h = absurd h
+  has_above (Some up) is h = has_by p h.number up name h.initialiser (below name c up named (inl is) h.initialiser.above)
+
+  -- there is no other
+  where_declared : HasInitialiser p name → DeclaresAt p c ⊎ HasFrom p c.super_class
+  where_declared h = split name refl i.above
+    where
+      i : IsCodedInitialiser p name h.number
       i = h.initialiser
 
-      through : (interface : List ℕ) → Contains c.interfaces interface → IsSubtype p i.method.class interface → DeclaresAt p n
+      through : (interface : List ℕ) → Contains c.interfaces interface → IsSubtype p i.method.class interface → DeclaresAt p c
       through interface among above =
           let k = class_of_method p program h.number i.method i.stands in
           record {
             owner = k.0;
             within = k.1;
-            is = declares_of p h.number (name_at p n) (name_at p k.0) i (sym k.2);
-            there = inr (λ d stands. record {
-              interface = interface;
-              among = subst (λ (x : Class). Contains x.interfaces interface) (same_Some c d (sym at.stands ∙ stands)) among;
-              above = subst (λ (name : List ℕ). IsSubtype p name interface) (sym k.2) above;
-            });
+            is = declares_of p h.number name (name_at p k.0) i (sym k.2);
+            there = inr (record { interface = interface; among = among; above = subst (λ (x : List ℕ). IsSubtype p x interface) (sym k.2) above });
           }
 
-      direct : (super : List ℕ) → IsDirectSuper c super → IsSubtype p i.method.class super → DeclaresAt p n ⊎ OfSuper c
-      direct super (inl is) above = inr (super, is, has_by p h.number (name_at p n) super i above)
+      direct : (super : List ℕ) → IsDirectSuper c super → IsSubtype p i.method.class super → DeclaresAt p c ⊎ HasFrom p c.super_class
+      direct super (inl is) above = inr (subst (HasFrom p) (sym is) (has_by p h.number name super i above))
       direct super (inr among) above = inl (through super among above)
 
-      split : (name : List ℕ) → name_at p n ≡ name → IsSubtype p i.method.class name → DeclaresAt p n ⊎ OfSuper c
-      split name is (same _ e) = inl (record { owner = n; within = within; is = declares_of p h.number (name_at p n) (name_at p n) i (sym (is ∙ e)); there = inl refl })
-      split name is (below _ d super named is_direct above) =
-          let one : d ≡ c = same_Some d c (sym named ∙ ap (class_named p) (sym is) ∙ at.named) in
+      split : (upper : List ℕ) → name ≡ upper → IsSubtype p i.method.class upper → DeclaresAt p c ⊎ HasFrom p c.super_class
+      split upper is (same _ e) =
+          let k = class_of_method p program h.number i.method i.stands in
+          inl (record { owner = k.0; within = k.1; is = declares_of p h.number name (name_at p k.0) i (sym k.2); there = inl (k.2 ∙ sym e ∙ sym is ∙ sym name_is) })
+      split upper is (below _ d super upper_named is_direct above) =
+          let one : d ≡ c = same_Some d c (sym upper_named ∙ ap (class_named p) (sym is) ∙ named) in
           direct super (subst (λ (x : Class). IsDirectSuper x super) one is_direct) above
 
-  -- where the class declares none, and no superinterface, it is one of the superclass
-  pub has_from : (up : ℕ) → IsStep p n up → (DeclaresAt p n → ⊥) → HasInitialiser p (name_at p n) → HasInitialiser p (name_at p up)
-  has_from up step none h = by (where_declared step.class step.at h)
-    where
-      by : DeclaresAt p n ⊎ OfSuper step.class → HasInitialiser p (name_at p up)
-      by (inl d) = absurd (none d)
-      by (inr above) = subst (HasInitialiser p) (same_Some above.0 (name_at p up) (sym above.1 ∙ step.super)) above.2
+-- a class has an initialiser just where one of the classes upward declares one, or one of their superinterfaces
+has_along : (p : Program) → IsProgram p → (chain : List Class) (start : Option (List ℕ)) → IsChain p start chain → HasOne (DeclaresAt p) chain ↔ HasFrom p start
+has_along p program [] None of_start = (λ has. absurd (contains_none has.one has.among), λ h. absurd h)
+has_along p program [] (Some name) of_start = absurd of_start
+has_along p program (c ∷ chain) None of_start = absurd of_start
+has_along p program (c ∷ chain) (Some name) of_start =
+    let named = of_start.0 in
+    let rest = has_along p program chain c.super_class of_start.1 in (
+      λ has. elim (contains_cases c chain has.one has.among) [
+        | inl e ↦ has_here p program name c named (subst (DeclaresAt p) (sym e) has.holds)
+        | inr later ↦ has_above p program name c named c.super_class refl (rest.0 (record { one = has.one; among = later; holds = has.holds }))
+      ],
+      λ h. elim (where_declared p program name c named h) [
+        | inl d ↦ record { one = c; among = contains_first c chain; holds = d }
+        | inr above ↦ let has = rest.1 above in record { one = has.one; among = contains_later c chain has.one has.among; holds = has.holds }
+      ],
+    )
 
-  pub has_none : IsTop p n → (DeclaresAt p n → ⊥) → HasInitialiser p (name_at p n) → ⊥
-  has_none top none h = by (where_declared top.class top.at h)
-    where
-      by : DeclaresAt p n ⊎ OfSuper top.class → ⊥
-      by (inl d) = none d
-      by (inr above) = none-some above.0 (sym top.super ∙ above.1)
+-- what a walk finds that looks for a class that declares one
+pub initialised : (p : Program) → IsProgram p → (start : List ℕ) (found : Option ClassNo) → IsFirstUpward p (AnswersWhere (DeclaresAt p)) start found
+    → IsTrue (is_some found) ↔ HasInitialiser p start
+initialised p program start found walk =
+    let tells = first_tells (DeclaresAt p) walk.chain found walk.first in
+    let has = has_along p program walk.chain (Some start) walk.of_start in
+    (λ t. has.0 (tells.0 t), λ h. tells.1 (has.1 h))

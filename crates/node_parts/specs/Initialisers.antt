@@ -22,9 +22,9 @@ pub record DeclaresInitialiser (p : Program) (class : List ℕ) : Type 0 where
   pub of_file : method.body ≡ in_file file place member
   pub code : IsTrue (list_any (is_code file.pool) member.attributes)
 
--- The class of the number, or a supertype through one of its own superinterfaces, declares one.
-pub record DeclaresAt (p : Program) (class : ℕ) : Type 0 where
+-- The class itself, or a supertype through one of its own superinterfaces, declares one.
+pub record DeclaresAt (p : Program) (c : Class) : Type 0 where
   pub owner : ℕ
   pub within : IsClassNumber p owner
   pub is : DeclaresInitialiser p (name_at p owner)
-  pub there : (owner ≡ class) ⊎ ((c : Class) → slice_get p.classes class ≡ Some c → IsThroughInterface p c owner)
+  pub there : (name_at p owner ≡ c.name) ⊎ IsThroughInterface p c owner

@@ -1,18 +1,43 @@
 //! Initialisers of classes (JVMS 2.9, 5.5).
 
-ghost use Rattle.std.specs.Prelude.{◌≡◌, ◌↔◌, ℕ, false, All, Contains, IsTrue, None, slice_get};
+ghost use Rattle.std.specs.Prelude.{◌≡◌, ◌↔◌, ℕ, false, All, Contains, IsTrue, None, Some, slice_get};
 ghost use Rattle.std.specs.List.{list_any};
 ghost use Rattle.jvm_model.specs.declared.class_file.Member.{Member};
+ghost use Rattle.jvm_model.specs.Programs.{Class};
 ghost use Rattle.jvm_model.specs.Soundness.{is_code};
 ghost use Rattle.linked_program.specs.Numbers.{name_at, IsClassNumber};
 ghost use Rattle.node_machine.specs.Nodes.{HasInitialiser};
 ghost use Rattle.node_parts.specs.Initialisers.{DeclaresInitialiser, DeclaresAt};
 
+use hierarchy::upward::{Step, first_upward};
 use jvm_model::lookup::Signature;
 use jvm_model::sound::first_code;
 use jvm_model::{ClassFile, ClassNo, Member, PoolEntry};
 use linked_program::method_body::MethodBody;
 use linked_program::program::Program;
+
+/// A class that declares an initialiser, or that has a superinterface with one, looked for upward.
+#[derive(Clone, Copy)]
+struct Initialised;
+
+impl Step for Initialised {
+    ghost use Rattle.hierarchy.specs.Upward.{AnswersWhere};
+    ghost use Rattle.node_parts.specs.Initialisers.{DeclaresAt};
+
+    type Answer = ClassNo;
+
+    ghost fits = { λ x p. Unit {0} };
+
+    ghost answers = { λ x p. AnswersWhere (DeclaresAt p) };
+
+    fn at(&self, program: &Program, class: ClassNo) -> Option<ClassNo> {
+        if declares_at(program, class) {
+            Some(class)
+        } else {
+            None
+        }
+    }
+}
 
 /// Whether a class, or one of its supertypes, has an initialiser for which its class file has code (JVMS 2.9). It walks up the
 /// superclasses, and takes no memory.
@@ -21,23 +46,13 @@ pub fn has_initialiser(program: &Program, class: ClassNo) -> bool
     ensures { IsTrue result ↔ HasInitialiser program.now (name_at program.now class.0) }
 {
     program.well_formed();
-    let mut current = class;
-    'upward: for _passed in 0..program.class_count() {
-        if declares_at(program, current) {
-            return true;
-        }
-        let Some(above) = program.super_class(current) else {
-            return false;
-        };
-        current = above;
-    }
-    unreachable!()
+    first_upward(program, class, &Initialised).is_some()
 }
 
 /// Whether a class, or a supertype through one of its own superinterfaces, declares an initialiser.
 fn declares_at(program: &Program, class: ClassNo) -> bool
     requires { IsClassNumber program.now class.0 }
-    ensures { IsTrue result ↔ DeclaresAt program.now class.0 }
+    ensures { (c : Class) → slice_get program.now.classes class.0 ≡ Some c → IsTrue result ↔ DeclaresAt program.now c }
 {
     if declares_initialiser(program, class) {
         return true;

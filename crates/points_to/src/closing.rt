@@ -1,9 +1,7 @@
 //! The loop of the solver: each item is taken with what follows from it, until nothing is new.
 
-ghost use Rattle.std.specs.Prelude.{◌≡◌, ◌<◌, ℕ, [], length, Some, All, Contains, IfOk, OnOk, IfErr};
+ghost use Rattle.std.specs.Prelude.{◌≡◌, ◌<◌, ℕ, [], length, All, Contains, IfOk, OnOk, IfErr};
 ghost use Rattle.grouped_lists.specs.Groups.{values_at};
-ghost use Rattle.jvm_model.specs.Programs.{Class, object_name};
-ghost use Rattle.jvm_model.specs.Subtypes.{class_named};
 ghost use Rattle.least_sets.specs.Rules.{IsWithoutDoubles};
 ghost use Rattle.linked_program.specs.Numbers.{IsMethodNumber};
 ghost use Rattle.op_model.specs.Supplies.{IsSameSupply};
@@ -95,7 +93,6 @@ pub(crate) fn close<S: Supply>(
     requires entry { IsMethodNumber program.now entry.0 }
     requires supply { IsSupplyOf program.now (S.gives supply.old) }
     requires limit { 0 < pair_limit }
-    requires object { (object : Class) × (class_named program.now object_name ≡ Some object) }
     ensures closed { IfOk result (λ closing. IsClosed program.now (S.gives supply.old) entry pair_limit closing.solution.tables closing.solution.items.items.keys closing.refusals.call closing.refusals.method closing.solution.methods.items) }
     ensures same { IsSameSupply (S.gives supply.old) (S.gives supply.new) }
     ensures end { IfErr result (IsClosingEnd program.now (S.gives supply.old) entry pair_limit) }
@@ -117,7 +114,6 @@ fn close_over<S: Supply>(
     requires entry { IsMethodNumber program.now entry.0 }
     requires supply { IsSupplyOf program.now (S.gives supply.old) }
     requires limit { 0 < pair_limit }
-    requires object { (object : Class) × (class_named program.now object_name ≡ Some object) }
     requires fresh { IsFresh working.old }
     ensures closed { OnOk result (IsClosed program.now (S.gives supply.old) entry pair_limit working.new.found.tables working.new.queue.items.keys working.new.found.refusals.call working.new.found.refusals.method working.new.methods.items) }
     ensures same { IsSameSupply (S.gives supply.old) (S.gives supply.new) }
@@ -181,7 +177,6 @@ fn take_in<S: Supply>(
     requires supply { IsSupplyOf program.now (S.gives supply.old) }
     requires item { IsKnownItem program.now working.old.found.tables item }
     requires index { IsKnownIndex program.now working.old.found.tables (values_at working.old.index.sites.groups.items) (values_at working.old.index.users.groups.items) }
-    requires object { (object : Class) × (class_named program.now object_name ≡ Some object) }
     requires answers { AreRight program.now working.old.found.tables working.old.found.answers }
     requires apart { IsWithoutDoubles working.old.queue.items.keys }
     requires counted { working.old.queue.pairs ≡ pairs_among working.old.queue.items.keys }

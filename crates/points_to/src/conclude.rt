@@ -1,8 +1,6 @@
 //! What follows from an item, together with those of one place that came before it.
 
-ghost use Rattle.std.specs.Prelude.{◌≡◌, ◌⊎◌, length, [], Some, OnOk, IfErr};
-ghost use Rattle.jvm_model.specs.Programs.{Class, object_name};
-ghost use Rattle.jvm_model.specs.Subtypes.{class_named};
+ghost use Rattle.std.specs.Prelude.{◌≡◌, ◌⊎◌, length, [], OnOk, IfErr};
 ghost use Rattle.linked_program.specs.Numbers.{IsMethodNumber};
 ghost use Rattle.op_model.specs.Supplies.{IsSameSupply};
 ghost use Rattle.points_to_calls.specs.KeptAnswers.{AreRight};
@@ -44,7 +42,6 @@ pub(crate) fn conclude<S: Supply>(
     requires supply { IsSupplyOf program.now (S.gives supply.old) }
     requires item { IsKnownItem program.now found.old.tables item }
     requires index { IsKnownIndex program.now found.old.tables (values_at index.old.sites.groups.items) (values_at index.old.users.groups.items) }
-    requires object { (object : Class) × (class_named program.now object_name ≡ Some object) }
     requires answers { AreRight program.now found.old.tables found.old.answers }
     ensures indexed { OnOk result (IsIndexed index.old.sites.groups.items index.new.sites.groups.items index.old.users.groups.items index.new.users.groups.items item) }
     ensures grows { OnOk result (Grows found.old.tables found.new.tables) }

@@ -1,8 +1,7 @@
 //! What was found besides the items: the numbers, and the first refusals; and how objects are passed to users.
 
 ghost use Rattle.std.specs.Prelude.{◌≡◌, length, Some, None, All, OnOk, IfErr};
-ghost use Rattle.jvm_model.specs.Programs.{Class, Program as LinkedProgram, object_name};
-ghost use Rattle.jvm_model.specs.Subtypes.{class_named};
+ghost use Rattle.jvm_model.specs.Programs.{Program as LinkedProgram};
 ghost use Rattle.points_to_calls.specs.KeptAnswers.{AreRight};
 ghost use Rattle.points_to_tables.specs.Numbered.{Numbered, Grows, IsNumbered, none_numbered};
 ghost use Rattle.points_to_tables.specs.Steps.{Adds};
@@ -51,7 +50,6 @@ impl Found {
     ) -> Result<(), SolveFailure>
         requires users { All (λ (user : UserNo). IsKnownUser program.now self.old.tables user) users.now }
         requires site { IsNumbered self.old.tables.sites site.0 }
-        requires object { (object : Class) × (class_named program.now object_name ≡ Some object) }
         requires answers { AreRight program.now self.old.tables self.old.answers }
         ensures grows { OnOk result (Grows self.old.tables self.new.tables) }
         ensures calls { OnOk result (length self.new.tables.calls ≡ length self.old.tables.calls) }
@@ -78,7 +76,6 @@ impl Found {
     ) -> Result<(), SolveFailure>
         requires user { IsKnownUser program.now self.old.tables user }
         requires sites { All (λ (site : SiteNo). IsNumbered self.old.tables.sites site.0) sites.now }
-        requires object { (object : Class) × (class_named program.now object_name ≡ Some object) }
         requires answers { AreRight program.now self.old.tables self.old.answers }
         ensures grows { OnOk result (Grows self.old.tables self.new.tables) }
         ensures calls { OnOk result (length self.new.tables.calls ≡ length self.old.tables.calls) }
@@ -105,7 +102,6 @@ impl Found {
     ) -> Result<(), SolveFailure>
         requires user { IsKnownUser program.now self.old.tables user }
         requires site { IsNumbered self.old.tables.sites site.0 }
-        requires object { (object : Class) × (class_named program.now object_name ≡ Some object) }
         requires answers { AreRight program.now self.old.tables self.old.answers }
         ensures grows { OnOk result (Grows self.old.tables self.new.tables) }
         ensures calls { OnOk result (length self.new.tables.calls ≡ length self.old.tables.calls) }

@@ -1,8 +1,6 @@
 //! The solver.
 
 ghost use Rattle.std.specs.Prelude.{◌≡◌, Some, None, IfOk, OnOk, IfErr};
-ghost use Rattle.jvm_model.specs.Programs.{Class, object_name};
-ghost use Rattle.jvm_model.specs.Subtypes.{class_named};
 ghost use Rattle.linked_program.specs.Numbers.{IsMethodNumber};
 ghost use Rattle.op_model.specs.Supplies.{IsSameSupply};
 ghost use Rattle.points_to.specs.Refusing.{IsNamed, IsOfCoded, IsRefusing};
@@ -31,7 +29,6 @@ pub fn solve<S: Supply>(
 ) -> Result<Solution, SolveFailure>
     requires entry { IsMethodNumber program.now entry.0 }
     requires supply { IsSupplyOf program.now (S.gives supply.old) }
-    requires object { (object : Class) × (class_named program.now object_name ≡ Some object) }
     ensures solved { IfOk result (IsSolved program.now (S.gives supply.old) entry pair_limit) }
     ensures end { IfErr result (IsSolveEnd program.now (S.gives supply.old) entry pair_limit) }
     ensures same { IsSameSupply (S.gives supply.old) (S.gives supply.new) }

@@ -3,8 +3,8 @@
 
 ghost use Rattle.std.specs.Prelude.{◌≡◌, ◌↔◌, ℕ, List, [], Some, slice_get, IsTrue, IfOk};
 ghost use Rattle.jvm_model.specs.declared.site.Site.{Site};
-ghost use Rattle.jvm_model.specs.Programs.{Class, Program as LinkedProgram, object_name};
-ghost use Rattle.jvm_model.specs.Subtypes.{class_named, Fits};
+ghost use Rattle.jvm_model.specs.Programs.{Program as LinkedProgram};
+ghost use Rattle.jvm_model.specs.Subtypes.{Fits};
 ghost use Rattle.linked_program.specs.Numbers.{IsMethodNumber};
 ghost use Rattle.points_to_calls.specs.KeptAnswers.{AreRight};
 ghost use Rattle.points_to_calls.specs.Selecting.{IsOnlyAnswer};
@@ -75,7 +75,6 @@ pub(crate) fn selected_kept(
 ) -> Result<Option<Result<MethodNo, Reason>>, AllocError>
     requires resolved { IsMethodNumber program.now key.resolved.0 }
     requires class { IsNumbered tables.now.classes key.class.0 }
-    requires object { (object : Class) × (class_named program.now object_name ≡ Some object) }
     requires answers { AreRight program.now tables.now answers.old }
     ensures selected { IfOk result (λ answer. (s : Site) → slice_get tables.now.classes key.class.0 ≡ Some s.class
         → IsOnlyAnswer (SelectsAs key.interface program.now key.resolved s) answer) }

@@ -12,7 +12,6 @@ mod landings;
 mod passing;
 mod plain;
 mod reading;
-mod results;
 mod selecting;
 mod selection;
 mod targets;

@@ -2,8 +2,6 @@
 
 ghost use Rattle.std.specs.Prelude.{◌≡◌, length, Some, slice_get, IfOk, OnOk};
 ghost use Rattle.jvm_model.specs.declared.site.Site.{Site};
-ghost use Rattle.jvm_model.specs.Programs.{Class, object_name};
-ghost use Rattle.jvm_model.specs.Subtypes.{class_named};
 ghost use Rattle.linked_program.specs.Numbers.{IsMethodNumber};
 ghost use Rattle.points_to_calls.specs.KeptAnswers.{AreRight};
 ghost use Rattle.points_to_calls.specs.Lacks.{UserLacks};
@@ -34,7 +32,6 @@ pub fn pass(
     requires user { IsNumbered tables.old.users user.0 }
     requires site { IsNumbered tables.old.sites site.0 }
     requires resolved { (c : CallSite) → slice_get tables.old.users user.0 ≡ Some (select c) → IsMethodNumber program.now c.resolved.0 }
-    requires object { (object : Class) × (class_named program.now object_name ≡ Some object) }
     requires answers { AreRight program.now tables.old answers.old }
     ensures grows { OnOk result (Grows tables.old tables.new) }
     ensures calls { OnOk result (length tables.new.calls ≡ length tables.old.calls) }

@@ -2,8 +2,7 @@
 
 ghost use Rattle.std.specs.Prelude.{◌≡◌, ◌↔◌, Some, slice_get, IsTrue, IfOk, OnOk};
 ghost use Rattle.jvm_model.specs.declared.site.Site.{Site};
-ghost use Rattle.jvm_model.specs.Programs.{Class, object_name, IsUndescribed};
-ghost use Rattle.jvm_model.specs.Subtypes.{class_named};
+ghost use Rattle.jvm_model.specs.Programs.{IsUndescribed};
 ghost use Rattle.linked_program.specs.Numbers.{IsMethodNumber};
 ghost use Rattle.points_to_calls.specs.Giving.{ResolvesIn};
 ghost use Rattle.points_to_calls.specs.KeptAnswers.{AreRight};
@@ -39,7 +38,6 @@ fn selected(
     requires call { IsNumbered tables.now.calls call.0 }
     requires site { IsNumbered tables.now.sites site.0 }
     requires resolved { ResolvesIn program.now tables.now call.0 }
-    requires object { (object : Class) × (class_named program.now object_name ≡ Some object) }
     requires answers { AreRight program.now tables.now answers.old }
     ensures selected { IfOk result (λ answer. (c : CallSite) (s : Site) → slice_get tables.now.calls call.0 ≡ Some c
         → slice_get tables.now.sites site.0 ≡ Some s
@@ -147,7 +145,6 @@ pub(crate) fn select_items(
     requires call { IsNumbered tables.old.calls call.0 }
     requires site { IsNumbered tables.old.sites site.0 }
     requires resolved { ResolvesIn program.now tables.old call.0 }
-    requires object { (object : Class) × (class_named program.now object_name ≡ Some object) }
     requires answers { AreRight program.now tables.old answers.old }
     ensures adds { OnOk result ((c : CallSite) (s : Site) → slice_get tables.old.calls call.0 ≡ Some c → slice_get tables.old.sites site.0 ≡ Some s
         → Makes tables.old tables.new (SelectItem program.now c s) steps.old.items steps.new.items) }

@@ -3,8 +3,6 @@
 ghost use Rattle.std.specs.Prelude.{◌≡◌, Some};
 ghost use Rattle.bytecode_machine.specs.Machine.{selecting_class};
 ghost use Rattle.jvm_model.specs.declared.site.Site.{Site};
-ghost use Rattle.jvm_model.specs.Programs.{Class, object_name};
-ghost use Rattle.jvm_model.specs.Subtypes.{class_named};
 ghost use Rattle.linked_program.specs.Numbers.{IsMethodNumber};
 ghost use Rattle.points_to_calls.specs.Selecting.{IsOnlyAnswer};
 ghost use Rattle.points_to_rules.specs.Calls.{SelectsAs};
@@ -34,7 +32,6 @@ pub(crate) fn selected_from(
     interface: bool,
 ) -> Option<Result<MethodNo, Reason>>
     requires resolved { IsMethodNumber program.now resolved.0 }
-    requires object { (object : Class) × (class_named program.now object_name ≡ Some object) }
     ensures { (s : Site) → class.now ≡ s.class → IsOnlyAnswer (SelectsAs interface program.now resolved s) result }
 {
     program.well_formed();

@@ -6,11 +6,11 @@ ghost use Rattle.linked_program.specs.Numbers.{IsMethodNumber};
 use crate::readings::tell_disagreements;
 use crate::request::{Amount, LIMIT};
 use crate::sets::{tell_counts, tell_sets};
-use anyhow::{Result, bail};
+use anyhow::Result;
 use case_files::{CaseFailure, is_refusal, link_case, read_all_stubs, read_files};
 use case_names::{MemberName, Members, Names, members_of, method_of, method_text};
 use failure::Failure;
-use folder_report::{analyse, has_object};
+use folder_report::analyse;
 use ground::Ground;
 use jvm_model::{MethodNo, reason_word};
 use linked_program::program::Program;
@@ -107,9 +107,6 @@ fn tell_program<R: Print>(
         println!(rt; "no entry")?;
         return Ok(());
     };
-    if !has_object(program) {
-        bail!("the class java/lang/Object is not there");
-    }
     match analyse(alloc, program, entry, limit) {
         Ok(ground) => tell_solved(rt, alloc, program, members, &ground, amount),
         Err(failure) => tell_end(rt, failure),

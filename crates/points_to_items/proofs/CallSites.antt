@@ -2,6 +2,9 @@
 -- the rules have them go.
 use Rattle.std.proofs.Common.{◌≡◌, inl, inr, ℕ, List, [], ◌∷◌, Option, Some, None, slice_get, Contains, refl, sym, ap, ◌∙◌, subst}
 use Rattle.std.specs.List.{AllZip}
+use Rattle.list_laws.proofs.Members.{contains_first, contains_later}
+use Rattle.list_laws.proofs.Places.{contains_at, place_of}
+use Rattle.list_laws.proofs.Zips.{zip_at}
 use Rattle.jvm_model.specs.declared.number.MethodNo.{MethodNo}
 use Rattle.jvm_model.specs.Programs.{Program}
 use Rattle.op_model.specs.declared.lowered.LoweredMethod.{LoweredMethod}
@@ -10,14 +13,13 @@ use Rattle.op_model.specs.declared.node.NodeHandler.{NodeHandler}
 use Rattle.op_model.specs.declared.op.Call.{Call as NodeCall}
 use Rattle.node_machine.specs.NodeSteps.{Takes, IsFirstTaking}
 use Rattle.slot_names.specs.Variables.{AreReachedNodes}
-use Rattle.least_sets.proofs.Places.{place_of, contains_at, first, later}
 use Rattle.points_to_rules.specs.Facts.{Holder, thrown_by}
 use Rattle.points_to_rules.specs.Rules.{node_of, IsSlot, IsSlotAfter, IsSlotAt, Lands, caught, uncaught}
 use Rattle.points_to_items.specs.CallItems.{LandsIn}
 use Rattle.points_to_rules.specs.WholeMethods.{IsWholeMethod}
 use Rattle.points_to_items.specs.Items.{Arm, Landing, CallSite}
 use Rattle.points_to_items.specs.NodeItems.{IsArm, IsLanding, IsUnitHolder, AreResults, IsCallSite}
-use Rattle.points_to_items.proofs.Holders.{zip_made, zip_place, same_holder, same_holder_at, holder_of, holder_at}
+use Rattle.points_to_items.proofs.Holders.{zip_made, same_holder, same_holder_at, holder_of, holder_at}
 
 -- ---- landings
 
@@ -43,8 +45,8 @@ at_none_taking p l class outside to [] [] all none e = e
 at_none_taking p l class outside to [] (a ∷ arms) all none e = absurd all
 at_none_taking p l class outside to (g ∷ handlers) [] all none e = absurd all
 at_none_taking p l class outside to (g ∷ handlers) (a ∷ arms) all none e = inr (
-  λ takes. none g (first g handlers) (subst (λ (h : NodeHandler). Takes p h class) all.0.handler_is takes),
-  at_none_taking p l class outside to handlers arms all.1 (λ h there. none h (later g handlers h there)) e,
+  λ takes. none g (contains_first g handlers) (subst (λ (h : NodeHandler). Takes p h class) all.0.handler_is takes),
+  at_none_taking p l class outside to handlers arms all.1 (λ h there. none h (contains_later g h handlers there)) e,
 )
 
 pub lands_there : (p : Program) (m : MethodNo) (l : LoweredMethod) (n : Node) → AreReachedNodes l → (class : List ℕ) (to : Holder) (landing : Landing) → IsLanding m l n landing → Lands p m l n class to
@@ -101,13 +103,13 @@ some_unit l reached n here z from slot (Some h) is = ap Some (same_holder l reac
 pub argument_there : (m : MethodNo) (l : LoweredMethod) → AreReachedNodes l → (n : Node) → Contains l.nodes n → (c : NodeCall) (has : HasSite m l n c) (unit z : ℕ) (from : Holder)
     → slice_get c.arguments unit ≡ Some (Some z) → IsSlot l n z from → slice_get has.arguments unit ≡ Some (Some from)
 argument_there m l reached n here c has unit z from e slot =
-    let h = zip_place (IsUnitHolder l n) c.arguments has.arguments has.are_arguments unit (Some z) e in
+    let h = zip_at (IsUnitHolder l n) c.arguments has.arguments unit (Some z) has.are_arguments e in
     h.1 ∙ ap Some (some_unit l reached n here z from slot h.0 h.2)
 
 result_there : (l : LoweredMethod) → AreReachedNodes l → (n : Node) (z : ℕ) (to : Holder) → IsSlotAfter l n z to → (results : List Holder) → AreResults l n (Some z) results → Contains results to
 result_there l reached n z to after results are =
     let at = place_of n.successors after.next.offset after.leads.goes in
-    let h = zip_place (λ (offset : ℕ) (h : Holder). IsSlotAt l offset z h) n.successors results are at.0 after.next.offset at.1 in
+    let h = zip_at (λ (offset : ℕ) (h : Holder). IsSlotAt l offset z h) n.successors results at.0 after.next.offset are at.1 in
     let there : IsSlotAt l after.next.offset z to = record { node = after.next; stands = after.stands; at = refl; slot = after.slot } in
     contains_at results at.0 to (h.1 ∙ ap Some (same_holder_at l reached after.next.offset z h.0 to h.2 there))
 

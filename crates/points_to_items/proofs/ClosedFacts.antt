@@ -2,6 +2,7 @@
 -- rules of items; and each is derivable.
 use Rattle.std.proofs.Common.{◌≡◌, inl, inr, List, [], ◌∷◌, Contains, refl, subst}
 use Rattle.std.proofs.lemmas.List.Elements.{All-contains}
+use Rattle.list_laws.proofs.Members.{all_from_contains, contains_cases, contains_first, contains_later, contains_none}
 use Rattle.jvm_model.specs.declared.number.MethodNo.{MethodNo}
 use Rattle.jvm_model.specs.Programs.{Program}
 use Rattle.op_model.specs.declared.lowered.LoweredMethod.{LoweredMethod}
@@ -9,7 +10,6 @@ use Rattle.op_model.specs.declared.node.Node.{Node}
 use Rattle.op_model.specs.declared.node.NodeRef.{NodeRef}
 use Rattle.op_model.specs.Supplies.{GivenAs}
 use Rattle.least_sets.specs.Rules.{Hold, IsClosedSet, IsDerivable, IsLeast}
-use Rattle.least_sets.proofs.Places.{All-from_contains, first_or_later, first, later, nothing_in}
 use Rattle.points_to_rules.specs.Facts.{Fact, may_run, may_call}
 use Rattle.points_to_rules.specs.Rules.{IsNodeOf, Instance, entry_runs, entry_called, entry_argument, entry_strings, keep, move, enter, handle, load, load_element, load_static, make, make_array, get_constant, cast, store, store_element, store_static, nest, begin_static, call_chosen, call_selected, target_runs, pass, return, receive, keep_argument, give_argument, give_new, give_kept, throw, raise, target_throws, described_throws, initialiser_throws, initialiser_runs, keep_thrown}
 use Rattle.points_to_items.specs.ItemRules.{StartItem, ItemInstance}
@@ -83,20 +83,20 @@ closed_facts p gives entry T methods closed come = facts_closed (record { method
 -- ---- lists of items
 
 known_from_fact : (items : List Item) (fact : Fact) → Contains (facts_of items) fact → Contains items (known fact)
-known_from_fact [] fact there = absurd (nothing_in fact there)
-known_from_fact (known own ∷ items) fact there = elim (first_or_later own (facts_of items) fact there) [
-  | inl e ↦ subst (λ (f : Fact). Contains (known own ∷ items) (known f)) e (first (known own) items)
-  | inr more ↦ later (known own) items (known fact) (known_from_fact items fact more)
+known_from_fact [] fact there = absurd (contains_none fact there)
+known_from_fact (known own ∷ items) fact there = elim (contains_cases own fact (facts_of items) there) [
+  | inl e ↦ subst (λ (f : Fact). Contains (known own ∷ items) (known f)) e (contains_first (known own) items)
+  | inr more ↦ contains_later (known own) (known fact) items (known_from_fact items fact more)
 ]
-known_from_fact (used holder user ∷ items) fact there = later (used holder user) items (known fact) (known_from_fact items fact there)
+known_from_fact (used holder user ∷ items) fact there = contains_later (used holder user) (known fact) items (known_from_fact items fact there)
 
 fact_from_known : (items : List Item) (fact : Fact) → Contains items (known fact) → Contains (facts_of items) fact
-fact_from_known [] fact there = absurd (nothing_in (known fact) there)
-fact_from_known (known own ∷ items) fact there = elim (first_or_later (known own) items (known fact) there) [
-  | inl e ↦ (let same : own ≡ fact = cc in subst (λ (f : Fact). Contains (own ∷ facts_of items) f) same (first own (facts_of items)))
-  | inr more ↦ later own (facts_of items) fact (fact_from_known items fact more)
+fact_from_known [] fact there = absurd (contains_none (known fact) there)
+fact_from_known (known own ∷ items) fact there = elim (contains_cases (known own) (known fact) items there) [
+  | inl e ↦ (let same : own ≡ fact = cc in subst (λ (f : Fact). Contains (own ∷ facts_of items) f) same (contains_first own (facts_of items)))
+  | inr more ↦ contains_later own fact (facts_of items) (fact_from_known items fact more)
 ]
-fact_from_known (used holder user ∷ items) fact there = elim (first_or_later (used holder user) items (known fact) there) [
+fact_from_known (used holder user ∷ items) fact there = elim (contains_cases (used holder user) (known fact) items there) [
   | inl e ↦ absurd cc
   | inr more ↦ fact_from_known items fact more
 ]
@@ -117,5 +117,5 @@ least_facts p gives entry items methods derivable least =
     let closed = closed_facts p gives entry (Contains items) methods least.closed (λ call target there. call_comes_from p gives entry call target (of_item (may_call call target) there)) in
     record {
       closed = λ premises fact instance hold. fact_from_known items fact (closed premises fact instance (hold_known items premises hold));
-      derivable = All-from_contains (IsDerivable (Instance p gives entry)) (facts_of items) (λ fact there. of_item fact (known_from_fact items fact there));
+      derivable = all_from_contains (IsDerivable (Instance p gives entry)) (facts_of items) (λ fact there. of_item fact (known_from_fact items fact there));
     }

@@ -1,7 +1,8 @@
 -- The holders of slots: where all nodes of a method are reached, each slot has one at each node, and no second one.
-use Rattle.std.proofs.Common.{◌≡◌, ℕ, zero, suc, List, [], ◌∷◌, Some, slice_get, Contains, refl, sym, ap, ◌∙◌, subst}
+use Rattle.std.proofs.Common.{◌≡◌, ℕ, List, [], ◌∷◌, Some, slice_get, Contains, refl, sym, ap, ◌∙◌, subst}
 use Rattle.std.specs.List.{AllZip}
-use Rattle.std.proofs.lemmas.Option.{none-some, same_Some}
+use Rattle.list_laws.proofs.Members.{contains_first, contains_later}
+use Rattle.list_laws.proofs.Zips.{zip_at}
 use Rattle.op_model.specs.declared.lowered.LoweredMethod.{LoweredMethod}
 use Rattle.op_model.specs.declared.node.Node.{Node}
 use Rattle.slot_names.specs.declared.variable.Variable.TheVariants.{Parameter}
@@ -9,7 +10,6 @@ use Rattle.slot_names.specs.Variables.{keeps, moves, effect_on, IsFirstNode, IsM
 use Rattle.slot_laws.proofs.Places.{same_node}
 use Rattle.slot_laws.proofs.OneVariable.{one_variable}
 use Rattle.slot_laws.proofs.EachVariable.{each_variable}
-use Rattle.least_sets.proofs.Places.{first as first_there, later}
 use Rattle.points_to_rules.specs.Facts.{Holder, variable}
 use Rattle.points_to_rules.specs.Rules.{IsSlot, IsSlotAfter, IsSlotAt}
 use Rattle.points_to_rules.specs.WholeMethods.{HasNodeAt}
@@ -19,16 +19,13 @@ use Rattle.points_to_rules.specs.WholeMethods.{HasNodeAt}
 pub zip_made : {X Y : Type 0} (R : X → Y → Type 0) (xs : List X) → ((x : X) → Contains xs x → (y : Y) × R x y) → (ys : List Y) × AllZip R xs ys
 zip_made R [] each = ([], tt)
 zip_made R (x ∷ xs) each =
-    let y = each x (first_there x xs) in
-    let ys = zip_made R xs (λ z there. each z (later x xs z there)) in
+    let y = each x (contains_first x xs) in
+    let ys = zip_made R xs (λ z there. each z (contains_later x z xs there)) in
     (y.0 ∷ ys.0, (y.1, ys.1))
 
 -- what stands beside an element
 pub zip_place : {X Y : Type 0} (R : X → Y → Type 0) (xs : List X) (ys : List Y) → AllZip R xs ys → (k : ℕ) (x : X) → slice_get xs k ≡ Some x → (y : Y) × (slice_get ys k ≡ Some y) × R x y
-zip_place R [] ys all k x e = absurd (none-some x e)
-zip_place R (z ∷ xs) [] all k x e = absurd all
-zip_place R (z ∷ xs) (y ∷ ys) all zero x e = (y, refl, subst (λ w. R w y) (same_Some z x e) all.0)
-zip_place R (z ∷ xs) (y ∷ ys) all (suc k) x e = zip_place R xs ys all.1 k x e
+zip_place R xs ys all k x e = zip_at R xs ys k x all e
 
 -- ---- one holder
 

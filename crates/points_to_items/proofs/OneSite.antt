@@ -1,6 +1,6 @@
 -- A call of a node has one site: each of its holders is one.
-use Rattle.std.proofs.Common.{◌≡◌, ℕ, List, [], ◌∷◌, Option, Some, None, Contains, refl, sym, ◌∙◌, ap}
-use Rattle.std.specs.List.{AllZip}
+use Rattle.std.proofs.Common.{◌≡◌, ℕ, List, Option, Some, None, Contains, refl, sym, ◌∙◌, ap}
+use Rattle.list_laws.proofs.Zips.{zip_unique}
 use Rattle.jvm_model.specs.declared.number.MethodNo.{MethodNo}
 use Rattle.op_model.specs.declared.lowered.LoweredMethod.{LoweredMethod}
 use Rattle.op_model.specs.declared.node.Node.{Node}
@@ -13,17 +13,6 @@ use Rattle.points_to_items.specs.Items.{Arm, Landing, CallSite}
 use Rattle.points_to_items.specs.NodeItems.{IsArm, IsLanding, IsUnitHolder, AreResults, IsCallSite}
 use Rattle.points_to_items.proofs.Holders.{same_holder, same_holder_at}
 
-one_list : {X Y : Type 0} (R : X → Y → Type 0) → ((x : X) (y z : Y) → R x y → R x z → y ≡ z) → (xs : List X) (ys zs : List Y) → AllZip R xs ys → AllZip R xs zs → ys ≡ zs
-one_list R one [] [] [] first second = refl
-one_list R one [] [] (z ∷ zs) first second = absurd second
-one_list R one [] (y ∷ ys) zs first second = absurd first
-one_list R one (x ∷ xs) [] zs first second = absurd first
-one_list R one (x ∷ xs) (y ∷ ys) [] first second = absurd second
-one_list R one (x ∷ xs) (y ∷ ys) (z ∷ zs) first second =
-    let heads = one x y z first.0 second.0 in
-    let tails = one_list R one xs ys zs first.1 second.1 in
-    (λ i. heads i ∷ tails i)
-
 module _ (l : LoweredMethod) (reached : AreReachedNodes l) where
   one_arm : (handler : NodeHandler) (a b : Arm) → IsArm l handler a → IsArm l handler b → a ≡ b
   one_arm handler a b first second =
@@ -33,7 +22,7 @@ module _ (l : LoweredMethod) (reached : AreReachedNodes l) where
 
   pub one_landing : (m : MethodNo) (n : Node) (a b : Landing) → IsLanding m l n a → IsLanding m l n b → a ≡ b
   one_landing m n a b first second =
-      let arms = one_list (IsArm l) one_arm n.handlers a.arms b.arms first.arms second.arms in
+      let arms = zip_unique (IsArm l) one_arm n.handlers a.arms b.arms first.arms second.arms in
       let outside = first.outside ∙ sym second.outside in
       (λ i. record { arms = arms i; outside = outside i })
 
@@ -49,14 +38,14 @@ module _ (l : LoweredMethod) (reached : AreReachedNodes l) where
     one_result : (result : Option ℕ) (a b : List Holder) → AreResults l n result a → AreResults l n result b → a ≡ b
     one_result None a b first second = first ∙ sym second
     one_result (Some z) a b first second =
-        one_list (λ (offset : ℕ) (h : Holder). IsSlotAt l offset z h) (λ offset g h one other. same_holder_at l reached offset z g h one other) n.successors a b first second
+        zip_unique (λ (offset : ℕ) (h : Holder). IsSlotAt l offset z h) (λ offset g h one other. same_holder_at l reached offset z g h one other) n.successors a b first second
 
     pub one_site : (m : MethodNo) (c : NodeCall) (a b : CallSite) → IsCallSite m l n c a → IsCallSite m l n c b → a ≡ b
     one_site m c a b first second =
         let ats = first.at ∙ sym second.at in
         let kinds = first.kind ∙ sym second.kind in
         let methods = first.resolved ∙ sym second.resolved in
-        let arguments = one_list (IsUnitHolder l n) one_unit c.arguments a.arguments b.arguments first.arguments second.arguments in
+        let arguments = zip_unique (IsUnitHolder l n) one_unit c.arguments a.arguments b.arguments first.arguments second.arguments in
         let results = one_result c.result a.results b.results first.results second.results in
         let landings = one_landing m n a.landing b.landing first.landing second.landing in
         (λ i. record { at = ats i; kind = kinds i; resolved = methods i; arguments = arguments i; results = results i; landing = landings i })

@@ -2,6 +2,7 @@
 use Rattle.std.proofs.Common.{◌≡◌, inl, inr, ℕ, zero, suc, List, [], ◌∷◌, Option, Some, None, slice_get, Contains, refl, sym, ◌∙◌, subst}
 use Rattle.std.specs.List.{AllZip}
 use Rattle.std.proofs.lemmas.Option.{none-some, same_Some}
+use Rattle.list_laws.proofs.Members.{contains_cases, contains_first, contains_later, contains_none}
 use Rattle.jvm_model.specs.declared.number.MethodNo.{MethodNo}
 use Rattle.jvm_model.specs.Programs.{Program}
 use Rattle.op_model.specs.declared.lowered.LoweredMethod.{LoweredMethod}
@@ -10,7 +11,6 @@ use Rattle.op_model.specs.declared.node.NodeHandler.{NodeHandler}
 use Rattle.op_model.specs.Supplies.{GivenAs}
 use Rattle.node_machine.specs.NodeSteps.{Takes, IsFirstTaking}
 use Rattle.least_sets.specs.Rules.{IsClosedSet}
-use Rattle.least_sets.proofs.Places.{first_or_later, first, later, nothing_in}
 use Rattle.points_to_rules.specs.Facts.{Holder, Fact, may_run}
 use Rattle.points_to_rules.specs.Rules.{IsNodeOf, IsSlot, IsSlotAfter, IsSlotAt, Lands, caught, uncaught, Instance}
 use Rattle.points_to_items.specs.CallItems.{LandsIn}
@@ -96,18 +96,18 @@ pub record HasResultSlot (l : LoweredMethod) (n : Node) (result : Option ℕ) (t
 successor_slot : (l : LoweredMethod) (n : Node) (z : ℕ) (offsets : List ℕ) (holders : List Holder) (to : Holder) → Contains l.nodes n
     → ((offset : ℕ) → Contains offsets offset → Contains n.successors offset) → AllZip (λ (offset : ℕ) (h : Holder). IsSlotAt l offset z h) offsets holders
     → Contains holders to → IsSlotAfter l n z to
-successor_slot l n z [] [] to stands goes all there = absurd (nothing_in to there)
+successor_slot l n z [] [] to stands goes all there = absurd (contains_none to there)
 successor_slot l n z [] (h ∷ holders) to stands goes all there = absurd all
 successor_slot l n z (offset ∷ offsets) [] to stands goes all there = absurd all
-successor_slot l n z (offset ∷ offsets) (h ∷ holders) to stands goes all there = elim (first_or_later h holders to there) [
-  | inl here ↦ slot_at_successor l n offset z to stands (goes offset (first offset offsets)) (subst (λ (k : Holder). IsSlotAt l offset z k) here all.0)
-  | inr more ↦ successor_slot l n z offsets holders to stands (λ o c. goes o (later offset offsets o c)) all.1 more
+successor_slot l n z (offset ∷ offsets) (h ∷ holders) to stands goes all there = elim (contains_cases h to holders there) [
+  | inl here ↦ slot_at_successor l n offset z to stands (goes offset (contains_first offset offsets)) (subst (λ (k : Holder). IsSlotAt l offset z k) here all.0)
+  | inr more ↦ successor_slot l n z offsets holders to stands (λ o c. goes o (contains_later offset o offsets c)) all.1 more
 ]
 
 -- what the result of a call holds is what a slot holds after the node
 pub result_slot : (l : LoweredMethod) (n : Node) (result : Option ℕ) (holders : List Holder) (to : Holder) → Contains l.nodes n → AreResults l n result holders
     → Contains holders to → HasResultSlot l n result to
-result_slot l n None holders to stands are there = absurd (nothing_in to (subst (λ (hs : List Holder). Contains hs to) are there))
+result_slot l n None holders to stands are there = absurd (contains_none to (subst (λ (hs : List Holder). Contains hs to) are there))
 result_slot l n (Some z) holders to stands are there = record { z = z; is = refl; slot = successor_slot l n z n.successors holders to stands (λ o c. c) are there }
 
 -- ---- landings
@@ -121,14 +121,14 @@ data LandsAmong (p : Program) (l : LoweredMethod) (class : List ℕ) (handlers :
 lands_further : (p : Program) (l : LoweredMethod) (class : List ℕ) (handler : NodeHandler) (handlers : List NodeHandler) (outside to : Holder) → (Takes p handler class → ⊥)
     → LandsAmong p l class handlers outside to → LandsAmong p l class (handler ∷ handlers) outside to
 lands_further p l class handler handlers outside to free (inside h is_first slot) = inside h (inr (free, is_first)) slot
-lands_further p l class handler handlers outside to free (beyond none is) = beyond (λ h there takes. elim (first_or_later handler handlers h there) [
+lands_further p l class handler handlers outside to free (beyond none is) = beyond (λ h there takes. elim (contains_cases handler h handlers there) [
   | inl here ↦ free (subst (λ (k : NodeHandler). Takes p k class) (sym here) takes)
   | inr more ↦ none h more takes
 ]) is
 
 lands_among : (p : Program) (l : LoweredMethod) (class : List ℕ) (handlers : List NodeHandler) (arms : List Arm) (outside to : Holder) → AllZip (IsArm l) handlers arms
     → LandsIn p class arms outside to → LandsAmong p l class handlers outside to
-lands_among p l class [] [] outside to all is = beyond (λ h there takes. nothing_in h there) is
+lands_among p l class [] [] outside to all is = beyond (λ h there takes. contains_none h there) is
 lands_among p l class [] (arm ∷ arms) outside to all is = absurd all
 lands_among p l class (handler ∷ handlers) [] outside to all is = absurd all
 lands_among p l class (handler ∷ handlers) (arm ∷ arms) outside to all (inl here) =

@@ -4,8 +4,8 @@ use Rattle.std.specs.List.{slice_get, list_any, position}
 use Rattle.std.proofs.lemmas.Bool.{false≢true}
 use Rattle.std.proofs.lemmas.List.Quantifiers.{position-Some}
 use Rattle.std.proofs.lemmas.Option.{same_Some, none-some, slice_get-get_or}
+use Rattle.list_laws.proofs.Places.{in_longer, push_cases}
 use Rattle.indexmap.specs.IndexSet.{insert_key}
-use Rattle.class_index.proofs.ListPlaces.{in_longer, push_cases}
 use Rattle.least_sets.specs.Rules.{IsWithoutDoubles}
 use Rattle.points_to_tables.specs.Numbered.{Extends}
 

@@ -1,5 +1,5 @@
 -- Where names, sites and holders are each numbered once, different keys stand for different things.
-use Rattle.std.proofs.Common.{◌≡◌, Some, refl, sym, ◌∙◌, ap, subst}
+use Rattle.std.proofs.Common.{◌≡◌, sym, ◌∙◌, subst}
 use Rattle.least_sets.specs.Rules.{IsWithoutDoubles}
 use Rattle.jvm_model.specs.declared.site.Site.{Site}
 use Rattle.points_to_rules.specs.Facts.{Holder}

@@ -1,5 +1,5 @@
 -- `==` on the keys of the tables tells each two apart.
-use Rattle.std.proofs.Common.{◌≡◌, Bool, true, eqb, ◌&&◌, refl}
+use Rattle.std.proofs.Common.{◌≡◌, Bool, true, eqb, ◌&&◌}
 use Rattle.std.proofs.lemmas.Bool.{and_parts}
 use Rattle.std.proofs.lemmas.Map.Views.{exact_unsigned_eq}
 use Rattle.jvm_model.specs.contracts.site.SiteKindPartialEq.TheImpl as kind_block

@@ -1,6 +1,7 @@
 -- What stands for a key, an entry or an item goes on standing for it while the tables grow.
-use Rattle.std.proofs.Common.{◌≡◌, List, [], ◌∷◌, Option, Some, None}
-use Rattle.std.specs.List.{slice_get, AllZip}
+use Rattle.std.proofs.Common.{◌≡◌, Option, Some, None}
+use Rattle.std.specs.List.{slice_get}
+use Rattle.list_laws.proofs.Zips.{zip_weaker}
 use Rattle.jvm_model.specs.declared.site.Site.{Site}
 use Rattle.points_to_rules.specs.Facts.{Holder}
 use Rattle.points_to_items.specs.Items.{Arm as ItemArm, Landing as ItemLanding, CallSite as ItemCallSite, User as ItemUser, Item as RuleItem}
@@ -37,13 +38,6 @@ grows_on n m o first second = record {
   calls = λ place x e. second.calls place x (first.calls place x e);
   users = λ place x e. second.users place x (first.users place x e);
 }
-
--- a relation that holds of two lists, one by one, and gives another
-zip_weaker : {A B : Type 0} (R S : A → B → Type 0) → ((x : A) (y : B) → R x y → S x y) → (xs : List A) (ys : List B) → AllZip R xs ys → AllZip S xs ys
-zip_weaker R S give [] [] h = tt
-zip_weaker R S give [] (y ∷ ys) h = absurd h
-zip_weaker R S give (x ∷ xs) [] h = absurd h
-zip_weaker R S give (x ∷ xs) (y ∷ ys) h = (give x y h.0, zip_weaker R S give xs ys h.1)
 
 -- ---- each rests on the tables below it alone
 

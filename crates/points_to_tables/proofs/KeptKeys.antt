@@ -2,7 +2,7 @@
 use Rattle.std.proofs.Common.{◌≡◌, ℕ, ◌<◌, length, List, [], ◌∷◌, ◌++◌, map, Some, sym, ◌∙◌, ap, subst, inl, inr}
 use Rattle.std.specs.List.{slice_get}
 use Rattle.std.proofs.lemmas.Option.{same_Some, slice_get_within}
-use Rattle.class_index.proofs.ListPlaces.{map_at, at_map}
+use Rattle.list_laws.proofs.Places.{at_map, map_at, push_cases}
 use Rattle.least_sets.specs.Rules.{IsWithoutDoubles}
 use Rattle.points_to_tables.specs.Numbered.{Extends, Grows, IsNumbered, IsSiteAt, IsHolderAt, IsLandingAt, IsCallAt, IsUserAt}
 use Rattle.points_to_tables.specs.Kept.{Kept, StandForEach, AreFew, IsSound, numbered, site_from, landing_from, call_from, user_from, sites_of, holders_of, landings_of, calls_of}
@@ -10,7 +10,6 @@ use Rattle.points_to_rules.specs.Places.{holder_from}
 use Rattle.points_to_tables.proofs.Standing.{site_stands, holder_stands, landing_stands, call_stands, user_stands}
 use Rattle.points_to_tables.proofs.Growing.{longer_site, longer_holder, longer_landing, longer_call, longer_user, grown_site, grown_holder, grown_landing, grown_call, grown_user}
 use Rattle.points_to_tables.proofs.AddedKeys.{IsAdded, extends_same, pushed_longer}
-use Rattle.class_index.proofs.ListPlaces.{push_cases}
 
 -- There are the old keys and more, and something stands for each.
 pub record AreMore {K X : Type 0} (IsAt : K → X → Type 0) (old new : List K) : Type 0 where

@@ -1,7 +1,7 @@
 -- What is taken into the tables: a name, a key or an entry more.
 use Rattle.std.proofs.Common.{◌≡◌, ◌<◌, ◌^◌, ℕ, List, [], ◌∷◌, ◌++◌, Some, length, refl, subst}
 use Rattle.std.specs.List.{slice_get}
-use Rattle.class_index.proofs.ListPlaces.{pushed_at}
+use Rattle.list_laws.proofs.Places.{pushed_at}
 use Rattle.jvm_model.specs.declared.site.Site.{Site}
 use Rattle.points_to_rules.specs.Facts.{Holder}
 use Rattle.points_to_items.specs.Items.{Landing as ItemLanding, CallSite as ItemCallSite, User as ItemUser}

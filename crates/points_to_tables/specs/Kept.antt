@@ -5,7 +5,7 @@ use Rattle.jvm_model.specs.declared.site.Site.{Site}
 use Rattle.op_model.specs.declared.op.CallKind.TheVariants.{Static}
 use Rattle.least_sets.specs.Rules.{IsWithoutDoubles}
 use Rattle.points_to_rules.specs.Facts.{Holder, kept_objects}
-use Rattle.points_to_rules.specs.Places.{any_site, holder_from}
+use Rattle.points_to_rules.specs.Places.{holder_from}
 use Rattle.points_to_items.specs.Items.{Arm as ItemArm, Landing as ItemLanding, CallSite as ItemCallSite, User as ItemUser, pass_to, pass_fitting, read_field, write_field, read_elements, write_elements, throw_at, land_at, select}
 use Rattle.points_to_tables.specs.declared.entries.Arm.{Arm}
 use Rattle.points_to_tables.specs.declared.entries.Landing.{Landing}

@@ -67,8 +67,10 @@ impl Tables {
 
     /// The number of the name of a class or of an array.
     ///
-    /// The failure is `TooMany` where it has none yet and there are 2^32 - 1 of them, as with each number here.
+    /// The failure is `TooMany` where it has none yet and there are 2^32 - 1 of them, as with each number here. After a failure the
+    /// tables are as they were.
     pub fn class_name(&mut self, name: &[u8]) -> Result<ClassNameNo, IndexFailure>
+        ensures same { OnErr result (self.new ≡ self.old) }
         ensures grows { OnOk result (Grows self.old self.new) }
         ensures calls { OnOk result (length self.new.calls ≡ length self.old.calls) }
         ensures stands { IfOk result (λ number. slice_get self.new.classes number.0 ≡ Some name.now) }
@@ -81,6 +83,7 @@ impl Tables {
     /// The number of a site.
     pub fn site(&mut self, key: SiteKey) -> Result<SiteNo, IndexFailure>
         requires { IsNumbered self.old.classes key.class.0 }
+        ensures same { OnErr result (self.new ≡ self.old) }
         ensures grows { OnOk result (Grows self.old self.new) }
         ensures calls { OnOk result (length self.new.calls ≡ length self.old.calls) }
         ensures stands { IfOk result (λ number. (s : Site) → IsSiteAt self.old key s → slice_get self.new.sites number.0 ≡ Some s) }
@@ -95,6 +98,7 @@ impl Tables {
     /// The number of a place.
     pub fn place(&mut self, place: Place) -> Result<PlaceNo, IndexFailure>
         requires { (h : Holder) × IsHolderAt self.old place h }
+        ensures same { OnErr result (self.new ≡ self.old) }
         ensures grows { OnOk result (Grows self.old self.new) }
         ensures calls { OnOk result (length self.new.calls ≡ length self.old.calls) }
         ensures stands { IfOk result (λ number. (h : Holder) → IsHolderAt self.old place h → slice_get self.new.holders number.0 ≡ Some h) }
@@ -109,6 +113,7 @@ impl Tables {
     /// The number of a user.
     pub fn user(&mut self, user: User) -> Result<UserNo, IndexFailure>
         requires { (u : ItemUser) × IsUserAt self.old user u }
+        ensures same { OnErr result (self.new ≡ self.old) }
         ensures grows { OnOk result (Grows self.old self.new) }
         ensures calls { OnOk result (length self.new.calls ≡ length self.old.calls) }
         ensures stands { IfOk result (λ number. (u : ItemUser) → IsUserAt self.old user u → slice_get self.new.users number.0 ≡ Some u) }
@@ -124,6 +129,7 @@ impl Tables {
     /// The number of a new landing.
     pub fn landing(&mut self, landing: Landing) -> Result<LandingNo, IndexFailure>
         requires { (l : ItemLanding) × IsLandingAt self.old landing l }
+        ensures same { OnErr result (self.new ≡ self.old) }
         ensures grows { OnOk result (Grows self.old self.new) }
         ensures calls { OnOk result (length self.new.calls ≡ length self.old.calls) }
         ensures stands { IfOk result (λ number. (l : ItemLanding) → IsLandingAt self.old landing l → slice_get self.new.landings number.0 ≡ Some l) }
@@ -137,6 +143,7 @@ impl Tables {
     /// The number of a new call.
     pub fn call(&mut self, call: CallSite) -> Result<CallNo, IndexFailure>
         requires { (c : ItemCallSite) × IsCallAt self.old call c }
+        ensures same { OnErr result (self.new ≡ self.old) }
         ensures grows { OnOk result (Grows self.old self.new) }
         ensures added { IfOk result (λ number. number.0 ≡ length self.old.calls) }
         ensures one { OnOk result (length self.new.calls ≡ length self.old.calls + 1) }

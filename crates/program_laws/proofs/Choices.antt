@@ -7,7 +7,8 @@ use Rattle.std.proofs.lemmas.Bool.{true≢false}
 use Rattle.std.proofs.lemmas.Bool.Decides.{not_from_Decides}
 use Rattle.std.proofs.lemmas.Slice.Eq.{bytes_eq-Decides}
 use Rattle.std.proofs.lemmas.Option.{none-some, same_Some}
-use Rattle.program_laws.proofs.Orders.{none_there, first_there, more_there, where_there, this_or_other}
+use Rattle.list_laws.proofs.Members.{contains_cases, contains_first, contains_later, contains_none}
+use Rattle.program_laws.proofs.Orders.{this_or_other}
 
 abbrev pub OrNot : Type 0 → Type 0
 OrNot P = P ⊎ (P → ⊥)
@@ -61,13 +62,13 @@ held_or_not {X = X} P choose (Some x) = by (choose x)
     by (inr not_so) = inr (λ h. not_so (subst P (sym (same_Some x h.0 h.1)) h.2))
 
 pub some_or_not : {X : Type 0} (P : X → Type 0) → ((x : X) → OrNot (P x)) → (xs : List X) → OrNot ((x : X) × Contains xs x × P x)
-some_or_not P choose [] = inr (λ h. none_there h.0 h.1)
+some_or_not P choose [] = inr (λ h. contains_none h.0 h.1)
 some_or_not {X = X} P choose (x ∷ xs) = by (choose x) (some_or_not P choose xs)
   where
     by : OrNot (P x) → OrNot ((y : X) × Contains xs y × P y) → OrNot ((y : X) × Contains (x ∷ xs) y × P y)
-    by (inl h) rest = inl (x, first_there x xs, h)
-    by (inr not_so) (inl h) = inl (h.0, more_there x h.0 xs h.1, h.2)
-    by (inr not_so) (inr none) = inr (λ h. neither h.0 h.2 (where_there x h.0 xs h.1))
+    by (inl h) rest = inl (x, contains_first x xs, h)
+    by (inr not_so) (inl h) = inl (h.0, contains_later x h.0 xs h.1, h.2)
+    by (inr not_so) (inr none) = inr (λ h. neither h.0 h.2 (contains_cases x h.0 xs h.1))
       where
         neither : (y : X) → P y → (x ≡ y) ⊎ Contains xs y → ⊥
         neither y h (inl e) = not_so (subst P (sym e) h)

@@ -8,6 +8,7 @@ use Rattle.std.proofs.lemmas.List.Sorted.{sum_by-IsPermutation, IsPermutation-ma
 use Rattle.std.proofs.lemmas.List.Sums.{sum_by-append}
 use Rattle.std.proofs.lemmas.Simd.{map-map}
 use Rattle.std.specs.Str.{bytes_eq}
+use Rattle.list_laws.proofs.Members.{contains_cases, contains_first, contains_later}
 use Rattle.jvm_model.specs.declared.program.NamedClass.{NamedClass}
 use Rattle.jvm_model.specs.declared.program.Origin.{Origin}
 use Rattle.jvm_model.specs.declared.stub.StubClass.{StubClass}
@@ -15,7 +16,7 @@ use Rattle.jvm_model.specs.Linking.{claim, differs, AreMet, file_claims, stub_cl
 use Rattle.jvm_model.specs.Programs.{Program, name_of}
 use Rattle.jvm_model.specs.Soundness.{this_class_offset}
 use Rattle.program_laws.proofs.FirstUnmet.{IsAlike, Alike, first_met, others_met, front_met, back_met}
-use Rattle.program_laws.proofs.Orders.{count_of, AreOnce, counted_here, counted_elsewhere, this_or_other, where_there, first_there, more_there, there_counted}
+use Rattle.program_laws.proofs.Orders.{count_of, AreOnce, counted_here, counted_elsewhere, this_or_other, there_counted}
 
 abbrev file_name : NamedClass → List ℕ
 file_name f = name_of f.class
@@ -71,13 +72,13 @@ apart taken (n ∷ ns) new = by (apart (n ∷ taken) ns new.1)
         few : (q : List ℕ) → (n ≡ q) ⊎ (bytes_eq n q ≡ false) → count_of q (n ∷ ns) ≤ 1
         few q (inl e) =
             let here = counted_here q n ns e in
-            let later = rest.none q (subst (λ (m : List ℕ). Contains (n ∷ taken) m) e (first_there n taken)) in
+            let later = rest.none q (subst (λ (m : List ℕ). Contains (n ∷ taken) m) e (contains_first n taken)) in
             omega arith
         few q (inr other) = let same = counted_elsewhere q n ns other in let later = rest.once q in omega arith
 
         nowhere : (q : List ℕ) → Contains taken q → (n ≡ q) ⊎ (bytes_eq n q ≡ false) → count_of q (n ∷ ns) ≡ 0
         nowhere q there (inl e) = absurd (new.0 (subst (λ (m : List ℕ). Contains taken m) (sym e) there))
-        nowhere q there (inr other) = counted_elsewhere q n ns other ∙ rest.none q (more_there n q taken there)
+        nowhere q there (inr other) = counted_elsewhere q n ns other ∙ rest.none q (contains_later n q taken there)
 
 -- the names of the one list are names of the other
 record AreAmong (some all : List (List ℕ)) : Type 0 where
@@ -85,7 +86,7 @@ record AreAmong (some all : List (List ℕ)) : Type 0 where
 
 -- one more name that is there
 one_more : (taken all : List (List ℕ)) (n : List ℕ) → Contains all n → AreAmong taken all → AreAmong (n ∷ taken) all
-one_more taken all n there a = record { among = λ q h. by q (where_there n q taken h) }
+one_more taken all n there a = record { among = λ q h. by q (contains_cases n q taken h) }
   where
     by : (q : List ℕ) → (n ≡ q) ⊎ Contains taken q → Contains all q
     by q (inl e) = subst (λ (m : List ℕ). Contains all m) e there

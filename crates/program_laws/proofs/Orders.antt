@@ -1,5 +1,5 @@
 -- Items in byte order of their names have one order, if no two of them have one name.
-use Rattle.std.proofs.Common.{◌≡◌, ◌≢◌, ℕ, zero, suc, ◌+◌, ◌<◌, ◌≤◌, Bool, true, false, cond, List, [], ◌∷◌, length, get_or, map, Ordering, refl, sym, ap, ◌∙◌, subst, inl, inr, ◌⊎◌, arith}
+use Rattle.std.proofs.Common.{◌≡◌, ◌≢◌, ℕ, suc, ◌+◌, ◌<◌, ◌≤◌, Bool, true, false, cond, List, [], ◌∷◌, length, get_or, map, Ordering, refl, sym, ap, ◌∙◌, subst, inl, inr, ◌⊎◌, arith}
 use Rattle.std.specs.declared.cmp.Ordering.TheVariants.{Less, Equal, Greater}
 use Rattle.std.specs.Cmp.Lexicographic.{slice_cmp}
 use Rattle.std.specs.List.{AllPairs, Contains, count_by}
@@ -12,6 +12,8 @@ use Rattle.std.proofs.lemmas.List.Sorted.{ranks_by, sorted_far, sum_by-IsPermuta
 use Rattle.std.proofs.lemmas.List.Sums.{sum_by-cons}
 use Rattle.std.proofs.lemmas.Map.Lookups.{exact_bytes}
 use Rattle.std.proofs.lemmas.Slice.Eq.{bytes_eq-Decides}
+use Rattle.list_laws.proofs.Members.{contains_cases, contains_first, contains_later, contains_none}
+pub use Rattle.list_laws.proofs.Members.{contains_none as none_there, contains_first as first_there, contains_later as more_there, contains_cases as where_there}
 
 -- ---- how often a name stands in a list
 
@@ -44,33 +46,17 @@ this_or_other n q = by (cases_Bool (bytes_eq n q))
 
 -- ---- what stands in a list
 
-pub none_there : {X : Type 0} (y : X) → Contains [] y → ⊥
-none_there y there = let few = there.1 in omega arith
-
-pub first_there : {X : Type 0} (x : X) (xs : List X) → Contains (x ∷ xs) x
-first_there x xs = (0, omega arith, refl)
-
-pub more_there : {X : Type 0} (x y : X) (xs : List X) → Contains xs y → Contains (x ∷ xs) y
-more_there x y xs there = let few = there.1 in (suc there.0, omega arith, there.2)
-
-pub where_there : {X : Type 0} (x y : X) (xs : List X) → Contains (x ∷ xs) y → (x ≡ y) ⊎ Contains xs y
-where_there x y xs there = at there.0 there.1 there.2
-  where
-    at : (k : ℕ) → k < length (x ∷ xs) → get_or (x ∷ xs) k y ≡ y → (x ≡ y) ⊎ Contains xs y
-    at zero lt e = inl e
-    at (suc k) lt e = inr (k, omega arith, e)
-
 name_there : {X : Type 0} (key : X → List ℕ) (y : X) (xs : List X) → Contains xs y → Contains (map key xs) (key y)
-name_there key y [] there = absurd (none_there y there)
-name_there key y (x ∷ xs) there = by (name_there key y xs) (where_there x y xs there)
+name_there key y [] there = absurd (contains_none y there)
+name_there key y (x ∷ xs) there = by (name_there key y xs) (contains_cases x y xs there)
   where
     by : (Contains xs y → Contains (map key xs) (key y)) → (x ≡ y) ⊎ Contains xs y → Contains (key x ∷ map key xs) (key y)
-    by later (inl e) = subst (λ (n : List ℕ). Contains (key x ∷ map key xs) n) (ap key e) (first_there (key x) (map key xs))
-    by later (inr h) = more_there (key x) (key y) (map key xs) (later h)
+    by later (inl e) = subst (λ (n : List ℕ). Contains (key x ∷ map key xs) n) (ap key e) (contains_first (key x) (map key xs))
+    by later (inr h) = contains_later (key x) (key y) (map key xs) (later h)
 
 counted_there : (q : List ℕ) (names : List (List ℕ)) → Contains names q → 1 ≤ count_of q names
-counted_there q [] there = absurd (none_there q there)
-counted_there q (n ∷ names) there = by (counted_there q names) (where_there n q names there)
+counted_there q [] there = absurd (contains_none q there)
+counted_there q (n ∷ names) there = by (counted_there q names) (contains_cases n q names there)
   where
     by : (Contains names q → 1 ≤ count_of q names) → (n ≡ q) ⊎ Contains names q → 1 ≤ count_of q (n ∷ names)
     by later (inl e) = let one = counted_here q n names e in omega arith
@@ -81,8 +67,8 @@ there_counted q [] some = absurd (omega arith)
 there_counted q (n ∷ names) some = by (there_counted q names) (this_or_other n q)
   where
     by : (1 ≤ count_of q names → Contains names q) → (n ≡ q) ⊎ (bytes_eq n q ≡ false) → Contains (n ∷ names) q
-    by later (inl e) = subst (λ (m : List ℕ). Contains (n ∷ names) m) e (first_there n names)
-    by later (inr other) = let same = counted_elsewhere q n names other in more_there n q names (later (omega arith))
+    by later (inl e) = subst (λ (m : List ℕ). Contains (n ∷ names) m) e (contains_first n names)
+    by later (inr other) = let same = counted_elsewhere q n names other in contains_later n q names (later (omega arith))
 
 -- ---- names in order
 
@@ -145,9 +131,9 @@ record AreIn {X : Type 0} (xs ys : List X) : Type 0 where
 
 same_ascending : {X : Type 0} (key : X → List ℕ) (xs ys : List X) → Ascends (map key xs) → Ascends (map key ys) → AreIn xs ys → AreIn ys xs → xs ≡ ys
 same_ascending key [] [] up up2 to back = refl
-same_ascending key [] (y ∷ ys) up up2 to back = absurd (none_there y (back.there y (first_there y ys)))
-same_ascending key (x ∷ xs) [] up up2 to back = absurd (none_there x (to.there x (first_there x xs)))
-same_ascending {X = X} key (x ∷ xs) (y ∷ ys) up up2 to back = by (heads (where_there y x ys (to.there x (first_there x xs))) (where_there x y xs (back.there y (first_there y ys)))) (same_ascending key xs ys up.1 up2.1)
+same_ascending key [] (y ∷ ys) up up2 to back = absurd (contains_none y (back.there y (contains_first y ys)))
+same_ascending key (x ∷ xs) [] up up2 to back = absurd (contains_none x (to.there x (contains_first x xs)))
+same_ascending {X = X} key (x ∷ xs) (y ∷ ys) up up2 to back = by (heads (contains_cases y x ys (to.there x (contains_first x xs))) (contains_cases x y xs (back.there y (contains_first y ys)))) (same_ascending key xs ys up.1 up2.1)
   where
     heads : (y ≡ x) ⊎ Contains ys x → (x ≡ y) ⊎ Contains xs y → x ≡ y
     heads (inl e) other = sym e
@@ -155,14 +141,14 @@ same_ascending {X = X} key (x ∷ xs) (y ∷ ys) up up2 to back = by (heads (whe
     heads (inr h) (inr h2) = absurd (not_both (key x) (key y) (up.0 (key y) (name_there key y xs h2)) (up2.0 (key x) (name_there key x ys h)))
 
     tail_in : x ≡ y → AreIn xs ys
-    tail_in e = record { there = λ z h. at z h (where_there y z ys (to.there z (more_there x z xs h))) }
+    tail_in e = record { there = λ z h. at z h (contains_cases y z ys (to.there z (contains_later x z xs h))) }
       where
         at : (z : X) → Contains xs z → (y ≡ z) ⊎ Contains ys z → Contains ys z
         at z h (inl f) = absurd (not_itself (key x) (subst (λ (n : List ℕ). compared (key x) n ≡ Less) (ap key (sym (e ∙ f))) (up.0 (key z) (name_there key z xs h))))
         at z h (inr g) = g
 
     tail_back : x ≡ y → AreIn ys xs
-    tail_back e = record { there = λ z h. at z h (where_there x z xs (back.there z (more_there y z ys h))) }
+    tail_back e = record { there = λ z h. at z h (contains_cases x z xs (back.there z (contains_later y z ys h))) }
       where
         at : (z : X) → Contains ys z → (x ≡ z) ⊎ Contains xs z → Contains xs z
         at z h (inl f) = absurd (not_itself (key y) (subst (λ (n : List ℕ). compared (key y) n ≡ Less) (ap key (sym (sym e ∙ f))) (up2.0 (key z) (name_there key z ys h))))
@@ -191,12 +177,12 @@ one_order {X = X} key all a b once moved moved2 sorted sorted2 =
 -- ---- items of which no two have one name
 
 named_there : {X : Type 0} (key : X → List ℕ) (n : List ℕ) (xs : List X) → Contains (map key xs) n → (x : X) × Contains xs x × (key x ≡ n)
-named_there key n [] there = absurd (none_there n there)
-named_there {X = X} key n (x ∷ xs) there = by (named_there key n xs) (where_there (key x) n (map key xs) there)
+named_there key n [] there = absurd (contains_none n there)
+named_there {X = X} key n (x ∷ xs) there = by (named_there key n xs) (contains_cases (key x) n (map key xs) there)
   where
     by : (Contains (map key xs) n → (y : X) × Contains xs y × (key y ≡ n)) → (key x ≡ n) ⊎ Contains (map key xs) n → (y : X) × Contains (x ∷ xs) y × (key y ≡ n)
-    by later (inl e) = (x, first_there x xs, e)
-    by later (inr h) = let other = later h in (other.0, more_there x other.0 xs other.1, other.2)
+    by later (inl e) = (x, contains_first x xs, e)
+    by later (inr h) = let other = later h in (other.0, contains_later x other.0 xs other.1, other.2)
 
 pub once_in_pairs : {X : Type 0} (key : X → List ℕ) (xs : List X) → AllPairs (λ x y. key x ≢ key y) xs → AreOnce (map key xs)
 once_in_pairs key [] apart = record { once = λ q. omega arith }

@@ -3,12 +3,13 @@ use Rattle.std.proofs.Common.{◌≡◌, ◌⊎◌, inl, inr, ℕ, Bool, false, 
 use Rattle.std.specs.Prelude.{Contains, find}
 use Rattle.std.specs.Str.{bytes_eq}
 use Rattle.std.proofs.lemmas.Option.{none-some}
+use Rattle.list_laws.proofs.Members.{contains_cases, contains_first, contains_later, contains_none}
 use Rattle.jvm_model.specs.Programs.{Class, Program}
 use Rattle.jvm_model.specs.Subtypes.{class_named, IsDirectSuper, IsSubtype, same, below}
 use Rattle.jvm_model.specs.LinkedPrograms.{class_names}
 use Rattle.program_laws.proofs.Chains.{upward}
 use Rattle.program_laws.proofs.Choices.{OrNot, carried_over, either_or_not, both_or_not, same_or_not, held_or_not, some_or_not}
-use Rattle.program_laws.proofs.Orders.{none_there, first_there, more_there, where_there, this_or_other}
+use Rattle.program_laws.proofs.Orders.{this_or_other}
 
 -- a direct supertype of the class is as told
 abbrev HasSuper : (List ℕ → Type 0) → Class → Type 0
@@ -68,8 +69,8 @@ stays p (n ∷ names) name = inl (stays p names name)
 -- a step from one of the names goes before
 goes_on : (p : Program) (names : List (List ℕ)) (name : List ℕ) (c : Class) (super : List ℕ) → class_named p name ≡ Some c → IsDirectSuper c super
     → (above : List ℕ) → Contains names name → Through p names above super → Through p names above name
-goes_on p [] name c super named direct above there rest = absurd (none_there name there)
-goes_on p (n ∷ names) name c super named direct above there rest = by (goes_on p names name c super named direct) (where_there n name names there) rest
+goes_on p [] name c super named direct above there rest = absurd (contains_none name there)
+goes_on p (n ∷ names) name c super named direct above there rest = by (goes_on p names name c super named direct) (contains_cases n name names there) rest
   where
     here : n ≡ name → Through p names n name
     here e = subst (λ (x : List ℕ). Through p names n x) e (stays p names n)
@@ -90,9 +91,9 @@ named_there name c (d ∷ classes) found = by (named_there name c classes) (this
     names = map (λ (e : Class). e.name) classes
 
     by : (find (λ (e : Class). bytes_eq e.name name) classes ≡ Some c → Contains names name) → (d.name ≡ name) ⊎ (bytes_eq d.name name ≡ false) → Contains (d.name ∷ names) name
-    by later (inl e) = subst (λ (x : List ℕ). Contains (d.name ∷ names) x) e (first_there d.name names)
+    by later (inl e) = subst (λ (x : List ℕ). Contains (d.name ∷ names) x) e (contains_first d.name names)
     by later (inr other) =
-        more_there d.name name names
+        contains_later d.name name names
         (later (sym (ap (λ (b : Bool). cond b (Some d) (find (λ (e : Class). bytes_eq e.name name) classes)) other) ∙ found))
 
 below_through : (p : Program) (above name : List ℕ) → IsSubtype p above name → Through p (class_names p) above name

@@ -4,13 +4,13 @@ use Rattle.std.specs.List.{AllZip}
 use Rattle.std.specs.Str.{bytes_eq}
 use Rattle.std.proofs.lemmas.List.Elements.{All-cons, All-nil}
 use Rattle.std.proofs.lemmas.Option.{slice_get_within}
+use Rattle.list_laws.proofs.Zips.{zip_unique}
 use Rattle.toml.specs.declared.value.Value.{Value}
 use Rattle.toml.specs.Data.{array, Members, get_member}
 use Rattle.toml.specs.View.{view, items_view}
 use Rattle.jvm_model.specs.declared.automaton.Event.{Event}
 use Rattle.jvm_model.specs.Automata.{all_differ, is_same_call, IsEvent}
 use Rattle.toml_tables.specs.Documents.{texts, tables}
-use Rattle.toml_tables.proofs.Lists.{AllZip-unique}
 use Rattle.toml_tables.proofs.Values.{array_same, members_same, tables-unique, text_same, texts-unique}
 use Rattle.property_file.specs.Rules.{NamesState, GivesStates, GivesNext, GivesEvent, GivesEvents}
 use Rattle.property_file.specs.Reading.{IsText, IsStateText, IsEventTable}
@@ -60,7 +60,7 @@ GivesNext-made states error ms vs next at_key z total stays =
     }
 
 pub next-unique : (states : List (List ℕ)) (vs : List Value) (next others : List ℕ) → IsTrue (all_differ bytes_eq states) → AllZip (IsStateText states) vs next → AllZip (IsStateText states) vs others → next ≡ others
-next-unique states vs next others differ = AllZip-unique (IsStateText states) (IsStateText-unique states differ) vs next others
+next-unique states vs next others differ = zip_unique (IsStateText states) (IsStateText-unique states differ) vs next others
 
 Stands-inside : (states names : List (List ℕ)) (next : List ℕ) → AllZip (Stands states) names next → All (λ q. q < length states) next
 Stands-inside states [] [] z = All-nil (λ q. q < length states)
@@ -99,7 +99,7 @@ GivesEvent-unique states error ms e f differ g h =
     event_same e f
     (text_same _ e.name f.name g.name h.name)
     (text_same _ e.descriptor f.descriptor g.descriptor h.descriptor)
-    (AllZip-unique (Stands states) (λ name i j. place-unique name states i j differ) h.next.names e.next f.next
+    (zip_unique (Stands states) (λ name i j. place-unique name states i j differ) h.next.names e.next f.next
     (subst (λ ns. AllZip (Stands states) ns e.next) names g.next.stand) h.next.stand)
 
 pub IsEventTable-unique : (states : List (List ℕ)) (error : ℕ) → IsTrue (all_differ bytes_eq states) → (value : Value) (e f : Event) → IsEventTable states error value e → IsEventTable states error value f → e ≡ f
@@ -128,7 +128,7 @@ pub GivesEvents-unique : (states : List (List ℕ)) (error : ℕ) (ms : Members)
 GivesEvents-unique states error ms events others differ g h =
     let at_key : g.event_tables ≡ h.event_tables = tables-unique _ _ (array_same _ (tables g.event_tables) (tables h.event_tables) g.value h.value) in
     let here = subst (λ (ts : List Members). AllZip (GivesEvent states error) ts events) at_key g.each in
-    AllZip-unique (GivesEvent states error) (λ ms e f. GivesEvent-unique states error ms e f differ) h.event_tables events others here h.each
+    zip_unique (GivesEvent states error) (λ ms e f. GivesEvent-unique states error ms e f differ) h.event_tables events others here h.each
 
 pub events-unique : (states : List (List ℕ)) (error : ℕ) (vs : List Value) (events others : List Event) → IsTrue (all_differ bytes_eq states) → AllZip (IsEventTable states error) vs events → AllZip (IsEventTable states error) vs others → events ≡ others
-events-unique states error vs events others differ = AllZip-unique (IsEventTable states error) (IsEventTable-unique states error differ) vs events others
+events-unique states error vs events others differ = zip_unique (IsEventTable states error) (IsEventTable-unique states error differ) vs events others

@@ -1,7 +1,7 @@
 //! Whole runs over trees and sinks in memory: words that ask for nothing, faults of the outside, and sinks that take little. The
 //! folder cases/ has runs of the built program.
 
-ghost use Rattle.std.specs.Prelude.{Some, None};
+ghost use Rattle.std.specs.Prelude.{◌≡◌, Some, None};
 
 use crate::stream::{PROPERTY, READ_THEN_CLOSE};
 use std::alloc::{AllocError, Global};
@@ -156,13 +156,26 @@ fn a_steady_sink_counts_what_is_written(rt: HostRuntime) -> Result<(), Fail> {
     Ok(())
 }
 
-/// A sink that takes one byte of each piece.
+/// A sink that takes three bytes of each piece at most, and keeps the pieces.
 #[derive(Drop)]
-struct OneByteSink {
+struct ThreeByteSink {
     sink: MemorySink,
+    alloc: Global,
+    pieces: Vec<Vec<u8>>,
 }
 
-impl Sink for OneByteSink {
+impl ThreeByteSink {
+    /// Keeps a piece.
+    fn keep(&mut self, piece: &[u8]) -> Result<(), AllocError>
+        ensures { self.new.sink ≡ self.old.sink }
+    {
+        let kept = Vec::from_slice(self.alloc, piece)?;
+        self.pieces.push(kept)?;
+        Ok(())
+    }
+}
+
+impl Sink for ThreeByteSink {
     ghost taken = { λ s. Some s.sink.bytes };
 
     ghost handed = { λ _. None };
@@ -170,18 +183,37 @@ impl Sink for OneByteSink {
     ghost faults = { λ s. s.sink.faults };
 
     fn write(&mut self, piece: &[u8]) -> Result<usize, SinkFailure> {
-        let (first, _others) = piece.split_at(1);
+        let _ = self.keep(piece);
+        let (first, _others) = piece.split_at(piece.len().min(3));
         self.sink.write(first)
     }
 }
 
+/// Sees that each piece is what is left of a line, three bytes after the piece before, and that nothing is left.
+fn check_pieces(rt: &impl Abort, text: &[u8], pieces: &[Vec<u8>]) {
+    let mut rest = text;
+    for piece in pieces {
+        assert!(rt; rest.starts_with(piece.as_slice()));
+        assert_eq!(rt;
+            piece.iter().position(|byte| *byte == b'\n'),
+            piece.len().checked_sub(1)
+        );
+        let (_taken, left) = rest.split_at(piece.len().min(3).min(rest.len()));
+        rest = left;
+    }
+    assert!(rt; rest.is_empty());
+}
+
 #[test]
-fn bytes_are_written_one_at_a_time(rt: HostRuntime) -> Result<(), Fail> {
+fn three_bytes_are_written_at_a_time(rt: HostRuntime) -> Result<(), Fail> {
     let alloc = rt.alloc();
     let held = files(alloc)?;
     assert!(rt; names_differ(&held));
-    let sink = MemorySink::new(alloc, 100, Vec::new(alloc))?;
-    let mut out = OneByteSink { sink };
+    let mut out = ThreeByteSink {
+        sink: MemorySink::new(alloc, 100, Vec::new(alloc))?,
+        alloc,
+        pieces: Vec::new(alloc),
+    };
     let status = run(
         alloc,
         &words(alloc, "p.toml", "F.main")?,
@@ -190,5 +222,24 @@ fn bytes_are_written_one_at_a_time(rt: HostRuntime) -> Result<(), Fail> {
     );
     assert_eq!(rt; status, Status::SomeUnproved);
     assert_eq!(rt; out.sink.taken(), UNPROVED.as_bytes());
+    check_pieces(&rt, UNPROVED.as_bytes(), out.pieces.as_slice());
+    Ok(())
+}
+
+/// The first call of the tree is to fail, and still does after a run of words that ask for nothing.
+#[test]
+fn a_tree_is_not_asked_for_wrong_words(rt: HostRuntime) -> Result<(), Fail> {
+    let alloc = rt.alloc();
+    let held = files(alloc)?;
+    assert!(rt; names_differ(&held));
+    let mut tree = MemoryTree::new(held, Vec::from_slice(alloc, &[0])?);
+    let mut out = SteadySink::new();
+    assert_eq!(rt; run(alloc, &[], &mut tree, &mut out), Status::Usage);
+    let asked = words(alloc, "p.toml", "F.main")?;
+    assert_eq!(rt; run(alloc, &asked, &mut tree, &mut out), Status::ReadFault);
+    assert_eq!(rt;
+        run(alloc, &asked, &mut tree, &mut out),
+        Status::SomeUnproved
+    );
     Ok(())
 }

@@ -1,5 +1,5 @@
 -- An object of an execution stands at a site that a method which may run makes it at: so a site of the property's class at which there is one is tracked.
-use Rattle.std.proofs.Common.{◌≡◌, ◌⊎◌, inl, inr, ℕ, List, [], Option, Some, Contains, sym, ◌∙◌, ap, subst, arith}
+use Rattle.std.proofs.Common.{◌≡◌, ◌⊎◌, inl, inr, ℕ, Bool, true, List, [], Option, Some, Contains, sym, ◌∙◌, ap, subst, arith}
 use Rattle.std.specs.List.{slice_get}
 use Rattle.std.specs.Option.{option_map, unwrap_or}
 use Rattle.std.proofs.lemmas.List.Elements.{All-contains}
@@ -20,7 +20,6 @@ use Rattle.op_model.specs.declared.node.Node.{Node}
 use Rattle.op_model.specs.declared.op.Op.TheVariants.{NewArray}
 use Rattle.points_to_rules.specs.Facts.{Fact, may_run}
 use Rattle.points_to_rules.specs.Rules.{IsNodeOf}
-use Rattle.points_to_rules.specs.Solutions.{IsSolution}
 use Rattle.folder_supply.proofs.EachAnswer.{each_answer}
 use Rattle.folder_supply.proofs.Maps.{is_map}
 use Rattle.folder_supply.specs.Supplied.{IsSupplied}
@@ -34,6 +33,8 @@ use Rattle.site_report.specs.declared.tracked_site.TrackedSite.{TrackedSite}
 use Rattle.site_report.specs.Sites.{site_in}
 use Rattle.report_rules.specs.Tracked.{Allocates, IsTracked, makes, is_given}
 use Rattle.run_truth.specs.Claims.{IsOwnSite}
+use Rattle.run_truth.specs.ClosedFacts.{AreClosedFacts}
+use Rattle.run_truth.proofs.TrueReports.{IsReportBy, sites_true}
 
 -- Objects are made there by an instruction or by a stub that gives one.
 abbrev IsMade : SiteKind → Type 0
@@ -50,8 +51,7 @@ not_thrown kind is (inr result) = cc
 abbrev kind_of : Site → SiteKind
 kind_of s = s.kind
 
-module _ (x : Subject) (facts : List Fact) (limit : ℕ) (program : IsProgram x.program) (exceptions : HasExceptions x.program) (entry : HasEntry x)
-    (solution : IsSolution x.program (IsSupplied x.program) (record { 0 = x.entry }) limit facts) where
+module _ (x : Subject) (facts : List Fact) (program : IsProgram x.program) (exceptions : HasExceptions x.program) (entry : HasEntry x) (are : AreClosedFacts x facts) where
   abbrev S : Fact → Type 0
   S = Contains facts
 
@@ -60,7 +60,7 @@ module _ (x : Subject) (facts : List Fact) (limit : ℕ) (program : IsProgram x.
       let m = is_map x.program program in
       let run = supplied_runs x m.0 program exceptions entry m.1 in
       let all = executions_covered x m.0 (IsSupplied x.program) S run m.1 (λ number coded. each_answer x.program number run.program coded) (supplied_whole x.program)
-      (λ premises fact instance hold. solution.least.least.closed premises fact instance hold) solution.unrefused e.states e.execution in
+      are.closed are.unrefused e.states e.execution in
       let object = (all.2 e.state e.reached).world.objects e.lives.0 e.object (placed e.state.world.heap e.object e.lives) in
       subst (IsSite x.program (IsSupplied x.program) S) e.of_site object.made
 
@@ -99,3 +99,9 @@ module _ (x : Subject) (facts : List Fact) (limit : ℕ) (program : IsProgram x.
         (made_there (site_in x.program t) e);
     below = own.below;
   }
+
+-- Where a report says that all is safe, no site of the program's own ever errs.
+pub own_never_err : (x : Subject) (stages : ℕ) (facts : List Fact) (lines : List (List ℕ)) (all_safe : Bool) → IsProgram x.program → HasExceptions x.program → HasEntry x
+    → AreClosedFacts x facts → IsReportBy x stages facts lines all_safe → all_safe ≡ true → (t : TrackedSite) → IsOwnSite x t → Errs x (site_in x.program t) → ⊥
+own_never_err x stages facts lines all_safe program exceptions entry are report safe t own errs =
+    sites_true x stages facts lines all_safe program exceptions entry are report safe t (own_is_tracked x facts program exceptions entry are t own errs) errs

@@ -7,11 +7,14 @@ use Rattle.jvm_model.specs.declared.stub.StubClass.{StubClass}
 use Rattle.jvm_model.specs.LinkedPrograms.{IsProgram}
 use Rattle.jvm_model.specs.Linking.{Links}
 use Rattle.jvm_model.specs.Lookups.{Signature}
-use Rattle.jvm_model.specs.Programs.{Program}
+use Rattle.jvm_model.specs.Programs.{Class, Program}
+use Rattle.jvm_model.specs.Subtypes.{class_named}
 use Rattle.bytecode_machine.specs.Objects.{Subject}
 use Rattle.command_words.specs.Requests.{Wanted, AsksFor}
 use Rattle.entry_method.specs.Entries.{IsEntry, with_strings, plain}
+use Rattle.folder_supply.specs.Supplied.{IsSupplied}
 use Rattle.points_to_rules.specs.Facts.{Fact}
+use Rattle.points_to_rules.specs.Solutions.{IsSolution}
 use Rattle.property_file.specs.PropertyFile.{IsPropertyFile}
 use Rattle.run_outcomes.specs.declared.status.Status.{Status}
 use Rattle.run_outcomes.specs.declared.status.Status.TheVariants.{AllSafe, SomeUnproved, Refused, Usage}
@@ -19,6 +22,7 @@ use Rattle.run_outcomes.specs.Inputs.{AreStubs, Input, IsInput, all_stubs}
 use Rattle.run_outcomes.specs.Outcomes.{report_status, AnalysisOutcome, pair_limit, refused_method, reported, ClassOutcome, no_class, has_class, EntryOutcome, no_entry, other_shape, has_entry, LinkOutcome, unlinked, linked, FolderOutcome, refused_folder, has_classes, StubOutcome, no_stub_file, stubs_no_document, broken_stubs, no_stubs, has_stubs, PropertyOutcome, no_property, property_no_document, broken_property, has_property, Outcome, unusable, usable}
 use Rattle.simulation.specs.Simulation.{HasEntry, HasExceptions}
 use Rattle.run_outcomes.specs.RunSubjects.{IsRunOf}
+use Rattle.run_outcomes.specs.WholeInputs.{IsWholeInput}
 use Rattle.run_truth.specs.Reports.{IsReportOf}
 use Rattle.run_truth.proofs.BuiltIn.{has_exceptions}
 
@@ -39,10 +43,17 @@ subject p a entry = record { program = p; property = a; entry = entry.0 }
 abbrev HasReport : Subject → ℕ → Status → List (List ℕ) → Type 0
 HasReport x stages status lines = (facts : List Fact) × (all_safe : Bool) × IsReportOf x stages facts lines all_safe × (status ≡ report_status all_safe)
 
+-- the property's class is there, and there are least sets, with nothing refused and within the limit
+abbrev IsAnalysed : Subject → ℕ → Type 0
+IsAnalysed x limit =
+    ((class : Class) × (class_named x.program x.property.class_name ≡ Some class))
+    × ((facts : List Fact) × IsSolution x.program (IsSupplied x.program) (record { 0 = x.entry }) limit facts)
+
 -- what the run is of, with its report
 abbrev IsReported : List (List ℕ) → List File → Status → List (List ℕ) → Type 0
 IsReported words files status lines =
     (x : Subject) × (run : IsRunOf words files x) × IsProgram x.program × HasExceptions x.program × HasEntry x × HasReport x run.input.wanted.stages status lines
+    × IsAnalysed x run.input.wanted.pair_limit
 
 -- ---- the levels, from the last to the first
 
@@ -55,15 +66,16 @@ module _ (status : Status) (lines : List (List ℕ)) (ends : (status ≡ AllSafe
 
   of_analysis : (i : Input) (p : Program) (entry : MethodNo) → AnalysisOutcome i p entry status lines
       → HasReport (subject p i.property entry) i.wanted.stages status lines
+      × ((facts : List Fact) × IsSolution p (IsSupplied p) entry i.wanted.pair_limit facts)
   of_analysis i p entry (pair_limit many e) = absurd (never_refused e.status_is)
   of_analysis i p entry (refused_method r is e) = absurd (never_refused e.status_is)
   of_analysis i p entry (reported facts all_safe solution report is) =
-      (facts, all_safe, record { limit = i.wanted.pair_limit; solution = solution; report = report }, is)
+      ((facts, all_safe, record { limit = i.wanted.pair_limit; solution = solution; report = report }, is), (facts, solution))
 
   of_class : (i : Input) (p : Program) (entry : MethodNo) → ClassOutcome i p entry status lines
-      → HasReport (subject p i.property entry) i.wanted.stages status lines
+      → HasReport (subject p i.property entry) i.wanted.stages status lines × IsAnalysed (subject p i.property entry) i.wanted.pair_limit
   of_class i p entry (no_class none e) = absurd (never_refused e.status_is)
-  of_class i p entry (has_class class is next) = of_analysis i p entry next
+  of_class i p entry (has_class class is next) = let told = of_analysis i p entry next in (told.0, ((class, is), told.1))
 
   module _ (words : List (List ℕ)) (files : List File) where
     module _ (i : Input) (is_input : IsInput words files i) where
@@ -73,7 +85,8 @@ module _ (status : Status) (lines : List (List ℕ)) (ends : (status ≡ AllSafe
       of_entry p links program (has_entry entry is next) =
           let x = subject p i.property entry in
           let run : IsRunOf words files x = record { input = i; is_input = is_input; property = refl; links = links; entry = is } in
-          (x, run, program, has_exceptions i.classes i.stubs p links, has_entry_method x i.wanted.class i.wanted.method is, of_class i p entry next)
+          let told = of_class i p entry next in
+          (x, run, program, has_exceptions i.classes i.stubs p links, has_entry_method x i.wanted.class i.wanted.method is, told.0, told.1)
 
       of_link : LinkOutcome i status lines → IsReported words files status lines
       of_link (unlinked r links e) = absurd (never_refused e.status_is)
@@ -112,7 +125,14 @@ module _ (status : Status) (lines : List (List ℕ)) (ends : (status ≡ AllSafe
     of_words (unusable fault is e) = absurd (never_usage e.status_is)
     of_words (usable w asks next) = of_property w asks next
 
-pub is_reported : (words : List (List ℕ)) (files : List File) (status : Status) (lines : List (List ℕ)) → Outcome words files status lines
-    → (status ≡ AllSafe) ⊎ (status ≡ SomeUnproved)
-    → IsReported words files status lines
-is_reported words files status lines outcome ends = of_words status lines ends words files outcome
+module _ (words : List (List ℕ)) (files : List File) (status : Status) (lines : List (List ℕ)) (outcome : Outcome words files status lines)
+    (ends : (status ≡ AllSafe) ⊎ (status ≡ SomeUnproved)) where
+  pub is_reported : (x : Subject) × (run : IsRunOf words files x) × IsProgram x.program × HasExceptions x.program × HasEntry x
+      × HasReport x run.input.wanted.stages status lines
+  is_reported = let (x, run, program, exceptions, entry, report, analysed) = of_words status lines ends words files outcome in (x, run, program, exceptions, entry, report)
+
+  -- nothing was missing, and nothing was refused
+  pub is_whole : IsWholeInput words files
+  is_whole =
+      let (x, run, program, exceptions, entry, report, analysed) = of_words status lines ends words files outcome in
+      record { x = x; run = run; class = analysed.0.0; is_class = analysed.0.1; facts = analysed.1.0; solution = analysed.1.1 }

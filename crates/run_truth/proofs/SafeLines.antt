@@ -10,8 +10,7 @@ use Rattle.site_report.specs.declared.verdict.Verdict.TheVariants.{Safe, Unprove
 use Rattle.site_report.specs.Lines.{summary_line, verdict_line}
 use Rattle.site_report.specs.Sites.{site_in}
 use Rattle.report_rules.specs.Reports.{is_safe, line_of}
-use Rattle.run_truth.specs.Reports.{IsReportedLine, IsReportedSite}
-use Rattle.run_truth.specs.Truth.{SaysSafe}
+use Rattle.run_truth.specs.Truth.{IsTrueLine, SaysSafe}
 
 -- the second letter of the word that says that a site is safe
 abbrev pub has_a : List ℕ → Bool
@@ -21,17 +20,18 @@ pub says_a : (line : List ℕ) → SaysSafe line → has_a line ≡ true
 says_a line (rest, e) = ap has_a e
 
 module _ (x : Subject) (V : TrackedSite → Verdict → Type 0) (never : (t : TrackedSite) (stage : ℕ) → V t (Safe stage) → Errs x (site_in x.program t) → ⊥)
-    (reported : (t : TrackedSite) (v : Verdict) → V t v → IsReportedSite x t) where
-  one : (t : TrackedSite) (v : Verdict) → V t v → SaysSafe (verdict_line x.program t v) → IsReportedLine x (verdict_line x.program t v)
-  one t (Safe stage) is safe = record {
-    told = record { site = t; stage = stage; is = refl; never = never t stage is };
-    about = reported t (Safe stage) is;
-  }
+    (About : TrackedSite → Type 0) (about : (t : TrackedSite) (v : Verdict) → V t v → About t) where
+  -- the line is true, and what is known of each site is known of its site
+  abbrev pub IsTold : List ℕ → Type 0
+  IsTold line = (told : IsTrueLine x line) × About told.site
+
+  one : (t : TrackedSite) (v : Verdict) → V t v → SaysSafe (verdict_line x.program t v) → IsTold (verdict_line x.program t v)
+  one t (Safe stage) is safe = (record { site = t; stage = stage; is = refl; never = never t stage is }, about t (Safe stage) is)
   one t Unproved is safe = absurd (cc (says_a (verdict_line x.program t Unproved) safe))
   one t (Limit stage) is safe = absurd (cc (says_a (verdict_line x.program t (Limit stage)) safe))
 
   abbrev pub Q : List ℕ → Type 0
-  Q line = SaysSafe line → IsReportedLine x line
+  Q line = SaysSafe line → IsTold line
 
   abbrev pub W : TrackedSite × Verdict → Type 0
   W f = V f.0 f.1
@@ -41,7 +41,7 @@ module _ (x : Subject) (V : TrackedSite → Verdict → Type 0) (never : (t : Tr
   of_sites (f ∷ found) all =
       All-cons Q (line_of x.program f) (map (line_of x.program) found) (one f.0 f.1 (All-head W f found all)) (of_sites found (All-tail W f found all))
 
-  of_summary : (safe unproved limit : ℕ) → SaysSafe (summary_line safe unproved limit) → IsReportedLine x (summary_line safe unproved limit)
+  of_summary : (safe unproved limit : ℕ) → SaysSafe (summary_line safe unproved limit) → IsTold (summary_line safe unproved limit)
   of_summary safe unproved limit says = absurd (cc (says_a (summary_line safe unproved limit) says))
 
   -- of a whole report

@@ -19,6 +19,7 @@ use Rattle.coverage.proofs.Refused.{calls_unrefused}
 use Rattle.supply_laws.proofs.Whole.{supplied_whole}
 use Rattle.covered_executions.proofs.Executions.{executions_covered}
 use Rattle.prune_stage.specs.Pruning.{IsPruned}
+use Rattle.run_truth.specs.ClosedFacts.{AreClosedFacts}
 use Rattle.run_truth.proofs.Words.{never_errs}
 
 pub pruned_never_errs : (x : Subject) (given : Given) (facts : List Fact) → IsRun x given → IsMapOf given (IsSupplied x.program)
@@ -40,11 +41,16 @@ pruned_never_errs x given facts run map closed unrefused s pruned e =
       in_error = e.in_error;
     })
 
--- So it is by the least facts of a folder's analysis.
-pub solved_never_errs : (x : Subject) (facts : List Fact) (limit : ℕ) → IsProgram x.program → HasExceptions x.program → HasEntry x
-    → IsSolution x.program (IsSupplied x.program) (record { 0 = x.entry }) limit facts
+-- So it is by any closed facts of a folder.
+pub closed_never_errs : (x : Subject) (facts : List Fact) → IsProgram x.program → HasExceptions x.program → HasEntry x → AreClosedFacts x facts
     → (s : Site) → IsPruned (IsSupplied x.program) (Contains facts) x.property s → Errs x s → ⊥
-solved_never_errs x facts limit program exceptions entry solution s pruned e =
+closed_never_errs x facts program exceptions entry are s pruned e =
     let m = is_map x.program program in
-    pruned_never_errs x m.0 facts (supplied_runs x m.0 program exceptions entry m.1) m.1
-    (λ premises fact instance hold. solution.least.least.closed premises fact instance hold) solution.unrefused s pruned e
+    pruned_never_errs x m.0 facts (supplied_runs x m.0 program exceptions entry m.1) m.1 are.closed are.unrefused s pruned e
+
+-- The least facts are closed ones.
+pub least_are_closed : (x : Subject) (facts : List Fact) (limit : ℕ) → IsSolution x.program (IsSupplied x.program) (record { 0 = x.entry }) limit facts → AreClosedFacts x facts
+least_are_closed x facts limit solution = record {
+  closed = λ premises fact instance hold. solution.least.least.closed premises fact instance hold;
+  unrefused = solution.unrefused;
+}

@@ -10,8 +10,9 @@ use Rattle.run_outcomes.specs.RunSubjects.{IsRunOf}
 use Rattle.run_outcomes.specs.declared.status.Status.{Status}
 use Rattle.run_outcomes.specs.declared.status.Status.TheVariants.{AllSafe}
 use Rattle.run_outcomes.specs.Outcomes.{Outcome, report_status}
-use Rattle.run_truth.proofs.TrueReports.{lines_reported, lines_true, sites_true}
-use Rattle.run_truth.proofs.OwnSites.{own_is_tracked}
+use Rattle.run_truth.proofs.TrueReports.{lines_reported, lines_true}
+use Rattle.run_truth.proofs.Verdicts.{least_are_closed}
+use Rattle.run_truth.proofs.OwnSites.{own_never_err}
 use Rattle.run_truth.proofs.Reported.{is_reported}
 use Rattle.run_truth.specs.Claims.{IsTrueOfRun, KeepsProtocol, StandsIn}
 use Rattle.run_truth.proofs.LineForms.{IsReport, outcome_formed}
@@ -34,7 +35,7 @@ reports_are_told words files s lines outcome reports =
 pub reports_are_true : (words : List (List ℕ)) (files : List File) (s : Status) (lines : List (List ℕ)) → Outcome words files s lines → IsReport s → AreTrue words files lines
 reports_are_true words files s lines outcome reports =
     let r = is_reported words files s lines outcome reports in
-    (r.0, r.1, lines_true r.0 r.1.input.wanted.stages r.5.0 lines r.5.1 r.2 r.3 r.4 r.5.2)
+    (r.0, r.1, lines_true r.0 r.1.input.wanted.stages r.5.0 lines r.5.1 r.2 r.3 r.4 (least_are_closed r.0 r.5.0 r.5.2.limit r.5.2.solution) r.5.2.report)
 
 module _ (x : Subject) where
   abbrev IsReportedIfSafe : List ℕ → Type 0
@@ -73,10 +74,5 @@ all_are false is = absurd (cc)
 pub safe_runs_keep : (words : List (List ℕ)) (files : List File) (lines : List (List ℕ)) → Outcome words files AllSafe lines → KeepsProtocol words files
 safe_runs_keep words files lines outcome =
     let r = is_reported words files AllSafe lines outcome (inl refl) in
-    let told = r.5.2 in
-    let never = sites_true r.0 r.1.input.wanted.stages r.5.0 lines r.5.1 r.2 r.3 r.4 told (all_are r.5.1 r.5.3) in
-    record {
-      x = r.0;
-      run = r.1;
-      never = λ t own errs. never t (own_is_tracked r.0 r.5.0 told.limit r.2 r.3 r.4 told.solution t own errs) errs;
-    }
+    let are = least_are_closed r.0 r.5.0 r.5.2.limit r.5.2.solution in
+    record { x = r.0; run = r.1; never = own_never_err r.0 r.1.input.wanted.stages r.5.0 lines r.5.1 r.2 r.3 r.4 are r.5.2.report (all_are r.5.1 r.5.3) }

@@ -11,6 +11,7 @@ ghost use Rattle.run_outcomes.specs.declared.status.Status.TheVariants.{AllSafe,
 ghost use Rattle.run_outcomes.specs.Inputs.{HaveDifferentNames};
 ghost use Rattle.run_outcomes.specs.Outcomes.{report_status, Outcome};
 ghost use Rattle.run_outcomes.specs.RunSubjects.{IsRunOf};
+ghost use Rattle.run_outcomes.specs.WholeInputs.{IsWholeInput};
 ghost use Rattle.run_truth.specs.Reports.{IsReportOf};
 ghost use Rattle.run_truth.specs.Truth.{SaysSafe};
 ghost use Rattle.simulation.specs.Simulation.{HasEntry, HasExceptions};
@@ -23,6 +24,12 @@ pub fn reports_are_of_runs()
         → (status ≡ AllSafe) ⊎ (status ≡ SomeUnproved)
         → (x : Subject) × (run : IsRunOf words files x) × IsProgram x.program × HasExceptions x.program × HasEntry x
         × ((facts : List Fact) × (all_safe : Bool) × IsReportOf x run.input.wanted.stages facts lines all_safe × (status ≡ report_status all_safe)) }
+{}
+
+/// So it is of an input in which nothing is missing and nothing is refused, as that of which `complete` says that there is a report.
+pub fn reported_inputs_are_whole()
+    ensures { (words : List (List ℕ)) (files : List File) (status : Status) (lines : List (List ℕ)) → Outcome words files status lines
+        → (status ≡ AllSafe) ⊎ (status ≡ SomeUnproved) → IsWholeInput words files }
 {}
 
 /// More stages take nothing back: of two runs over the same files whose words ask for the same but for their last stages, the second for as many stages or

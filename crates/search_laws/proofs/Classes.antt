@@ -8,7 +8,8 @@ use Rattle.jvm_model.specs.LinkedPrograms.{IsProgram, HasSupers, class_names}
 use Rattle.jvm_model.specs.Programs.{Class, Program}
 use Rattle.jvm_model.specs.Subtypes.{class_named}
 use Rattle.std.proofs.lemmas.Slice.Eq.{bytes_eq-Decides}
-use Rattle.program_laws.proofs.Orders.{none_there, first_there, more_there, where_there, this_or_other}
+use Rattle.list_laws.proofs.Members.{contains_cases, contains_first, contains_later, contains_none}
+use Rattle.program_laws.proofs.Orders.{this_or_other}
 
 -- what is found by a name stands among the classes, and has the name
 abbrev Found : List Class → List ℕ → Class → Type 0
@@ -19,7 +20,7 @@ found_there [] name c e = absurd (none-some c e)
 found_there (d ∷ classes) name c e = by (found_there classes name c) (this_or_other d.name name)
   where
     here : d.name ≡ name → d ≡ c → Found (d ∷ classes) name c
-    here named same = (subst (λ (x : Class). Contains (d ∷ classes) x) same (first_there d classes), ap (λ (x : Class). x.name) (sym same) ∙ named)
+    here named same = (subst (λ (x : Class). Contains (d ∷ classes) x) same (contains_first d classes), ap (λ (x : Class). x.name) (sym same) ∙ named)
 
     first : (b : Bool) → bytes_eq d.name name ≡ b → b ≡ true → d ≡ c
     first b is t = same_Some d c (sym (ap (λ (v : Bool). cond v (Some d) (find (λ (x : Class). bytes_eq x.name name) classes)) (is ∙ t)) ∙ e)
@@ -28,7 +29,7 @@ found_there (d ∷ classes) name c e = by (found_there classes name c) (this_or_
     by later (inl named) = here named (first (bytes_eq d.name name) refl ((bytes_eq-Decides d.name name).1 named))
     by later (inr differs) =
         let rest = later (sym (ap (λ (v : Bool). cond v (Some d) (find (λ (x : Class). bytes_eq x.name name) classes)) differs) ∙ e) in
-        (more_there d c classes rest.0, rest.1)
+        (contains_later d c classes rest.0, rest.1)
 
 pub name_is : (p : Program) (name : List ℕ) (c : Class) → class_named p name ≡ Some c → c.name ≡ name
 name_is p name c named = (found_there p.classes name c named).1
@@ -41,9 +42,9 @@ pub named_there : (p : Program) (name : List ℕ) (c : Class) → class_named p 
 named_there p name c named = subst (Contains (class_names p)) (name_is p name c named) (mapped_there p.classes (found_there p.classes name c named).0)
   where
     mapped_there : (classes : List Class) → Contains classes c → Contains (map (λ (d : Class). d.name) classes) c.name
-    mapped_there [] there = absurd (none_there c there)
-    mapped_there (d ∷ classes) there = by (mapped_there classes) (where_there d c classes there)
+    mapped_there [] there = absurd (contains_none c there)
+    mapped_there (d ∷ classes) there = by (mapped_there classes) (contains_cases d c classes there)
       where
         by : (Contains classes c → Contains (map (λ (x : Class). x.name) classes) c.name) → (d ≡ c) ⊎ Contains classes c → Contains (d.name ∷ map (λ (x : Class). x.name) classes) c.name
-        by later (inl same) = subst (λ (x : Class). Contains (d.name ∷ map (λ (y : Class). y.name) classes) x.name) same (first_there d.name (map (λ (y : Class). y.name) classes))
-        by later (inr rest) = more_there d.name c.name (map (λ (y : Class). y.name) classes) (later rest)
+        by later (inl same) = subst (λ (x : Class). Contains (d.name ∷ map (λ (y : Class). y.name) classes) x.name) same (contains_first d.name (map (λ (y : Class). y.name) classes))
+        by later (inr rest) = contains_later d.name c.name (map (λ (y : Class). y.name) classes) (later rest)

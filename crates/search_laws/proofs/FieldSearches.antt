@@ -4,6 +4,7 @@ use Rattle.std.proofs.Common.{◌≡◌, inl, inr, ℕ, zero, suc, ◌<◌, Bool
 use Rattle.std.specs.List.{slice_get, Contains}
 use Rattle.std.specs.Option.{option_to_list}
 use Rattle.std.proofs.lemmas.Option.{slice_get_within}
+use Rattle.list_laws.proofs.Members.{contains_first, contains_later}
 use Rattle.jvm_model.specs.declared.access.AccessFlag.TheVariants.{Static}
 use Rattle.jvm_model.specs.declared.reason.Reason.{Reason}
 use Rattle.jvm_model.specs.declared.reason.Reason.TheVariants.{MissingField, KindMismatch}
@@ -14,7 +15,6 @@ use Rattle.jvm_model.specs.Programs.{Class, Field, Program}
 use Rattle.jvm_model.specs.Resolution.{DeclaresField, FindsField, FindsAmong, itself, above, nowhere, first, later, FieldResolution, found, other_kind, not_found, missing}
 use Rattle.jvm_model.specs.Subtypes.{class_named, IsDirectSuper}
 use Rattle.program_laws.proofs.Choices.{OrNot, carried_over, both_or_not, same_or_not, held_or_not}
-use Rattle.program_laws.proofs.Orders.{first_there, more_there}
 use Rattle.search_laws.proofs.Bounded.{SomeOrNone, some_or_none}
 use Rattle.search_laws.proofs.Classes.{supers_of}
 use Rattle.search_laws.proofs.Declaring.{signature_or_not}
@@ -58,7 +58,7 @@ search_all : (p : Program) (s : Signature) (names others : List (List ℕ)) → 
     → SearchAmong p s (names ++ others)
 search_all p s [] others each rest = rest
 search_all p s (name ∷ names) others each rest =
-    one_more p s name (names ++ others) (each name (first_there name names)) (search_all p s names others (λ n there. each n (more_there name n names there)) rest)
+    one_more p s name (names ++ others) (each name (contains_first name names)) (search_all p s names others (λ n there. each n (contains_later name n names there)) rest)
 
 search_super : (p : Program) (s : Signature) (o : Option (List ℕ)) → ((name : List ℕ) → o ≡ Some name → Search p s name) → SearchAmong p s (option_to_list o)
 search_super p s None each = (None, nowhere)

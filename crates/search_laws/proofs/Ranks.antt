@@ -3,11 +3,11 @@
 use Rattle.std.proofs.Common.{◌≡◌, ◌⊎◌, inl, inr, ℕ, zero, suc, ◌+◌, ◌<◌, ◌≤◌, List, [], ◌∷◌, Option, Some, None, refl, sym, ◌∙◌, subst, arith}
 use Rattle.std.specs.List.{Contains}
 use Rattle.std.proofs.lemmas.Option.{none-some}
+use Rattle.list_laws.proofs.Members.{contains_cases, contains_none}
 use Rattle.jvm_model.specs.LinkedPrograms.{IsProgram, class_names}
 use Rattle.jvm_model.specs.Programs.{Class, Program}
 use Rattle.jvm_model.specs.Subtypes.{class_named, IsDirectSuper, IsSubtype, same, below, IsChain}
 use Rattle.program_laws.proofs.Choices.{OrNot}
-use Rattle.program_laws.proofs.Orders.{none_there, where_there}
 use Rattle.program_laws.proofs.Paths.{below_or_not}
 use Rattle.search_laws.proofs.Classes.{named_there, supers_of}
 
@@ -48,8 +48,8 @@ at_most k (n ∷ names) =
     omega (arith, here, rest)
 
 fewer : (k : Kinds) (names : List (List ℕ)) (x : List ℕ) → Contains names x → (k.P x → ⊥) → k.Q x → count k.P k.first names < count k.Q k.second names
-fewer k [] x there none some = absurd (none_there x there)
-fewer k (n ∷ names) x there none some = by (λ later. fewer k names x later none some) (where_there n x names there)
+fewer k [] x there none some = absurd (contains_none x there)
+fewer k (n ∷ names) x there none some = by (λ later. fewer k names x later none some) (contains_cases n x names there)
   where
     by : (Contains names x → count k.P k.first names < count k.Q k.second names) → (n ≡ x) ⊎ Contains names x
         → count k.P k.first (n ∷ names) < count k.Q k.second (n ∷ names)

@@ -120,7 +120,7 @@ special_or_none p program current m = by (start_or_none p program current m)
 
 -- ---- what the call gives
 
-special_stands : (p : Program) (current : List ℕ) (m : MemberReference) (target : ℕ) → SelectsSpecial p current m target → IsMethod p target
+pub special_stands : (p : Program) (current : List ℕ) (m : MemberReference) (target : ℕ) → SelectsSpecial p current m target → IsMethod p target
 special_stands p current m target t =
     selected_stands p t.start m.signature (IsFoundIn p (IsInstanceWith m.signature) m.signature t.class) target
     (found_in_stands p (IsInstanceWith m.signature) m.signature t.class target) t.chosen

@@ -19,7 +19,7 @@ use Rattle.lowering.specs.Refusals.{IsAccepted}
 use Rattle.lowering_laws.proofs.Concerned.{one_concerned}
 use Rattle.simulation.proofs.Known.{LoweredCode}
 use Rattle.simulation.proofs.StartFrames.{OneConcerned}
-use Rattle.simulation.proofs.StartNodes.{has_number, some_start}
+use Rattle.node_laws.proofs.StartNodes.{has_number, some_start}
 use Rattle.simulation.specs.Simulation.{HasEntry, HasExceptions, exception_names}
 
 pub accepted_code : (p : Program) → IsProgram p → (number : ℕ) (code : Code) (graph : Graph) (l : LoweredMethod) → IsAccepted p number code graph l → LoweredCode p number l

@@ -10,8 +10,8 @@ use Rattle.jvm_model.specs.declared.pool.PoolEntry.{PoolEntry}
 use Rattle.jvm_model.specs.Instructions.{DecodedInstruction, IsCallRow, IsFieldRow, IsRowAt, RowBy, array_row, instruction}
 use Rattle.jvm_model.specs.Table.{Row, UnitKind, UnitSource, Operands, pool_2_and_dimensions, Flow, onward, jump, branch, branch_if_null, branch_if_object, branch_if_same, branch_if_other, leave, subroutine, Action, plain, load_constant, load_element, store_element, probe_element, probe_array, probe_object, get_static, put_static, get_field, put_field, invoke_virtual, invoke_special, invoke_static, invoke_interface, make_object, make_array, throw_object, cast, leave_method, refused}
 use Rattle.code_reader.specs.CodeReading.{known_targets}
-use Rattle.bytecode_machine.specs.Machine.{Goes, is_null, is_same}
-use Rattle.bytecode_machine.specs.States.{Value, slot_at}
+use Rattle.bytecode_machine.specs.Machine.{Goes, is_null}
+use Rattle.bytecode_machine.specs.States.{Value, World, slot_at}
 use Rattle.flow_graph.specs.Flows.{each_once, may_go_next}
 use Rattle.program_laws.proofs.Orders.{none_there, first_there, more_there, where_there}
 
@@ -71,17 +71,17 @@ module _ (after next : ℕ) (targets : List (Option ℕ)) (successors : List ℕ
   on_false false there g = to_target next g
   on_false true there g = subst (Contains successors) (sym g) there
 
-  pub goes_by : (flow : Flow) (units : List Value) → (may_go_next flow ≡ true → Contains successors after) → Goes flow after targets units next → Contains successors next
-  goes_by onward units there g = subst (Contains successors) (sym g) (there refl)
-  goes_by jump units there g = to_target next g
-  goes_by branch units there (inl e) = subst (Contains successors) (sym e) (there refl)
-  goes_by branch units there (inr t) = to_target next t
-  goes_by branch_if_null units there g = on_true (is_null (slot_at units 0)) (there refl) g
-  goes_by branch_if_object units there g = on_false (is_null (slot_at units 0)) (there refl) g
-  goes_by branch_if_same units there g = on_true (is_same (slot_at units 0) (slot_at units 1)) (there refl) g
-  goes_by branch_if_other units there g = on_false (is_same (slot_at units 0) (slot_at units 1)) (there refl) g
-  goes_by leave units there g = absurd g
-  goes_by subroutine units there g = absurd g
+  pub goes_by : (flow : Flow) (w : World) (units : List Value) → (may_go_next flow ≡ true → Contains successors after) → Goes flow w after targets units next → Contains successors next
+  goes_by onward w units there g = subst (Contains successors) (sym g) (there refl)
+  goes_by jump w units there g = to_target next g
+  goes_by branch w units there (inl e) = subst (Contains successors) (sym e) (there refl)
+  goes_by branch w units there (inr t) = to_target next t
+  goes_by branch_if_null w units there g = on_true (is_null (slot_at units 0)) (there refl) g
+  goes_by branch_if_object w units there g = on_false (is_null (slot_at units 0)) (there refl) g
+  goes_by branch_if_same w units there (same, is, g) = on_true same (there refl) g
+  goes_by branch_if_other w units there (same, is, g) = on_false same (there refl) g
+  goes_by leave w units there g = absurd g
+  goes_by subroutine w units there g = absurd g
 
 -- ---- the row of an instruction, without its targets and its size
 

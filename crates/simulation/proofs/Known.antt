@@ -28,7 +28,7 @@ use Rattle.flow_graph.specs.Graphing.{HasStep, IsFlow, IsStep}
 use Rattle.op_model.specs.declared.lowered.LoweredMethod.{LoweredMethod}
 use Rattle.op_model.specs.declared.node.Node.{Node}
 use Rattle.bytecode_machine.specs.Machine.{AtInstruction, Goes, MethodCode}
-use Rattle.bytecode_machine.specs.States.{Frame, Value}
+use Rattle.bytecode_machine.specs.States.{Frame, Value, World}
 use Rattle.node_machine.specs.Nodes.{AreThrownAt}
 use Rattle.method_nodes.specs.LoweredMethods.{HasTrigger, IsLowered, IsNodeOf, IsPlacedAt}
 use Rattle.method_nodes.specs.Operations.{IsOp, Placed}
@@ -298,12 +298,12 @@ module _ (p : Program) (f : Frame) (now : AtInstruction p f) (l : LoweredMethod)
       subst (λ (o : Option ℕ). Contains (option_to_list o) after) (sym (next_offset (slice_get lc.code.instructions (is_step.number + 1)) refl is)) (first_there after []) in
       is_successor after (subst (λ (b : Bool). Contains (onward_of b ++ is_step.placed.instruction.targets) after) (sym is) (Contains-append_left (onward_of true) is_step.placed.instruction.targets after there_after))
 
-  pub goes_on : (units : List Value) (next : ℕ) → Goes now.row.flow (f.offset + now.instruction.size) now.instruction.targets units next → Contains step.successors next
-  goes_on units next g =
+  pub goes_on : (w : World) (units : List Value) (next : ℕ) → Goes now.row.flow w (f.offset + now.instruction.size) now.instruction.targets units next → Contains step.successors next
+  goes_on w units next g =
       goes_by (f.offset + now.instruction.size) next now.instruction.targets step.successors
       (λ y c. is_successor y (Contains-append_right (onward_of (goes_next is_step.placed)) is_step.placed.instruction.targets y
       (subst (λ (h : GivenInstruction). Contains h.targets y) (sym step_same.given_as) (known_there now.instruction.targets y c))))
-      now.row.flow units goes_after g
+      now.row.flow w units goes_after g
 
   -- ---- what it stores
 

@@ -16,7 +16,6 @@ pub mod StartFrames
 pub mod Throwing
 pub mod Leaving
 pub mod Starting
-pub mod StartNodes
 pub mod Simulated
 pub mod Accepted
 pub mod Executions

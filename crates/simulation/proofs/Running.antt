@@ -209,10 +209,10 @@ module _ (x : Subject) (program : IsProgram x.program) (given : Given) (known : 
           world = a.world;
           next = a.next;
           leads = subst (λ (old : List Value). Leads node_op x s.world old slots a.world) (sym a.operands.parts) leads;
-          goes = node_goes p f now lowered.0 lc step there off a.next (goes_on p f now lowered.0 lc step there off a.units a.next a.goes);
+          goes = node_goes p f now lowered.0 lc step there off a.next (goes_on p f now lowered.0 lc step there off s.world a.units a.next a.goes);
           after = a.after;
         } in
-        let moved = moved_stands p f now a.next (length slots) (length a.kept) (λ l c st th o. goes_on p f now l c st th o a.units a.next a.goes) (kept_runs a.kept a.units a.operands)
+        let moved = moved_stands p f now a.next (length slots) (length a.kept) (λ l c st th o. goes_on p f now l c st th o s.world a.units a.next a.goes) (kept_runs a.kept a.units a.operands)
         (length_after now.row now.instruction.operand a.made a.kept a.units) in
         (advances node_at node_step, subst (λ (u : State). Fits x u) (sym a.after) (record { awake = refl; place = in_code number now.here.of_frame moved }, fits_here.1))
 

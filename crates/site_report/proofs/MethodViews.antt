@@ -1,6 +1,6 @@
 -- What is printed of a method, from what the program shows of it.
 use Rattle.std.proofs.Common.{codes, ◌≡◌, ◌++◌, ◌∙◌, ℕ, List, [], Some, slice_get, option_map, unwrap_or, ap, ap₂}
-use Rattle.class_index.proofs.OrderPlaces.{stands_below}
+use Rattle.list_laws.proofs.Places.{stands_below}
 use Rattle.jvm_model.specs.declared.number.MethodNo.{MethodNo}
 use Rattle.jvm_model.specs.Lookups.{Signature}
 use Rattle.jvm_model.specs.Programs.{Method, Program}

@@ -2,12 +2,12 @@
 -- of a node begins at no node before it.
 use Rattle.std.proofs.Common.{◌≡◌, ℕ, Some, slice_get, Contains, refl, sym, ◌∙◌, subst}
 use Rattle.std.proofs.lemmas.List.Elements.{All-contains}
+use Rattle.list_laws.proofs.Places.{contains_at}
 use Rattle.op_model.specs.declared.lowered.LoweredMethod.{LoweredMethod}
 use Rattle.op_model.specs.declared.node.Node.{Node}
 use Rattle.slot_names.specs.declared.variable.Variable.{Variable}
 use Rattle.slot_names.specs.declared.variable.Variable.TheVariants.{At}
 use Rattle.slot_names.specs.Variables.{IsPredecessor, IsMerge, of_handler, of_first, IsVariable, merged, first, moved, written, kept, IsReachedNode, at_first, from_node, from_handler, AreReachedNodes}
-use Rattle.slot_laws.proofs.Lists.{contains_placed}
 use Rattle.slot_laws.proofs.Places.{same_node, only_predecessor}
 
 -- from a node a way leads to another one, past nodes that are no merge points
@@ -31,7 +31,7 @@ preceded l n m ring (further k p apart leads descends) = record { apart = apart;
 unreached : (l : LoweredMethod) → AreReachedNodes l → (n : Node) → IsPreceded l n n → (offset : ℕ) → IsReachedNode l offset → (m : Node) → Contains l.nodes m → m.offset ≡ offset → Descends l n m → ⊥
 unreached l reached n ring offset (at_first k o is e) m here at d =
     let p = preceded l n m ring d in
-    let is_first : m ≡ k = same_node l reached m k here (contains_placed l.nodes 0 k is) (at ∙ e) in
+    let is_first : m ≡ k = same_node l reached m k here (contains_at l.nodes 0 k is) (at ∙ e) in
     p.apart (of_first (subst (λ (j : Node). slice_get l.nodes 0 ≡ Some j) (sym is_first) is) p.before p.leads)
 unreached l reached n ring offset (from_node k o stands there goes) m here at d =
     let p = preceded l n m ring d in

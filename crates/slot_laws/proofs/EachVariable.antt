@@ -2,12 +2,12 @@
 -- each other node what the only node that leads there leaves it.
 use Rattle.std.proofs.Common.{◌≡◌, ◌⊎◌, inl, inr, ℕ, Contains, refl, sym, ◌∙◌, subst}
 use Rattle.std.proofs.lemmas.List.Elements.{All-contains}
+use Rattle.list_laws.proofs.Places.{contains_at}
 use Rattle.op_model.specs.declared.lowered.LoweredMethod.{LoweredMethod}
 use Rattle.op_model.specs.declared.node.Node.{Node}
 use Rattle.slot_names.specs.declared.variable.Variable.{Variable}
 use Rattle.slot_names.specs.declared.variable.Variable.TheVariants.{Parameter, At}
 use Rattle.slot_names.specs.Variables.{Effect, keeps, moves, writes, effect_on, IsPredecessor, IsFirstNode, IsMerge, of_handler, IsVariable, merged, first, moved, written, kept, IsReachedNode, at_first, from_node, from_handler, AreReachedNodes}
-use Rattle.slot_laws.proofs.Lists.{contains_placed}
 use Rattle.slot_laws.proofs.Places.{same_node}
 use Rattle.slot_laws.proofs.MergePoints.{merge_or_not}
 
@@ -34,7 +34,7 @@ after_node l p n z leads before (inr apart) = after l p n z apart leads before (
 
 at_reached : (l : LoweredMethod) → AreReachedNodes l → (offset : ℕ) → IsReachedNode l offset → (n : Node) → Contains l.nodes n → n.offset ≡ offset → (z : ℕ) → Has l n z
 at_reached l reached offset (at_first k o is e) n here at z =
-    let same : k ≡ n = same_node l reached k n (contains_placed l.nodes 0 k is) here (sym (at ∙ e)) in
+    let same : k ≡ n = same_node l reached k n (contains_at l.nodes 0 k is) here (sym (at ∙ e)) in
     at_beginning l n z (subst (λ (j : Node). IsFirstNode l j) same is) (merge_or_not l reached n here)
 at_reached l reached offset (from_node k o stands there goes) n here at z =
     let leads : IsPredecessor l k n = record { stands = stands; goes = subst (λ (j : ℕ). Contains k.successors j) (sym at) goes } in

@@ -4,13 +4,14 @@ use Rattle.std.specs.List.{list_any}
 use Rattle.std.proofs.lemmas.Bool.{cases_Bool, eq-eqb, eqb-true, or_parts, false≢true}
 use Rattle.std.proofs.lemmas.List.Elements.{Contains-append_left, Contains-append_right}
 use Rattle.std.proofs.lemmas.Option.{same_Some, none-some}
+use Rattle.list_laws.proofs.Members.{contains_cases, contains_first, contains_none}
+use Rattle.list_laws.proofs.Tests.{found, not_found}
 use Rattle.op_model.specs.declared.op.Move.{Move}
 use Rattle.op_model.specs.declared.op.Source.{Source}
 use Rattle.op_model.specs.declared.op.Source.TheVariants.{Slot, Null, Primitive}
 use Rattle.bytecode_machine.specs.States.{Value, slot_at}
 use Rattle.node_machine.specs.Slots.{source_value, AreMoved, AreLeft}
 use Rattle.slot_names.specs.Variables.{Effect, keeps, moves, writes, effect_of_move}
-use Rattle.slot_laws.proofs.Lists.{none_there, first_there, where_there, found, not_found}
 
 -- by this effect on slot z, z gets the value that y had
 pub data HandsOn (effect : Effect) (y z : ℕ) : Type 0 where
@@ -29,8 +30,8 @@ pub record IsFree (slots : List ℕ) (y z : ℕ) : Type 0 where
   pub apart : Contains slots z → ⊥
 
 none_taken : (z : ℕ) (slots : List ℕ) → list_any (λ (y : ℕ). nat_eq y z) slots ≡ false → Contains slots z → ⊥
-none_taken z [] e there = none_there z there
-none_taken z (y ∷ slots) e there = by (none_taken z slots) (or_parts (nat_eq y z) (list_any (λ (x : ℕ). nat_eq x z) slots) e) (where_there y z slots there)
+none_taken z [] e there = contains_none z there
+none_taken z (y ∷ slots) e there = by (none_taken z slots) (or_parts (nat_eq y z) (list_any (λ (x : ℕ). nat_eq x z) slots) e) (contains_cases y z slots there)
   where
     by : (list_any (λ (x : ℕ). nat_eq x z) slots ≡ false → Contains slots z → ⊥) → (nat_eq y z ≡ false) × (list_any (λ (x : ℕ). nat_eq x z) slots ≡ false) → (y ≡ z) ⊎ Contains slots z → ⊥
     by later parts (inl same) = false≢true (sym parts.0 ∙ eq-eqb y z same)
@@ -52,7 +53,7 @@ pub record AreAmong (slots operands : List ℕ) (target : Option ℕ) : Type 0 w
 
 target_there : (target : Option ℕ) (z : ℕ) → target ≡ Some z → Contains (option_to_list target) z
 target_there None z e = absurd (none-some z e)
-target_there (Some y) z e = subst (λ (x : ℕ). Contains (y ∷ []) x) (same_Some y z e) (first_there y [])
+target_there (Some y) z e = subst (λ (x : ℕ). Contains (y ∷ []) x) (same_Some y z e) (contains_first y [])
 
 operands_first : (operands : List ℕ) (target : Option ℕ) → AreAmong (operands ++ option_to_list target) operands target
 operands_first operands target = record {

@@ -2,6 +2,8 @@
 use Rattle.std.proofs.Common.{◌≡◌, inl, inr, ℕ, false, List, [], ◌∷◌, Some, None, Ok, nat_eq, Contains, sym, ap, ◌∙◌, subst}
 use Rattle.std.proofs.lemmas.Bool.{eqb-true}
 use Rattle.std.proofs.lemmas.Option.{same_Some, none-some}
+use Rattle.list_laws.proofs.Members.{contains_first, contains_later}
+use Rattle.list_laws.proofs.Tests.{found}
 use Rattle.jvm_model.specs.Programs.{Program}
 use Rattle.op_model.specs.declared.lowered.LoweredMethod.{LoweredMethod}
 use Rattle.op_model.specs.declared.node.Node.{Node}
@@ -17,7 +19,6 @@ use Rattle.node_machine.specs.NodeSteps.{IsFirstTaking}
 use Rattle.node_machine.specs.Slots.{AreLeft, argument_slots}
 use Rattle.slot_names.specs.Variables.{effect_on, IsMerge, of_handler}
 use Rattle.slot_laws.specs.Sharing.{AreReachedMethods, ReadsAlike}
-use Rattle.slot_laws.proofs.Lists.{first_there, more_there, found}
 use Rattle.slot_laws.proofs.Places.{same_node, first_of_all}
 use Rattle.slot_laws.proofs.Effects.{HandsOn}
 use Rattle.slot_laws.proofs.Operations.{stays_waiting}
@@ -65,10 +66,10 @@ node_of x given f now number l in_method is_given =
     }
 
 -- the first handler that takes an object is one of them
-among_handlers : (p : Program) (class : List ℕ) (handlers : List NodeHandler) (h : NodeHandler) → IsFirstTaking p class handlers h → Contains handlers h
+pub among_handlers : (p : Program) (class : List ℕ) (handlers : List NodeHandler) (h : NodeHandler) → IsFirstTaking p class handlers h → Contains handlers h
 among_handlers p class [] h taking = absurd taking
-among_handlers p class (g ∷ handlers) h (inl this) = subst (λ (k : NodeHandler). Contains (g ∷ handlers) k) (sym this.1) (first_there g handlers)
-among_handlers p class (g ∷ handlers) h (inr later) = more_there g h handlers (among_handlers p class handlers h later.1)
+among_handlers p class (g ∷ handlers) h (inl this) = subst (λ (k : NodeHandler). Contains (g ∷ handlers) k) (sym this.1) (contains_first g handlers)
+among_handlers p class (g ∷ handlers) h (inr later) = contains_later g h handlers (among_handlers p class handlers h later.1)
 
 -- ---- frames of a method that has no nodes
 

@@ -1,11 +1,10 @@
-mod Lists
 pub mod Places
 mod Chains
-mod Effects
+pub mod Effects
 mod Operations
 pub mod OneVariable
 pub mod MergePoints
 pub mod EachVariable
 mod Origins
-mod Frames
+pub mod Frames
 mod Steps

@@ -1,11 +1,12 @@
 -- Whether a node is a merge point is decided: the lists of nodes, of handlers and of successors are searched.
-use Rattle.std.proofs.Common.{◌≡◌, ◌⊎◌, inl, inr, ℕ, ◌<◌, ◌≤◌, List, [], ◌∷◌, Some, slice_get, Contains, refl, sym, ap, ◌∙◌, subst, arith}
+use Rattle.std.proofs.Common.{◌≡◌, ◌⊎◌, inl, inr, ℕ, ◌<◌, ◌≤◌, List, [], ◌∷◌, Some, slice_get, Contains, sym, ap, ◌∙◌, subst, arith}
 use Rattle.std.proofs.lemmas.Bool.{cases_eq, cases_lt}
+use Rattle.list_laws.proofs.Members.{contained_or_not, contains_cases, contains_first, contains_later, contains_none}
+use Rattle.list_laws.proofs.Places.{placed}
 use Rattle.op_model.specs.declared.lowered.LoweredMethod.{LoweredMethod}
 use Rattle.op_model.specs.declared.node.Node.{Node}
 use Rattle.op_model.specs.declared.node.NodeHandler.{NodeHandler}
 use Rattle.slot_names.specs.Variables.{IsPredecessor, BeginsHandler, IsFirstNode, IsMerge, of_handler, of_several, of_first, AreReachedNodes}
-use Rattle.slot_laws.proofs.Lists.{placed, none_there, first_there, more_there, where_there}
 use Rattle.slot_laws.proofs.Places.{same_node}
 
 -- ---- searches
@@ -17,23 +18,16 @@ record HasOne {X : Type 0} (P : X → Type 0) (xs : List X) : Type 0 where
   has : P one
 
 one_or_none : {X : Type 0} (P : X → Type 0) → ((x : X) → P x ⊎ (P x → ⊥)) → (xs : List X) → HasOne P xs ⊎ (HasOne P xs → ⊥)
-one_or_none P test [] = inr (λ h. none_there h.one h.there)
+one_or_none P test [] = inr (λ h. contains_none h.one h.there)
 one_or_none {X} P test (y ∷ xs) = by (test y) (one_or_none P test xs)
   where
     by : P y ⊎ (P y → ⊥) → HasOne P xs ⊎ (HasOne P xs → ⊥) → HasOne P (y ∷ xs) ⊎ (HasOne P (y ∷ xs) → ⊥)
-    by (inl is) rest = inl (record { one = y; there = first_there y xs; has = is })
-    by (inr is_not) (inl h) = inl (record { one = h.one; there = more_there y h.one xs h.there; has = h.has })
-    by (inr is_not) (inr none) = inr (λ h. elim (where_there y h.one xs h.there) [
+    by (inl is) rest = inl (record { one = y; there = contains_first y xs; has = is })
+    by (inr is_not) (inl h) = inl (record { one = h.one; there = contains_later y h.one xs h.there; has = h.has })
+    by (inr is_not) (inr none) = inr (λ h. elim (contains_cases y h.one xs h.there) [
       | inl e ↦ is_not (subst P (sym e) h.has)
       | inr later ↦ none (record { one = h.one; there = later; has = h.has })
     ])
-
-listed_or_not : (k : ℕ) (xs : List ℕ) → Contains xs k ⊎ (Contains xs k → ⊥)
-listed_or_not k xs = by (one_or_none (λ (x : ℕ). x ≡ k) (λ x. cases_eq x k) xs)
-  where
-    by : HasOne (λ (x : ℕ). x ≡ k) xs ⊎ (HasOne (λ (x : ℕ). x ≡ k) xs → ⊥) → Contains xs k ⊎ (Contains xs k → ⊥)
-    by (inl h) = inl (subst (λ (x : ℕ). Contains xs x) h.has h.there)
-    by (inr none) = inr (λ there. none (record { one = k; there = there; has = refl }))
 
 -- ---- what makes a merge point
 
@@ -61,7 +55,7 @@ record IsOther (offset : ℕ) (p q : Node) : Type 0 where
   apart : q.offset ≡ p.offset → ⊥
 
 other_or_not : (offset : ℕ) (p q : Node) → IsOther offset p q ⊎ (IsOther offset p q → ⊥)
-other_or_not offset p q = by (listed_or_not offset q.successors) (cases_eq q.offset p.offset)
+other_or_not offset p q = by (contained_or_not q.successors offset) (cases_eq q.offset p.offset)
   where
     by : Contains q.successors offset ⊎ (Contains q.successors offset → ⊥) → (q.offset ≡ p.offset) ⊎ (q.offset ≡ p.offset → ⊥) → IsOther offset p q ⊎ (IsOther offset p q → ⊥)
     by goes (inl same) = inr (λ h. h.apart same)
@@ -97,7 +91,7 @@ module _ (l : LoweredMethod) (reached : AreReachedNodes l) (n p : Node) (leads :
 -- ---- the decision
 
 pub merge_or_not : (l : LoweredMethod) → AreReachedNodes l → (n : Node) → Contains l.nodes n → IsMerge l n ⊎ (IsMerge l n → ⊥)
-merge_or_not l reached n here = by (begins_or_not l n) (one_or_none (λ (p : Node). Contains p.successors n.offset) (λ p. listed_or_not n.offset p.successors) l.nodes)
+merge_or_not l reached n here = by (begins_or_not l n) (one_or_none (λ (p : Node). Contains p.successors n.offset) (λ p. contained_or_not p.successors n.offset) l.nodes)
   where
     by : BeginsHandler l n ⊎ (BeginsHandler l n → ⊥) → HasOne (λ (p : Node). Contains p.successors n.offset) l.nodes ⊎ (HasOne (λ (p : Node). Contains p.successors n.offset) l.nodes → ⊥)
         → IsMerge l n ⊎ (IsMerge l n → ⊥)

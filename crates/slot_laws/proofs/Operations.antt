@@ -1,6 +1,7 @@
 -- What operations hand on reads as before.
 use Rattle.std.proofs.Common.{◌≡◌, ℕ, List, [], ◌∷◌, Some, None, Contains, sym, ap, ◌∙◌, subst}
 use Rattle.std.proofs.lemmas.Option.{none-some}
+use Rattle.list_laws.proofs.Members.{contains_none}
 use Rattle.op_model.specs.declared.op.Call.{Call as NodeCall}
 use Rattle.op_model.specs.declared.op.Op.{Op}
 use Rattle.op_model.specs.declared.op.Op.TheVariants.{Assign, Load, Store, LoadElement, StoreElement, LoadStatic, StoreStatic, New, NewArray, Constant, Call, Return, Throw, Cast, Probe}
@@ -9,7 +10,6 @@ use Rattle.bytecode_machine.specs.States.{Value, World, primitive_value, slot_at
 use Rattle.node_machine.specs.NodeSteps.{Leads}
 use Rattle.node_machine.specs.Slots.{AreLeft, argument_slots}
 use Rattle.slot_names.specs.Variables.{effect_on, written_slots}
-use Rattle.slot_laws.proofs.Lists.{none_there}
 use Rattle.slot_laws.proofs.Effects.{HandsOn, free, target_first, left_slot, left_by, moved_slot}
 
 pub handed_on : (op : Op) (x : Subject) (before : World) (slots left : List Value) (after : World) (y z : ℕ) → Leads op x before slots left after → HandsOn (effect_on z op) y z → slot_at left z ≡ slot_at slots y
@@ -47,4 +47,4 @@ stays_waiting c v before after y z left h =
 pub returned : (c : NodeCall) (v : Value) (before after : List Value) (y z : ℕ) → AreLeft [] c.result v before after → HandsOn (effect_on z (Call c)) y z → slot_at after z ≡ slot_at before y
 returned c v before after y z left h =
     let among = target_first (argument_slots c.arguments) c.result in
-    left_slot (written_slots (Call c)) [] c.result v before after y z (record { operand = λ x there. absurd (none_there x there); result = among.result }) left h
+    left_slot (written_slots (Call c)) [] c.result v before after y z (record { operand = λ x there. absurd (contains_none x there); result = among.result }) left h

@@ -2,10 +2,10 @@
 use Rattle.std.proofs.Common.{◌≡◌, ◌⊎◌, inl, inr, ℕ, ◌<◌, ◌≤◌, get_or, Some, slice_get, Contains, sym, ap, ◌∙◌, subst, arith}
 use Rattle.std.proofs.lemmas.Bool.{cases_eq, cases_lt, cases_order}
 use Rattle.std.proofs.lemmas.Option.{slice_get-get_or, same_Some}
+use Rattle.list_laws.proofs.Places.{placed}
 use Rattle.op_model.specs.declared.lowered.LoweredMethod.{LoweredMethod}
 use Rattle.op_model.specs.declared.node.Node.{Node}
 use Rattle.slot_names.specs.Variables.{IsPredecessor, IsFirstNode, IsMerge, of_several, AreReachedNodes}
-use Rattle.slot_laws.proofs.Lists.{placed}
 
 -- nodes of one offset
 pub same_node : (l : LoweredMethod) → AreReachedNodes l → (n k : Node) → Contains l.nodes n → Contains l.nodes k → n.offset ≡ k.offset → n ≡ k

@@ -1,6 +1,7 @@
 -- Each step of nodes keeps the claims about frames, so that they hold in each state of an execution.
 use Rattle.std.proofs.Common.{◌≡◌, inl, inr, ℕ, List, [], ◌∷◌, None, Contains, All, refl, sym, subst}
 use Rattle.std.proofs.lemmas.List.Elements.{All-nil, All-cons, All-head, All-tail}
+use Rattle.list_laws.proofs.Members.{contains_cases, contains_none}
 use Rattle.op_model.specs.declared.op.Call.{Call as NodeCall}
 use Rattle.op_model.specs.declared.op.Op.{Op}
 use Rattle.op_model.specs.declared.op.Op.TheVariants.{Call}
@@ -13,7 +14,6 @@ use Rattle.node_machine.specs.NodeExecutions.{AreNodeSteps}
 use Rattle.node_machine.specs.NodeSteps.{AtNode, Enters, NodeStep, advances, enters, gets_result, gets_exception, enters_entry, returns, resumes, ends, raises, throws, catches, unwinds, starts, wraps}
 use Rattle.slot_names.specs.Variables.{effect_on}
 use Rattle.slot_laws.specs.Sharing.{AreReachedMethods, ReadsAlike, VariablesHaveValues}
-use Rattle.slot_laws.proofs.Lists.{none_there, where_there}
 use Rattle.slot_laws.proofs.Effects.{HandsOn}
 use Rattle.slot_laws.proofs.Operations.{handed_on, answered, returned}
 use Rattle.slot_laws.proofs.Origins.{AreHandedOn}
@@ -120,9 +120,9 @@ module _ (given : Given) (reached : AreReachedMethods given) where
   first_alike x s is = alike_as given s _ is.is (no_nodes_alike given start_frame refl, All-nil (λ (f : Frame). WaitsAlike given f))
 
   steps_alike : (x : Subject) (s : State) (states : List State) → AreNodeSteps x given s states → IsAlike given s → (t : State) → Contains (s ∷ states) t → IsAlike given t
-  steps_alike x s [] steps a t there = elim (where_there s t [] there) [ inl e ↦ subst (λ (u : State). IsAlike given u) e a | inr later ↦ absurd (none_there t later) ]
+  steps_alike x s [] steps a t there = elim (contains_cases s t [] there) [ inl e ↦ subst (λ (u : State). IsAlike given u) e a | inr later ↦ absurd (contains_none t later) ]
   steps_alike x s (u ∷ states) steps a t there =
-      elim (where_there s t (u ∷ states) there) [
+      elim (contains_cases s t (u ∷ states) there) [
         | inl e ↦ subst (λ (r : State). IsAlike given r) e a
         | inr later ↦ steps_alike x u states steps.1 (step_alike x s u steps.0 a) t later
       ]

@@ -5,6 +5,7 @@ use Rattle.std.specs.Option.{unwrap_or}
 use Rattle.std.proofs.lemmas.Bool.{cases_Bool, cases_eq, eq-eqb, eqb-true, false≢true}
 use Rattle.std.proofs.lemmas.List.Elements.{Contains-append_left, Contains-push}
 use Rattle.std.proofs.lemmas.Option.{get_or_from_slice_get, slice_get-get_or, slice_get_read, slice_get_within, same_Some, none-some}
+use Rattle.list_laws.proofs.Places.{contains_at, push_cases, set_at, set_cases, set_other}
 use Rattle.op_model.specs.declared.lowered.LoweredMethod.{LoweredMethod}
 use Rattle.op_model.specs.declared.node.Node.{Node}
 use Rattle.op_model.specs.declared.op.Move.{Move}
@@ -25,7 +26,7 @@ use Rattle.slot_names.specs.NodePlaces.{AreInOrder, StandsAt}
 use Rattle.slot_names.specs.Rows.{KeepsRows}
 use Rattle.slot_names.specs.Variables.{Effect, IsFirstNode, IsMerge, IsPredecessor, IsVariable, effect_on, keeps as kept_effect, moves as moved_effect, writes as written_effect, merged, first, moved, written, kept}
 use Rattle.slot_names.proofs.FoundPlaces.{one_place}
-use Rattle.slot_names.proofs.ListPlaces.{Extends-both, Extends-itself, Extends-push, contains_at, push_cases, set_at, set_cases, set_other}
+use Rattle.slot_names.proofs.ListPlaces.{Extends-both, Extends-itself, Extends-push}
 use Rattle.slot_names.proofs.MovedVariables.{effect_of_operation, same_variable}
 use Rattle.slot_names.proofs.NotedArrivals.{no_merge}
 use Rattle.slot_names.proofs.SetRows.{named_nowhere}

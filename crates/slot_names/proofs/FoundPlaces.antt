@@ -9,10 +9,10 @@ use Rattle.std.proofs.lemmas.Bool.{cases_lt, cases_order}
 use Rattle.std.proofs.lemmas.Bool.Decides.{nat_tests}
 use Rattle.std.proofs.lemmas.Cmp.{ranked}
 use Rattle.std.proofs.lemmas.Option.{slice_get_within, slice_get-get_or, get_or_from_slice_get}
+use Rattle.list_laws.proofs.Places.{stands_below}
 use Rattle.op_model.specs.declared.lowered.LoweredMethod.{LoweredMethod}
 use Rattle.op_model.specs.declared.node.Node.{Node}
 use Rattle.slot_names.specs.NodePlaces.{AreInOrder, IsPlaceOf, StandsAt}
-use Rattle.slot_names.proofs.ListPlaces.{stands_below}
 
 -- ---- nodes of one offset stand at one place
 

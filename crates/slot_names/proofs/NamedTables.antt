@@ -1,6 +1,7 @@
 -- The table of a method whose nodes are all entered.
 use Rattle.std.proofs.Common.{◌≡◌, ◌↔◌, ℕ, ◌<◌, List, length, get_or, Option, Some, IsTrue, Vec, Global, slice_get, refl, sym, ◌∙◌, ap, subst, arith}
 use Rattle.std.proofs.lemmas.Option.{slice_get_read, slice_get_within}
+use Rattle.list_laws.proofs.Places.{stands_below}
 use Rattle.op_model.specs.declared.lowered.LoweredMethod.{LoweredMethod}
 use Rattle.op_model.specs.declared.node.Node.{Node}
 use Rattle.slot_names.specs.declared.arrivals.Arrival.{Arrival}
@@ -15,7 +16,6 @@ use Rattle.slot_names.specs.NamedNodes.{AreAllEntered, IsNaming}
 use Rattle.slot_names.specs.NodePlaces.{AreInOrder}
 use Rattle.slot_names.specs.Tables.{AreNames}
 use Rattle.slot_names.specs.Variables.{IsMerge, IsVariable}
-use Rattle.slot_names.proofs.ListPlaces.{stands_below}
 use Rattle.slot_names.proofs.NotedArrivals.{no_merge}
 
 -- several arrivals are noted at merge points alone, and at each

@@ -5,6 +5,7 @@ use Rattle.std.proofs.lemmas.Bool.{cases_Bool, cases_eq, cases_lt, eqb-true, eqb
 use Rattle.std.proofs.lemmas.List.{take_all}
 use Rattle.std.proofs.lemmas.List.Elements.{All-contains, All-more, All-weaker}
 use Rattle.std.proofs.lemmas.Option.{slice_get_read, slice_get_within, same_Some, none-some}
+use Rattle.list_laws.proofs.Places.{contains_at, place_of, set_at, set_cases, set_other, stands_below}
 use Rattle.op_model.specs.declared.lowered.LoweredMethod.{LoweredMethod}
 use Rattle.op_model.specs.declared.node.Node.{Node}
 use Rattle.op_model.specs.declared.node.NodeHandler.{NodeHandler}
@@ -14,7 +15,6 @@ use Rattle.slot_names.specs.Arriving.{AreArrivals, AreNoted, AreSound, HandsTo, 
 use Rattle.slot_names.specs.NodePlaces.{AreInOrder, StandsAt}
 use Rattle.slot_names.specs.Variables.{IsFirstNode, IsMerge, IsPredecessor, of_first, of_handler, of_several}
 use Rattle.slot_names.proofs.FoundPlaces.{one_place}
-use Rattle.slot_names.proofs.ListPlaces.{contains_at, place_in, set_at, set_cases, set_other, stands_below}
 
 -- ---- what is noted only rises
 
@@ -342,16 +342,16 @@ not_first l place from n Several is zeroth noted apart = apart refl
 pub no_merge : (l : LoweredMethod) (arrivals : List Arrival) (place : ℕ) (n : Node) (a : Arrival) → AreInOrder l → AreArrivals l arrivals
     → slice_get l.nodes place ≡ Some n → slice_get arrivals place ≡ Some a → (a ≡ Several → ⊥) → IsMerge l n → ⊥
 no_merge l arrivals place n a order are stands here apart (of_handler begins) =
-    let from = place_in l.nodes begins.covered begins.stands in
+    let from = place_of l.nodes begins.covered begins.stands in
     let hands : HandsTo l from.0 n.offset = record { node = begins.covered; stands = from.1; handler = begins.handler; covers = begins.covers; begins = begins.begins } in
     apart (same_Some _ _ (sym here ∙ handled_at l arrivals place n from.0 are stands hands))
 no_merge l arrivals place n a order are stands here apart (of_several p q first second differ) =
-    let i = place_in l.nodes p first.stands in
-    let j = place_in l.nodes q second.stands in
+    let i = place_of l.nodes p first.stands in
+    let j = place_of l.nodes q second.stands in
     let same : i.0 ≡ j.0 = one_noted a i.0 j.0 apart (noted_at l arrivals place n a i.0 p are stands here i.1 first.goes)
     (noted_at l arrivals place n a j.0 q are stands here j.1 second.goes) in
     differ (same_Some _ _ (sym i.1 ∙ ap (slice_get l.nodes) same ∙ j.1))
 no_merge l arrivals place n a order are stands here apart (of_first first p goes) =
-    let from = place_in l.nodes p goes.stands in
+    let from = place_of l.nodes p goes.stands in
     let zeroth : place ≡ 0 = one_place l n.offset place 0 order (record { node = n; stands = stands; is = refl }) (record { node = n; stands = first; is = refl }) in
     not_first l place from.0 n a (are.sound.each place n a stands here) zeroth (noted_at l arrivals place n a from.0 p are stands here from.1 goes.goes) apart

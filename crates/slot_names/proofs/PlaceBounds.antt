@@ -2,10 +2,10 @@
 use Rattle.std.proofs.Common.{◌≡◌, ℕ, zero, suc, ◌<◌, ◌≤◌, Some, arith}
 use Rattle.std.specs.List.{slice_get}
 use Rattle.std.proofs.lemmas.Option.{slice_get_within}
+use Rattle.list_laws.proofs.Places.{stands_below}
 use Rattle.op_model.specs.declared.lowered.LoweredMethod.{LoweredMethod}
 use Rattle.op_model.specs.declared.node.Node.{Node}
 use Rattle.slot_names.specs.NodePlaces.{AreInOrder}
-use Rattle.slot_names.proofs.ListPlaces.{stands_below}
 
 -- a node's place is at most its offset
 pub place_below : (l : LoweredMethod) → AreInOrder l → (k : ℕ) (n : Node) → slice_get l.nodes k ≡ Some n → k ≤ n.offset

@@ -3,9 +3,10 @@ use Rattle.std.proofs.Common.{◌≡◌, ◌≢◌, ℕ, zero, suc, ◌/◌, ◌
 use Rattle.std.specs.List.{slice_get}
 use Rattle.std.specs.Option.{unwrap_or}
 use Rattle.std.proofs.lemmas.Bool.{cases_Bool, cases_eq, eqb-true, eqb-false}
+use Rattle.list_laws.proofs.Places.{push_cases, pushed_at}
 use Rattle.slot_names.specs.declared.branch.Branch.{Branch}
 use Rattle.slot_names.specs.Branches.{branch_at, empty_branch, next_row, with_next, value_of, AreBranches, Extends, IsAdded, IsPlaced}
-use Rattle.slot_names.proofs.ListPlaces.{Extends-push, Extends-both, pushed_at, push_cases, length-extends}
+use Rattle.slot_names.proofs.ListPlaces.{Extends-push, Extends-both, length-extends}
 use Rattle.slot_names.proofs.RowValues.{value_of-zero, value_of-suc, value_stays, next_made, odd_made, even_made}
 
 -- ---- a branch is added

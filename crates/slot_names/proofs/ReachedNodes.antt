@@ -4,6 +4,7 @@ use Rattle.std.specs.List.{slice_get, All, Contains}
 use Rattle.std.proofs.lemmas.Bool.{cases_lt, eq-eqb}
 use Rattle.std.proofs.lemmas.List.Elements.{All-contains, All-more, All-weaker}
 use Rattle.std.proofs.lemmas.Option.{slice_get_within, same_Some, none-some}
+use Rattle.list_laws.proofs.Places.{contains_at, place_of, stands_below}
 use Rattle.op_model.specs.declared.lowered.LoweredMethod.{LoweredMethod}
 use Rattle.op_model.specs.declared.node.Node.{Node}
 use Rattle.slot_names.specs.declared.arrivals.Arrival.{Arrival}
@@ -16,7 +17,6 @@ use Rattle.slot_names.specs.NamedNodes.{AreAllEntered, Grows, HasRoots, IsEntere
 use Rattle.slot_names.specs.NodePlaces.{AreInOrder, StandsAt}
 use Rattle.slot_names.specs.Variables.{AreReachedNodes, IsReachedNode, at_first, from_node, from_handler}
 use Rattle.slot_names.proofs.FoundPlaces.{one_place}
-use Rattle.slot_names.proofs.ListPlaces.{contains_at, place_in, stands_below}
 use Rattle.slot_names.proofs.NotedArrivals.{handled_at, noted_at}
 
 pub order_of : (l : LoweredMethod) → AreReachedNodes l → AreInOrder l
@@ -120,7 +120,7 @@ next_entered : (l : LoweredMethod) (arrivals : List Arrival) (naming : Naming) (
     → IsEntered naming.entries.items place
 next_entered l arrivals naming done from offset place Nothing roots is followed all entered leads at here noted = absurd noted
 next_entered l arrivals naming done from offset place (OneNode earlier) roots is followed all entered leads at here noted =
-    let listed = place_in naming.order.items from (is.listed from entered) in
+    let listed = place_of naming.order.items from (is.listed from entered) in
     let within = slice_get_within naming.order.items listed.0 from listed.1 in
     ((followed.each listed.0 from (omega arith) listed.1).each offset leads).each place at (here ∙ ap (λ (k : ℕ). Some (OneNode k)) noted)
 next_entered l arrivals naming done from offset place Several roots is followed all entered leads at here noted = meeting_entered l arrivals naming offset place roots at here
@@ -142,7 +142,7 @@ reached_entered l arrivals naming done end offset (at_first n _ zeroth is) place
     let there = stands_below arrivals place (omega (arith, end.noted.sound.count)) in
     first_entered l arrivals naming offset place there.0 end.noted end.roots at same there.1
 reached_entered l arrivals naming done end offset (from_node n _ stands reached goes) place at =
-    let from = place_in l.nodes n stands in
+    let from = place_of l.nodes n stands in
     let entered = reached_entered l arrivals naming done end n.offset reached from.0 (record { node = n; stands = from.1; is = refl }) in
     let within = slice_get_within l.nodes place at.node at.stands in
     let there = stands_below arrivals place (omega (arith, end.noted.sound.count)) in
@@ -150,7 +150,7 @@ reached_entered l arrivals naming done end offset (from_node n _ stands reached 
     next_entered l arrivals naming done from.0 offset place there.0 end.roots end.named end.followed end.all entered (record { node = n; stands = from.1; goes = goes }) at there.1
     (noted_at l arrivals place at.node there.0 from.0 n end.noted at.stands there.1 from.1 to_node)
 reached_entered l arrivals naming done end offset (from_handler n h _ stands reached covers is) place at =
-    let from = place_in l.nodes n stands in
+    let from = place_of l.nodes n stands in
     let hands : HandsTo l from.0 at.node.offset = record { node = n; stands = from.1; handler = h; covers = covers; begins = sym is ∙ sym at.is } in
     meeting_entered l arrivals naming offset place end.roots at (handled_at l arrivals place at.node from.0 end.noted at.stands hands)
 

@@ -1,9 +1,9 @@
 -- The values of rows: where they stand, that they stay when branches are added, and how large they are.
 use Rattle.std.proofs.Common.{◌≡◌, ℕ, zero, suc, ◌/◌, ◌%◌, ◌<◌, ◌≤◌, Bool, true, false, cond, eqb, List, length, refl, sym, ◌∙◌, ap, arith}
 use Rattle.std.specs.Option.{unwrap_or}
+use Rattle.list_laws.proofs.Places.{stands_below}
 use Rattle.slot_names.specs.declared.branch.Branch.{Branch}
 use Rattle.slot_names.specs.Branches.{branch_at, empty_branch, next_row, value_in, value_of, AreBranches, Extends}
-use Rattle.slot_names.proofs.ListPlaces.{stands_below}
 
 -- ---- where the value of a slot stands
 

@@ -1,12 +1,13 @@
 -- A variable is set in a row: each row that was there keeps its variables.
 use Rattle.std.proofs.Common.{◌≡◌, ℕ, zero, suc, ◌/◌, ◌%◌, ◌≤◌, Bool, true, false, cond, eqb, List, [], ◌∷◌, ◌++◌, length, None, refl, sym, ◌∙◌, ap, arith}
 use Rattle.std.specs.List.{slice_get}
+use Rattle.list_laws.proofs.Places.{pushed_at, stands_below}
 use Rattle.slot_names.specs.declared.branch.Branch.{Branch}
 use Rattle.slot_names.specs.declared.rows.Rows.{Rows}
 use Rattle.slot_names.specs.declared.variable.Variable.{Variable}
 use Rattle.slot_names.specs.Branches.{AreBranches, IsPlaced, value_in, value_of}
 use Rattle.slot_names.specs.Rows.{IsRow, IsSet, KeepsRows, named_at, named_by}
-use Rattle.slot_names.proofs.ListPlaces.{Extends-push, length-extends, pushed_at, stands_below}
+use Rattle.slot_names.proofs.ListPlaces.{Extends-push, length-extends}
 use Rattle.slot_names.proofs.RowValues.{value_of_bound, value_stays}
 
 -- ---- rows that are kept

@@ -1,1 +1,2 @@
+pub mod CalledMore
 pub mod HeldLemmas

@@ -13,6 +13,7 @@ pub mod sink;
 pub mod steady_sink;
 pub mod steady_tree;
 pub mod tree;
+pub mod trouble;
 mod walk;
 
 pub use held::names_differ;
@@ -24,3 +25,4 @@ pub use sink::{Sink, SinkFailure};
 pub use steady_sink::SteadySink;
 pub use steady_tree::SteadyTree;
 pub use tree::{Tree, TreeFailure, TreeFault};
+pub use trouble::Trouble;

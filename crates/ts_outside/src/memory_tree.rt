@@ -67,9 +67,11 @@ impl MemoryTree {
 }
 
 impl Tree for MemoryTree {
-    ghost use Rattle.std.specs.Prelude.{Some};
+    ghost use Rattle.std.specs.Prelude.{None, Some};
 
     ghost files = { λ tree. Some tree.files };
+
+    ghost called = { λ _. None };
 
     ghost faults = { λ tree. tree.faults };
 

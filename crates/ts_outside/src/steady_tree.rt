@@ -37,9 +37,11 @@ impl SteadyTree {
 }
 
 impl Tree for SteadyTree {
-    ghost use Rattle.std.specs.Prelude.{Some};
+    ghost use Rattle.std.specs.Prelude.{None, Some};
 
     ghost files = { λ tree. Some tree };
+
+    ghost called = { λ _. None };
 
     ghost faults = { λ _. 0 };
 

@@ -1,7 +1,8 @@
 //! A tree of files, as a trait.
 
-ghost use Rattle.std.specs.Prelude.{◌≡◌, ◌≢◌, ℕ, ◌≤◌, List, take, map, string_bytes, Option, option_map, IsErrOf, IfOk, IfSome};
+ghost use Rattle.std.specs.Prelude.{◌≡◌, ◌≢◌, ℕ, ◌≤◌, true, false, List, take, map, string_bytes, Option, option_map, IsErrOf, IfOk, IfSome, OnOk, OnErr};
 ghost use Rattle.failure.specs.declared.Failure.TheVariants.{Cause};
+ghost use Rattle.ts_outside.specs.Calls.{Called, CallsOne, listing, reading};
 ghost use Rattle.ts_outside.specs.Counts.{Rose};
 ghost use Rattle.ts_outside.specs.Files.{File, file_at, IsListing};
 
@@ -25,11 +26,14 @@ pub type TreeFailure = Failure<TreeFault>;
 
 /// A tree of files.
 ///
-/// It has two meanings. `files` is what it holds, a finite map from names to bytes, or `None` where it
-/// does not tell; no call changes it. `faults` is a count of faults, which never falls, and rises in no call that
-/// answers anything else than `Failed`.
+/// It has three meanings. `files` is what it holds, a finite map from names to bytes, or `None` where it
+/// does not tell; no call changes it. `called` is the list of its calls, each with what it asked for and whether that
+/// was given, or `None` where it does not tell. `faults` is a count of faults, which never falls, and rises in no call
+/// that answers anything else than `Failed`.
 pub trait Tree {
     ghost files: { Self → Option (List File) };
+
+    ghost called: { Self → Option (List Called) };
 
     ghost faults: { Self → ℕ };
 
@@ -40,6 +44,8 @@ pub trait Tree {
         ensures no_fault { result ≢ Err (Cause TreeFault.Failed) → faults self.new ≡ faults self.old }
         ensures not_missing { result ≢ Err (Cause TreeFault.Missing) }
         ensures same_files { files self.new ≡ files self.old }
+        ensures calls { OnOk result (CallsOne (called self.old) (called self.new) listing true) }
+        ensures calls_in_vain { OnErr result (CallsOne (called self.old) (called self.new) listing false) }
         ensures never_falls { faults self.old ≤ faults self.new };
 
     /// The first `limit` bytes of the file of this name, or all of them if it is shorter.
@@ -50,5 +56,7 @@ pub trait Tree {
         ensures failed { IsErrOf result (Cause TreeFault.Failed) → Rose (faults self.old) (faults self.new) }
         ensures no_fault { result ≢ Err (Cause TreeFault.Failed) → faults self.new ≡ faults self.old }
         ensures same_files { files self.new ≡ files self.old }
+        ensures calls { OnOk result (CallsOne (called self.old) (called self.new) (reading name.now limit) true) }
+        ensures calls_in_vain { OnErr result (CallsOne (called self.old) (called self.new) (reading name.now limit) false) }
         ensures never_falls { faults self.old ≤ faults self.new };
 }

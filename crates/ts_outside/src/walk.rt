@@ -1,12 +1,11 @@
 //! A walk through a real folder and the folders in it, for the names of the class files.
-ghost use Rattle.std.specs.Prelude.{◌≡◌, ◌≢◌, map, string_bytes, IfOk, IsTrue};
-ghost use Rattle.failure.specs.declared.Failure.TheVariants.{Cause};
+ghost use Rattle.std.specs.Prelude.{map, string_bytes, IfOk, IsTrue};
 ghost use Rattle.std.specs.List.{list_all};
 ghost use Rattle.ts_outside.specs.Files as files;
 ghost use Rattle.ts_outside.specs.Names.{IsClassList};
 
 use crate::held::is_class_name;
-use crate::{TreeFailure, TreeFault};
+use crate::trouble::{Trouble, TroubleFailure, end_of};
 use failure::Failure;
 use std::alloc::{AllocError, Global};
 use std::fs::Metadata;
@@ -40,17 +39,6 @@ struct Walk {
     ghost named: { IsTrue (list_all files.is_class_name (map string_bytes names.items)) },
 }
 
-/// Why a call gives nothing that an error ended: out of memory, or a fault.
-pub(crate) fn end_of(error: io::Error) -> TreeFailure
-    ensures { result ≢ Cause TreeFault.Missing }
-{
-    if error.kind() == io::ErrorKind::OutOfMemory {
-        Failure::OutOfMemory
-    } else {
-        Failure::Cause(TreeFault::Failed)
-    }
-}
-
 /// One text after the other.
 pub(crate) fn joined(alloc: Global, front: &str, back: &str) -> Result<String, AllocError> {
     let mut text = String::from_str(alloc, front)?;
@@ -63,8 +51,7 @@ pub(crate) fn class_names<R: Files>(
     rt: &R,
     alloc: Global,
     path: &str,
-) -> Result<Vec<String>, TreeFailure>
-    ensures not_missing { result ≢ Err (Cause TreeFault.Missing) }
+) -> Result<Vec<String>, TroubleFailure>
     ensures class_names { IfOk result (λ names. IsClassList (map string_bytes names.items)) }
 {
     let mut walk = Walk::new(alloc)?;
@@ -74,7 +61,7 @@ pub(crate) fn class_names<R: Files>(
         };
         walk.take_folder(rt, alloc, path, &folder)?;
     }
-    Err(Failure::Cause(TreeFault::Failed))
+    Err(Failure::Cause(Trouble::TooMany))
 }
 
 impl Walk {
@@ -93,8 +80,7 @@ impl Walk {
     }
 
     /// The names that were found, in byte order.
-    fn sorted_names(self) -> Result<Vec<String>, TreeFailure>
-        ensures not_missing { result ≢ Err (Cause TreeFault.Missing) }
+    fn sorted_names(self) -> Result<Vec<String>, TroubleFailure>
         ensures class_names { IfOk result (λ names. IsClassList (map string_bytes names.items)) }
     {
         let Walk {
@@ -113,9 +99,7 @@ impl Walk {
         alloc: Global,
         path: &str,
         folder: &Folder,
-    ) -> Result<(), TreeFailure>
-        ensures { result ≢ Err (Cause TreeFault.Missing) }
-    {
+    ) -> Result<(), TroubleFailure> {
         let path = joined(alloc, path, folder.name.as_str())?;
         for entry in fs::read_dir(&(rt, alloc), path.as_str()).map_err(end_of)? {
             let entry = entry.map_err(end_of)?;
@@ -126,31 +110,33 @@ impl Walk {
     }
 
     /// Takes an entry of the folder: a folder is to be walked, and a regular file is listed if its name is
-    /// that of a class file. An entry too many or a level too many fails.
+    /// that of a class file. What has such a name and is no regular file fails, and so does an entry too many or a
+    /// level too many.
     fn take_entry(
         &mut self,
         alloc: Global,
         folder: &Folder,
         file_name: &str,
         metadata: &Metadata,
-    ) -> Result<(), TreeFailure>
-        ensures { result ≢ Err (Cause TreeFault.Missing) }
-    {
+    ) -> Result<(), TroubleFailure> {
         if self.entries >= MOST_ENTRIES {
-            return Err(Failure::Cause(TreeFault::Failed));
+            return Err(Failure::Cause(Trouble::TooMany));
         }
         self.entries += 1;
         let mut name = joined(alloc, folder.name.as_str(), file_name)?;
         if metadata.is_dir() {
             if folder.level >= MOST_LEVELS {
-                return Err(Failure::Cause(TreeFault::Failed));
+                return Err(Failure::Cause(Trouble::TooDeep));
             }
             name.push('/')?;
             self.pending.push(Folder {
                 name,
                 level: folder.level + 1,
             })?;
-        } else if metadata.is_file() && is_class_name(name.as_str()) {
+        } else if is_class_name(name.as_str()) {
+            if !metadata.is_file() {
+                return Err(Failure::Cause(Trouble::NoFile));
+            }
             self.names.push(name)?;
         }
         Ok(())

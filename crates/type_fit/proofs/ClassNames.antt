@@ -5,14 +5,14 @@ use Rattle.std.specs.List.{AllByRecursion, list_all, join_with_byte}
 use Rattle.std.proofs.lemmas.Bool.{false≢true, and_parts, not-true, or_parts}
 use Rattle.std.proofs.lemmas.List.{append-nil}
 use Rattle.std.proofs.lemmas.List.Elements.{All-contains, recursion_from_All}
-use Rattle.class_index.proofs.ListPlaces.{at_map}
+use Rattle.list_laws.proofs.Places.{at_map, contains_at}
 use Rattle.jvm_model.specs.LinkedPrograms.{IsProgram, class_names}
 use Rattle.jvm_model.specs.Names.{is_name_byte, is_unqualified_name, IsClassName}
 use Rattle.jvm_model.specs.Programs.{Class, Program}
 use Rattle.jvm_model.specs.Soundness.{is_array}
 use Rattle.jvm_model.specs.Subtypes.{class_named, IsDirectSuper, IsSubtype, same, below}
 use Rattle.linked_program.specs.Numbers.{name_at, IsClassNumber}
-use Rattle.hierarchy.proofs.ClassPlaces.{IsNowhere, class_of_number, contained, number_named, somewhere, supers_of}
+use Rattle.hierarchy.proofs.ClassPlaces.{IsNowhere, class_of_number, number_named, somewhere, supers_of}
 use Rattle.type_fit.specs.Casts.{IsClassBelow}
 
 -- ---- no class has the name of an array
@@ -40,7 +40,7 @@ name_plain name is =
 pub class_plain : (p : Program) → IsProgram p → (name : List ℕ) (c : Class) → class_named p name ≡ Some c → is_array name ≡ false
 class_plain p program name c named =
     let at = number_named p name c named in
-    let there = contained (class_names p) at.0 c.name (at_map (λ (d : Class). d.name) p.classes at.0 c at.1) in
+    let there = contains_at (class_names p) at.0 c.name (at_map (λ (d : Class). d.name) p.classes at.0 c at.1) in
     ap is_array (sym at.2) ∙ name_plain c.name (All-contains IsClassName (class_names p) c.name program.named there)
 
 -- ---- what is above a class

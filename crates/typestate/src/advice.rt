@@ -1,5 +1,6 @@
 //! What is said on standard error beside the answer of a run that is no report: what to do about it.
 
+use crate::escaped::escaped;
 use crate::sentences::{reason_named, sentence_on};
 use command_words::{Request, UsageFault, read_words};
 use failure::Failure;
@@ -10,7 +11,7 @@ use std::alloc::Global;
 use std::fmt::Display;
 use stub_file::read_stubs;
 use toml_tables::DOCUMENT_LIMIT;
-use ts_outside::Tree;
+use ts_outside::{Tree, Trouble};
 
 /// One more than the most bytes of a property file or a stub file, so that a longer one is seen.
 const DOCUMENT_BYTES: u32 = DOCUMENT_LIMIT as u32 + 1;
@@ -29,19 +30,21 @@ const WRITE_FAULT: &str = "Standard output took no more.";
 
 const NO_MEMORY: &str = "There is not enough memory.";
 
-/// Says what to do where a run ended so, with this word at the end of its line. Nothing is said beside a report.
+/// Says what to do where a run ended so, with this trouble of its folder and with this word at the end of its line. Nothing is said beside a
+/// report.
 pub(crate) fn advise<R: Eprint, T: Tree>(
     rt: &R,
     alloc: Global,
     words: &[String],
     tree: &mut T,
     status: Status,
+    trouble: Option<Trouble>,
     last_word: &[u8],
 ) {
     match status {
         Status::AllSafe | Status::SomeUnproved | Status::RejectedCertificate => {}
         Status::Refused => advise_on_refusal(rt, alloc, words, tree, last_word),
-        Status::ReadFault => say(rt, READ_FAULT),
+        Status::ReadFault => say_trouble(rt, trouble),
         Status::WriteFault => say(rt, WRITE_FAULT),
         Status::Usage => match read_words(alloc, words) {
             Ok(_) => say(rt, MISSING),
@@ -50,6 +53,16 @@ pub(crate) fn advise<R: Eprint, T: Tree>(
             Err(Failure::OutOfMemory) => say(rt, NO_MEMORY),
         },
         Status::Memory => say(rt, NO_MEMORY),
+    }
+}
+
+/// Says why a file or a folder cannot be read.
+fn say_trouble<R: Eprint>(rt: &R, trouble: Option<Trouble>) {
+    match trouble {
+        Some(trouble) => {
+            let _ = eprintln!(rt; "typestate: Reading failed: {trouble}.");
+        }
+        None => say(rt, READ_FAULT),
     }
 }
 
@@ -89,7 +102,7 @@ fn say_property_fault<R: Eprint, T: Tree>(
     };
     match read_property(alloc, &bytes) {
         Err(Failure::Cause(fault)) => {
-            say_of_file(rt, request.property, &fault);
+            say_of_file(rt, alloc, request.property, &fault);
             true
         }
         _ => false,
@@ -105,13 +118,24 @@ fn say_stub_fault<R: Eprint, T: Tree>(rt: &R, alloc: Global, request: &Request<'
         return;
     };
     if let Err(Failure::Cause(fault)) = read_stubs(alloc, name, &bytes) {
-        say_of_file(rt, name, &fault);
+        say_of_file(rt, alloc, name, &fault);
     }
 }
 
-/// Says something of a file on standard error. Where that takes nothing, nothing is said.
-fn say_of_file<R: Eprint>(rt: &R, file: &str, fault: &impl Display) {
-    let _ = eprintln!(rt; "typestate: {file}: {fault}");
+/// Says something of a file on standard error, where no name in it can end a line. Where there is no memory for it, nothing is said.
+fn say_of_file<R: Eprint>(rt: &R, alloc: Global, file: &str, fault: &impl Display) {
+    let Ok(fault) = fault.to_string(alloc) else {
+        return;
+    };
+    let (Ok(file), Ok(fault)) = (
+        escaped(alloc, file.as_bytes()),
+        escaped(alloc, fault.as_bytes()),
+    ) else {
+        return;
+    };
+    if let (Ok(file), Ok(fault)) = (str::from_utf8(&file), str::from_utf8(&fault)) {
+        let _ = eprintln!(rt; "typestate: {file}: {fault}");
+    }
 }
 
 /// Says a sentence on standard error. Where that takes nothing, nothing is said.

@@ -3,11 +3,14 @@
 #![tactic(auto)]
 
 mod advice;
+mod ended;
+mod escaped;
 mod folder;
 mod kept_line;
 mod sentences;
 
 use crate::advice::advise;
+use crate::ended::Ended;
 use crate::folder::folder_of;
 use crate::kept_line::KeptLine;
 use std::alloc::{AllocError, Global};
@@ -16,25 +19,33 @@ use std::io::ErrorKind;
 use std::process::ExitCode;
 use std::rt::Env;
 use ts_outside::{RealSink, RealTree};
-use typestate_core::{Status, run};
 
 fn main(rt: HostRuntime) -> ExitCode {
     match verify(rt) {
-        Ok(status) => ExitCode::from(status.code()),
-        Err(AllocError) => ExitCode::from(Status::Memory.code()),
+        Ok(ended) => ExitCode::from(ended.exit_code()),
+        Err(AllocError) => ExitCode::from(Ended::without_memory().exit_code()),
     }
 }
 
-/// Runs the verifier on the words of the program.
-fn verify(rt: HostRuntime) -> Result<Status, AllocError> {
+/// Runs the verifier on the words of the program, and says what to do about its end.
+fn verify(rt: HostRuntime) -> Result<Ended, AllocError> {
     let alloc = rt.alloc();
     let words = words_of(&rt)?;
     let folder = String::from_str(alloc, folder_of(&words))?;
     let mut tree = RealTree::new(rt.clone()?, folder);
     let mut out = KeptLine::new(alloc, RealSink::new(rt.clone()?));
-    let status = run(alloc, &words, &mut tree, &mut out);
-    advise(&rt, alloc, &words, &mut tree, status, out.last_word());
-    Ok(status)
+    let ended = Ended::of_run(alloc, &words, &mut tree, &mut out);
+    let trouble = tree.trouble();
+    advise(
+        &rt,
+        alloc,
+        &words,
+        &mut tree,
+        ended.status(),
+        trouble,
+        out.last_word(),
+    );
+    Ok(ended)
 }
 
 /// The words after the program's name. Words that are no text are as good as none: they ask for nothing.

@@ -35,7 +35,7 @@ abbrev Told : {E : Type 0} → Option (List File) → Result Answer E → (List 
 Told o r Q = IfOk r (λ a. IfSome o (λ files. Q files a.status (lines_of a)))
 
 -- The answer is one line.
-abbrev SaysLine : {E : Type 0} → Result Answer E → Status → List ℕ → Type 0
+abbrev pub SaysLine : {E : Type 0} → Result Answer E → Status → List ℕ → Type 0
 SaysLine r is line = IfOk r (λ a. Says a is (line ∷ []))
 
 pub said : {E : Type 0} (o : Option (List File)) (r : Result Answer E) (is : Status) (line : List ℕ) (Q : List File → Status → List (List ℕ) → Type 0) → SaysLine r is line
@@ -66,10 +66,10 @@ usable_told o r words w asks told = goes_on o o r (λ files s l. PropertyOutcome
 -- ---- a file that was read up to a limit
 
 -- The first bytes of the file of the name, where the tree tells its files.
-abbrev IsRead : Option (List File) → List ℕ → ℕ → List ℕ → Type 0
+abbrev pub IsRead : Option (List File) → List ℕ → ℕ → List ℕ → Type 0
 IsRead o name n bytes = IfSome o (λ held. option_map (take n) (file_at held name) ≡ Some bytes)
 
-read_of : (o : Option (List File)) (name : List ℕ) (n : ℕ) (bytes : List ℕ) (files : List File) → IsRead o name n bytes → o ≡ Some files
+pub read_of : (o : Option (List File)) (name : List ℕ) (n : ℕ) (bytes : List ℕ) (files : List File) → IsRead o name n bytes → o ≡ Some files
     → (whole : List ℕ) × (file_at files name ≡ Some whole) × (take n whole ≡ bytes)
 read_of o name n bytes files read e =
     whole_of (file_at files name) n bytes (at_some o (λ held. option_map (take n) (file_at held name) ≡ Some bytes) files e read)

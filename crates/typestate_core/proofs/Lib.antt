@@ -3,10 +3,10 @@ pub mod Stages
 pub mod Wholes
 pub mod Judging
 pub mod ProgramJudging
-pub mod Objects
 pub mod ReadStubs
 pub mod PlainFacts
 pub mod Reported
+pub mod CallOrder
 pub mod Cutting
 pub mod TextLines
 pub mod Written

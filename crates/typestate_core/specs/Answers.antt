@@ -1,8 +1,10 @@
 -- Public contracts rest on this module.
 -- What a run answers, what the sink has taken then, and what was handed to it.
-use Rattle.std.specs.Prelude.{◌≡◌, ℕ, List, [], Option}
+use Rattle.std.specs.Prelude.{◌≡◌, ℕ, Bool, false, List, [], Option, Result, Ok, Err}
 use Rattle.ts_outside.specs.Files.{File}
 use Rattle.ts_outside.specs.Handed.{Handed}
+use Rattle.failure.specs.declared.Failure.{Failure}
+use Rattle.failure.specs.declared.Failure.TheVariants.{Cause, OutOfMemory}
 use Rattle.jvm_model.specs.declared.automaton.Automaton.{Automaton}
 use Rattle.jvm_model.specs.declared.program.NamedClass.{NamedClass}
 use Rattle.jvm_model.specs.declared.stub.StubClass.{StubClass}
@@ -14,6 +16,7 @@ use Rattle.typestate_core.specs.declared.answer.ReadFault.{ReadFault as Unread}
 use Rattle.run_outcomes.specs.Inputs.{Input}
 use Rattle.run_outcomes.specs.Outcomes.{Outcome}
 use Rattle.folder_report.specs.Texts.{text_of}
+use Rattle.typestate_core.specs.ReadingOrder.{is_report}
 use Rattle.typestate_core.specs.Output.{TakesAll, TakesFront, Hands, HandsInVain, lines_in}
 
 -- The lines of an answer: its text is cut after each newline.
@@ -81,3 +84,14 @@ IsReportOrFault RejectedCertificate = ⊥
 IsReportOrFault ReadFault = Unit {0}
 IsReportOrFault WriteFault = Unit {0}
 IsReportOrFault Memory = Unit {0}
+
+-- Whether what was judged is a report.
+abbrev pub reports : {E : Type 0} → Result Answer E → Bool
+reports (Ok a) = is_report a.status
+reports (Err failure) = false
+
+-- Where the words ask for nothing, that is said, or memory ran out.
+abbrev pub SaysUsage : Result Answer (Failure Unread) → Type 0
+SaysUsage (Ok a) = a.status ≡ Usage
+SaysUsage (Err (Cause fault)) = ⊥
+SaysUsage (Err OutOfMemory) = Unit {0}

@@ -6,7 +6,8 @@ ghost use Rattle.jvm_model.specs.Automata.{IsAutomaton};
 ghost use Rattle.jvm_model.specs.StubRules.{IsSoundStub};
 ghost use Rattle.ts_outside.specs.Counts.{Rose};
 ghost use Rattle.command_words.specs.Requests.{wanted_of};
-ghost use Rattle.typestate_core.specs.Answers.{IsReported, lines_of, read_fault};
+ghost use Rattle.typestate_core.specs.Answers.{IsReported, SaysUsage, lines_of, read_fault, reports};
+ghost use Rattle.typestate_core.specs.ReadingOrder.{AsksInOrder, FolderCalls, IsMisused, PropertyCalls, RunCalls, StubCalls};
 ghost use Rattle.run_outcomes.specs.Outcomes.{FolderOutcome, Outcome, PropertyOutcome, StubOutcome};
 
 use crate::answer::{Answer, ReadFault, RunFailure, miss, misuse, refuse};
@@ -33,6 +34,11 @@ pub(crate) fn judge<T: Tree>(
     ensures reported { IfOk result (λ a. IsReported a.status) }
     ensures read_fault { IsErrOf result (Cause read_fault) → Rose (T.faults tree.old) (T.faults tree.new) }
     ensures no_fault { result ≢ Err (Cause read_fault) → T.faults tree.new ≡ T.faults tree.old }
+    ensures same_files { T.files tree.new ≡ T.files tree.old }
+    ensures never_falls { T.faults tree.old ≤ T.faults tree.new }
+    ensures calls { AsksInOrder (T.called tree.old) (T.called tree.new) (RunCalls (map string_bytes words.now) (T.files tree.old) (reports result)) }
+    ensures unread { IsMisused (map string_bytes words.now) → tree.new ≡ tree.old }
+    ensures misused { IsMisused (map string_bytes words.now) → SaysUsage result }
 {
     match read_words(alloc, words) {
         Ok(request) => judge_request(alloc, &request, tree),
@@ -52,6 +58,9 @@ fn judge_request<T: Tree>(
     ensures reported { IfOk result (λ a. IsReported a.status) }
     ensures read_fault { IsErrOf result (Cause read_fault) → Rose (T.faults tree.old) (T.faults tree.new) }
     ensures no_fault { result ≢ Err (Cause read_fault) → T.faults tree.new ≡ T.faults tree.old }
+    ensures same_files { T.files tree.new ≡ T.files tree.old }
+    ensures never_falls { T.faults tree.old ≤ T.faults tree.new }
+    ensures calls { AsksInOrder (T.called tree.old) (T.called tree.new) (PropertyCalls (T.files tree.old) (wanted_of request.now) (reports result)) }
 {
     let bytes = match tree.read(alloc, request.property, DOCUMENT_BYTES) {
         Ok(bytes) => bytes,
@@ -86,6 +95,9 @@ fn judge_property<T: Tree>(
     ensures reported { IfOk result (λ a. IsReported a.status) }
     ensures read_fault { IsErrOf result (Cause read_fault) → Rose (T.faults tree.old) (T.faults tree.new) }
     ensures no_fault { result ≢ Err (Cause read_fault) → T.faults tree.new ≡ T.faults tree.old }
+    ensures same_files { T.files tree.new ≡ T.files tree.old }
+    ensures never_falls { T.faults tree.old ≤ T.faults tree.new }
+    ensures calls { AsksInOrder (T.called tree.old) (T.called tree.new) (StubCalls (T.files tree.old) (wanted_of request.now) (reports result)) }
 {
     let Some(name) = request.stubs else {
         return judge_stubs(alloc, request, automaton, Vec::new(alloc), tree);
@@ -129,7 +141,9 @@ fn judge_stubs<T: Tree>(
     ensures reported { IfOk result (λ a. IsReported a.status) }
     ensures read_fault { IsErrOf result (Cause read_fault) → Rose (T.faults tree.old) (T.faults tree.new) }
     ensures no_fault { result ≢ Err (Cause read_fault) → T.faults tree.new ≡ T.faults tree.old }
+    ensures same_files { T.files tree.new ≡ T.files tree.old }
     ensures never_falls { T.faults tree.old ≤ T.faults tree.new }
+    ensures calls { AsksInOrder (T.called tree.old) (T.called tree.new) (FolderCalls (T.files tree.old) (reports result)) }
 {
     match read_classes(alloc, tree) {
         Ok(classes) => judge_classes(alloc, request, automaton, stubs, classes),

@@ -15,6 +15,7 @@ fn write_line<S: Sink>(out: &mut S, line: &[u8]) -> Result<(), SinkFailure>
     ensures pieces_front { OnErr result (HandsInVain (S.handed out.old) (S.handed out.new) (line.now ∷ [])) }
     ensures failed { OnErr result (Rose (S.faults out.old) (S.faults out.new)) }
     ensures no_fault { OnOk result (S.faults out.new ≡ S.faults out.old) }
+    ensures never_falls { S.faults out.old ≤ S.faults out.new }
 {
     let mut rest = line;
     while !rest.is_empty() {
@@ -48,6 +49,7 @@ pub(crate) fn write_lines<S: Sink>(out: &mut S, text: &[u8]) -> Result<(), SinkF
     ensures pieces_front { OnErr result (HandsInVain (S.handed out.old) (S.handed out.new) (lines_in text.now)) }
     ensures failed { OnErr result (Rose (S.faults out.old) (S.faults out.new)) }
     ensures no_fault { OnOk result (S.faults out.new ≡ S.faults out.old) }
+    ensures never_falls { S.faults out.old ≤ S.faults out.new }
 {
     let mut rest = text;
     while !rest.is_empty() {

@@ -5,9 +5,7 @@ ghost use Rattle.failure.specs.declared.Failure.TheVariants.{OutOfMemory};
 ghost use Rattle.jvm_model.specs.Automata.{IsAutomaton};
 ghost use Rattle.jvm_model.specs.declared.number.MethodNo.{MethodNo as RuleMethodNo};
 ghost use Rattle.jvm_model.specs.declared.program.NamedClass.{NamedClass as RuleNamedClass};
-ghost use Rattle.jvm_model.specs.Programs.{Class, object_name};
 ghost use Rattle.jvm_model.specs.Soundness.{IsChecked};
-ghost use Rattle.jvm_model.specs.Subtypes.{class_named};
 ghost use Rattle.linked_program.specs.Numbers.{IsMethodNumber, IsClassNumber, name_at};
 ghost use Rattle.jvm_model.specs.StubRules.{IsSoundStub};
 ghost use Rattle.command_words.specs.Requests.{wanted_of};
@@ -82,7 +80,6 @@ fn judge_program(
 ) -> Result<Answer, RunFailure>
     requires stages { 1 ≤ request.now.stages }
     requires automaton { IsAutomaton automaton.now }
-    requires object { (object : Class) × (class_named program.now object_name ≡ Some object) }
     ensures told { IfOk result (λ a. OfInputs (wanted_of request.now) automaton.now (λ i.
         IsTrue named ↔ NamesMethod i.classes request.now.class.now request.now.method.now → EntryOutcome i program.now a.status (lines_of a))) }
     ensures reported { IfOk result (λ a. IsReported a.status) }
@@ -106,7 +103,6 @@ fn judge_entry(
     requires stages { 1 ≤ request.now.stages }
     requires automaton { IsAutomaton automaton.now }
     requires entry { IsMethodNumber program.now entry.0 }
-    requires object { (object : Class) × (class_named program.now object_name ≡ Some object) }
     ensures told { IfOk result (λ a. OfInputs (wanted_of request.now) automaton.now (λ i. ClassOutcome i program.now entry a.status (lines_of a))) }
     ensures reported { IfOk result (λ a. IsReported a.status) }
     ensures memory { IfErr result (λ e. e ≡ OutOfMemory) }
@@ -130,7 +126,6 @@ fn judge_analysis(
     requires stages { 1 ≤ request.now.stages }
     requires automaton { IsAutomaton automaton.now }
     requires entry { IsMethodNumber program.now entry.0 }
-    requires object { (object : Class) × (class_named program.now object_name ≡ Some object) }
     requires class { IsClassNumber program.now class.0 }
     requires named { name_at program.now class.0 ≡ automaton.now.class_name }
     ensures told { IfOk result (λ a. OfInputs (wanted_of request.now) automaton.now (λ i. AnalysisOutcome i program.now entry a.status (lines_of a))) }

@@ -1,6 +1,6 @@
 //! The run: the checks in their order, and then the writing of the lines.
 
-ghost use Rattle.std.specs.Prelude.{◌≡◌, ◌≢◌, ℕ, List, map, string_bytes, IfSome};
+ghost use Rattle.std.specs.Prelude.{◌≡◌, ◌≢◌, ℕ, ◌≤◌, List, map, string_bytes, IfSome};
 ghost use Rattle.ts_outside.specs.Counts.{Rose};
 ghost use Rattle.run_truth.specs.Truth.{SaysSafe};
 ghost use Rattle.run_outcomes.specs.Inputs.{HaveDifferentNames};
@@ -8,6 +8,7 @@ ghost use Rattle.run_outcomes.specs.WholeInputs.{IsWholeInput};
 ghost use Rattle.run_truth.specs.Claims.{IsTrueOfRun, KeepsProtocol, WroteLine};
 ghost use Rattle.run_truth.specs.Reports.{IsReportedOfRun};
 ghost use Rattle.typestate_core.specs.Answers.{AnswersRun, HandsRun, IsReportOrFault};
+ghost use Rattle.typestate_core.specs.ReadingOrder.{AsksInOrder, IsMisused, IsUsageEnd, RunCalls, is_report};
 
 use crate::answer::{Answer, ReadFault};
 use crate::files::judge;
@@ -30,6 +31,9 @@ use ts_outside::{Sink, Tree};
 /// analysis. Of an input in which nothing is missing and nothing is refused there is a report, but for faults of reading or writing and for want of
 /// memory.
 ///
+/// Where the words ask for nothing, the tree is as it was, whatever it holds. Else it is asked for the property file, then for the stub file if the words name
+/// one, then for the listing, and then for each class file in the order of the names; and for nothing more once something is not given or is refused.
+///
 /// Where the tree tells its files, a line `safe ..` that the sink took in this run is true of the executions of the bytecode of the program that words and
 /// files give: in no state of any of them, of any length, is an object of that site in the error state. The site is one that the report is about. Where the
 /// status is `AllSafe`, the same holds of each site at which the program, or a stub, makes objects of the property's class or of one below it.
@@ -46,6 +50,13 @@ pub fn run<T: Tree, S: Sink>(alloc: Global, words: &[String], tree: &mut T, out:
     ensures no_write_fault { result ≢ Status.WriteFault → S.faults out.new ≡ S.faults out.old }
     ensures silent { result ≡ Status.ReadFault → out.new ≡ out.old }
     ensures silent_without_memory { result ≡ Status.Memory → out.new ≡ out.old }
+    ensures calls { AsksInOrder (T.called tree.old) (T.called tree.new) (RunCalls (map string_bytes words.now) (T.files tree.old) (is_report result)) }
+    ensures unread { IsMisused (map string_bytes words.now) → tree.new ≡ tree.old }
+    ensures misused { IsMisused (map string_bytes words.now) → IsUsageEnd result }
+    ensures no_certificate { result ≢ Status.RejectedCertificate }
+    ensures same_files { T.files tree.new ≡ T.files tree.old }
+    ensures tree_never_falls { T.faults tree.old ≤ T.faults tree.new }
+    ensures sink_never_falls { S.faults out.old ≤ S.faults out.new }
 {
     whole_input_is_reported();
     written_safe_lines_are_true();
@@ -69,6 +80,13 @@ fn judge_and_write<T: Tree, S: Sink>(
     ensures no_write_fault { result ≢ Status.WriteFault → S.faults out.new ≡ S.faults out.old }
     ensures silent { result ≡ Status.ReadFault → out.new ≡ out.old }
     ensures silent_without_memory { result ≡ Status.Memory → out.new ≡ out.old }
+    ensures calls { AsksInOrder (T.called tree.old) (T.called tree.new) (RunCalls (map string_bytes words.now) (T.files tree.old) (is_report result)) }
+    ensures unread { IsMisused (map string_bytes words.now) → tree.new ≡ tree.old }
+    ensures misused { IsMisused (map string_bytes words.now) → IsUsageEnd result }
+    ensures no_certificate { result ≢ Status.RejectedCertificate }
+    ensures same_files { T.files tree.new ≡ T.files tree.old }
+    ensures tree_never_falls { T.faults tree.old ≤ T.faults tree.new }
+    ensures sink_never_falls { S.faults out.old ≤ S.faults out.new }
 {
     match judge(alloc, words, tree) {
         Ok(Answer { status, text }) => match write_lines(out, &text) {

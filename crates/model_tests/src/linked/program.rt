@@ -61,7 +61,7 @@ fn field(alloc: Global) -> Result<StubField, AllocError>
 
 /// The class java/lang/Object, with the constructor and the field.
 fn object_class(alloc: Global) -> Result<StubClass, AllocError>
-    ensures sound { IfOk result IsSoundStub }
+    ensures sound { IfOk result (λ c. IsSoundStub c × (c.is_patch ≡ false)) }
     ensures linkable { IfOk result (λ c. IsLinkable (origins.Stub c ∷ [])) }
 {
     let methods = vec![in alloc; constructor(alloc)?]?;

@@ -12,7 +12,7 @@ pub returns-in-Holds : goal.returns-in-Holds
 returns-in-Holds c =
     let old = c.args.sets.now in
     let new : Sets = record { sites = c.add.new.self; running = old.running; calls = old.calls; targets = old.targets } in
-    on_ok_weaker c.add.result (λ put. rw c.in-Holds.is (holding_taken c.args.tables.now c.in-Holds.place c.in-Holds.site old new put refl refl refl)) c.add.ensures
+    on_ok_weaker c.add.result (λ put. rw c.in-Holds.is (holding_taken c.args.tables.now c.in-Holds.place c.in-Holds.site old new put refl refl refl)) c.add.ensures.put
 
 pub returns-in_ok-insert-in-Runs : goal.returns-in_ok-insert-in-Runs
 returns-in_ok-insert-in-Runs c =

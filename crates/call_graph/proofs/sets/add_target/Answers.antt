@@ -15,4 +15,4 @@ returns c =
     let new : Sets = record { sites = old.sites; running = old.running; calls = c.insert_full.new.self; targets = c.add_at.new.self } in
     let calls = inserted same_calls tells_calls.exact tells_calls.itself old.calls.keys keys c.args.call number c.in_ok-number.ensures.keys c.in_ok-number.ensures.stored in
     let apart = apart_from_distinct_keys same_calls tells_calls keys c.in_ok-number.ensures.unique in
-    on_ok_weaker c.add_at.result (λ put. target_added old new c.args.call c.args.target number calls apart put refl refl) c.add_at.ensures
+    on_ok_weaker c.add_at.result (λ put. target_added old new c.args.call c.args.target number calls apart put refl refl) c.add_at.ensures.put

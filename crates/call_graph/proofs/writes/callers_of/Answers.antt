@@ -10,4 +10,4 @@ loop-edge-preserved c =
     let k = c.loop-edge.edge-index in
     let past : Edge = record { callee = record { 0 = 0 }; caller = record { 0 = 0 } } in
     let at = slice_get-get_or edges k past c.loop-edge-test.true in
-    record { are = one_caller_more edges k (get_or edges k past) at c.loop-edge.callers.groups.items c.add.new.self.groups.items c.in_ok-add.ensures c.loop-edge.invariant.are }
+    record { are = one_caller_more edges k (get_or edges k past) at c.loop-edge.callers.groups.items c.add.new.self.groups.items c.in_ok-add.ensures.put c.loop-edge.invariant.are }

@@ -1,9 +1,9 @@
 use Rattle.std.proofs.Common.{◌≡◌, ℕ, true, length, subst, arith, inl, inr}
 use Rattle.std.proofs.lemmas.Bool.{cases_lt}
 use Rattle.std.proofs.lemmas.List.Elements.{All-nil}
+use Rattle.list_laws.proofs.Places.{stands_below}
 use Rattle.class_index.specs.ClassSets.{has}
 use Rattle.class_index.specs.Sorting.{IsHeld}
-use Rattle.class_index.proofs.OrderPlaces.{stands_below}
 use Rattle.class_index.proofs.Placing.{held_less, held_on}
 use Rattle.class_index.proofs.order.settle_each.Goals as goal
 

@@ -1,6 +1,7 @@
 use Rattle.std.proofs.Common.{◌≡◌, ℕ, ◌+◌, true, List, length, sym, ap, ◌∙◌, subst, arith}
 use Rattle.std.specs.List.{flat_map, list_any}
 use Rattle.std.proofs.lemmas.Option.{same_Some}
+use Rattle.list_laws.proofs.Places.{contains_at}
 use Rattle.jvm_model.specs.declared.class_file.Attribute.{Attribute}
 use Rattle.jvm_model.specs.declared.class_file.Member.{Member}
 use Rattle.jvm_model.specs.declared.pool.PoolEntry.{PoolEntry}
@@ -8,7 +9,7 @@ use Rattle.jvm_model.specs.Soundness.{is_code}
 use Rattle.jvm_model.specs.Spelling.{attribute}
 use Rattle.jvm_model.proofs.CodePlaces.{before_fits, place_fits}
 use Rattle.code_reader.specs.Bodies.{TellsBody}
-use Rattle.code_reader.proofs.ToldCodes.{Contains-from_slice_get, stands_there, found_at, body_fits, tells}
+use Rattle.code_reader.proofs.ToldCodes.{stands_there, found_at, body_fits, tells}
 use Rattle.code_reader.proofs.read.read_code_at.Goals as goal
 
 pub found_code-found-requires-clause-size : goal.found_code-found-requires-clause-size
@@ -56,7 +57,7 @@ locals_taken-requires-clause-there c =
     let class = c.args.class.now in
     let owner = c.index-as_slice-method.result in
     let there = stands_there class c.args.method c.requires.code.owner _ owner c.as_slice.result.now c.requires.code.there c.as_slice.ensures c.index-as_slice-method.is in
-    Contains-from_slice_get class.methods c.args.method owner there
+    contains_at class.methods c.args.method owner there
 
 pub read_body-requires : goal.read_body-requires
 read_body-requires c =

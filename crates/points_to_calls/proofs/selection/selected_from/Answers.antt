@@ -3,7 +3,7 @@ use Rattle.std.proofs.lemmas.Bool.{false≢true}
 use Rattle.jvm_model.specs.Selection.{Selection}
 use Rattle.jvm_model.specs.Subtypes.{Fits}
 use Rattle.bytecode_machine.specs.Machine.{selecting_class}
-use Rattle.hierarchy.proofs.ClassPlaces.{method_there, somewhere}
+use Rattle.hierarchy.proofs.ClassPlaces.{class_of_method, class_there, contained, method_there, somewhere}
 use Rattle.linked_program.specs.Numbers.{method_number}
 use Rattle.program_laws.proofs.Calls.{one_call_outcome}
 use Rattle.points_to_calls.proofs.ChosenTargets.{selecting_there}
@@ -23,7 +23,11 @@ returns-then-not-fits c = λ s e outcome (receiver, selection).
 pub returns-in_default : goal.returns-in_default
 returns-in_default c = λ s e outcome (receiver, selection).
     let p = c.args.program.now in
-    let (class, named) = selecting_there p receiver.method.class s.class receiver.fits c.requires.object in
+    let program = c.well_formed-2.ensures.program in
+    let of = class_of_method p program c.args.resolved.0 receiver.method receiver.stands in
+    let declaring = class_there p of.0 of.1 in
+    let object = c.well_formed-2.ensures.root declaring.0 (contained p.classes of.0 declaring.0 declaring.1) in
+    let (class, named) = selecting_there p receiver.method.class s.class receiver.fits object in
     somewhere p (selecting_class s.class) class named
     (λ n within is. c.in_default.ensures.none n within (is ∙ sym (c.selecting_class.ensures ∙ ap selecting_class e)))
 

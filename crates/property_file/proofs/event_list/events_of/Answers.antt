@@ -1,6 +1,7 @@
 use Rattle.std.proofs.Common.{arith}
+use Rattle.list_laws.proofs.Zips.{zip_more}
 use Rattle.property_file.specs.Reading.{IsEventTable}
-use Rattle.toml_tables.proofs.Lists.{AllZip-more, AllZip-none}
+use Rattle.toml_tables.proofs.Lists.{AllZip-none}
 use Rattle.toml_tables.proofs.Finding.{Finds-none, Finds-some}
 use Rattle.property_file.proofs.event_list.events_of.Goals as goal
 
@@ -12,5 +13,5 @@ returns-in-None c = λ events.
 pub loop-value-preserved : goal.loop-value-preserved
 loop-value-preserved c =
     rw c.in_ok-push-in-Some.ensures.items
-    (AllZip-more (IsEventTable c.args.states.now c.args.error) c.args.values.now c.loop-value.events.items c.loop-value.value-index c.value-item.result c.in-Some.event (omega arith) c.value-item.is c.loop-value.invariant
+    (zip_more (IsEventTable c.args.states.now c.args.error) c.args.values.now c.loop-value.events.items c.loop-value.value-index c.value-item.result c.in-Some.event (omega arith) c.value-item.is c.loop-value.invariant
     (Finds-some _ c.in_ok-event.field-0 c.in-Some.event c.in-Some.is c.in_ok-event.ensures))

@@ -2,9 +2,9 @@ use Rattle.std.proofs.Common.{◌≡◌, length, sym, ◌∙◌}
 use Rattle.std.proofs.lemmas.Bool.{false≢true}
 use Rattle.std.specs.List.{AllZip}
 use Rattle.std.proofs.lemmas.Slice.Zip.{AllZip-long}
+use Rattle.list_laws.proofs.Zips.{zip_unique}
 use Rattle.toml.specs.View.{table_view}
 use Rattle.property_file.specs.Reading.{IsText}
-use Rattle.toml_tables.proofs.Lists.{AllZip-unique}
 use Rattle.toml_tables.proofs.Finding.{Finds-none, Finds-some}
 use Rattle.property_file.proofs.Parts.{IsText-unique, GivesStates-values, states_value}
 use Rattle.property_file.proofs.state_list.states_at.Goals as goal
@@ -42,7 +42,7 @@ returns-else-are_states c = λ others g.
     let vs = c.in-Some.values.now in
     let states = c.in-Some-2.states in
     let read = Finds-some (AllZip IsText vs) c.in_ok-states.field-0 states c.in-Some-2.is c.in_ok-states.ensures in
-    let same : others ≡ states = AllZip-unique IsText IsText-unique vs others states (GivesStates-values (table_view c.args.table.now) vs others c.in-Some.ensures g) read in
+    let same : others ≡ states = zip_unique IsText IsText-unique vs others states (GivesStates-values (table_view c.args.table.now) vs others c.in-Some.ensures g) read in
     let found : others ≡ c.as_slice.result.now = same ∙ sym c.as_slice.ensures in
     false≢true (sym c.if-are_states.false ∙ c.are_states.ensures.1
     (rw (← found) g.state_names, rw (← found) g.states_differ))

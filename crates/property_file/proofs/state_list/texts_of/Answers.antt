@@ -1,7 +1,8 @@
 use Rattle.std.proofs.Common.{◌≡◌, arith, sym, ◌∙◌}
+use Rattle.list_laws.proofs.Zips.{zip_more}
 use Rattle.toml.specs.View.{view}
 use Rattle.property_file.specs.Reading.{IsText}
-use Rattle.toml_tables.proofs.Lists.{AllZip-more, AllZip-none}
+use Rattle.toml_tables.proofs.Lists.{AllZip-none}
 use Rattle.toml_tables.proofs.Values.{as_str-none, as_str-some}
 use Rattle.property_file.proofs.state_list.texts_of.Goals as goal
 
@@ -14,5 +15,5 @@ pub loop-value-preserved : goal.loop-value-preserved
 loop-value-preserved c =
     let pushed : c.from_string.result ≡ c.in-Some.text.now = c.from_string.ensures ∙ c.in_ok-from_str-in-Some.ensures.ok in
     rw (c.in_ok-push-in-Some.ensures.items, pushed)
-    (AllZip-more IsText c.args.values.now c.loop-value.texts.items c.loop-value.value-index c.value-item.result c.in-Some.text.now (omega arith) c.value-item.is c.loop-value.invariant
+    (zip_more IsText c.args.values.now c.loop-value.texts.items c.loop-value.value-index c.value-item.result c.in-Some.text.now (omega arith) c.value-item.is c.loop-value.invariant
     (as_str-some (view c.value-item.result) c.in-Some.text.now (sym (rw c.in-Some.is at c.as_str.ensures))))

@@ -1,19 +1,11 @@
 use Rattle.std.proofs.Common.{◌≡◌, ◌∙◌, ◌++◌, List, ap, subst}
 use Rattle.failure.specs.declared.Failure.TheVariants.{Cause}
 use Rattle.jvm_model.specs.declared.stub.StubClass.{StubClass}
-use Rattle.jvm_model.specs.LinkedPrograms.{HasStubClasses}
 use Rattle.linked_program.specs.declared.link_failure.LinkFault.TheVariants.{Refused}
 use Rattle.command_words.specs.Requests.{wanted_of}
 use Rattle.run_outcomes.specs.Inputs.{Input, all_stubs}
-use Rattle.typestate_core.proofs.Objects.{has_object}
 use Rattle.typestate_core.proofs.ProgramJudging.{linked_told, unlinked_told}
 use Rattle.typestate_core.proofs.program.judge_classes.Goals as goal
-
-pub judge_program-requires-clause-object : goal.judge_program-requires-clause-object
-judge_program-requires-clause-object c =
-    let stubs = c.args.stubs.items in
-    let all : c.append.new.self.items ≡ all_stubs stubs = c.in_ok-append.ensures.items ∙ ap (λ (xs : List StubClass). xs ++ stubs) c.in_ok-all.ensures.table in
-    has_object c.in-Ok.program stubs c.well_formed-in-Ok.ensures.program (subst (λ (xs : List StubClass). HasStubClasses c.in-Ok.program xs) all c.in-Ok.ensures.base)
 
 pub returns-in-Ok-clause-told : goal.returns-in-Ok-clause-told
 returns-in-Ok-clause-told c =

@@ -1,8 +1,8 @@
 use Rattle.std.proofs.Common.{◌≡◌, ℕ, [], ◌∷◌, ◌++◌, length, List, slice_get, arith, ◌∙◌, ap}
 use Rattle.std.proofs.lemmas.List.{length-map}
 use Rattle.std.specs.Global.{Vec}
+use Rattle.list_laws.proofs.Places.{pushed_at}
 use Rattle.class_index.specs.OwnedTexts.{owned_texts}
-use Rattle.class_index.proofs.ListPlaces.{pushed_at}
 use Rattle.class_index.proofs.TextPlaces.{with_text-old, with_text-new}
 use Rattle.class_index.proofs.text_index.TextIndex.intern.Goals as goal
 

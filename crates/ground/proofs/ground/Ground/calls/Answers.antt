@@ -1,6 +1,6 @@
 use Rattle.std.proofs.Common.{List, sym, subst}
 use Rattle.std.specs.List.{Contains}
-use Rattle.least_sets.proofs.Places.{contains_at}
+use Rattle.list_laws.proofs.Places.{contains_at}
 use Rattle.op_model.specs.declared.node.NodeRef.{NodeRef}
 use Rattle.points_to_rules.specs.Facts.{may_call}
 use Rattle.ground.proofs.Views.{so}

@@ -2,9 +2,11 @@ use Rattle.std.proofs.Common.{subst}
 use Rattle.jvm_model.specs.LinkedPrograms.{IsProgram}
 use Rattle.linked_program.specs.Files.{HaveOneFile}
 use Rattle.linked_program.specs.Ranks.{IsRanked}
+use Rattle.linked_program.specs.Roots.{HasRoot}
 use Rattle.linked_program.proofs.Accessing.{differ, same_size}
 use Rattle.linked_program.proofs.OneFile.{one_file}
 use Rattle.linked_program.proofs.Ranking.{ranked}
+use Rattle.linked_program.proofs.Roots.{has_root}
 use Rattle.linked_program.proofs.program.Program.well_formed.Goals as goal
 
 pub returns-clause-program : goal.returns-clause-program
@@ -17,3 +19,8 @@ returns-clause-ranked c =
 
 pub returns-clause-files : goal.returns-clause-files
 returns-clause-files c = subst HaveOneFile c.self.view_is (one_file c.self.inside.origins.items c.self.invariant.program.differ)
+
+pub returns-clause-root : goal.returns-clause-root
+returns-clause-root c =
+    let falls = ranked c.self.inside.origins.items c.self.inside.parents.items (differ c.self.inside c.self.invariant) c.self.invariant.parents_are c.self.invariant.ordered (same_size c.self.inside c.self.invariant) in
+    subst HasRoot c.self.view_is (has_root c.self.inside.origins.items c.self.invariant.sound c.self.invariant.program.supers falls)

@@ -59,4 +59,4 @@ pub returns-clause-sound : goal.returns-clause-sound
 returns-clause-sound c =
     let methods = c.from_vec-3.ensures ∙ c.in_ok-methods.ensures.items ∙ ap (λ (m : StubMethod). m ∷ []) c.in_ok-constructor.ensures in
     let fields = c.from_vec-4.ensures ∙ c.in_ok-fields.ensures.items ∙ ap (λ (f : StubField). f ∷ []) c.in_ok-field.ensures in
-    sound_as _ _ _ _ _ _ c.in_ok-bytes.ensures (c.from_vec.ensures ∙ c.new.ensures.items) (c.from_vec-2.ensures ∙ c.new-2.ensures.items) methods fields
+    (sound_as _ _ _ _ _ _ c.in_ok-bytes.ensures (c.from_vec.ensures ∙ c.new.ensures.items) (c.from_vec-2.ensures ∙ c.new-2.ensures.items) methods fields, refl)
