@@ -17,7 +17,7 @@ use Rattle.points_to_rules.specs.declared.running_method.RunningMethod.{RunningM
 use Rattle.ground.specs.Findings.{gives_listed}
 use Rattle.ground.specs.Lists.{nodes_of}
 use Rattle.call_graph.specs.Grounds.{GroundInstance}
-use Rattle.class_index.proofs.ListPlaces.{map_at, at_map}
+use Rattle.program_index.proofs.ListPlaces.{map_at, at_map}
 use Rattle.slot_names.proofs.ListPlaces.{contains_at, place_in}
 
 -- A fact of another kind than that a method may write.

@@ -9,13 +9,13 @@ use Rattle.op_model.specs.declared.node.NodeRef.{NodeRef}
 use Rattle.points_to.specs.Solutions.{AreFactsOf}
 use Rattle.points_to.proofs.ItemPlaces.{holding, running, calling, zip_back, rule_is}
 use Rattle.points_to.proofs.PairedFacts.{known_there, fact_there}
-use Rattle.points_to_items.specs.Items.{Item as RuleItem, known}
-use Rattle.points_to_items.proofs.Holders.{zip_place}
+use Rattle.points_to_constraints.specs.Items.{Item as RuleItem, known}
+use Rattle.points_to_constraints.proofs.Holders.{zip_place}
 use Rattle.points_to_rules.specs.Facts.{Holder, Fact, may_hold, may_run, may_call, may_write}
-use Rattle.points_to_tables.specs.declared.item.Item.{Item}
-use Rattle.points_to_tables.specs.declared.item.Item.TheVariants.{Holds, Runs, Calls, Uses}
-use Rattle.points_to_tables.specs.Numbered.{Numbered}
-use Rattle.points_to_tables.specs.Steps.{IsItemAt}
+use Rattle.points_to_numbers.specs.declared.item.Item.{Item}
+use Rattle.points_to_numbers.specs.declared.item.Item.TheVariants.{Holds, Runs, Calls, Uses}
+use Rattle.points_to_numbers.specs.Numbered.{Numbered}
+use Rattle.points_to_numbers.specs.Steps.{IsItemAt}
 use Rattle.ground.specs.declared.lists.Lists.{Lists}
 use Rattle.call_graph.specs.declared.sets.Sets.{Sets}
 use Rattle.ground.specs.Lists.{IsHeldIn, IsTargetIn, holders_of}

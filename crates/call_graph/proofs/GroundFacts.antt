@@ -5,7 +5,7 @@ use Rattle.std.proofs.lemmas.List.Elements.{All-contains, Contains-append_left, 
 use Rattle.jvm_model.specs.declared.number.FieldNo.{FieldNo}
 use Rattle.jvm_model.specs.declared.number.MethodNo.{MethodNo}
 use Rattle.jvm_model.specs.Programs.{Program}
-use Rattle.class_index.proofs.ListPlaces.{map_at, at_map}
+use Rattle.program_index.proofs.ListPlaces.{map_at, at_map}
 use Rattle.least_sets.specs.Rules.{IsClosed, IsDerivable, IsLeast}
 use Rattle.least_sets.proofs.Derivations.{Hold-larger}
 use Rattle.least_sets.proofs.Joined.{derivable_is_closed}
@@ -16,8 +16,8 @@ use Rattle.points_to.specs.Solutions.{AreFactsOf}
 use Rattle.points_to_rules.specs.Facts.{Fact, may_hold, may_run, may_call, may_write}
 use Rattle.points_to_rules.specs.Rules.{IsNodeOf, node_of}
 use Rattle.points_to_rules.specs.Writes.{write, target_writes, initialiser_writes}
-use Rattle.points_to_tables.specs.declared.item.Item.{Item}
-use Rattle.points_to_tables.specs.Numbered.{Numbered}
+use Rattle.points_to_numbers.specs.declared.item.Item.{Item}
+use Rattle.points_to_numbers.specs.Numbered.{Numbered}
 use Rattle.call_graph.specs.declared.edges.Edge.{Edge}
 use Rattle.ground.specs.declared.lists.FieldWrite.{FieldWrite}
 use Rattle.ground.specs.declared.lists.Lists.{Lists}

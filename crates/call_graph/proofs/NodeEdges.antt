@@ -7,11 +7,11 @@ use Rattle.jvm_model.specs.declared.number.FieldNo.{FieldNo}
 use Rattle.jvm_model.specs.declared.number.MethodNo.{MethodNo}
 use Rattle.jvm_model.specs.Programs.{Program}
 use Rattle.grouped_lists.specs.Groups.{values_at}
-use Rattle.class_index.proofs.ListPlaces.{map_at, at_map}
+use Rattle.program_index.proofs.ListPlaces.{map_at, at_map}
 use Rattle.hierarchy.proofs.ClassPlaces.{name_at-at, place_there}
 use Rattle.least_sets.proofs.Places.{place_of, contains_at}
-use Rattle.linked_program.specs.Numbers.{name_at, IsClassNumber}
-use Rattle.node_machine.specs.Nodes.{IsCodedInitialiser}
+use Rattle.program_model.specs.Numbers.{name_at, IsClassNumber}
+use Rattle.machine_nodes.specs.Nodes.{IsCodedInitialiser}
 use Rattle.op_model.specs.declared.lowered.LoweredMethod.{LoweredMethod}
 use Rattle.op_model.specs.declared.node.Node.{Node}
 use Rattle.op_model.specs.declared.op.Op.TheVariants.{Store}

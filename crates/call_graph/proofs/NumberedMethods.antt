@@ -4,9 +4,9 @@ use Rattle.std.specs.List.{slice_get, list_any, Contains}
 use Rattle.indexmap.specs.IndexSet.{insert_key}
 use Rattle.indexmap.proofs.CallerLemmas.{Contains-list_any}
 use Rattle.jvm_model.specs.declared.number.MethodNo.{MethodNo}
-use Rattle.class_index.proofs.ListPlaces.{map_at}
+use Rattle.program_index.proofs.ListPlaces.{map_at}
 use Rattle.least_sets.proofs.Places.{in_front, place_of}
-use Rattle.linked_program.proofs.Pieces.{take_one_more}
+use Rattle.program_model.proofs.Pieces.{take_one_more}
 use Rattle.points_to_rules.specs.declared.running_method.RunningMethod.{RunningMethod}
 use Rattle.ground.specs.Lists.{HaveDifferentNumbers, number_of}
 use Rattle.ground.proofs.ExactKeys.{same_methods, tells_methods}

@@ -4,9 +4,9 @@ use Rattle.std.specs.List.{slice_get}
 use Rattle.std.proofs.lemmas.List.{take_all}
 use Rattle.std.proofs.lemmas.Option.{same_Some}
 use Rattle.jvm_model.specs.declared.site.Site.{Site}
-use Rattle.linked_program.proofs.Pieces.{take_one_more}
-use Rattle.points_to_tables.specs.declared.keys.SiteKey.{SiteKey}
-use Rattle.points_to_tables.specs.Numbered.{Numbered, IsSiteAt}
+use Rattle.program_model.proofs.Pieces.{take_one_more}
+use Rattle.points_to_numbers.specs.declared.keys.SiteKey.{SiteKey}
+use Rattle.points_to_numbers.specs.Numbered.{Numbered, IsSiteAt}
 
 pub read_site : (n : Numbered) (key : SiteKey) (s : Site) (class : List ℕ) → IsSiteAt n key s → slice_get n.classes key.class.0 ≡ Some class
     → s ≡ record { kind = key.kind; method = key.method; offset = key.offset; class = class }

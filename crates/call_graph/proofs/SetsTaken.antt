@@ -9,14 +9,14 @@ use Rattle.grouped_lists.specs.Groups.{values_at, IsPut}
 use Rattle.grouped_lists.specs.declared.groups.Groups.{Groups}
 use Rattle.grouped_lists.proofs.PutValues.{put_there, put_keeps, put_cases}
 use Rattle.least_sets.specs.Rules.{IsWithoutDoubles}
-use Rattle.points_to_items.specs.Items.{CallSite}
-use Rattle.points_to_tables.specs.declared.item.Item.{Item}
-use Rattle.points_to_tables.specs.declared.item.Item.TheVariants.{Holds, Runs, Calls, Uses}
-use Rattle.points_to_tables.specs.declared.keys.CallNo.{CallNo}
+use Rattle.points_to_constraints.specs.Items.{CallSite}
+use Rattle.points_to_numbers.specs.declared.item.Item.{Item}
+use Rattle.points_to_numbers.specs.declared.item.Item.TheVariants.{Holds, Runs, Calls, Uses}
+use Rattle.points_to_numbers.specs.declared.keys.CallNo.{CallNo}
 use Rattle.points_to_rules.specs.declared.place.PlaceNo.{PlaceNo}
-use Rattle.points_to_tables.specs.declared.keys.UserNo.{UserNo}
-use Rattle.points_to_tables.specs.Numbered.{Numbered}
-use Rattle.points_to_tables.proofs.AddedKeys.{IsAdded}
+use Rattle.points_to_numbers.specs.declared.keys.UserNo.{UserNo}
+use Rattle.points_to_numbers.specs.Numbered.{Numbered}
+use Rattle.points_to_numbers.proofs.AddedKeys.{IsAdded}
 use Rattle.op_model.specs.declared.node.NodeRef.{NodeRef}
 use Rattle.call_graph.specs.declared.sets.Sets.{Sets}
 use Rattle.ground.specs.Added.{AreAdded}

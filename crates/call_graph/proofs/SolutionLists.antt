@@ -6,16 +6,16 @@ use Rattle.jvm_model.specs.declared.site.Site.{Site}
 use Rattle.jvm_model.specs.Programs.{Program}
 use Rattle.least_sets.specs.Rules.{IsWithoutDoubles}
 use Rattle.points_to.specs.Solutions.{AreFactsOf}
-use Rattle.points_to_items.specs.Items.{Item as RuleItem}
+use Rattle.points_to_constraints.specs.Items.{Item as RuleItem}
 use Rattle.points_to_rules.specs.declared.place.Place.{Place}
 use Rattle.points_to_rules.specs.declared.running_method.RunningMethod.{RunningMethod}
 use Rattle.points_to_rules.specs.Facts.{Fact, Holder}
 use Rattle.points_to_rules.specs.Places.{IsHolderIn, holder_from}
 use Rattle.points_to_rules.specs.WholeMethods.{IsWholeMethod}
-use Rattle.points_to_tables.specs.declared.item.Item.{Item}
-use Rattle.points_to_tables.specs.declared.item.Item.TheVariants.{Holds}
-use Rattle.points_to_tables.specs.Numbered.{Numbered, AreApart}
-use Rattle.points_to_tables.specs.Steps.{IsItemAt}
+use Rattle.points_to_numbers.specs.declared.item.Item.{Item}
+use Rattle.points_to_numbers.specs.declared.item.Item.TheVariants.{Holds}
+use Rattle.points_to_numbers.specs.Numbered.{Numbered, AreApart}
+use Rattle.points_to_numbers.specs.Steps.{IsItemAt}
 use Rattle.slot_names.specs.KeptNames.{name_table}
 use Rattle.slot_names.specs.Tables.{AreNames}
 use Rattle.ground.specs.declared.lists.Lists.{Lists}

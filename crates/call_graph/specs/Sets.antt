@@ -5,11 +5,11 @@ use Rattle.jvm_model.specs.declared.number.MethodNo.{MethodNo}
 use Rattle.jvm_model.specs.declared.number.SiteNo.{SiteNo}
 use Rattle.op_model.specs.declared.node.NodeRef.{NodeRef}
 use Rattle.grouped_lists.specs.Groups.{values_at}
-use Rattle.points_to_items.specs.Items.{CallSite}
-use Rattle.points_to_tables.specs.declared.item.Item.{Item}
-use Rattle.points_to_tables.specs.declared.item.Item.TheVariants.{Holds, Runs, Calls}
-use Rattle.points_to_tables.specs.declared.keys.CallNo.{CallNo}
-use Rattle.points_to_tables.specs.Numbered.{Numbered}
+use Rattle.points_to_constraints.specs.Items.{CallSite}
+use Rattle.points_to_numbers.specs.declared.item.Item.{Item}
+use Rattle.points_to_numbers.specs.declared.item.Item.TheVariants.{Holds, Runs, Calls}
+use Rattle.points_to_numbers.specs.declared.keys.CallNo.{CallNo}
+use Rattle.points_to_numbers.specs.Numbered.{Numbered}
 use Rattle.call_graph.specs.declared.sets.Sets.{Sets}
 
 -- The target is listed at the number of the call.

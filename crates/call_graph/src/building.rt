@@ -24,9 +24,9 @@ use crate::writes::close_writes;
 use ground::{FieldWrite, Ground, Lists};
 use indexmap::IndexSet;
 use jvm_model::{MethodNo, Site};
-use linked_program::program::Program;
 use points_to::Solution;
 use points_to_rules::RunningMethod;
+use program_model::program::Program;
 use std::alloc::{AllocError, Global};
 
 /// The ground of a solution: its sets, with the instance fields that each method may write, by itself, its targets, and the initialisers that it may

@@ -2,7 +2,7 @@
 
 ghost use Rattle.std.specs.Prelude.{◌≡◌, map, All, Contains, Some, IfOk, OnOk};
 ghost use Rattle.jvm_model.specs.declared.number.ClassNo.{ClassNo};
-ghost use Rattle.linked_program.specs.Numbers.{IsClassNumber};
+ghost use Rattle.program_model.specs.Numbers.{IsClassNumber};
 ghost use Rattle.points_to_rules.specs.declared.running_method.RunningMethod.{RunningMethod};
 ghost use Rattle.points_to_rules.specs.WholeMethods.{IsWholeMethod, NamesNumbers};
 ghost use Rattle.points_to_rules.specs.Rules.{StartsAt};
@@ -11,13 +11,13 @@ ghost use Rattle.call_graph.specs.Edges.{AreEdges, GoesTo, IsEdgeFrom, IsEdgeOf,
 ghost use Rattle.ground.specs.Lists.{nodes_of};
 
 use crate::sets::Sets;
-use class_initialisers::coded_initialisers;
+use entry_points::coded_initialisers;
 use ground::call_number;
 use indexmap::IndexSet;
 use jvm_model::MethodNo;
-use linked_program::program::Program;
 use op_model::{LoweredMethod, Node, NodeRef};
 use points_to_rules::RunningMethod;
+use program_model::program::Program;
 use std::alloc::{AllocError, Global};
 
 /// A method, and one that calls or starts it.

@@ -1,16 +1,16 @@
 //! The sets of items: the sites of each place, the methods that may run, and the targets of each call.
 
 ghost use Rattle.std.specs.Prelude.{Contains, IfOk, OnOk};
-ghost use Rattle.points_to_items.specs.Items.{Item as RuleItem};
-ghost use Rattle.points_to_tables.specs.declared.item.Item.{Item};
-ghost use Rattle.points_to_tables.specs.Steps.{IsItemAt};
+ghost use Rattle.points_to_constraints.specs.Items.{Item as RuleItem};
+ghost use Rattle.points_to_numbers.specs.declared.item.Item.{Item};
+ghost use Rattle.points_to_numbers.specs.Steps.{IsItemAt};
 ghost use Rattle.call_graph.specs.Sets.{AddsTarget, AreSetsOf, TakesItem};
 
 use grouped_lists::Groups;
 use indexmap::IndexSet;
 use jvm_model::{MethodNo, SiteNo};
 use op_model::NodeRef;
-use points_to_tables::{Item, Tables};
+use points_to_numbers::{Item, Tables};
 use std::alloc::{AllocError, Global};
 
 /// The sites of each place by its number, the methods that may run, the calls, and the targets of each call by its number.

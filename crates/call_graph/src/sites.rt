@@ -2,10 +2,10 @@
 
 ghost use Rattle.std.specs.Prelude.{◌≡◌, ◌<◌, ◌^◌, Some, length, slice_get, IfOk};
 ghost use Rattle.jvm_model.specs.declared.site.Site.{Site as RuleSite};
-ghost use Rattle.points_to_tables.specs.Numbered.{IsNumbered};
+ghost use Rattle.points_to_numbers.specs.Numbered.{IsNumbered};
 
 use jvm_model::{Bytes, Site, SiteNo};
-use points_to_tables::Tables;
+use points_to_numbers::Tables;
 use std::alloc::{AllocError, Global};
 
 /// The sites, in the order of their numbers.

@@ -6,10 +6,10 @@ use Rattle.op_model.specs.declared.lowered.LoweredMethod.{LoweredMethod}
 use Rattle.op_model.specs.declared.node.Node.{Node}
 use Rattle.op_model.specs.declared.op.Op.{Op}
 use Rattle.op_model.specs.Supplies.{Given, GivenAs, IsMapOf}
-use Rattle.bytecode_machine.specs.Objects.{Subject}
-use Rattle.bytecode_machine.specs.States.{Value, Object, Frame, State, World, moved_to}
-use Rattle.node_machine.specs.Nodes.{StandsAt}
-use Rattle.node_machine.specs.NodeSteps.{AtNode, Leads, Advances}
+use Rattle.machine_bytecode.specs.Objects.{Subject}
+use Rattle.machine_bytecode.specs.States.{Value, Object, Frame, State, World, moved_to}
+use Rattle.machine_nodes.specs.Nodes.{StandsAt}
+use Rattle.machine_nodes.specs.NodeSteps.{AtNode, Leads, Advances}
 use Rattle.points_to_rules.specs.Facts.{Fact}
 use Rattle.points_to_rules.specs.Rules.{Instance}
 use Rattle.points_to_rules.specs.WholeMethods.{AreWholeMethods}

@@ -6,7 +6,7 @@ use Rattle.std.proofs.lemmas.Option.{same_Some, none-some}
 use Rattle.list_laws.proofs.Members.{contains_cases, contains_first, contains_later, contains_none}
 use Rattle.list_laws.proofs.Places.{in_longer}
 use Rattle.jvm_model.specs.declared.site.Site.{Site}
-use Rattle.bytecode_machine.specs.States.{Value, primitive_value, null_value, reference_to, elements, Object, default_value, is_reference_type, default_element, new_array, Dimension, references_from, arrays_of_arrays, arrays_from}
+use Rattle.machine_bytecode.specs.States.{Value, primitive_value, null_value, reference_to, elements, Object, default_value, is_reference_type, default_element, new_array, Dimension, references_from, arrays_of_arrays, arrays_from}
 use Rattle.coverage.specs.References.{LeadsTo, IsCovered}
 use Rattle.coverage.proofs.Lists.{behind, IsBehind, where_joined}
 

@@ -13,15 +13,15 @@ use Rattle.op_model.specs.declared.node.NodeRef.{NodeRef}
 use Rattle.op_model.specs.declared.op.Call.{Call as NodeCall}
 use Rattle.op_model.specs.declared.op.Op.TheVariants.{Call, Return}
 use Rattle.op_model.specs.Supplies.{Given, GivenAs, IsMapOf}
-use Rattle.bytecode_machine.specs.Objects.{Subject}
-use Rattle.bytecode_machine.specs.States.{Value, primitive_value, Object, Frame, State, moved_to, waiting, slot_at}
-use Rattle.node_machine.specs.Nodes.{StandsAt}
-use Rattle.node_machine.specs.NodeSteps.{AtNode, Calls, EntersTarget, Returns, Resumes, Ends}
-use Rattle.node_machine.specs.Slots.{AreLeft, AreSame, argument_values, argument_slots, returned_value}
+use Rattle.machine_bytecode.specs.Objects.{Subject}
+use Rattle.machine_bytecode.specs.States.{Value, primitive_value, Object, Frame, State, moved_to, waiting, slot_at}
+use Rattle.machine_nodes.specs.Nodes.{StandsAt}
+use Rattle.machine_nodes.specs.NodeSteps.{AtNode, Calls, EntersTarget, Returns, Resumes, Ends}
+use Rattle.machine_nodes.specs.Slots.{AreLeft, AreSame, argument_values, argument_slots, returned_value}
 use Rattle.slot_names.specs.declared.variable.Variable.{Variable}
 use Rattle.slot_names.specs.declared.variable.Variable.TheVariants.{Parameter}
 use Rattle.slot_names.specs.Variables.{effect_on, IsVariable}
-use Rattle.slot_laws.proofs.Places.{same_node, first_of_all}
+use Rattle.slot_names.proofs.PlacesOfSlots.{same_node, first_of_all}
 use Rattle.points_to_rules.specs.Calls.{IsOfFile}
 use Rattle.points_to_rules.specs.Facts.{Holder, variable, returned_by, Fact, may_run, may_call}
 use Rattle.points_to_rules.specs.Rules.{node_of, Instance, enter, pass, target_runs, return, receive}

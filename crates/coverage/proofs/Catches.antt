@@ -12,12 +12,12 @@ use Rattle.op_model.specs.declared.lowered.LoweredMethod.{LoweredMethod}
 use Rattle.op_model.specs.declared.node.Node.{Node}
 use Rattle.op_model.specs.declared.node.NodeRef.{NodeRef}
 use Rattle.op_model.specs.Supplies.{Given, GivenAs, IsMapOf}
-use Rattle.bytecode_machine.specs.Described.{DescribedMethod}
-use Rattle.bytecode_machine.specs.Machine.{Throwing, unwound}
-use Rattle.bytecode_machine.specs.Objects.{Subject}
-use Rattle.bytecode_machine.specs.States.{primitive_value, reference_to, Object, Frame, Mode, throwing, State, World, moved_to, waiting_no_more, slot_at, with_kept}
-use Rattle.node_machine.specs.Nodes.{HasNodes, of_start, of_method, StandsAt}
-use Rattle.node_machine.specs.NodeSteps.{AtNode, GetsException, Catches, IsUncaught, Unwinds, Wraps}
+use Rattle.machine_bytecode.specs.Described.{DescribedMethod}
+use Rattle.machine_bytecode.specs.Machine.{Throwing, unwound}
+use Rattle.machine_bytecode.specs.Objects.{Subject}
+use Rattle.machine_bytecode.specs.States.{primitive_value, reference_to, Object, Frame, Mode, throwing, State, World, moved_to, waiting_no_more, slot_at, with_kept}
+use Rattle.machine_nodes.specs.Nodes.{HasNodes, of_start, of_method, StandsAt}
+use Rattle.machine_nodes.specs.NodeSteps.{AtNode, GetsException, Catches, IsUncaught, Unwinds, Wraps}
 use Rattle.slot_names.specs.declared.variable.Variable.{Variable}
 use Rattle.slot_names.specs.Variables.{IsVariable}
 use Rattle.points_to_rules.specs.Calls.{IsOfFile}
@@ -35,7 +35,7 @@ use Rattle.coverage.proofs.Places.{stands_in, node_is}
 use Rattle.coverage.proofs.Slots.{named}
 use Rattle.coverage.proofs.Calls.{same_method, one_node, of_file, IsInside, inside_of, IsCalled, called_by}
 use Rattle.coverage.proofs.Stubs.{site_is, described, kept_world, kept_covered}
-use Rattle.slot_laws.proofs.Frames.{among_handlers}
+use Rattle.slot_names.proofs.Frames.{among_handlers}
 use Rattle.coverage.proofs.Throws.{LandsAll, throws_new_covers, raise_lands, thrown_site}
 
 module _ (x : Subject) (given : Given) (gives : GivenAs) (S : Fact → Type 0) (map : IsMapOf given gives) (closed : IsClosedSet (Instance x.program gives (record { 0 = x.entry })) S)

@@ -14,13 +14,13 @@ use Rattle.op_model.specs.declared.node.NodeRef.{NodeRef}
 use Rattle.op_model.specs.declared.op.Op.{Op}
 use Rattle.op_model.specs.declared.op.Op.TheVariants.{Assign, Load, Store, LoadElement, StoreElement, LoadStatic, StoreStatic, New, NewArray, Constant, Call, Return, Throw, Cast, Probe}
 use Rattle.op_model.specs.Supplies.{Given, GivenAs, IsMapOf}
-use Rattle.bytecode_machine.specs.Described.{DescribedMethod, Gives}
-use Rattle.bytecode_machine.specs.Events.{HasEvents, moved, unmoved}
-use Rattle.bytecode_machine.specs.Machine.{unwound}
-use Rattle.bytecode_machine.specs.Objects.{Subject}
-use Rattle.bytecode_machine.specs.States.{Value, Object, Frame, World, State, moved_to, waiting}
-use Rattle.node_machine.specs.NodeExecutions.{AreNodeSteps}
-use Rattle.node_machine.specs.NodeSteps.{Leads, NodeStep, advances, enters, gets_result, gets_exception, enters_entry, returns, resumes, ends, raises, throws, catches, unwinds, starts, wraps}
+use Rattle.machine_bytecode.specs.Described.{DescribedMethod, Gives}
+use Rattle.machine_bytecode.specs.Events.{HasEvents, moved, unmoved}
+use Rattle.machine_bytecode.specs.Machine.{unwound}
+use Rattle.machine_bytecode.specs.Objects.{Subject}
+use Rattle.machine_bytecode.specs.States.{Value, Object, Frame, World, State, moved_to, waiting}
+use Rattle.machine_nodes.specs.NodeExecutions.{AreNodeSteps}
+use Rattle.machine_nodes.specs.NodeSteps.{Leads, NodeStep, advances, enters, gets_result, gets_exception, enters_entry, returns, resumes, ends, raises, throws, catches, unwinds, starts, wraps}
 use Rattle.points_to_rules.specs.Facts.{Fact, may_run, may_call, may_write}
 use Rattle.points_to_rules.specs.Rules.{IsNodeOf, node_of, Instance}
 use Rattle.points_to_rules.specs.Writes.{WriteInstance, write, target_writes, initialiser_writes}

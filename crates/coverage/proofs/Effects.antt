@@ -9,10 +9,10 @@ use Rattle.op_model.specs.declared.op.Move.{Move}
 use Rattle.op_model.specs.declared.op.Op.TheVariants.{Assign}
 use Rattle.op_model.specs.declared.op.Source.{Source}
 use Rattle.op_model.specs.declared.op.Source.TheVariants.{Slot, Null, Primitive}
-use Rattle.bytecode_machine.specs.States.{Value, primitive_value, null_value, slot_at}
-use Rattle.node_machine.specs.Slots.{source_value, AreMoved}
+use Rattle.machine_bytecode.specs.States.{Value, primitive_value, null_value, slot_at}
+use Rattle.machine_nodes.specs.Slots.{source_value, AreMoved}
 use Rattle.slot_names.specs.Variables.{keeps, moves, writes, effect_on, effect_of_move}
-use Rattle.slot_laws.proofs.Effects.{effect_of_writes, is_to}
+use Rattle.slot_names.proofs.Effects.{effect_of_writes, is_to}
 use Rattle.points_to_rules.specs.ReadSlots.{source_slots, read_slots}
 
 -- ---- operations that write some slots

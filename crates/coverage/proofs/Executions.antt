@@ -3,10 +3,10 @@ use Rattle.std.proofs.Common.{inl, inr, List, [], ◌∷◌, Contains, subst}
 use Rattle.list_laws.proofs.Members.{contains_cases, contains_none}
 use Rattle.least_sets.specs.Rules.{IsClosedSet}
 use Rattle.op_model.specs.Supplies.{Given, GivenAs, IsMapOf}
-use Rattle.bytecode_machine.specs.Objects.{Subject}
-use Rattle.bytecode_machine.specs.States.{State}
-use Rattle.node_machine.specs.NodeExecutions.{AreNodeSteps}
-use Rattle.node_machine.specs.NodeSteps.{NodeStep, advances, enters, gets_result, gets_exception, enters_entry, returns, resumes, ends, raises, throws, catches, unwinds, starts, wraps}
+use Rattle.machine_bytecode.specs.Objects.{Subject}
+use Rattle.machine_bytecode.specs.States.{State}
+use Rattle.machine_nodes.specs.NodeExecutions.{AreNodeSteps}
+use Rattle.machine_nodes.specs.NodeSteps.{NodeStep, advances, enters, gets_result, gets_exception, enters_entry, returns, resumes, ends, raises, throws, catches, unwinds, starts, wraps}
 use Rattle.points_to_rules.specs.Facts.{Fact}
 use Rattle.points_to_rules.specs.Rules.{Instance}
 use Rattle.points_to_rules.specs.WholeMethods.{AreWholeMethods, as_given}

@@ -15,9 +15,9 @@ use Rattle.jvm_model.specs.Programs.{Program, Field, Method}
 use Rattle.jvm_model.specs.Soundness.{plain_descriptor}
 use Rattle.least_sets.specs.Rules.{IsClosedSet}
 use Rattle.op_model.specs.Supplies.{GivenAs}
-use Rattle.bytecode_machine.specs.Objects.{Subject, string_name, constant_classes, IsConstant}
-use Rattle.bytecode_machine.specs.Start.{boot_site, boot_object, held_classes, boot_classes, held_place, MayBeArgument, IsArgumentArray, AreArgumentObjects, BeginsAs, no_field, holding, by_default, constant, IsFirst}
-use Rattle.bytecode_machine.specs.States.{Value, primitive_value, null_value, reference_to, fields, elements, Object, State, new_array, default_value}
+use Rattle.machine_bytecode.specs.Objects.{Subject, string_name, constant_classes, IsConstant}
+use Rattle.machine_bytecode.specs.Start.{boot_site, boot_object, held_classes, boot_classes, held_place, MayBeArgument, IsArgumentArray, AreArgumentObjects, BeginsAs, no_field, holding, by_default, constant, IsFirst}
+use Rattle.machine_bytecode.specs.States.{Value, primitive_value, null_value, reference_to, fields, elements, Object, State, new_array, default_value}
 use Rattle.points_to_rules.specs.Facts.{elements_of, Fact, may_hold}
 use Rattle.points_to_rules.specs.Rules.{HasArguments, argument_site, Instance, entry_strings}
 use Rattle.points_to_rules.specs.Rules as rules

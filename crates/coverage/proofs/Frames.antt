@@ -1,8 +1,8 @@
 -- What covers frames still does in a heap that has grown.
 use Rattle.std.proofs.Common.{◌≡◌, ℕ, false, List, [], ◌∷◌, Option, subst}
 use Rattle.op_model.specs.Supplies.{GivenAs}
-use Rattle.bytecode_machine.specs.Objects.{Subject}
-use Rattle.bytecode_machine.specs.States.{Object, Frame, slot_at}
+use Rattle.machine_bytecode.specs.Objects.{Subject}
+use Rattle.machine_bytecode.specs.States.{Object, Frame, slot_at}
 use Rattle.points_to_rules.specs.Facts.{variable, Fact}
 use Rattle.coverage.specs.Covering.{MayHold, IsCoveredFrame, IsCoveredCaller, AreCoveredBelow, AreCoveredFrames}
 use Rattle.coverage.proofs.Values.{Grows, covered_on}

@@ -5,7 +5,7 @@ use Rattle.std.proofs.lemmas.Bool.{cases_eq, eqb-true}
 use Rattle.std.proofs.lemmas.Option.{same_Some}
 use Rattle.list_laws.proofs.Places.{in_longer}
 use Rattle.jvm_model.specs.declared.number.FieldNo.{FieldNo}
-use Rattle.bytecode_machine.specs.States.{Value, fields, Object, updated}
+use Rattle.machine_bytecode.specs.States.{Value, fields, Object, updated}
 use Rattle.coverage.specs.Changes.{HasFields, KeepsFields, ChangesOnly}
 use Rattle.coverage.proofs.Lists.{set_here, set_there}
 

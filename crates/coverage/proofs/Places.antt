@@ -8,9 +8,9 @@ use Rattle.jvm_model.specs.declared.number.MethodNo.{MethodNo}
 use Rattle.op_model.specs.declared.lowered.LoweredMethod.{LoweredMethod}
 use Rattle.op_model.specs.declared.node.Node.{Node}
 use Rattle.op_model.specs.Supplies.{Given, GivenAs, IsMapOf}
-use Rattle.bytecode_machine.specs.Objects.{Subject}
-use Rattle.bytecode_machine.specs.States.{Frame}
-use Rattle.node_machine.specs.Nodes.{IsStartCall, IsStartReturn, AreStartNodes, HasNodes, of_start, of_method, StandsAt}
+use Rattle.machine_bytecode.specs.Objects.{Subject}
+use Rattle.machine_bytecode.specs.States.{Frame}
+use Rattle.machine_nodes.specs.Nodes.{IsStartCall, IsStartReturn, AreStartNodes, HasNodes, of_start, of_method, StandsAt}
 use Rattle.points_to_rules.specs.Rules.{node_of}
 use Rattle.coverage.specs.Covering.{StandsIn, node_at}
 

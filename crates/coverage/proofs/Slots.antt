@@ -10,12 +10,12 @@ use Rattle.op_model.specs.declared.op.Move.{Move}
 use Rattle.op_model.specs.declared.op.Op.{Op}
 use Rattle.op_model.specs.declared.op.Op.TheVariants.{Assign}
 use Rattle.op_model.specs.Supplies.{GivenAs}
-use Rattle.bytecode_machine.specs.Objects.{Subject}
-use Rattle.bytecode_machine.specs.States.{Value, primitive_value, null_value, Object, slot_at}
-use Rattle.node_machine.specs.Slots.{AreMoved, AreLeft}
+use Rattle.machine_bytecode.specs.Objects.{Subject}
+use Rattle.machine_bytecode.specs.States.{Value, primitive_value, null_value, Object, slot_at}
+use Rattle.machine_nodes.specs.Slots.{AreMoved, AreLeft}
 use Rattle.slot_names.specs.declared.variable.Variable.{Variable}
 use Rattle.slot_names.specs.Variables.{keeps, moves, effect_on, IsPredecessor, IsVariable}
-use Rattle.slot_laws.proofs.EachVariable.{each_variable}
+use Rattle.slot_names.proofs.EachVariable.{each_variable}
 use Rattle.points_to_rules.specs.Facts.{Holder, variable, Fact, may_run}
 use Rattle.points_to_rules.specs.Rules.{IsNodeOf, IsSlot, IsSlotAfter, Instance, keep, move}
 use Rattle.points_to_rules.specs.WholeMethods.{AreWholeMethods}
@@ -24,7 +24,7 @@ use Rattle.coverage.specs.References.{IsCovered}
 use Rattle.coverage.specs.Covering.{MayHold}
 use Rattle.coverage.proofs.Lists.{some_or_not}
 use Rattle.coverage.proofs.Values.{Grows, covered_on, covered_by, covered_as}
-use Rattle.slot_laws.proofs.Effects.{effect_of_writes}
+use Rattle.slot_names.proofs.Effects.{effect_of_writes}
 use Rattle.coverage.proofs.Effects.{kept_after, IsMovedSlot, as_before, as_source, as_null, as_primitive, moved_slot}
 
 -- each slot of a method is covered by its variable at a node

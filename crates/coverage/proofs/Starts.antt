@@ -15,19 +15,19 @@ use Rattle.op_model.specs.declared.lowered.LoweredMethod.{LoweredMethod}
 use Rattle.op_model.specs.declared.node.Node.{Node}
 use Rattle.op_model.specs.declared.node.NodeRef.{NodeRef}
 use Rattle.op_model.specs.Supplies.{Given, GivenAs, IsMapOf}
-use Rattle.bytecode_machine.specs.Machine.{AtStart}
-use Rattle.bytecode_machine.specs.Objects.{Subject}
-use Rattle.bytecode_machine.specs.Start.{arguments_of, boot_classes}
-use Rattle.bytecode_machine.specs.States.{primitive_value, reference_to, State, slot_at}
-use Rattle.node_machine.specs.Nodes.{IsClassNumber, IsCodedInitialiser}
-use Rattle.node_machine.specs.NodeSteps.{AtNode, Starts, EntersEntry}
+use Rattle.machine_bytecode.specs.Machine.{AtStart}
+use Rattle.machine_bytecode.specs.Objects.{Subject}
+use Rattle.machine_bytecode.specs.Start.{arguments_of, boot_classes}
+use Rattle.machine_bytecode.specs.States.{primitive_value, reference_to, State, slot_at}
+use Rattle.machine_nodes.specs.Nodes.{IsClassNumber, IsCodedInitialiser}
+use Rattle.machine_nodes.specs.NodeSteps.{AtNode, Starts, EntersEntry}
 use Rattle.slot_names.specs.declared.variable.Variable.TheVariants.{Parameter}
 use Rattle.points_to_rules.specs.Facts.{variable, Fact, may_hold, may_run, may_call}
 use Rattle.points_to_rules.specs.Rules.{StartsAt, before_entry, at_node, start_call, argument_site, Instance, entry_runs, entry_called, entry_argument, initialiser_runs}
 use Rattle.points_to_rules.specs.WholeMethods.{AreWholeMethods}
 use Rattle.coverage.specs.References.{IsCovered}
 use Rattle.coverage.specs.Covering.{MayHold, StandsIn, StandsSomewhere, IsCoveredFrame, node_at, WaitsForInitialiser, AreCoveredBelow, IsCoveredWorld, Covers}
-use Rattle.node_laws.proofs.CodedInitialisers.{coded_initialiser}
+use Rattle.machine_laws.proofs.CodedInitialisers.{coded_initialiser}
 use Rattle.coverage.proofs.Values.{covered_as, leads_by}
 use Rattle.coverage.proofs.Worlds.{started_later}
 use Rattle.coverage.proofs.Frames.{frames_are}

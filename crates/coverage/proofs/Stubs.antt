@@ -17,11 +17,11 @@ use Rattle.least_sets.specs.Rules.{IsClosedSet}
 use Rattle.op_model.specs.declared.lowered.LoweredMethod.{LoweredMethod}
 use Rattle.op_model.specs.declared.node.Node.{Node}
 use Rattle.op_model.specs.Supplies.{Given, GivenAs, IsMapOf}
-use Rattle.bytecode_machine.specs.Described.{DescribedMethod, argument_unit, argument_value, places_of, kept_by, Gives}
-use Rattle.bytecode_machine.specs.Objects.{Subject, IsOf}
-use Rattle.bytecode_machine.specs.States.{Value, primitive_value, null_value, reference_to, Object, Frame, State, World, slot_at, site_at}
-use Rattle.node_machine.specs.NodeSteps.{AtNode, Calls, GetsResult}
-use Rattle.node_machine.specs.Slots.{argument_values, argument_slots}
+use Rattle.machine_bytecode.specs.Described.{DescribedMethod, argument_unit, argument_value, places_of, kept_by, Gives}
+use Rattle.machine_bytecode.specs.Objects.{Subject, IsOf}
+use Rattle.machine_bytecode.specs.States.{Value, primitive_value, null_value, reference_to, Object, Frame, State, World, slot_at, site_at}
+use Rattle.machine_nodes.specs.NodeSteps.{AtNode, Calls, GetsResult}
+use Rattle.machine_nodes.specs.Slots.{argument_values, argument_slots}
 use Rattle.slot_names.specs.Variables.{effect_on}
 use Rattle.points_to_rules.specs.Calls.{IsDescribedBy}
 use Rattle.points_to_rules.specs.Facts.{Holder, kept_objects, Fact, may_hold, may_run}

@@ -17,11 +17,11 @@ use Rattle.op_model.specs.declared.op.CallKind.{CallKind}
 use Rattle.op_model.specs.declared.op.CallKind.TheVariants.{Virtual, Special, Static, Interface}
 use Rattle.op_model.specs.declared.op.Op.TheVariants.{Call}
 use Rattle.op_model.specs.Supplies.{GivenAs}
-use Rattle.bytecode_machine.specs.Machine.{SelectsByObject, selecting_class}
-use Rattle.bytecode_machine.specs.Objects.{Subject, IsOf}
-use Rattle.bytecode_machine.specs.States.{Value, reference_to, Object, World, slot_at}
-use Rattle.node_machine.specs.NodeSteps.{IsTargetOf}
-use Rattle.node_machine.specs.Slots.{argument_values}
+use Rattle.machine_bytecode.specs.Machine.{SelectsByObject, selecting_class}
+use Rattle.machine_bytecode.specs.Objects.{Subject, IsOf}
+use Rattle.machine_bytecode.specs.States.{Value, reference_to, Object, World, slot_at}
+use Rattle.machine_nodes.specs.NodeSteps.{IsTargetOf}
+use Rattle.machine_nodes.specs.Slots.{argument_values}
 use Rattle.points_to_rules.specs.Calls.{SelectsAs, SelectsFor, IsReceiver, MayPass, MayBeGiven}
 use Rattle.points_to_rules.specs.Facts.{Fact, may_hold, may_run, may_call}
 use Rattle.points_to_rules.specs.Refusals.{not_selected}

@@ -12,11 +12,11 @@ use Rattle.op_model.specs.declared.lowered.LoweredMethod.{LoweredMethod}
 use Rattle.op_model.specs.declared.node.Node.{Node}
 use Rattle.op_model.specs.declared.op.Op.TheVariants.{Throw}
 use Rattle.op_model.specs.Supplies.{Given, GivenAs, IsMapOf}
-use Rattle.bytecode_machine.specs.Machine.{ThrowsNew}
-use Rattle.bytecode_machine.specs.Objects.{Subject}
-use Rattle.bytecode_machine.specs.States.{reference_to, Object, Frame, State, World, slot_at, site_at}
-use Rattle.node_machine.specs.Nodes.{IsClassNumber, IsThrownAt, raised, initialising, IsInitialisationError, StandsAt, IsStartCall}
-use Rattle.node_machine.specs.NodeSteps.{AtNode, Raises, Throws}
+use Rattle.machine_bytecode.specs.Machine.{ThrowsNew}
+use Rattle.machine_bytecode.specs.Objects.{Subject}
+use Rattle.machine_bytecode.specs.States.{reference_to, Object, Frame, State, World, slot_at, site_at}
+use Rattle.machine_nodes.specs.Nodes.{IsClassNumber, IsThrownAt, raised, initialising, IsInitialisationError, StandsAt, IsStartCall}
+use Rattle.machine_nodes.specs.NodeSteps.{AtNode, Raises, Throws}
 use Rattle.points_to_rules.specs.Facts.{Holder, Fact, may_hold}
 use Rattle.points_to_rules.specs.Rules.{Lands, site_of, Instance, throw, raise}
 use Rattle.points_to_rules.specs.WholeMethods.{AreWholeMethods}

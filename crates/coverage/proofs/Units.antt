@@ -4,8 +4,8 @@ use Rattle.std.specs.Prelude.{slice_get}
 use Rattle.std.proofs.lemmas.List.Elements.{Contains-append_left, Contains-append_right}
 use Rattle.std.proofs.lemmas.Option.{same_Some, none-some}
 use Rattle.list_laws.proofs.Members.{contains_first}
-use Rattle.bytecode_machine.specs.States.{Value, primitive_value, slot_at}
-use Rattle.node_machine.specs.Slots.{argument_values, argument_slots}
+use Rattle.machine_bytecode.specs.States.{Value, primitive_value, slot_at}
+use Rattle.machine_nodes.specs.Slots.{argument_values, argument_slots}
 
 -- what a unit of a call is
 pub data IsUnit (arguments : List (Option ℕ)) (slots : List Value) (unit : ℕ) : Type 0 where

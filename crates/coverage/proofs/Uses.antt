@@ -4,8 +4,8 @@ use Rattle.jvm_model.specs.declared.number.MethodNo.{MethodNo}
 use Rattle.least_sets.specs.Rules.{IsClosedSet}
 use Rattle.op_model.specs.declared.node.NodeRef.{NodeRef}
 use Rattle.op_model.specs.Supplies.{Given, GivenAs, IsMapOf}
-use Rattle.bytecode_machine.specs.Objects.{Subject}
-use Rattle.bytecode_machine.specs.States.{State}
+use Rattle.machine_bytecode.specs.Objects.{Subject}
+use Rattle.machine_bytecode.specs.States.{State}
 use Rattle.points_to_rules.specs.Facts.{Fact, may_call}
 use Rattle.points_to_rules.specs.Rules.{Instance}
 use Rattle.points_to_rules.specs.WholeMethods.{AreWholeMethods}

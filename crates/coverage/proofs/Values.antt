@@ -5,7 +5,7 @@ use Rattle.std.proofs.lemmas.Bool.{cases_eq}
 use Rattle.std.proofs.lemmas.Option.{same_Some}
 use Rattle.list_laws.proofs.Places.{in_longer}
 use Rattle.jvm_model.specs.declared.site.Site.{Site}
-use Rattle.bytecode_machine.specs.States.{Value, primitive_value, null_value, reference_to, Object}
+use Rattle.machine_bytecode.specs.States.{Value, primitive_value, null_value, reference_to, Object}
 use Rattle.coverage.specs.References.{LeadsTo, IsCovered}
 use Rattle.coverage.proofs.Lists.{set_here, set_there}
 

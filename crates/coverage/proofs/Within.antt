@@ -14,11 +14,11 @@ use Rattle.op_model.specs.declared.node.Node.{Node}
 use Rattle.op_model.specs.declared.op.Op.{Op}
 use Rattle.op_model.specs.declared.op.Op.TheVariants.{Assign, Load, Store, LoadElement, StoreElement, LoadStatic, StoreStatic, New, NewArray, Constant, Call, Return, Throw, Cast, Probe}
 use Rattle.op_model.specs.Supplies.{GivenAs}
-use Rattle.bytecode_machine.specs.Objects.{Subject, Passes, no_object, fitting}
-use Rattle.bytecode_machine.specs.Start.{boot_site}
-use Rattle.bytecode_machine.specs.States.{Value, reference_to, fields, elements, Object, World, slot_at, updated}
-use Rattle.node_machine.specs.NodeSteps.{Leads}
-use Rattle.node_machine.specs.Slots.{AreSame}
+use Rattle.machine_bytecode.specs.Objects.{Subject, Passes, no_object, fitting}
+use Rattle.machine_bytecode.specs.Start.{boot_site}
+use Rattle.machine_bytecode.specs.States.{Value, reference_to, fields, elements, Object, World, slot_at, updated}
+use Rattle.machine_nodes.specs.NodeSteps.{Leads}
+use Rattle.machine_nodes.specs.Slots.{AreSame}
 use Rattle.slot_names.specs.Variables.{effect_on}
 use Rattle.points_to_rules.specs.Facts.{variable, field_of, elements_of, static_field, Fact, may_hold, may_run}
 use Rattle.points_to_rules.specs.Rules.{IsNodeOf, IsSlotAfter, Instance, load, load_element, load_static, make, make_array, get_constant, cast, store, store_element, store_static, nest, begin_static}

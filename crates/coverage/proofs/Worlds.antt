@@ -10,9 +10,9 @@ use Rattle.jvm_model.specs.declared.site.Site.{Site}
 use Rattle.jvm_model.specs.Lookups.{Signature}
 use Rattle.jvm_model.specs.Programs.{Field}
 use Rattle.op_model.specs.Supplies.{GivenAs}
-use Rattle.bytecode_machine.specs.Events.{HasEvents, moved, unmoved}
-use Rattle.bytecode_machine.specs.Objects.{Subject, MakesObject, MakesArrays}
-use Rattle.bytecode_machine.specs.States.{Value, primitive_value, reference_to, fields, elements, Contents, Object, World, default_value, default_fields, with_heap, with_contents, with_static, with_kept, with_started, new_object, Dimension, arrays_from}
+use Rattle.machine_bytecode.specs.Events.{HasEvents, moved, unmoved}
+use Rattle.machine_bytecode.specs.Objects.{Subject, MakesObject, MakesArrays}
+use Rattle.machine_bytecode.specs.States.{Value, primitive_value, reference_to, fields, elements, Contents, Object, World, default_value, default_fields, with_heap, with_contents, with_static, with_kept, with_started, new_object, Dimension, arrays_from}
 use Rattle.points_to_rules.specs.Facts.{field_of, elements_of, static_field, kept_objects, Fact, may_hold}
 use Rattle.coverage.specs.References.{LeadsTo, IsCovered}
 use Rattle.coverage.specs.Sites.{IsSite}

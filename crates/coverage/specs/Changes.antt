@@ -5,9 +5,9 @@ use Rattle.std.specs.List.{AllByRecursion}
 use Rattle.jvm_model.specs.declared.number.FieldNo.{FieldNo}
 use Rattle.jvm_model.specs.declared.number.MethodNo.{MethodNo}
 use Rattle.op_model.specs.Supplies.{Given}
-use Rattle.bytecode_machine.specs.Objects.{Subject}
-use Rattle.bytecode_machine.specs.States.{Value, fields, Object, Frame, State}
-use Rattle.node_machine.specs.NodeExecutions.{AreNodeSteps, IsNodeExecution}
+use Rattle.machine_bytecode.specs.Objects.{Subject}
+use Rattle.machine_bytecode.specs.States.{Value, fields, Object, Frame, State}
+use Rattle.machine_nodes.specs.NodeExecutions.{AreNodeSteps, IsNodeExecution}
 use Rattle.points_to_rules.specs.Facts.{Fact, may_write}
 
 -- The object has fields as before, or others where they may be written.

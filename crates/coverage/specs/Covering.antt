@@ -13,11 +13,11 @@ use Rattle.op_model.specs.declared.node.NodeRef.{NodeRef}
 use Rattle.op_model.specs.declared.op.Call.{Call as NodeCall}
 use Rattle.op_model.specs.declared.op.Op.TheVariants.{Call}
 use Rattle.op_model.specs.Supplies.{Given, GivenAs}
-use Rattle.bytecode_machine.specs.Objects.{Subject, constant_classes}
-use Rattle.bytecode_machine.specs.Start.{boot_classes, boot_site}
-use Rattle.bytecode_machine.specs.States.{Value, primitive_value, fields, elements, Object, Frame, Mode, running, throwing, ended, World, State, slot_at}
-use Rattle.node_machine.specs.NodeExecutions.{IsNodeExecution}
-use Rattle.node_machine.specs.Slots.{argument_slots}
+use Rattle.machine_bytecode.specs.Objects.{Subject, constant_classes}
+use Rattle.machine_bytecode.specs.Start.{boot_classes, boot_site}
+use Rattle.machine_bytecode.specs.States.{Value, primitive_value, fields, elements, Object, Frame, Mode, running, throwing, ended, World, State, slot_at}
+use Rattle.machine_nodes.specs.NodeExecutions.{IsNodeExecution}
+use Rattle.machine_nodes.specs.Slots.{argument_slots}
 use Rattle.slot_names.specs.declared.variable.Variable.{Variable}
 use Rattle.slot_names.specs.Variables.{IsVariable}
 use Rattle.points_to_rules.specs.Facts.{Holder, variable, field_of, elements_of, static_field, kept_objects, Fact, may_hold, may_run, may_call}

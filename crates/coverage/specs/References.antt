@@ -2,7 +2,7 @@
 -- References to objects of some sites.
 use Rattle.std.specs.Prelude.{◌≡◌, ℕ, List, Some, slice_get}
 use Rattle.jvm_model.specs.declared.site.Site.{Site}
-use Rattle.bytecode_machine.specs.States.{Value, primitive_value, null_value, reference_to, Object}
+use Rattle.machine_bytecode.specs.States.{Value, primitive_value, null_value, reference_to, Object}
 
 -- There is an object at the place, of one of the sites.
 pub record LeadsTo (Among : Site → Type 0) (heap : List Object) (place : ℕ) : Type 0 where

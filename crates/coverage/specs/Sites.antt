@@ -14,8 +14,8 @@ use Rattle.op_model.specs.declared.node.Node.{Node}
 use Rattle.op_model.specs.declared.op.Call.{Call as NodeCall}
 use Rattle.op_model.specs.declared.op.Op.TheVariants.{New, NewArray, Call}
 use Rattle.op_model.specs.Supplies.{GivenAs}
-use Rattle.bytecode_machine.specs.Start.{boot_classes, boot_site}
-use Rattle.node_machine.specs.Nodes.{IsClassNumber, IsInitialisationError}
+use Rattle.machine_bytecode.specs.Start.{boot_classes, boot_site}
+use Rattle.machine_nodes.specs.Nodes.{IsClassNumber, IsInitialisationError}
 use Rattle.points_to_rules.specs.Calls.{IsDescribedBy}
 use Rattle.points_to_rules.specs.Facts.{Fact, may_run, may_call}
 use Rattle.points_to_rules.specs.Rules.{IsNodeOf, node_of, site_of, argument_site}

@@ -8,11 +8,11 @@ use Rattle.op_model.specs.declared.lowered.LoweredMethod.{LoweredMethod}
 use Rattle.op_model.specs.declared.node.Node.{Node}
 use Rattle.op_model.specs.declared.op.Op.TheVariants.{LoadStatic, Return}
 use Rattle.op_model.specs.Supplies.{Given, GivenAs}
-use Rattle.bytecode_machine.specs.Objects.{Subject}
-use Rattle.bytecode_machine.specs.States.{State}
-use Rattle.node_machine.specs.NodeExecutions.{IsNodeExecution}
-use Rattle.node_machine.specs.NodeSteps.{AtNode, Calls}
-use Rattle.node_machine.specs.Slots.{returned_value}
+use Rattle.machine_bytecode.specs.Objects.{Subject}
+use Rattle.machine_bytecode.specs.States.{State}
+use Rattle.machine_nodes.specs.NodeExecutions.{IsNodeExecution}
+use Rattle.machine_nodes.specs.NodeSteps.{AtNode, Calls}
+use Rattle.machine_nodes.specs.Slots.{returned_value}
 use Rattle.points_to_rules.specs.Facts.{static_field, returned_by, Fact, may_run, may_call}
 use Rattle.points_to_rules.specs.Rules.{IsNodeOf}
 use Rattle.coverage.specs.References.{IsCovered}

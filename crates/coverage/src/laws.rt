@@ -4,7 +4,7 @@ ghost use Rattle.std.specs.Prelude.{Bool, Contains, IsTrue, List};
 ghost use Rattle.jvm_model.specs.LinkedPrograms.{IsProgram};
 ghost use Rattle.least_sets.specs.Rules.{IsClosedSet};
 ghost use Rattle.op_model.specs.Supplies.{Given};
-ghost use Rattle.bytecode_machine.specs.Objects.{Subject};
+ghost use Rattle.machine_bytecode.specs.Objects.{Subject};
 ghost use Rattle.points_to_rules.specs.Facts.{Fact};
 ghost use Rattle.points_to_rules.specs.Refusals.{IsUnrefused};
 ghost use Rattle.points_to_rules.specs.Rules.{Instance};

@@ -17,7 +17,7 @@ use Rattle.points_to_rules.proofs.PlaceHolders.{place_stands, places_differ}
 use Rattle.slot_names.specs.declared.variable.Variable.{Variable}
 use Rattle.slot_names.specs.KeptNames.{name_table}
 use Rattle.slot_names.specs.NodePlaces.{AreInOrder}
-use Rattle.slot_laws.proofs.OneVariable.{one_variable}
+use Rattle.slot_names.proofs.OneVariable.{one_variable}
 use Rattle.ground.specs.declared.lists.Lists.{Lists}
 use Rattle.ground.specs.declared.node_place.NodePlace.{NodePlace}
 use Rattle.ground.specs.Findings.{Findings, AreSitesOf, HasNode, IsSlotOf}

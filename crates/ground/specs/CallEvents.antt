@@ -5,7 +5,7 @@ use Rattle.std.specs.Str.{bytes_eq}
 use Rattle.jvm_model.specs.declared.automaton.Automaton.{Automaton}
 use Rattle.jvm_model.specs.declared.automaton.Event.{Event}
 use Rattle.jvm_model.specs.Lookups.{Signature}
-use Rattle.node_machine.specs.NodeSteps.{is_selecting_kind}
+use Rattle.machine_nodes.specs.NodeSteps.{is_selecting_kind}
 use Rattle.op_model.specs.declared.op.Call.{Call as NodeCall}
 
 -- The event is that of calls of the name and the descriptor.

@@ -5,7 +5,7 @@ use Rattle.jvm_model.specs.declared.number.MethodNo.{MethodNo}
 use Rattle.jvm_model.specs.declared.number.SiteNo.{SiteNo}
 use Rattle.jvm_model.specs.declared.site.Site.{Site}
 use Rattle.jvm_model.specs.Programs.{Program}
-use Rattle.linked_program.specs.Numbers.{IsMethodNumber}
+use Rattle.program_model.specs.Numbers.{IsMethodNumber}
 use Rattle.grouped_lists.specs.Groups.{values_at}
 use Rattle.least_sets.specs.Rules.{IsWithoutDoubles}
 use Rattle.slot_names.specs.KeptNames.{name_table}

@@ -2,7 +2,7 @@
 
 ghost use Rattle.std.specs.Prelude.{◌≡◌, slice_get};
 ghost use Rattle.std.specs.Option.{option_flatten};
-ghost use Rattle.node_machine.specs.NodeSteps.{is_selecting_kind};
+ghost use Rattle.machine_nodes.specs.NodeSteps.{is_selecting_kind};
 ghost use Rattle.ground.specs.CallEvents.{call_event, event_number, is_event_of};
 
 use jvm_model::{Automaton, Event};

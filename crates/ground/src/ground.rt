@@ -4,7 +4,7 @@ ghost use Rattle.std.specs.Prelude.{◌≡◌, ◌↔◌, ◌<◌, ℕ, [], leng
 ghost use Rattle.jvm_model.specs.declared.number.MethodNo.{MethodNo as RuleMethodNo};
 ghost use Rattle.jvm_model.specs.declared.number.SiteNo.{SiteNo as RuleSiteNo};
 ghost use Rattle.jvm_model.specs.declared.site.Site.{Site as RuleSite};
-ghost use Rattle.linked_program.specs.Numbers.{IsMethodNumber};
+ghost use Rattle.program_model.specs.Numbers.{IsMethodNumber};
 ghost use Rattle.op_model.specs.declared.lowered.LoweredMethod.{LoweredMethod as RuleMethod};
 ghost use Rattle.op_model.specs.declared.node.NodeRef.{NodeRef as RuleNodeRef};
 ghost use Rattle.least_sets.specs.Rules.{IsWithoutDoubles};
@@ -23,9 +23,9 @@ use crate::lists::{
 };
 use crate::node_place::NodePlace;
 use jvm_model::{FieldNo, MethodNo, Site, SiteNo};
-use linked_program::program::Program;
 use op_model::{LoweredMethod, Node, NodeRef};
 use points_to_rules::{Place, PlaceNo};
+use program_model::program::Program;
 use slot_names::{Variable, place_number, place_of};
 use std::marker::Model;
 

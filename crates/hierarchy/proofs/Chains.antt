@@ -7,8 +7,8 @@ use Rattle.jvm_model.specs.LinkedPrograms.{IsProgram}
 use Rattle.jvm_model.specs.Programs.{Class, Program}
 use Rattle.jvm_model.specs.Subtypes.{class_named, IsDirectSuper, IsChain}
 use Rattle.jvm_model.specs.declared.number.ClassNo.{ClassNo}
-use Rattle.linked_program.specs.Numbers.{name_at, IsClassNumber, IsNumber}
-use Rattle.linked_program.specs.Ranks.{IsRanked}
+use Rattle.program_model.specs.Numbers.{name_at, IsClassNumber, IsNumber}
+use Rattle.program_model.specs.Ranks.{IsRanked}
 use Rattle.hierarchy.proofs.ClassPlaces.{IsClassAt, number_named, named_contained, supers_of, class_of_number}
 
 -- ranks fall by names

@@ -10,8 +10,8 @@ use Rattle.std.proofs.lemmas.Slice.Eq.{bytes_eq-Decides}
 use Rattle.jvm_model.specs.LinkedPrograms.{IsProgram, IsThere, class_names, HasSupers}
 use Rattle.jvm_model.specs.Programs.{Class, Method, Program}
 use Rattle.jvm_model.specs.Subtypes.{class_named}
-use Rattle.linked_program.specs.Numbers.{name_at, IsClassNumber, IsMethodNumber}
-use Rattle.class_index.proofs.ListPlaces.{at_map, map_at}
+use Rattle.program_model.specs.Numbers.{name_at, IsClassNumber, IsMethodNumber}
+use Rattle.program_index.proofs.ListPlaces.{at_map, map_at}
 
 -- what is found stands in the list, and passes the test
 pub find_some : {X : Type 0} (test : X → Bool) (xs : List X) (x : X) → find test xs ≡ Some x → (k : ℕ) × (slice_get xs k ≡ Some x) × (test x ≡ true)

@@ -10,8 +10,8 @@ use Rattle.jvm_model.specs.Programs.{Class, Program}
 use Rattle.jvm_model.specs.Subtypes.{class_named, IsChain}
 use Rattle.jvm_model.specs.Resolution.{DeclaresField, FindsField, FindsAmong, itself, above, nowhere, first, later}
 use Rattle.jvm_model.specs.declared.number.FieldNo.{FieldNo}
-use Rattle.linked_program.specs.FieldSearches.{IsFirstField, IsSearchOrder}
-use Rattle.linked_program.specs.Numbers.{name_at, IsFieldNumber}
+use Rattle.program_model.specs.FieldSearches.{IsFirstField, IsSearchOrder}
+use Rattle.program_model.specs.Numbers.{name_at, IsFieldNumber}
 use Rattle.hierarchy.specs.Searches.{DeclaresNoField, FindsBelow, plain_field}
 use Rattle.hierarchy.specs.Upward.{AnswersFirst}
 use Rattle.hierarchy.proofs.ClassPlaces.{number_named, name_at-at}

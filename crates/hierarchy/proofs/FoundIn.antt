@@ -6,7 +6,7 @@ use Rattle.jvm_model.specs.Lookups.{Signature}
 use Rattle.jvm_model.specs.Programs.{Class, Method, Program, object_name}
 use Rattle.jvm_model.specs.Resolution.{Declares, IsFound, IsFoundIn, IsFoundInInterface, declared_there, of_object, IsPublicWith}
 use Rattle.jvm_model.specs.declared.number.MethodNo.{MethodNo}
-use Rattle.linked_program.specs.Numbers.{name_at}
+use Rattle.program_model.specs.Numbers.{name_at}
 use Rattle.hierarchy.specs.Searches.{Finds}
 use Rattle.hierarchy.proofs.ClassPlaces.{name_at-at}
 use Rattle.hierarchy.proofs.Declaring.{finds_same}

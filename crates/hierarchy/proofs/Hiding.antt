@@ -11,7 +11,7 @@ use Rattle.jvm_model.specs.Programs.{Class, Method, Program}
 use Rattle.jvm_model.specs.Subtypes.{IsChain}
 use Rattle.jvm_model.specs.Selection.{StandsBelow, IsPackageOverridden, IsPackagePrivate, IsSuperCall, StartsSearch, at_super, at_named}
 use Rattle.jvm_model.specs.declared.number.ClassNo.{ClassNo}
-use Rattle.linked_program.specs.Numbers.{name_at}
+use Rattle.program_model.specs.Numbers.{name_at}
 use Rattle.hierarchy.specs.Searches.{IsReachedUpward, Hides, HidesAlong, AnswersHidden, AnswersNamed, IsHidden}
 use Rattle.hierarchy.specs.Upward.{AnswersFirst, IsFirstUpward}
 use Rattle.hierarchy.proofs.Walks.{HasAlong}

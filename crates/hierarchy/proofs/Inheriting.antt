@@ -11,9 +11,9 @@ use Rattle.jvm_model.specs.Programs.{Class, Method, Program}
 use Rattle.jvm_model.specs.Resolution.{Declares}
 use Rattle.jvm_model.specs.Subtypes.{class_named, IsChain, IsSubtype, same, below}
 use Rattle.jvm_model.specs.declared.number.MethodNo.{MethodNo}
-use Rattle.linked_program.specs.Numbers.{name_at, IsClassNumber}
-use Rattle.linked_program.specs.Ranks.{IsRanked}
-use Rattle.linked_program.specs.Whole.{IsThroughInterface}
+use Rattle.program_model.specs.Numbers.{name_at, IsClassNumber}
+use Rattle.program_model.specs.Ranks.{IsRanked}
+use Rattle.program_model.specs.Whole.{IsThroughInterface}
 use Rattle.hierarchy.specs.Searches.{Finds, IsSuch, IsInheritable, IsOffered, OffersThrough, InheritsSuch}
 use Rattle.hierarchy.specs.Upward.{IsFirstUpward}
 use Rattle.hierarchy.proofs.Chains.{rank_falls}

@@ -8,9 +8,9 @@ use Rattle.jvm_model.specs.Lookups.{Signature}
 use Rattle.jvm_model.specs.Programs.{Class, Program}
 use Rattle.jvm_model.specs.Resolution.{IsLeastInherited}
 use Rattle.jvm_model.specs.declared.number.MethodNo.{MethodNo}
-use Rattle.linked_program.specs.Numbers.{IsClassNumber}
-use Rattle.linked_program.specs.Ranks.{IsRanked}
-use Rattle.linked_program.specs.Whole.{IsThroughInterface}
+use Rattle.program_model.specs.Numbers.{IsClassNumber}
+use Rattle.program_model.specs.Ranks.{IsRanked}
+use Rattle.program_model.specs.Whole.{IsThroughInterface}
 use Rattle.hierarchy.specs.Searches.{Finds, IsLeast, IsNumberOf, IsOffered, OffersThrough}
 use Rattle.hierarchy.specs.Upward.{MakesAlong, IsFoldedUpward}
 use Rattle.hierarchy.proofs.ClassPlaces.{class_within}

@@ -11,3 +11,5 @@ pub mod Specific
 pub mod LeastMethods
 pub mod Resolving
 pub mod FieldWalks
+pub mod ClassNames
+pub mod FitSteps

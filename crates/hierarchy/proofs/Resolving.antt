@@ -10,7 +10,7 @@ use Rattle.jvm_model.specs.Resolution.{HasSignature, IsInstanceWith, IsFound, Is
 use Rattle.jvm_model.specs.Selection.{SelectsFrom, upward, by_default as by_only_default, StartsSearch, SelectsSpecial}
 use Rattle.jvm_model.specs.Subtypes.{class_named}
 use Rattle.jvm_model.specs.declared.number.MethodNo.{MethodNo}
-use Rattle.linked_program.specs.Numbers.{IsMethodNumber}
+use Rattle.program_model.specs.Numbers.{IsMethodNumber}
 use Rattle.hierarchy.specs.Searches.{Finds, SelectsInstance}
 use Rattle.hierarchy.proofs.Declaring.{finds_same}
 use Rattle.hierarchy.proofs.Hiding.{starts_same}

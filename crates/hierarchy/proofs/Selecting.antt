@@ -11,7 +11,7 @@ use Rattle.jvm_model.specs.Selection.{IsInstance, Overrides, IsSelectable, Selec
 use Rattle.hierarchy.specs.declared.choice.Choice.{Choice}
 use Rattle.hierarchy.specs.declared.choice.Choice.TheVariants.{Nothing, One, Several}
 use Rattle.jvm_model.specs.declared.number.MethodNo.{MethodNo}
-use Rattle.linked_program.specs.Numbers.{IsMethodNumber}
+use Rattle.program_model.specs.Numbers.{IsMethodNumber}
 use Rattle.hierarchy.specs.Searches.{Finds, IsSuch, HasOwnSignature, AreDefaults, IsChosen}
 use Rattle.hierarchy.proofs.Declaring.{finds_same}
 

@@ -8,10 +8,10 @@ use Rattle.jvm_model.specs.LinkedPrograms.{IsProgram}
 use Rattle.jvm_model.specs.Programs.{Class, Program}
 use Rattle.jvm_model.specs.Subtypes.{IsChain}
 use Rattle.jvm_model.specs.declared.number.MethodNo.{MethodNo}
-use Rattle.linked_program.specs.Numbers.{name_at, IsClassNumber}
-use Rattle.linked_program.specs.Ranks.{IsRanked}
+use Rattle.program_model.specs.Numbers.{name_at, IsClassNumber}
+use Rattle.program_model.specs.Ranks.{IsRanked}
 use Rattle.hierarchy.specs.Searches.{Finds}
-use Rattle.class_index.proofs.OrderPlaces.{contains_first, contains_later, contains_cases, contains_none}
+use Rattle.program_index.proofs.OrderPlaces.{contains_first, contains_later, contains_cases, contains_none}
 use Rattle.hierarchy.specs.Upward.{AnswersFirst, AnswersWhere, IsFirstUpward, IsFoldedUpward}
 use Rattle.hierarchy.proofs.ClassPlaces.{class_of_number}
 use Rattle.hierarchy.proofs.Chains.{IsStep, IsTop, chain_above}

@@ -1,2 +1,3 @@
 pub mod Searches
 pub mod Upward
+pub mod Casts

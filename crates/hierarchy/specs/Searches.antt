@@ -9,8 +9,8 @@ use Rattle.jvm_model.specs.Subtypes.{class_named, IsChain, IsProperSubtype}
 use Rattle.jvm_model.specs.declared.number.ClassNo.{ClassNo}
 use Rattle.jvm_model.specs.declared.number.FieldNo.{FieldNo}
 use Rattle.jvm_model.specs.declared.number.MethodNo.{MethodNo}
-use Rattle.linked_program.specs.Numbers.{IsFieldNumber}
-use Rattle.linked_program.specs.Whole.{IsThroughInterface}
+use Rattle.program_model.specs.Numbers.{IsFieldNumber}
+use Rattle.program_model.specs.Whole.{IsThroughInterface}
 use Rattle.hierarchy.specs.declared.choice.Choice.{Choice}
 use Rattle.hierarchy.specs.declared.choice.Choice.TheVariants.{Nothing, One, Several}
 

@@ -4,10 +4,10 @@ ghost use Rattle.std.specs.Prelude.{◌≡◌, ◌↔◌, ℕ, Some, slice_get, 
 ghost use Rattle.jvm_model.specs.Programs.{Class};
 ghost use Rattle.jvm_model.specs.Resolution.{missing};
 ghost use Rattle.jvm_model.specs.Subtypes.{IsSubtype, IsProperSubtype};
-ghost use Rattle.linked_program.specs.Numbers.{name_at, IsClassNumber};
+ghost use Rattle.program_model.specs.Numbers.{name_at, IsClassNumber};
 
 use jvm_model::{ClassNo, Reason};
-use linked_program::program::Program;
+use program_model::program::Program;
 
 /// The number of the class of a name; `None` exactly where it is not in the program. It takes no memory.
 pub fn find_class(program: &Program, name: &[u8]) -> Option<ClassNo>

@@ -4,7 +4,7 @@ ghost use Rattle.std.specs.Prelude.{◌≡◌, ◌↔◌, Some, slice_get, IsTru
 ghost use Rattle.jvm_model.specs.Lookups.{lent_signature};
 ghost use Rattle.jvm_model.specs.Programs.{Method};
 ghost use Rattle.jvm_model.specs.Resolution.{IsOnlyDefault};
-ghost use Rattle.linked_program.specs.Numbers.{name_at, IsClassNumber, IsMethodNumber};
+ghost use Rattle.program_model.specs.Numbers.{name_at, IsClassNumber, IsMethodNumber};
 ghost use Rattle.hierarchy.specs.Searches.{Finds, AreDefaults, IsLowestConcrete};
 
 use crate::choice::Choice;
@@ -13,7 +13,7 @@ use crate::methods::{class_of, is_abstract};
 use crate::sought::Sought;
 use crate::superinterfaces::first_inherited;
 use jvm_model::{ClassNo, MethodNo, Signature};
-use linked_program::program::Program;
+use program_model::program::Program;
 
 /// A method of a proper subtype of a class.
 #[derive(Clone, Copy)]

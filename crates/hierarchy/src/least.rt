@@ -3,14 +3,14 @@
 ghost use Rattle.std.specs.Prelude.{◌⊎◌};
 ghost use Rattle.jvm_model.specs.Lookups.{lent_signature};
 ghost use Rattle.jvm_model.specs.Resolution.{IsLeastInherited};
-ghost use Rattle.linked_program.specs.Numbers.{name_at, IsClassNumber};
+ghost use Rattle.program_model.specs.Numbers.{name_at, IsClassNumber};
 ghost use Rattle.hierarchy.specs.Searches.{Finds, IsLeast, IsNumberOf};
 
 use crate::sought::Any;
 use crate::superinterfaces::offered;
 use crate::upward::{Fold, fold_upward};
 use jvm_model::{ClassNo, MethodNo, Signature};
-use linked_program::program::Program;
+use program_model::program::Program;
 
 /// Of two methods the one with the lower number; where there is only one, that one.
 fn lower(one: Option<MethodNo>, other: Option<MethodNo>) -> Option<MethodNo>

@@ -2,9 +2,11 @@
 //! and the targets of special calls. They take no memory.
 #![tactic(auto)]
 
+mod casts;
 mod choice;
 pub mod classes;
 mod defaults;
+mod elements;
 mod least;
 pub mod methods;
 mod overriding;
@@ -17,3 +19,5 @@ mod sought;
 pub mod special;
 mod superinterfaces;
 pub mod upward;
+
+pub use casts::fits;

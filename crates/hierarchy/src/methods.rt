@@ -5,10 +5,10 @@ ghost use Rattle.jvm_model.specs.Access.{has_flag};
 ghost use Rattle.jvm_model.specs.Lookups.{lent_signature};
 ghost use Rattle.jvm_model.specs.Programs.{Method, is_abstract, is_private, is_public, is_static};
 ghost use Rattle.jvm_model.specs.declared.access.AccessFlag.TheVariants.{Native};
-ghost use Rattle.linked_program.specs.Numbers.{name_at, IsClassNumber, IsMethodNumber};
+ghost use Rattle.program_model.specs.Numbers.{name_at, IsClassNumber, IsMethodNumber};
 
 use jvm_model::{AccessFlag, ClassNo, MethodNo, Signature};
-use linked_program::program::Program;
+use program_model::program::Program;
 
 /// The class of a method.
 pub(crate) fn class_of(program: &Program, method: MethodNo) -> ClassNo

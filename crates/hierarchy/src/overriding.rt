@@ -3,14 +3,14 @@
 ghost use Rattle.std.specs.Prelude.{◌≡◌, ◌↔◌, ◌⊎◌, Some, slice_get, IsTrue};
 ghost use Rattle.jvm_model.specs.Programs.{Method};
 ghost use Rattle.jvm_model.specs.Selection.{Overrides, IsOverridable};
-ghost use Rattle.linked_program.specs.Numbers.{name_at, IsClassNumber, IsMethodNumber};
+ghost use Rattle.program_model.specs.Numbers.{name_at, IsClassNumber, IsMethodNumber};
 
 use crate::classes::is_proper_subtype;
 use crate::methods::{class_of, is_private, is_static};
 use crate::package::is_same_package;
 use crate::sought::Sought;
 use jvm_model::{AccessFlag, ClassNo, MethodNo};
-use linked_program::program::Program;
+use program_model::program::Program;
 
 /// An instance method that a call of the resolved one may go to: at a call of an interface's method each one of its name and
 /// descriptor, and else the resolved one and those that override it.

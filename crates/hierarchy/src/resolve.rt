@@ -4,7 +4,7 @@ ghost use Rattle.std.specs.Prelude.{◌≡◌, Some, slice_get, IfOk};
 ghost use Rattle.jvm_model.specs.Lookups.{lent_signature};
 ghost use Rattle.jvm_model.specs.Programs.{Class};
 ghost use Rattle.jvm_model.specs.Resolution.{MethodResolution, Resolves};
-ghost use Rattle.linked_program.specs.Numbers.{name_at, IsClassNumber, IsMethodNumber, method_number};
+ghost use Rattle.program_model.specs.Numbers.{name_at, IsClassNumber, IsMethodNumber, method_number};
 ghost use Rattle.hierarchy.specs.Searches.{Finds};
 
 use crate::classes::missing_member;
@@ -13,7 +13,7 @@ use crate::least::least_inherited;
 use crate::search::found_in;
 use crate::sought::Any;
 use jvm_model::{ClassNo, MethodNo, Reason, Signature};
-use linked_program::program::Program;
+use program_model::program::Program;
 
 /// What a reference to a method gives that names a class, and takes it for an interface or not: the method of the name and
 /// descriptor (JVMS 5.4.3.3, 5.4.3.4).

@@ -6,13 +6,13 @@ ghost use Rattle.jvm_model.specs.Lookups.{lent_signature};
 ghost use Rattle.jvm_model.specs.Programs.{Class, Field};
 ghost use Rattle.jvm_model.specs.Resolution.{FieldResolution, FindsField};
 ghost use Rattle.jvm_model.specs.declared.access.AccessFlag.TheVariants.{Static};
-ghost use Rattle.linked_program.specs.Numbers.{name_at, IsClassNumber, IsFieldNumber, field_number};
+ghost use Rattle.program_model.specs.Numbers.{name_at, IsClassNumber, IsFieldNumber, field_number};
 ghost use Rattle.hierarchy.specs.Searches.{plain_field};
 
 use crate::classes::missing_member;
 use crate::upward::{Step, first_upward};
 use jvm_model::{AccessFlag, ClassNo, FieldNo, Reason, Signature};
-use linked_program::program::Program;
+use program_model::program::Program;
 
 /// What a reference to a static field, or to an instance field, gives that names a class (JVMS 5.4.3.2).
 ///

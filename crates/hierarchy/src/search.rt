@@ -4,13 +4,13 @@ ghost use Rattle.std.specs.Prelude.{◌≡◌, Some, slice_get};
 ghost use Rattle.jvm_model.specs.Lookups.{lent_signature};
 ghost use Rattle.jvm_model.specs.Programs.{Class, object_name};
 ghost use Rattle.jvm_model.specs.Resolution.{Declares, IsFound, IsFoundIn, IsPublicWith};
-ghost use Rattle.linked_program.specs.Numbers.{name_at, IsClassNumber};
+ghost use Rattle.program_model.specs.Numbers.{name_at, IsClassNumber};
 ghost use Rattle.hierarchy.specs.Searches.{Finds, IsSuch};
 
 use crate::sought::{PublicInstance, Sought};
 use crate::upward::{Step, first_upward};
 use jvm_model::{ClassNo, MethodNo, Signature};
-use linked_program::program::Program;
+use program_model::program::Program;
 
 /// The method of the name and descriptor that a class declares, if it is looked for.
 pub(crate) fn declared<S: Sought>(

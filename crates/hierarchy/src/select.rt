@@ -4,7 +4,7 @@ ghost use Rattle.std.specs.Prelude.{◌≡◌, ◌↔◌, Some, slice_get, IsTru
 ghost use Rattle.jvm_model.specs.Lookups.{lent_signature};
 ghost use Rattle.jvm_model.specs.Programs.{Method};
 ghost use Rattle.jvm_model.specs.Selection.{Selection, IsPackageOverridden, IsPackagePrivate, is_direct};
-ghost use Rattle.linked_program.specs.Numbers.{name_at, IsClassNumber, IsMethodNumber, method_number};
+ghost use Rattle.program_model.specs.Numbers.{name_at, IsClassNumber, IsMethodNumber, method_number};
 ghost use Rattle.hierarchy.specs.Searches.{IsChosen, IsHidden, Hides};
 
 use crate::choice::Choice;
@@ -15,7 +15,7 @@ use crate::package::is_same_package;
 use crate::search::found_upward;
 use crate::upward::{Step, first_upward};
 use jvm_model::{AccessFlag, ClassNo, MethodNo, Reason, Signature};
-use linked_program::program::Program;
+use program_model::program::Program;
 
 /// Where a call of a resolved method on an object of a class goes, at a call of an interface's method or of any other one
 /// (JVMS 6.5.invokevirtual, 6.5.invokeinterface).
@@ -123,7 +123,7 @@ struct Hiding<'a> {
 
 impl Step for Hiding<'_> {
     ghost use Rattle.jvm_model.specs.Lookups.{lent_signature};
-    ghost use Rattle.linked_program.specs.Numbers.{name_at, IsClassNumber};
+    ghost use Rattle.program_model.specs.Numbers.{name_at, IsClassNumber};
     ghost use Rattle.hierarchy.specs.Searches.{AnswersHidden};
 
     type Answer = bool;

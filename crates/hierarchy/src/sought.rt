@@ -3,11 +3,11 @@
 ghost use Rattle.std.specs.Prelude.{◌≡◌, ◌↔◌, ℕ, Some, slice_get, IsTrue};
 ghost use Rattle.jvm_model.specs.Lookups.{Signature};
 ghost use Rattle.jvm_model.specs.Programs.{Method, Program as LinkedProgram};
-ghost use Rattle.linked_program.specs.Numbers.{IsMethodNumber};
+ghost use Rattle.program_model.specs.Numbers.{IsMethodNumber};
 
 use crate::methods::{is_public, is_static};
 use jvm_model::MethodNo;
-use linked_program::program::Program;
+use program_model::program::Program;
 
 /// A test of the methods of a name and a descriptor.
 pub(crate) trait Sought {

@@ -4,7 +4,7 @@ ghost use Rattle.std.specs.Prelude.{◌≡◌, ◌↔◌, codes, Some, slice_get
 ghost use Rattle.jvm_model.specs.Lookups.{lent_signature};
 ghost use Rattle.jvm_model.specs.Programs.{Method};
 ghost use Rattle.jvm_model.specs.Selection.{SelectsSpecial, SpecialSelection, StartsSearch};
-ghost use Rattle.linked_program.specs.Numbers.{name_at, IsClassNumber, IsMethodNumber, method_number};
+ghost use Rattle.program_model.specs.Numbers.{name_at, IsClassNumber, IsMethodNumber, method_number};
 ghost use Rattle.hierarchy.specs.Searches.{Finds, IsReachedUpward, SelectsInstance};
 
 use crate::defaults::only_default;
@@ -13,7 +13,7 @@ use crate::search::found_in;
 use crate::sought::Instance;
 use crate::upward::{Step, first_upward};
 use jvm_model::{ClassNo, MethodNo, Reason, Signature};
-use linked_program::program::Program;
+use program_model::program::Program;
 
 /// Where a special call goes, from the code of a class to a resolved method that is named with a class (JVMS
 /// 6.5.invokespecial).
@@ -102,7 +102,7 @@ struct Reached {
 }
 
 impl Step for Reached {
-    ghost use Rattle.linked_program.specs.Numbers.{name_at, IsClassNumber};
+    ghost use Rattle.program_model.specs.Numbers.{name_at, IsClassNumber};
     ghost use Rattle.hierarchy.specs.Searches.{AnswersNamed};
 
     type Answer = ClassNo;

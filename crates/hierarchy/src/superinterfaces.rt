@@ -1,7 +1,7 @@
 //! The search for a method in the superinterfaces of a class, direct or not.
 
 ghost use Rattle.jvm_model.specs.Lookups.{lent_signature};
-ghost use Rattle.linked_program.specs.Numbers.{name_at, IsClassNumber};
+ghost use Rattle.program_model.specs.Numbers.{name_at, IsClassNumber};
 ghost use Rattle.hierarchy.specs.Searches.{Finds, InheritsSuch, IsOffered};
 
 use crate::methods::{is_private, is_static};
@@ -9,7 +9,7 @@ use crate::search::declared;
 use crate::sought::Sought;
 use crate::upward::{Step, first_upward};
 use jvm_model::{ClassNo, MethodNo, Signature};
-use linked_program::program::Program;
+use program_model::program::Program;
 
 /// A method that subtypes inherit from an interface, and that is looked for: it is neither private nor static.
 #[derive(Drop)]

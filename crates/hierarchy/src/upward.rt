@@ -3,11 +3,11 @@
 
 ghost use Rattle.std.specs.Prelude.{◌≡◌, Option, Some, slice_get};
 ghost use Rattle.jvm_model.specs.Programs.{Class, Program as LinkedProgram};
-ghost use Rattle.linked_program.specs.Numbers.{name_at, IsClassNumber};
+ghost use Rattle.program_model.specs.Numbers.{name_at, IsClassNumber};
 ghost use Rattle.hierarchy.specs.Upward.{IsFirstUpward, IsFoldedUpward};
 
 use jvm_model::ClassNo;
-use linked_program::program::Program;
+use program_model::program::Program;
 
 /// What a walk up the superclasses asks of each class.
 pub trait Step {

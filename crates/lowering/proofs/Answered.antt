@@ -11,13 +11,13 @@ use Rattle.jvm_model.specs.declared.reason.Reason.TheVariants.{NoStub}
 use Rattle.jvm_model.specs.declared.reason.Refusal.{Refusal}
 use Rattle.jvm_model.specs.Code.{CodeBody, HasCode}
 use Rattle.jvm_model.specs.Subtypes.{class_named}
-use Rattle.linked_program.specs.Numbers.{IsMethodNumber}
+use Rattle.program_model.specs.Numbers.{IsMethodNumber}
 use Rattle.flow_graph.specs.declared.steps.Graph.{Graph}
 use Rattle.flow_graph.specs.declared.steps.GraphStep.{GraphStep}
 use Rattle.hierarchy.proofs.ClassPlaces.{class_of_number}
-use Rattle.method_nodes.specs.LoweredMethods.{IsNodeOf}
+use Rattle.lowering_spec.specs.LoweredMethods.{IsNodeOf}
 use Rattle.op_model.specs.declared.node.Node.{Node}
-use Rattle.node_parts.specs.Entries.{IsFirstUnknown, entry_offset}
+use Rattle.lowering_handlers.specs.Entries.{IsFirstUnknown, entry_offset}
 use Rattle.code_reader.proofs.MachineBodies.{code_is_the_body}
 use Rattle.lowering.specs.Bodies.{IsJudgedStep, IsOrderedAt, IsOwnBody, IsRefusalIn, IsStepsRefusal}
 use Rattle.lowering.specs.Orders.{IsInOrder}

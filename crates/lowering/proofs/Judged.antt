@@ -7,9 +7,9 @@ use Rattle.jvm_model.specs.declared.pool.PoolEntry.{PoolEntry}
 use Rattle.jvm_model.specs.declared.reason.Reason.{Reason}
 use Rattle.jvm_model.specs.Programs.{Method}
 use Rattle.jvm_model.specs.Table.{Row, row_of}
-use Rattle.linked_program.specs.Numbers.{name_at}
+use Rattle.program_model.specs.Numbers.{name_at}
 use Rattle.flow_graph.specs.declared.steps.GraphStep.{GraphStep}
-use Rattle.instruction_reasons.specs.Reasons.{Judged, IsFirstReason}
+use Rattle.lowering_reasons.specs.Reasons.{Judged, IsFirstReason}
 use Rattle.lowering.specs.Bodies.{HasFirst, IsMethodCode}
 use Rattle.lowering.specs.declared.body.MethodCode.{MethodCode}
 

@@ -23,10 +23,10 @@ use Rattle.jvm_model.proofs.SoundUses.{class_there}
 use Rattle.flow_graph.specs.declared.steps.GraphStep.{GraphStep}
 use Rattle.flow_graph.specs.Effects.{with_row}
 use Rattle.flow_graph.specs.Reading.{IsSoundInstruction}
-use Rattle.linked_program.specs.Numbers.{name_at, IsClassNumber}
+use Rattle.program_model.specs.Numbers.{name_at, IsClassNumber}
 use Rattle.hierarchy.proofs.ClassPlaces.{not_named}
-use Rattle.bytecode_machine.specs.Machine.{of_class}
-use Rattle.instruction_reasons.specs.Reasons.{Judged, class_in, HasReason, no_stub, IsFirstOf, reason_order, Names, of_class as lacks_class, a_class as no_class}
+use Rattle.machine_bytecode.specs.Machine.{of_class}
+use Rattle.lowering_reasons.specs.Reasons.{Judged, class_in, HasReason, no_stub, IsFirstOf, reason_order, Names, of_class as lacks_class, a_class as no_class}
 use Rattle.lowering.specs.Bodies.{IsJudgedStep, IsMadeClass, made, no_name, not_there, IsMethodCode, judged_step, TriggersAt, a_class}
 use Rattle.lowering.specs.declared.body.JudgedStep.{JudgedStep}
 use Rattle.lowering.specs.declared.body.MethodCode.{MethodCode}

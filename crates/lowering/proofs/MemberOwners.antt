@@ -7,16 +7,16 @@ use Rattle.jvm_model.specs.declared.reason.Reason.{Reason}
 use Rattle.jvm_model.specs.Lookups.{Signature}
 use Rattle.jvm_model.specs.Programs.{Class, Field, Method, Program}
 use Rattle.jvm_model.specs.Resolution.{FieldResolution, MethodResolution, found, other_kind, not_found}
-use Rattle.linked_program.specs.Numbers.{name_at, IsClassNumber, IsFieldNumber, IsMethodNumber}
-use Rattle.linked_program.specs.Whole.{IsFieldView, IsMethodView}
-use Rattle.linked_program.specs.declared.member_view.MemberView.{MemberView}
+use Rattle.program_model.specs.Numbers.{name_at, IsClassNumber, IsFieldNumber, IsMethodNumber}
+use Rattle.program_model.specs.Whole.{IsFieldView, IsMethodView}
+use Rattle.program_model.specs.declared.member_view.MemberView.{MemberView}
 use Rattle.hierarchy.proofs.ClassPlaces.{class_there, name_at-at, place_there}
 use Rattle.hierarchy.proofs.Resolving.{resolves_within}
-use Rattle.instruction_reasons.specs.declared.judgement.NamedMember.{NamedMember}
-use Rattle.instruction_reasons.specs.declared.judgement.NamedMember.TheVariants as members
-use Rattle.instruction_reasons.specs.Judgements.{IsNamedMember}
-use Rattle.instruction_reasons.specs.Reasons.{Judged, wants_static}
-use Rattle.node_machine.specs.Nodes.{IsClassNumber as IsClassNumberOf}
+use Rattle.lowering_reasons.specs.declared.judgement.NamedMember.{NamedMember}
+use Rattle.lowering_reasons.specs.declared.judgement.NamedMember.TheVariants as members
+use Rattle.lowering_reasons.specs.Judgements.{IsNamedMember}
+use Rattle.lowering_reasons.specs.Reasons.{Judged, wants_static}
+use Rattle.machine_nodes.specs.Nodes.{IsClassNumber as IsClassNumberOf}
 use Rattle.lowering.specs.Bodies.{IsMemberNumber}
 
 -- a number of the program is that of the class of its name

@@ -17,8 +17,8 @@ use Rattle.jvm_model.specs.Table.{Row, row_of, rows, is_pool_index, a_field, cla
 use Rattle.flow_graph.specs.Reading.{IsSoundInstruction}
 use Rattle.flow_graph.proofs.MemberUses.{field_there, any_method_there, class_method_there, interface_method_there}
 use Rattle.flow_graph.proofs.Rows.{expected, leads_by}
-use Rattle.instruction_reasons.specs.Named.{NamesMember, LeadsToMethod, LeadsToMember}
-use Rattle.instruction_reasons.specs.Reasons.{Judged, IsByInterface, of_class, of_interface}
+use Rattle.lowering_reasons.specs.Named.{NamesMember, LeadsToMethod, LeadsToMember}
+use Rattle.lowering_reasons.specs.Reasons.{Judged, IsByInterface, of_class, of_interface}
 use Rattle.lowering.proofs.SmallOperands.{passes}
 
 -- ---- the kind of a reference to a method

@@ -12,13 +12,13 @@ use Rattle.jvm_model.specs.Programs.{Method, Program}
 use Rattle.jvm_model.specs.RowViews.{row_view}
 use Rattle.jvm_model.specs.Table.{Row, Operands, pool_2_and_dimensions, is_trigger, Action, plain, load_constant, load_element, store_element, probe_element, probe_array, probe_object, get_static, put_static, get_field, put_field, invoke_virtual, invoke_special, invoke_static, invoke_interface, make_object, make_array, throw_object, cast, leave_method, refused}
 use Rattle.std.specs.Option.{option_and_then}
-use Rattle.linked_program.specs.Numbers.{name_at}
+use Rattle.program_model.specs.Numbers.{name_at}
 use Rattle.flow_graph.specs.declared.steps.GraphStep.{GraphStep}
 use Rattle.flow_graph.specs.Effects.{with_row}
-use Rattle.method_nodes.specs.LoweredMethods.{HasTrigger, no_trigger, for_class, IsHandlerAt}
-use Rattle.method_nodes.specs.Operations.{Placed}
-use Rattle.node_machine.specs.Nodes.{AreThrownAt}
-use Rattle.node_parts.specs.Exceptions.{IsTriggerOf, IsThrownList, no_class, a_class as of_class}
+use Rattle.lowering_spec.specs.LoweredMethods.{HasTrigger, no_trigger, for_class, IsHandlerAt}
+use Rattle.lowering_spec.specs.Operations.{Placed}
+use Rattle.machine_nodes.specs.Nodes.{AreThrownAt}
+use Rattle.lowering_handlers.specs.Exceptions.{IsTriggerOf, IsThrownList, no_class, a_class as of_class}
 use Rattle.op_model.specs.declared.node.NodeHandler.{NodeHandler}
 use Rattle.op_model.specs.declared.op.Op.{Op}
 use Rattle.lowering.specs.Bodies.{HasStepOperation, HasStepOrder, IsJudgedStep, IsMethodCode, IsNodeAt, IsOrderedAt, TriggersAt, nothing, a_class}

@@ -8,9 +8,9 @@ use Rattle.jvm_model.specs.LinkedPrograms.{IsProgram, IsBodyOf, IsMemberOf}
 use Rattle.jvm_model.specs.declared.stub.StubMethod.{StubMethod}
 use Rattle.jvm_model.specs.Programs.{Body, Method, Program, in_file}
 use Rattle.jvm_model.specs.Soundness.{IsChecked}
-use Rattle.linked_program.specs.Bodies.{IsBodyView}
-use Rattle.linked_program.specs.Numbers.{name_at, IsClassNumber}
-use Rattle.linked_program.specs.declared.method_body.MethodBody.TheVariants.{InFile, Described}
+use Rattle.program_model.specs.Bodies.{IsBodyView}
+use Rattle.program_model.specs.Numbers.{name_at, IsClassNumber}
+use Rattle.program_model.specs.declared.method_body.MethodBody.TheVariants.{InFile, Described}
 use Rattle.code_reader.specs.CodeReading.{ReadsCode}
 use Rattle.code_reader.proofs.ToldCodes.{Contains-from_slice_get}
 use Rattle.flow_graph.specs.declared.steps.Graph.{Graph}

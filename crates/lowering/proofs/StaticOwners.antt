@@ -14,11 +14,11 @@ use Rattle.jvm_model.specs.RowViews.{action_view, row_view}
 use Rattle.jvm_model.specs.Table.{Action, get_static, put_static, invoke_static, is_call, is_field_access, is_trigger}
 use Rattle.hierarchy.proofs.ClassPlaces.{number_named, place_there}
 use Rattle.hierarchy.proofs.Resolving.{resolves_within}
-use Rattle.bytecode_machine.specs.Machine.{NamesField, NamesMethod, Concerns, of_field, of_method}
-use Rattle.instruction_reasons.specs.declared.judgement.NamedMember.{NamedMember}
-use Rattle.instruction_reasons.specs.declared.judgement.NamedMember.TheVariants as members
-use Rattle.instruction_reasons.specs.Judgements.{IsNamedMember}
-use Rattle.instruction_reasons.specs.Reasons.{Judged, wants_static, LooksUpField, LooksUpMethod}
+use Rattle.machine_bytecode.specs.Machine.{NamesField, NamesMethod, Concerns, of_field, of_method}
+use Rattle.lowering_reasons.specs.declared.judgement.NamedMember.{NamedMember}
+use Rattle.lowering_reasons.specs.declared.judgement.NamedMember.TheVariants as members
+use Rattle.lowering_reasons.specs.Judgements.{IsNamedMember}
+use Rattle.lowering_reasons.specs.Reasons.{Judged, wants_static, LooksUpField, LooksUpMethod}
 use Rattle.lowering.specs.Bodies.{judged_step, NamesOwner, TriggersAt, a_class}
 use Rattle.lowering.specs.declared.body.JudgedStep.{JudgedStep}
 use Rattle.lowering.specs.declared.body.MethodCode.{MethodCode}

@@ -15,24 +15,24 @@ use Rattle.jvm_model.specs.RowViews.{row_view}
 use Rattle.jvm_model.specs.Soundness.{IsChecked}
 use Rattle.jvm_model.specs.Subtypes.{class_named}
 use Rattle.jvm_model.specs.Table.{Row, row_of, is_trigger}
-use Rattle.linked_program.specs.Numbers.{name_at, IsClassNumber, IsFieldNumber, IsMethodNumber}
+use Rattle.program_model.specs.Numbers.{name_at, IsClassNumber, IsFieldNumber, IsMethodNumber}
 use Rattle.code_reader.specs.CodeReading.{ReadsCode}
 use Rattle.flow_graph.specs.declared.steps.Graph.{Graph}
 use Rattle.flow_graph.specs.declared.steps.GraphStep.{GraphStep}
 use Rattle.flow_graph.specs.Effects.{with_row}
 use Rattle.flow_graph.specs.Graphing.{IsCodeOf, IsStep}
 use Rattle.flow_graph.specs.Graphs.{IsGraph}
-use Rattle.bytecode_machine.specs.Machine.{Concerns}
-use Rattle.node_machine.specs.Nodes.{IsClassNumber as IsClassNumberOf}
+use Rattle.machine_bytecode.specs.Machine.{Concerns}
+use Rattle.machine_nodes.specs.Nodes.{IsClassNumber as IsClassNumberOf}
 use Rattle.op_model.specs.declared.node.Node.{Node}
 use Rattle.op_model.specs.declared.op.Op.{Op}
-use Rattle.method_nodes.specs.LoweredMethods.{IsNodeOf}
-use Rattle.method_nodes.specs.Operations.{IsOp}
-use Rattle.node_operations.specs.Orders.{IsOrderedOp}
-use Rattle.instruction_reasons.specs.declared.judgement.NamedMember.{NamedMember}
-use Rattle.instruction_reasons.specs.declared.judgement.NamedMember.TheVariants.{NoMember, Field, Method}
-use Rattle.instruction_reasons.specs.Judgements.{IsNamedMember}
-use Rattle.instruction_reasons.specs.Reasons.{Judged, IsFirstReason}
+use Rattle.lowering_spec.specs.LoweredMethods.{IsNodeOf}
+use Rattle.lowering_spec.specs.Operations.{IsOp}
+use Rattle.lowering_operations.specs.Orders.{IsOrderedOp}
+use Rattle.lowering_reasons.specs.declared.judgement.NamedMember.{NamedMember}
+use Rattle.lowering_reasons.specs.declared.judgement.NamedMember.TheVariants.{NoMember, Field, Method}
+use Rattle.lowering_reasons.specs.Judgements.{IsNamedMember}
+use Rattle.lowering_reasons.specs.Reasons.{Judged, IsFirstReason}
 use Rattle.lowering.specs.Orders.{IsInOrder}
 use Rattle.lowering.specs.Refusals.{HasFirstReason, IsClassRefusal, IsRefusedAt}
 use Rattle.lowering.specs.declared.body.MethodCode.{MethodCode}

@@ -9,9 +9,9 @@ use Rattle.flow_graph.specs.declared.steps.Graph.{Graph}
 use Rattle.flow_graph.specs.declared.steps.GraphStep.{GraphStep}
 use Rattle.op_model.specs.declared.lowered.LoweredMethod.{LoweredMethod}
 use Rattle.op_model.specs.declared.node.Node.{Node}
-use Rattle.method_nodes.specs.LoweredMethods.{IsNodeOf}
-use Rattle.node_operations.specs.Orders.{IsOrderedOp}
-use Rattle.node_parts.specs.Exceptions.{IsThrownList}
+use Rattle.lowering_spec.specs.LoweredMethods.{IsNodeOf}
+use Rattle.lowering_operations.specs.Orders.{IsOrderedOp}
+use Rattle.lowering_handlers.specs.Exceptions.{IsThrownList}
 use Rattle.lowering.specs.Refusals.{IsOwnCode}
 
 -- The node is that of the step, and its moves, its successors and its thrown classes stand in order, each as often as it is listed:

@@ -20,9 +20,9 @@ use Rattle.flow_graph.specs.declared.steps.Graph.{Graph}
 use Rattle.flow_graph.specs.declared.steps.GraphStep.{GraphStep}
 use Rattle.flow_graph.specs.Graphs.{IsGraph}
 use Rattle.op_model.specs.declared.lowered.LoweredMethod.{LoweredMethod}
-use Rattle.method_nodes.specs.LoweredMethods.{IsLowered}
-use Rattle.node_parts.specs.Entries.{IsFirstUnknown, AreKnown, entry_offset}
-use Rattle.instruction_reasons.specs.Reasons.{Judged, IsFirstReason}
+use Rattle.lowering_spec.specs.LoweredMethods.{IsLowered}
+use Rattle.lowering_handlers.specs.Entries.{IsFirstUnknown, AreKnown, entry_offset}
+use Rattle.lowering_reasons.specs.Reasons.{Judged, IsFirstReason}
 
 -- A class file has the method, and the code and the graph are those that are read of it.
 pub record IsOwnCode (p : Program) (number : ℕ) (code : Code) (graph : Graph) : Type 0 where

@@ -1,9 +1,9 @@
 //! The method that is lowered, and its instructions once they are judged.
 
-use instruction_reasons::NamedMember;
 use jvm_model::opcode::Row;
 use jvm_model::{ClassFile, ClassNo, Code, MethodNo, PlacedInstruction};
-use linked_program::program::Program;
+use lowering_reasons::NamedMember;
+use program_model::program::Program;
 
 /// A method of the program, its class, the class file that has it, and its code.
 #[derive(Clone, Copy)]

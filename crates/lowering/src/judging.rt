@@ -8,9 +8,9 @@ ghost use Rattle.lowering.specs.Bodies.{HasFirst, IsJudgedStep, IsMethodCode, Is
 use crate::body::{JudgedStep, MethodCode};
 use crate::refusal::refused;
 use flow_graph::{GraphStep, number_of};
-use instruction_reasons::{JudgedInstruction, judge};
 use jvm_model::opcode::row_of_opcode;
 use jvm_model::{PlacedInstruction, Reason};
+use lowering_reasons::{JudgedInstruction, judge};
 use op_model::SupplyFailure;
 use std::alloc::Global;
 

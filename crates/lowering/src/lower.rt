@@ -2,8 +2,8 @@
 
 ghost use Rattle.std.specs.Prelude.{All, IfOk, IfNone, IfSome};
 ghost use Rattle.std.specs.List.{AllZip};
-ghost use Rattle.node_parts.specs.Catches.{IsCatchOf};
-ghost use Rattle.node_parts.specs.Entries.{AreKnown, IsFirstUnknown};
+ghost use Rattle.lowering_handlers.specs.Catches.{IsCatchOf};
+ghost use Rattle.lowering_handlers.specs.Entries.{AreKnown, IsFirstUnknown};
 ghost use Rattle.lowering.specs.Bodies.{IsJudgedStep, IsMethodCode, IsOrderedAt, IsOwnBody, IsStepOf};
 ghost use Rattle.lowering.specs.Orders.{AreInOrder};
 ghost use Rattle.lowering.specs.Refusals.{IsLoweringAnswer, IsOwnCode};
@@ -14,10 +14,10 @@ use crate::node::node;
 use crate::refusal::refused;
 use flow_graph::{Graph, GraphStep};
 use jvm_model::{Code, MethodNo, Reason, Sequence};
-use linked_program::method_body::MethodBody;
-use linked_program::program::Program;
-use node_parts::{Catch, catches_of, entry_offset, first_unknown, parameter_units};
+use lowering_handlers::{Catch, catches_of, entry_offset, first_unknown, parameter_units};
 use op_model::{LoweredMethod, Node, SupplyFailure};
+use program_model::method_body::MethodBody;
+use program_model::program::Program;
 use std::alloc::{AllocError, Global};
 
 /// The nodes of a method of the program, from its code as `read_code` answers it and the flow graph of that as `graph` answers it: one

@@ -3,21 +3,21 @@
 ghost use Rattle.std.specs.Prelude.{◌≡◌, ℕ, Contains, IfOk, IfSome};
 ghost use Rattle.std.specs.List.{AllZip};
 ghost use Rattle.flow_graph.specs.declared.steps.GraphStep.{GraphStep};
-ghost use Rattle.linked_program.specs.Numbers.{IsClassNumber};
-ghost use Rattle.node_parts.specs.Catches.{IsCatchOf, IsUnknownEntry};
+ghost use Rattle.program_model.specs.Numbers.{IsClassNumber};
+ghost use Rattle.lowering_handlers.specs.Catches.{IsCatchOf, IsUnknownEntry};
 ghost use Rattle.lowering.specs.Bodies.{HasStepOperation, HasStepOrder, IsJudgedStep, IsMemberNumber, IsMadeClass, IsMethodCode, IsOrderedAt, IsStepOf, NamesOwner, TriggersAt};
 
 use crate::body::{JudgedStep, MethodCode};
 use flow_graph::GraphStep;
-use instruction_reasons::NamedMember;
 use jvm_model::lookup::class_name_at;
 use jvm_model::opcode::Action;
 use jvm_model::{ClassNo, Sequence};
-use linked_program::program::Program;
-use node_operations::Placement;
-use node_operations::operation::operation;
-use node_parts::{Catch, node_handlers, thrown_classes};
+use lowering_handlers::{Catch, node_handlers, thrown_classes};
+use lowering_operations::Placement;
+use lowering_operations::operation::operation;
+use lowering_reasons::NamedMember;
 use op_model::{Node, Op};
+use program_model::program::Program;
 use std::alloc::{AllocError, Global};
 
 /// The node of the instruction of a step.

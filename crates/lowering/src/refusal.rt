@@ -1,14 +1,14 @@
 //! The refusal of a method.
 
-ghost use Rattle.linked_program.specs.Numbers.{IsClassNumber};
+ghost use Rattle.program_model.specs.Numbers.{IsClassNumber};
 ghost use Rattle.lowering.specs.Bodies.{IsMethodCode, IsRefusalIn};
 ghost use Rattle.lowering.specs.Refusals.{IsClassRefusal};
 
 use crate::body::MethodCode;
 use failure::Failure;
 use jvm_model::{ClassNo, Fault, Name, Reason, Refusal};
-use linked_program::program::Program;
 use op_model::SupplyFailure;
+use program_model::program::Program;
 use std::alloc::Global;
 
 /// The refusal of what is wrong with the file that has the class; or out of memory.

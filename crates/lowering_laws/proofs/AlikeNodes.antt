@@ -20,9 +20,9 @@ use Rattle.flow_graph.specs.Reading.{AreInOrder}
 use Rattle.op_model.specs.declared.lowered.LoweredMethod.{LoweredMethod}
 use Rattle.op_model.specs.declared.node.Node.{Node}
 use Rattle.op_model.specs.declared.node.NodeHandler.{NodeHandler}
-use Rattle.node_machine.specs.Nodes.{AreThrownAt, IsClassNumber}
-use Rattle.method_nodes.specs.LoweredMethods.{HasParameterUnits, HasTrigger, IsCatch, IsHandlerAt, IsLowered, IsNodeOf, IsPlacedAt, all, for_class, no_trigger, of_class}
-use Rattle.method_nodes.specs.Operations.{IsOp, Placed}
+use Rattle.machine_nodes.specs.Nodes.{AreThrownAt, IsClassNumber}
+use Rattle.lowering_spec.specs.LoweredMethods.{HasParameterUnits, HasTrigger, IsCatch, IsHandlerAt, IsLowered, IsNodeOf, IsPlacedAt, all, for_class, no_trigger, of_class}
+use Rattle.lowering_spec.specs.Operations.{IsOp, Placed}
 use Rattle.lowering.specs.Refusals.{IsAccepted, IsOwnCode}
 use Rattle.lowering_laws.specs.Alike.{AlikeMethods, AlikeNodes, HaveSame}
 use Rattle.lowering_laws.proofs.Concerned.{one_class_number, one_concerned}

@@ -17,11 +17,11 @@ use Rattle.jvm_model.specs.Resolution.{FindsAmong, FindsField, above, first, its
 use Rattle.jvm_model.proofs.FieldKinds.{field_of_kind, no_field}
 use Rattle.jvm_model.proofs.Parameters.{joined}
 use Rattle.program_laws.proofs.Signed.{IsSigned, resolved_signed}
-use Rattle.linked_program.proofs.Bridges.{one_name}
+use Rattle.program_model.proofs.Bridges.{one_name}
 use Rattle.hierarchy.proofs.ClassPlaces.{contained}
-use Rattle.node_parts.proofs.ParameterCounts.{method_descriptor}
-use Rattle.bytecode_machine.specs.Machine.{Concerns, NamesClass, NamesField, NamesMethod, of_class, of_field, of_method}
-use Rattle.node_machine.specs.Nodes.{IsClassNumber}
+use Rattle.lowering_handlers.proofs.ParameterCounts.{method_descriptor}
+use Rattle.machine_bytecode.specs.Machine.{Concerns, NamesClass, NamesField, NamesMethod, of_class, of_field, of_method}
+use Rattle.machine_nodes.specs.Nodes.{IsClassNumber}
 use Rattle.lowering_laws.proofs.Named.{one_class, same_field, same_method}
 
 -- ---- a field has the name and the descriptor by which it is found

@@ -1,7 +1,7 @@
 -- An instruction has one first reason, or none.
 use Rattle.std.proofs.Common.{◌≡◌, inl, inr, List, [], ◌∷◌, Option, sym, ◌∙◌}
 use Rattle.jvm_model.specs.declared.reason.Reason.{Reason}
-use Rattle.instruction_reasons.specs.Reasons.{Judged, IsFirstOf, IsFirstReason, reason_order}
+use Rattle.lowering_reasons.specs.Reasons.{Judged, IsFirstOf, IsFirstReason, reason_order}
 
 one_of : (j : Judged) (reasons : List Reason) (a b : Option Reason) → IsFirstOf j reasons a → IsFirstOf j reasons b → a ≡ b
 one_of j [] a b x y = x ∙ sym y

@@ -9,8 +9,8 @@ use Rattle.jvm_model.specs.Lookups.{MemberReference}
 use Rattle.jvm_model.specs.Programs.{Class, Program}
 use Rattle.jvm_model.specs.Resolution.{FindsField, Resolves, found}
 use Rattle.jvm_model.specs.Subtypes.{array_of}
-use Rattle.bytecode_machine.specs.Machine.{NamesArrays, NamesClass, NamesField, NamesMethod, nested, nested_arrays, of_primitives, of_references}
-use Rattle.method_nodes.specs.Operations.{LoadsConstantOf, Placed, of_class, of_string}
+use Rattle.machine_bytecode.specs.Machine.{NamesArrays, NamesClass, NamesField, NamesMethod, nested, nested_arrays, of_primitives, of_references}
+use Rattle.lowering_spec.specs.Operations.{LoadsConstantOf, Placed, of_class, of_string}
 use Rattle.program_laws.proofs.FieldSearch.{one_search}
 use Rattle.program_laws.proofs.Outcomes.{one_method_outcome}
 

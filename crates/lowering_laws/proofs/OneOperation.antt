@@ -12,10 +12,10 @@ use Rattle.op_model.specs.declared.op.CallKind.{CallKind}
 use Rattle.op_model.specs.declared.op.CallKind.TheVariants.{Virtual, Special, Static, Interface}
 use Rattle.op_model.specs.declared.op.Op.{Op}
 use Rattle.op_model.specs.declared.op.Op.TheVariants.{Load, Store, LoadStatic, StoreStatic, New, NewArray, Constant, Call, Cast, Probe}
-use Rattle.bytecode_machine.specs.Machine.{NamesMethod}
-use Rattle.bytecode_machine.specs.Start.{boot_site}
-use Rattle.bytecode_machine.specs.States.{is_reference_type}
-use Rattle.method_nodes.specs.Operations.{Placed, IsAssign, IsCallOp, IsChosen, IsFieldOp, IsOp, IsStaticOp, field_no, new_site, unit_slots, value_slot}
+use Rattle.machine_bytecode.specs.Machine.{NamesMethod}
+use Rattle.machine_bytecode.specs.Start.{boot_site}
+use Rattle.machine_bytecode.specs.States.{is_reference_type}
+use Rattle.lowering_spec.specs.Operations.{Placed, IsAssign, IsCallOp, IsChosen, IsFieldOp, IsOp, IsStaticOp, field_no, new_site, unit_slots, value_slot}
 use Rattle.lowering_laws.specs.Alike.{AlikeOps, equal, by_moves}
 use Rattle.program_laws.proofs.SpecialCalls.{one_special}
 use Rattle.lowering_laws.proofs.Named.{one_arrays, one_class, one_constant, same_field, same_method}

@@ -23,8 +23,8 @@ use Rattle.flow_graph.specs.Reading.{AreInOrder}
 use Rattle.flow_graph.proofs.Numbers.{in_order_of}
 use Rattle.flow_graph.proofs.ReadPlaces.{in_place}
 use Rattle.op_model.specs.declared.lowered.LoweredMethod.{LoweredMethod}
-use Rattle.node_parts.specs.Entries.{IsFirstUnknown, AreKnown, entry_offset}
-use Rattle.instruction_reasons.specs.Reasons.{Judged, IsFirstReason}
+use Rattle.lowering_handlers.specs.Entries.{IsFirstUnknown, AreKnown, entry_offset}
+use Rattle.lowering_reasons.specs.Reasons.{Judged, IsFirstReason}
 use Rattle.lowering.specs.Refusals.{AreFree, HasFirstReason, IsAccepted, IsFirstRefusal, at_entry, at_instruction, IsJudgedAt, IsOwnCode, IsRefused, IsRefusedAt, here, later}
 use Rattle.lowering.proofs.StepPlaces.{one_at}
 use Rattle.lowering_laws.proofs.FirstReasons.{one_reason}

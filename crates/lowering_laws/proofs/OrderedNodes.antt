@@ -16,11 +16,11 @@ use Rattle.op_model.specs.declared.node.Node.{Node}
 use Rattle.op_model.specs.declared.op.Move.{Move}
 use Rattle.op_model.specs.declared.op.Op.{Op}
 use Rattle.op_model.specs.declared.op.Op.TheVariants.{Assign}
-use Rattle.method_nodes.specs.LoweredMethods.{HasTrigger}
-use Rattle.method_nodes.specs.Operations.{Placed}
-use Rattle.node_operations.specs.MoveLists.{moves_of}
-use Rattle.node_operations.specs.Orders.{IsOrderedOp}
-use Rattle.node_parts.specs.Exceptions.{IsThrownList, raised_alone, with_errors}
+use Rattle.lowering_spec.specs.LoweredMethods.{HasTrigger}
+use Rattle.lowering_spec.specs.Operations.{Placed}
+use Rattle.lowering_operations.specs.MoveLists.{moves_of}
+use Rattle.lowering_operations.specs.Orders.{IsOrderedOp}
+use Rattle.lowering_handlers.specs.Exceptions.{IsThrownList, raised_alone, with_errors}
 use Rattle.lowering.specs.Orders.{AreInOrder, IsInOrder}
 use Rattle.lowering.specs.Refusals.{IsAccepted}
 use Rattle.lowering_laws.specs.Alike.{AlikeOps, equal, by_moves}

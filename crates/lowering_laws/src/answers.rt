@@ -8,7 +8,7 @@ ghost use Rattle.jvm_model.specs.LinkedPrograms.{IsProgram};
 ghost use Rattle.jvm_model.specs.Programs.{Program};
 ghost use Rattle.flow_graph.specs.declared.steps.Graph.{Graph};
 ghost use Rattle.op_model.specs.declared.lowered.LoweredMethod.{LoweredMethod};
-ghost use Rattle.instruction_reasons.specs.Reasons.{Judged, IsFirstReason};
+ghost use Rattle.lowering_reasons.specs.Reasons.{Judged, IsFirstReason};
 ghost use Rattle.lowering.specs.Refusals.{IsAccepted, IsRefused};
 ghost use Rattle.lowering_laws.specs.Alike.{AlikeMethods};
 

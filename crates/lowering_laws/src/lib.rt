@@ -1,8 +1,12 @@
-//! Laws of lowering: what lowering answers for a method's code and graph is one. So the contract that says what the answer is leaves
-//! no choice but the order and the repeats of moves, of successors and of thrown classes; and the contract of their order leaves none.
-//! Each law calls nothing, and stands on the definitions alone.
+//! Laws of flow graphs: the code of each method of a sound class file has its graph, or its first fault, and each step of a
+//! graph has what its instruction needs. They call nothing, and stand on the definitions of flow graphs alone.
 #![tactic(auto)]
 
 pub mod answers;
+pub mod each_answer;
+pub mod effects;
+pub mod graphs;
 pub mod nodes;
 pub mod ordered;
+pub mod reasons;
+pub mod steps;

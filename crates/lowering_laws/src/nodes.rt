@@ -10,8 +10,8 @@ ghost use Rattle.jvm_model.specs.Table.{Row};
 ghost use Rattle.flow_graph.specs.declared.steps.Graph.{Graph};
 ghost use Rattle.op_model.specs.declared.lowered.LoweredMethod.{LoweredMethod};
 ghost use Rattle.op_model.specs.declared.op.Op.{Op};
-ghost use Rattle.method_nodes.specs.Operations.{IsOp, Placed};
-ghost use Rattle.method_nodes.specs.LoweredMethods.{IsLowered};
+ghost use Rattle.lowering_spec.specs.Operations.{IsOp, Placed};
+ghost use Rattle.lowering_spec.specs.LoweredMethods.{IsLowered};
 ghost use Rattle.lowering.specs.Refusals.{IsOwnCode};
 ghost use Rattle.lowering_laws.specs.Alike.{AlikeMethods, AlikeOps};
 

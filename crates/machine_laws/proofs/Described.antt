@@ -2,10 +2,10 @@
 use Rattle.std.proofs.Common.{◌≡◌, ℕ, List, [], ◌∷◌, refl, ap}
 use Rattle.jvm_model.specs.declared.stub.StubResult.{StubResult}
 use Rattle.jvm_model.specs.declared.stub.StubResult.TheVariants.{Primitive, Void, Null, Given, New, Kept}
-use Rattle.bytecode_machine.specs.Described.{DescribedMethod, Gives, GivesResult, ThrowsListed, kept_by}
-use Rattle.bytecode_machine.specs.Machine.{unwound}
-use Rattle.bytecode_machine.specs.Objects.{Subject}
-use Rattle.bytecode_machine.specs.States.{Value, Frame, World, State}
+use Rattle.machine_bytecode.specs.Described.{DescribedMethod, Gives, GivesResult, ThrowsListed, kept_by}
+use Rattle.machine_bytecode.specs.Machine.{unwound}
+use Rattle.machine_bytecode.specs.Objects.{Subject}
+use Rattle.machine_bytecode.specs.States.{Value, Frame, World, State}
 use Rattle.machine_laws.proofs.Heaps.{Keeps, keeps_same, keeps_on, keeps_made, keeps_kept}
 
 keeps_gives : (x : Subject) (number : ℕ) (d : DescribedMethod x number) (caller : Frame) (units : List Value) (r : StubResult) (before : World) (v : Value) (after : World)

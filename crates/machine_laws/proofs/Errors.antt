@@ -6,9 +6,9 @@ use Rattle.std.proofs.lemmas.List.Elements.{All-contains}
 use Rattle.std.proofs.lemmas.Option.{get_or_from_slice_get, same_Some, none-some}
 use Rattle.jvm_model.specs.Automata.{IsAutomaton, IsEvent as IsEventOf}
 use Rattle.jvm_model.specs.Lookups.{Signature}
-use Rattle.bytecode_machine.specs.Machine.{Step}
-use Rattle.bytecode_machine.specs.Objects.{Subject}
-use Rattle.bytecode_machine.specs.States.{Value, Object, World, State}
+use Rattle.machine_bytecode.specs.Machine.{Step}
+use Rattle.machine_bytecode.specs.Objects.{Subject}
+use Rattle.machine_bytecode.specs.States.{Value, Object, World, State}
 use Rattle.machine_laws.specs.Survival.{IsMovedBy, Survives}
 use Rattle.machine_laws.proofs.Moved.{IsMovedOn}
 use Rattle.machine_laws.proofs.Steps.{objects_survive}

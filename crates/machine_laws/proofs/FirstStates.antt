@@ -7,9 +7,9 @@ use Rattle.std.specs.Str.{bytes_eq}
 use Rattle.jvm_model.specs.Programs.{Program, Method, Field}
 use Rattle.jvm_model.specs.Soundness.{plain_descriptor}
 use Rattle.jvm_model.specs.Subtypes.{array_of}
-use Rattle.bytecode_machine.specs.Objects.{Subject, string_name}
-use Rattle.bytecode_machine.specs.Start.{IsFirst, BeginsAs, no_field, holding, by_default, MayBeArgument, AreArgumentObjects, held_place, boot_site, boot_object, boot_classes, start_frame}
-use Rattle.bytecode_machine.specs.States.{State, Value, primitive_value, reference_to, Object, default_value, new_array, runs_on}
+use Rattle.machine_bytecode.specs.Objects.{Subject, string_name}
+use Rattle.machine_bytecode.specs.Start.{IsFirst, BeginsAs, no_field, holding, by_default, MayBeArgument, AreArgumentObjects, held_place, boot_site, boot_object, boot_classes, start_frame}
+use Rattle.machine_bytecode.specs.States.{State, Value, primitive_value, reference_to, Object, default_value, new_array, runs_on}
 
 -- what a static field begins with: the object that it holds, or its default
 abbrev first_of : Program → ℕ → Field → Value

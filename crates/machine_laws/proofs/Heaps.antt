@@ -2,8 +2,8 @@
 use Rattle.std.proofs.Common.{◌≡◌, ◌⊎◌, inl, inr, ℕ, zero, suc, ◌<◌, List, [], ◌∷◌, ◌++◌, length, set, Some, refl, sym, ap, ◌∙◌, subst, arith}
 use Rattle.std.specs.List.{slice_get}
 use Rattle.std.proofs.lemmas.Option.{slice_get_within, same_Some, none-some}
-use Rattle.bytecode_machine.specs.Objects.{Subject, MakesObject, MakesArrays, WritesField, WritesElement}
-use Rattle.bytecode_machine.specs.States.{Value, Object, World, with_heap, with_kept, with_static, with_started}
+use Rattle.machine_bytecode.specs.Objects.{Subject, MakesObject, MakesArrays, WritesField, WritesElement}
+use Rattle.machine_bytecode.specs.States.{Value, Object, World, with_heap, with_kept, with_static, with_started}
 
 -- the object is at its place still, as it was but for what it holds
 pub record Stays (w : World) (place : ℕ) (o : Object) : Type 0 where

@@ -15,7 +15,7 @@ use Rattle.jvm_model.specs.Programs.{Program, Method, Body, in_file, described}
 use Rattle.jvm_model.specs.Soundness.{is_code, plain_descriptor}
 use Rattle.jvm_model.specs.Spelling.{AttributeFits, MemberFits}
 use Rattle.jvm_model.specs.Subtypes.{IsSubtype}
-use Rattle.bytecode_machine.specs.Machine.{MethodCode, IsInitialiser}
+use Rattle.machine_bytecode.specs.Machine.{MethodCode, IsInitialiser}
 use Rattle.code_reader.proofs.SpelledBodies.{body_or_not}
 use Rattle.code_reader.proofs.ToldCodes.{Contains-from_slice_get}
 use Rattle.program_laws.proofs.Choices.{OrNot, carried_over, both_or_not, same_or_not}

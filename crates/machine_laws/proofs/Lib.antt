@@ -13,3 +13,12 @@ mod ProgressThrown
 mod ProgressStarts
 mod ProgressArrays
 pub mod KnownCode
+mod NodeSteps
+mod Slots
+mod Operations
+mod Calls
+mod Thrown
+mod Starts
+mod Running
+pub mod CodedInitialisers
+pub mod StartNodes

@@ -4,9 +4,9 @@ use Rattle.std.specs.List.{slice_get}
 use Rattle.std.specs.Prelude.{slice_set, slice_index}
 use Rattle.std.proofs.lemmas.Option.{same_Some}
 use Rattle.jvm_model.specs.Lookups.{Signature}
-use Rattle.bytecode_machine.specs.Events.{IsEvent, HasEvents, moved, unmoved}
-use Rattle.bytecode_machine.specs.Objects.{Subject}
-use Rattle.bytecode_machine.specs.States.{Value, Object, World, with_automaton}
+use Rattle.machine_bytecode.specs.Events.{IsEvent, HasEvents, moved, unmoved}
+use Rattle.machine_bytecode.specs.Objects.{Subject}
+use Rattle.machine_bytecode.specs.States.{Value, Object, World, with_automaton}
 use Rattle.machine_laws.proofs.Heaps.{Keeps, same_or_not, written_there, not_written}
 
 -- a call with these units is an event of the object at a place, and this is the next state of its automaton

@@ -5,9 +5,9 @@ use Rattle.std.specs.Prelude.{slice_set}
 use Rattle.jvm_model.specs.declared.site.Site.{Site}
 use Rattle.jvm_model.specs.declared.site.SiteKind.TheVariants.{New}
 use Rattle.jvm_model.specs.Table.{load_element, store_element, make_array}
-use Rattle.bytecode_machine.specs.Machine.{NamesArrays}
-use Rattle.bytecode_machine.specs.Objects.{Subject, IsArrayOf, MayStand}
-use Rattle.bytecode_machine.specs.States.{Value, primitive_value, null_value, reference_to, elements, Frame, State, Dimension, slot_at, site_at, with_contents}
+use Rattle.machine_bytecode.specs.Machine.{NamesArrays}
+use Rattle.machine_bytecode.specs.Objects.{Subject, IsArrayOf, MayStand}
+use Rattle.machine_bytecode.specs.States.{Value, primitive_value, null_value, reference_to, elements, Frame, State, Dimension, slot_at, site_at, with_contents}
 use Rattle.machine_laws.specs.Progress.{GoesOnward, dimensions_of, with_arrays}
 use Rattle.machine_laws.proofs.ProgressSteps.{HasUnits, goes_onward_with}
 

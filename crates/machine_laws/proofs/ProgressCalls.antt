@@ -6,10 +6,10 @@ use Rattle.jvm_model.specs.declared.stub.StubResult.{StubResult}
 use Rattle.jvm_model.specs.declared.stub.StubResult.TheVariants.{Primitive, Void, Null, Given, New, Kept}
 use Rattle.jvm_model.specs.Subtypes.{Fits}
 use Rattle.jvm_model.specs.Table.{is_selecting}
-use Rattle.bytecode_machine.specs.Described.{DescribedMethod, IsKept, kept_by, argument_value, Gives}
-use Rattle.bytecode_machine.specs.Machine.{MethodCode, Calls, entered, effect, enters, gets_result, gets_exception}
-use Rattle.bytecode_machine.specs.Objects.{Subject}
-use Rattle.bytecode_machine.specs.States.{Value, primitive_value, null_value, reference_to, Frame, World, State, runs_on, throws_on, moved_to, waiting, with_kept, with_object, new_object, site_at}
+use Rattle.machine_bytecode.specs.Described.{DescribedMethod, IsKept, kept_by, argument_value, Gives}
+use Rattle.machine_bytecode.specs.Machine.{MethodCode, Calls, entered, effect, enters, gets_result, gets_exception}
+use Rattle.machine_bytecode.specs.Objects.{Subject}
+use Rattle.machine_bytecode.specs.States.{Value, primitive_value, null_value, reference_to, Frame, World, State, runs_on, throws_on, moved_to, waiting, with_kept, with_object, new_object, site_at}
 use Rattle.machine_laws.specs.Progress.{GoesOn, CanGive, by_result, by_exception, CanBeCalled, IsCallable}
 use Rattle.machine_laws.proofs.ProgressDecided.{DecidesSubtypes, IsAlike, after_events}
 use Rattle.machine_laws.proofs.ProgressSteps.{HasUnits}

@@ -10,9 +10,9 @@ use Rattle.jvm_model.specs.Lookups.{Signature}
 use Rattle.jvm_model.specs.Programs.{Program}
 use Rattle.jvm_model.specs.Soundness.{is_array}
 use Rattle.jvm_model.specs.Subtypes.{IsSubtype, Fits}
-use Rattle.bytecode_machine.specs.Events.{event_for, IsEvent, HasEvents, moved, unmoved}
-use Rattle.bytecode_machine.specs.Objects.{Subject, Refers}
-use Rattle.bytecode_machine.specs.States.{Value, primitive_value, null_value, reference_to, Object, World, slot_at, with_automaton}
+use Rattle.machine_bytecode.specs.Events.{event_for, IsEvent, HasEvents, moved, unmoved}
+use Rattle.machine_bytecode.specs.Objects.{Subject, Refers}
+use Rattle.machine_bytecode.specs.States.{Value, primitive_value, null_value, reference_to, Object, World, slot_at, with_automaton}
 use Rattle.machine_laws.proofs.Heaps.{same_or_not, written_there, not_written}
 
 -- ---- what is known to be decided

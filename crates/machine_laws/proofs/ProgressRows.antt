@@ -11,8 +11,8 @@ use Rattle.jvm_model.specs.Lookups.{entry_at}
 use Rattle.jvm_model.specs.Programs.{Program}
 use Rattle.jvm_model.specs.Table.{Row, row_of, rows, UnitKind, UnitSource, Operands, nothing, implied, value_1, value_2, type_code, local_1, pool_1, pool_2, offset_2, offset_4, local_and_value, pool_2_and_count, pool_2_and_zeros, pool_2_and_dimensions, table_of_offsets, pairs_with_offsets, widened, Flow, onward, jump, branch, branch_if_null, branch_if_object, branch_if_same, branch_if_other, leave, subroutine, Action, plain, load_constant, load_element, store_element, probe_element, probe_array, probe_object, get_static, put_static, get_field, put_field, invoke_virtual, invoke_special, invoke_static, invoke_interface, make_object, make_array, throw_object, cast, leave_method, refused, Raise, null_pointer, array_index, array_store, arithmetic, class_cast, negative_size}
 use Rattle.code_reader.proofs.KnownInstructions.{known_at}
-use Rattle.bytecode_machine.specs.Machine.{AtInstruction}
-use Rattle.bytecode_machine.specs.States.{Frame}
+use Rattle.machine_bytecode.specs.Machine.{AtInstruction}
+use Rattle.machine_bytecode.specs.States.{Frame}
 
 -- ---- all rows
 

@@ -4,9 +4,9 @@ use Rattle.std.specs.Prelude.{MatchBool, codes}
 use Rattle.jvm_model.specs.declared.site.SiteKind.TheVariants.{New}
 use Rattle.jvm_model.specs.Subtypes.{Fits}
 use Rattle.jvm_model.specs.Table.{Action, plain, load_constant, load_element, store_element, probe_element, probe_array, probe_object, get_static, put_static, get_field, put_field, invoke_virtual, invoke_special, invoke_static, invoke_interface, make_object, make_array, throw_object, cast, leave_method, refused, null_pointer, array_index, class_cast, negative_size}
-use Rattle.bytecode_machine.specs.Machine.{At, HasOperands, of_string, of_class, NamesField, NamesClass, throws, returns, resumes, Leaves, IsAfterCall, of_start, of_code}
-use Rattle.bytecode_machine.specs.Objects.{Subject, Refers, ReadsField, WritesField, IsOf, no_object, fitting}
-use Rattle.bytecode_machine.specs.States.{Value, primitive_value, null_value, reference_to, fields, World, State, is_reference_type, slot_at, runs_on, throws_on, moved_to, with_contents, with_object, new_object, site_at, updated}
+use Rattle.machine_bytecode.specs.Machine.{At, HasOperands, of_string, of_class, NamesField, NamesClass, throws, returns, resumes, Leaves, IsAfterCall, of_start, of_code}
+use Rattle.machine_bytecode.specs.Objects.{Subject, Refers, ReadsField, WritesField, IsOf, no_object, fitting}
+use Rattle.machine_bytecode.specs.States.{Value, primitive_value, null_value, reference_to, fields, World, State, is_reference_type, slot_at, runs_on, throws_on, moved_to, with_contents, with_object, new_object, site_at, updated}
 use Rattle.machine_laws.specs.Progress.{GoesOn, HasConstant, HasFields, IsHolder, IsNull, CanReturn, CanGoOn, IsReady}
 use Rattle.machine_laws.proofs.ProgressCalls.{calls}
 use Rattle.machine_laws.proofs.ProgressDecided.{DecidesSubtypes, DecidesFits}

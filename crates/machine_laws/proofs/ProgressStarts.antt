@@ -2,10 +2,10 @@
 use Rattle.std.proofs.Common.{◌⊎◌, inl, inr, ℕ, List, [], ◌∷◌, refl}
 use Rattle.std.specs.List.{Contains}
 use Rattle.std.specs.Prelude.{codes}
-use Rattle.bytecode_machine.specs.Machine.{MethodCode, AtStart, IsTriggered, IsInitialiser, entered, enters_entry, ends, starts, denies}
-use Rattle.bytecode_machine.specs.Objects.{Subject}
-use Rattle.bytecode_machine.specs.Start.{arguments_of}
-use Rattle.bytecode_machine.specs.States.{Frame, State, runs_on, ends_with, waiting, with_started}
+use Rattle.machine_bytecode.specs.Machine.{MethodCode, AtStart, IsTriggered, IsInitialiser, entered, enters_entry, ends, starts, denies}
+use Rattle.machine_bytecode.specs.Objects.{Subject}
+use Rattle.machine_bytecode.specs.Start.{arguments_of}
+use Rattle.machine_bytecode.specs.States.{Frame, State, runs_on, ends_with, waiting, with_started}
 use Rattle.machine_laws.specs.Progress.{GoesOn}
 use Rattle.machine_laws.proofs.ProgressDecided.{contains_or_not}
 use Rattle.machine_laws.proofs.ProgressSteps.{thrown_by, throws_new}

@@ -4,9 +4,9 @@ use Rattle.std.specs.List.{Contains, slice_get}
 use Rattle.std.specs.Prelude.{nat_eq}
 use Rattle.jvm_model.specs.declared.site.SiteKind.TheVariants.{Thrown}
 use Rattle.jvm_model.specs.Table.{Flow, onward, jump, branch, branch_if_null, branch_if_object, branch_if_same, branch_if_other, leave, subroutine, Action, plain, Raise}
-use Rattle.bytecode_machine.specs.Machine.{At, Advances, HasOperands, Makes, Compares, Goes, is_null, effect, exception_class, IsOpen, ThrowsNew, advances, raises}
-use Rattle.bytecode_machine.specs.Objects.{Subject}
-use Rattle.bytecode_machine.specs.States.{Value, primitive_value, null_value, reference_to, Frame, World, State, slot_at, runs_on, throws_on, moved_to, with_object, new_object, site_at}
+use Rattle.machine_bytecode.specs.Machine.{At, Advances, HasOperands, Makes, Compares, Goes, is_null, effect, exception_class, IsOpen, ThrowsNew, advances, raises}
+use Rattle.machine_bytecode.specs.Objects.{Subject}
+use Rattle.machine_bytecode.specs.States.{Value, primitive_value, null_value, reference_to, Frame, World, State, slot_at, runs_on, throws_on, moved_to, with_object, new_object, site_at}
 use Rattle.machine_laws.specs.Progress.{GoesOn, GoesOnward, HasTarget, HasWay}
 use Rattle.machine_laws.proofs.ProgressRows.{goes_onward, lists, flows_onward, raises_it}
 

@@ -9,9 +9,9 @@ use Rattle.jvm_model.specs.declared.pool.PoolEntry.{PoolEntry}
 use Rattle.jvm_model.specs.Lookups.{class_name_at}
 use Rattle.jvm_model.specs.Programs.{Program}
 use Rattle.jvm_model.specs.Subtypes.{Fits}
-use Rattle.bytecode_machine.specs.Machine.{Throwing, TakesClass, Handles, IsFirstHandler, IsUncaught, of_start, of_code, unwound, catches, unwinds, wraps}
-use Rattle.bytecode_machine.specs.Objects.{Subject}
-use Rattle.bytecode_machine.specs.States.{reference_to, Frame, State, runs_on, moved_to, with_kept}
+use Rattle.machine_bytecode.specs.Machine.{Throwing, TakesClass, Handles, IsFirstHandler, IsUncaught, of_start, of_code, unwound, catches, unwinds, wraps}
+use Rattle.machine_bytecode.specs.Objects.{Subject}
+use Rattle.machine_bytecode.specs.States.{reference_to, Frame, State, runs_on, moved_to, with_kept}
 use Rattle.machine_laws.specs.Progress.{GoesOn, HasLocals, CanCatch, WrapsThrown}
 use Rattle.machine_laws.proofs.Heaps.{same_or_not}
 use Rattle.machine_laws.proofs.ProgressDecided.{DecidesFits}

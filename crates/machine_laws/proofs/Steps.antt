@@ -6,9 +6,9 @@ use Rattle.jvm_model.specs.declared.pool.PoolEntry.{PoolEntry}
 use Rattle.jvm_model.specs.Instructions.{DecodedInstruction}
 use Rattle.jvm_model.specs.Programs.{Field}
 use Rattle.jvm_model.specs.Table.{Action, plain, load_constant, load_element, store_element, probe_element, probe_array, probe_object, get_static, put_static, get_field, put_field, invoke_virtual, invoke_special, invoke_static, invoke_interface, make_object, make_array, throw_object, cast, leave_method, refused, is_selecting}
-use Rattle.bytecode_machine.specs.Machine.{At, Makes, Calls, ReadsFieldOf, WritesFieldOf, WritesStatic, ThrowsNew, Step, advances, enters, gets_result, gets_exception, enters_entry, returns, resumes, ends, raises, throws, catches, unwinds, starts, denies, wraps}
-use Rattle.bytecode_machine.specs.Objects.{Subject, Refers, WritesField}
-use Rattle.bytecode_machine.specs.States.{Value, Object, Frame, World, State, is_reference_type, with_static, with_started}
+use Rattle.machine_bytecode.specs.Machine.{At, Makes, Calls, ReadsFieldOf, WritesFieldOf, WritesStatic, ThrowsNew, Step, advances, enters, gets_result, gets_exception, enters_entry, returns, resumes, ends, raises, throws, catches, unwinds, starts, denies, wraps}
+use Rattle.machine_bytecode.specs.Objects.{Subject, Refers, WritesField}
+use Rattle.machine_bytecode.specs.States.{Value, Object, Frame, World, State, is_reference_type, with_static, with_started}
 use Rattle.machine_laws.specs.Survival.{IsMovedBy, Survives}
 use Rattle.machine_laws.proofs.Described.{keeps_result, keeps_listed, unwound_world, world_of}
 use Rattle.machine_laws.proofs.Heaps.{Stays, Keeps, keeps_all, keeps_same, keeps_on, keeps_made, keeps_arrays, keeps_field, keeps_element, keeps_static, keeps_kept, keeps_started}

@@ -1,2 +1,4 @@
 pub mod Survival
 pub mod Progress
+pub mod NodeSurvival
+pub mod NodeProgress

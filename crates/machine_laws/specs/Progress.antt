@@ -11,10 +11,10 @@ use Rattle.jvm_model.specs.Instructions.{HasDescriptorUnits}
 use Rattle.jvm_model.specs.Lookups.{entry_at}
 use Rattle.jvm_model.specs.Programs.{Field}
 use Rattle.jvm_model.specs.Table.{UnitKind, Flow, onward, jump, branch, branch_if_null, branch_if_object, branch_if_same, branch_if_other, leave, subroutine, Action, plain, load_constant, load_element, store_element, probe_element, probe_array, probe_object, get_static, put_static, get_field, put_field, invoke_virtual, invoke_special, invoke_static, invoke_interface, make_object, make_array, throw_object, cast, leave_method, refused}
-use Rattle.bytecode_machine.specs.Described.{DescribedMethod, IsKept, kept_by}
-use Rattle.bytecode_machine.specs.Machine.{Advances, MethodCode, InCode, AtInstruction, At, NamesField, NamesMethod, NamesClass, NamesArrays, IsTarget, Throwing, Step}
-use Rattle.bytecode_machine.specs.Objects.{Subject, Refers, IsOf, IsArray, IsArrayOf}
-use Rattle.bytecode_machine.specs.States.{Dimension, arrays_from, site_at, with_heap, Value, primitive_value, null_value, fields, Object, Frame, throwing, World, State, is_reference_type, slot_at}
+use Rattle.machine_bytecode.specs.Described.{DescribedMethod, IsKept, kept_by}
+use Rattle.machine_bytecode.specs.Machine.{Advances, MethodCode, InCode, AtInstruction, At, NamesField, NamesMethod, NamesClass, NamesArrays, IsTarget, Throwing, Step}
+use Rattle.machine_bytecode.specs.Objects.{Subject, Refers, IsOf, IsArray, IsArrayOf}
+use Rattle.machine_bytecode.specs.States.{Dimension, arrays_from, site_at, with_heap, Value, primitive_value, null_value, fields, Object, Frame, throwing, World, State, is_reference_type, slot_at}
 
 -- Some step leaves the state.
 pub record GoesOn (x : Subject) (s : State) : Type 0 where

@@ -2,10 +2,10 @@
 -- What becomes of an object in a step of the machine.
 use Rattle.std.specs.Prelude.{◌≡◌, ◌⊎◌, ℕ, Some, slice_get, slice_index}
 use Rattle.jvm_model.specs.Table.{is_selecting}
-use Rattle.bytecode_machine.specs.Events.{IsEvent}
-use Rattle.bytecode_machine.specs.Machine.{At, Calls}
-use Rattle.bytecode_machine.specs.Objects.{Subject}
-use Rattle.bytecode_machine.specs.States.{Object, State}
+use Rattle.machine_bytecode.specs.Events.{IsEvent}
+use Rattle.machine_bytecode.specs.Machine.{At, Calls}
+use Rattle.machine_bytecode.specs.Objects.{Subject}
+use Rattle.machine_bytecode.specs.States.{Object, State}
 
 -- The state is at a call that is an event of the object at a place, and this is the next state of its automaton.
 pub record IsMovedBy (x : Subject) (s : State) (place : ℕ) (o : Object) (next : ℕ) : Type 0 where

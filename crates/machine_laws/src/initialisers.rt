@@ -3,7 +3,7 @@
 ghost use Rattle.std.specs.Prelude.{◌⊎◌, ℕ, List};
 ghost use Rattle.jvm_model.specs.LinkedPrograms.{IsProgram};
 ghost use Rattle.jvm_model.specs.Programs.{Program};
-ghost use Rattle.bytecode_machine.specs.Machine.{MethodCode, IsInitialiser};
+ghost use Rattle.machine_bytecode.specs.Machine.{MethodCode, IsInitialiser};
 
 /// Whether a method of a program has code is decided: it has, or it has not.
 pub fn code_is_decided()

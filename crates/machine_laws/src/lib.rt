@@ -3,6 +3,9 @@
 #![tactic(auto)]
 
 pub mod initialisers;
+pub mod node_progress;
+pub mod node_start;
+pub mod node_survival;
 pub mod progress;
 pub mod start;
 pub mod survival;

@@ -2,9 +2,9 @@
 
 ghost use Rattle.std.specs.Prelude.{◌≡◌, ℕ, ◌<◌, false, List, ◌∷◌, length, slice_set, Contains};
 ghost use Rattle.jvm_model.specs.Table.{load_element, store_element, make_array};
-ghost use Rattle.bytecode_machine.specs.Machine.{At, AtStart, Throwing, HasOperands, MethodCode, IsTriggered, IsInitialiser, IsUncaught, NamesArrays};
-ghost use Rattle.bytecode_machine.specs.Objects.{Subject, IsArrayOf, MayStand};
-ghost use Rattle.bytecode_machine.specs.States.{Frame, State, Value, primitive_value, null_value, reference_to, elements, slot_at, with_contents};
+ghost use Rattle.machine_bytecode.specs.Machine.{At, AtStart, Throwing, HasOperands, MethodCode, IsTriggered, IsInitialiser, IsUncaught, NamesArrays};
+ghost use Rattle.machine_bytecode.specs.Objects.{Subject, IsArrayOf, MayStand};
+ghost use Rattle.machine_bytecode.specs.States.{Frame, State, Value, primitive_value, null_value, reference_to, elements, slot_at, with_contents};
 ghost use Rattle.machine_laws.specs.Progress.{GoesOn, IsReady, CanCatch, WrapsThrown, GoesOnward, dimensions_of, with_arrays};
 
 /// The machine goes on at an instruction that has what it asks for.

@@ -2,9 +2,9 @@
 
 ghost use Rattle.std.specs.Prelude.{◌≡◌, Some, List, All, slice_get};
 ghost use Rattle.jvm_model.specs.Programs.{Method};
-ghost use Rattle.bytecode_machine.specs.Objects.{Subject};
-ghost use Rattle.bytecode_machine.specs.Start.{IsFirst, MayBeArgument};
-ghost use Rattle.bytecode_machine.specs.States.{State, Value};
+ghost use Rattle.machine_bytecode.specs.Objects.{Subject};
+ghost use Rattle.machine_bytecode.specs.Start.{IsFirst, MayBeArgument};
+ghost use Rattle.machine_bytecode.specs.States.{State, Value};
 
 /// Each program with the entry has a first state, and where the entry takes an array of strings one for each such array.
 pub fn first_states_are_there()

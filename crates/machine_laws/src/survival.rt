@@ -2,9 +2,9 @@
 
 ghost use Rattle.std.specs.Prelude.{◌≡◌, ℕ, Some, slice_get};
 ghost use Rattle.jvm_model.specs.Automata.{IsAutomaton};
-ghost use Rattle.bytecode_machine.specs.Machine.{Step};
-ghost use Rattle.bytecode_machine.specs.Objects.{Subject};
-ghost use Rattle.bytecode_machine.specs.States.{Object, State};
+ghost use Rattle.machine_bytecode.specs.Machine.{Step};
+ghost use Rattle.machine_bytecode.specs.Objects.{Subject};
+ghost use Rattle.machine_bytecode.specs.States.{Object, State};
 ghost use Rattle.machine_laws.specs.Survival.{Survives};
 
 /// An object stays at its place, with its site and its class; its automaton changes only by an event of it.

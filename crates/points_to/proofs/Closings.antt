@@ -6,21 +6,21 @@ use Rattle.failure.specs.declared.Failure.{Failure}
 use Rattle.failure.specs.declared.Failure.TheVariants.{Cause, OutOfMemory}
 use Rattle.jvm_model.specs.declared.number.MethodNo.{MethodNo}
 use Rattle.jvm_model.specs.Programs.{Program}
-use Rattle.linked_program.specs.Numbers.{IsMethodNumber}
+use Rattle.program_model.specs.Numbers.{IsMethodNumber}
 use Rattle.op_model.specs.Supplies.{GivenAs, IsSameSupply}
 use Rattle.least_sets.specs.Rules.{IsWithoutDoubles}
 use Rattle.least_sets.proofs.Derivations.{derivation_in_closed}
 use Rattle.least_sets.proofs.Places.{contains_at}
 use Rattle.points_to_rules.specs.Facts.{Holder}
-use Rattle.points_to_items.specs.Items.{User as ItemUser, select, Item as RuleItem, used}
-use Rattle.points_to_items.specs.ItemRules.{ItemInstance}
-use Rattle.points_to_items.proofs.Holders.{zip_place}
-use Rattle.points_to_tables.specs.declared.item.Item.{Item}
-use Rattle.points_to_tables.specs.declared.item.Item.TheVariants.{Holds, Runs, Calls, Uses}
-use Rattle.points_to_tables.specs.declared.keys.UserNo.{UserNo}
-use Rattle.points_to_tables.specs.Numbered.{Numbered, AreApart}
-use Rattle.points_to_tables.specs.Steps.{IsItemAt, Adds}
-use Rattle.points_to_tables.proofs.Adding.{adds_same}
+use Rattle.points_to_constraints.specs.Items.{User as ItemUser, select, Item as RuleItem, used}
+use Rattle.points_to_constraints.specs.ItemRules.{ItemInstance}
+use Rattle.points_to_constraints.proofs.Holders.{zip_place}
+use Rattle.points_to_numbers.specs.declared.item.Item.{Item}
+use Rattle.points_to_numbers.specs.declared.item.Item.TheVariants.{Holds, Runs, Calls, Uses}
+use Rattle.points_to_numbers.specs.declared.keys.UserNo.{UserNo}
+use Rattle.points_to_numbers.specs.Numbered.{Numbered, AreApart}
+use Rattle.points_to_numbers.specs.Steps.{IsItemAt, Adds}
+use Rattle.points_to_numbers.proofs.Adding.{adds_same}
 use Rattle.points_to.specs.declared.refusals.RefusedMethod.{RefusedMethod}
 use Rattle.points_to_rules.specs.declared.running_method.RunningMethod.{RunningMethod}
 use Rattle.points_to_rules.specs.declared.solve_fault.SolveFault.{SolveFault}

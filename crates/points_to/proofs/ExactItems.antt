@@ -6,10 +6,10 @@ use Rattle.std.proofs.lemmas.Option.{slice_get_within, get_or_from_slice_get}
 use Rattle.std.proofs.lemmas.Map.Keys.{apart_from_distinct}
 use Rattle.std.proofs.lemmas.Map.Views.{exact_unsigned_eq}
 use Rattle.least_sets.specs.Rules.{IsWithoutDoubles}
-use Rattle.points_to_tables.specs.declared.item.Item.{Item}
-use Rattle.points_to_tables.specs.declared.item.Item.TheVariants.{Holds, Runs, Calls, Uses}
-use Rattle.points_to_tables.specs.contracts.item.ItemPartialEq.TheImpl as item_block
-use Rattle.points_to_tables.specs.contracts.item.ItemEq.TheImpl.Laws as item_laws
+use Rattle.points_to_numbers.specs.declared.item.Item.{Item}
+use Rattle.points_to_numbers.specs.declared.item.Item.TheVariants.{Holds, Runs, Calls, Uses}
+use Rattle.points_to_numbers.specs.contracts.item.ItemPartialEq.TheImpl as item_block
+use Rattle.points_to_numbers.specs.contracts.item.ItemEq.TheImpl.Laws as item_laws
 
 abbrev pub same_items : Item → Item → Bool
 same_items = (item_block.ghosts).eq

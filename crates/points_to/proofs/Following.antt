@@ -16,17 +16,17 @@ use Rattle.least_sets.specs.Rules.{Hold, Follows}
 use Rattle.least_sets.proofs.Places.{first_or_later, nothing_in}
 use Rattle.points_to_rules.specs.Facts.{Holder, may_hold, may_run, may_call}
 use Rattle.points_to_rules.specs.Rules.{IsNodeOf}
-use Rattle.points_to_items.specs.CallItems.{CallItem}
-use Rattle.points_to_items.specs.Items.{CallSite, User as ItemUser, Item as RuleItem, known, used}
-use Rattle.points_to_items.specs.ItemRules.{Passed, ItemInstance, of_start, of_node, of_call, of_user}
+use Rattle.points_to_constraints.specs.CallItems.{CallItem}
+use Rattle.points_to_constraints.specs.Items.{CallSite, User as ItemUser, Item as RuleItem, known, used}
+use Rattle.points_to_constraints.specs.ItemRules.{Passed, ItemInstance, of_start, of_node, of_call, of_user}
 use Rattle.points_to_rules.specs.WholeMethods.{AreWholeMethods}
-use Rattle.points_to_items.specs.NodeItems.{NodeItem, IsCallSite}
-use Rattle.points_to_tables.specs.declared.item.Item.{Item}
-use Rattle.points_to_tables.specs.declared.item.Item.TheVariants.{Holds, Runs, Calls, Uses}
+use Rattle.points_to_constraints.specs.NodeItems.{NodeItem, IsCallSite}
+use Rattle.points_to_numbers.specs.declared.item.Item.{Item}
+use Rattle.points_to_numbers.specs.declared.item.Item.TheVariants.{Holds, Runs, Calls, Uses}
 use Rattle.points_to_rules.specs.declared.place.PlaceNo.{PlaceNo}
-use Rattle.points_to_tables.specs.declared.keys.UserNo.{UserNo}
-use Rattle.points_to_tables.specs.Numbered.{Numbered, AreApart}
-use Rattle.points_to_tables.specs.Steps.{IsItemAt}
+use Rattle.points_to_numbers.specs.declared.keys.UserNo.{UserNo}
+use Rattle.points_to_numbers.specs.Numbered.{Numbered, AreApart}
+use Rattle.points_to_numbers.specs.Steps.{IsItemAt}
 use Rattle.points_to.specs.Concluding.{SitesBy, UsersBy, IsIndex, FollowsFrom, IsCallItem, IsGivenItem}
 use Rattle.points_to.specs.Passing.{PassesToSome, PassesSome}
 use Rattle.points_to.proofs.GivenMethods.{GivesOne}

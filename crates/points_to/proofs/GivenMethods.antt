@@ -8,11 +8,11 @@ use Rattle.jvm_model.specs.Programs.{Program}
 use Rattle.op_model.specs.declared.lowered.LoweredMethod.{LoweredMethod}
 use Rattle.op_model.specs.declared.node.NodeRef.{NodeRef}
 use Rattle.op_model.specs.Supplies.{GivenAs}
-use Rattle.points_to_items.specs.CallItems.{CallItem}
-use Rattle.points_to_items.specs.Items.{CallSite, Item as RuleItem}
-use Rattle.points_to_items.specs.ItemRules.{MethodItem}
-use Rattle.points_to_tables.specs.declared.entries.CallSite.{CallSite as Entry}
-use Rattle.points_to_tables.specs.Numbered.{Numbered, IsCallAt}
+use Rattle.points_to_constraints.specs.CallItems.{CallItem}
+use Rattle.points_to_constraints.specs.Items.{CallSite, Item as RuleItem}
+use Rattle.points_to_constraints.specs.ItemRules.{MethodItem}
+use Rattle.points_to_numbers.specs.declared.entries.CallSite.{CallSite as Entry}
+use Rattle.points_to_numbers.specs.Numbered.{Numbered, IsCallAt}
 use Rattle.points_to.specs.declared.refusals.RefusedMethod.{RefusedMethod}
 use Rattle.points_to.specs.Concluding.{HasCaller, IsCallItem, IsGivenItem, IsRefusedAs}
 

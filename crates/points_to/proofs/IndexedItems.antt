@@ -7,10 +7,10 @@ use Rattle.std.proofs.lemmas.Map.Views.{exact_unsigned_eq}
 use Rattle.std.proofs.lemmas.List.Elements.{Contains-append_left, Contains-push, Contains-push_cases}
 use Rattle.jvm_model.specs.declared.number.SiteNo.{SiteNo}
 use Rattle.least_sets.proofs.Places.{nothing_in}
-use Rattle.points_to_tables.specs.declared.item.Item.{Item}
-use Rattle.points_to_tables.specs.declared.item.Item.TheVariants.{Holds, Runs, Calls, Uses}
+use Rattle.points_to_numbers.specs.declared.item.Item.{Item}
+use Rattle.points_to_numbers.specs.declared.item.Item.TheVariants.{Holds, Runs, Calls, Uses}
 use Rattle.points_to_rules.specs.declared.place.PlaceNo.{PlaceNo}
-use Rattle.points_to_tables.specs.declared.keys.UserNo.{UserNo}
+use Rattle.points_to_numbers.specs.declared.keys.UserNo.{UserNo}
 use Rattle.grouped_lists.specs.Groups.{values_at}
 use Rattle.points_to.specs.Concluding.{IsIndex}
 use Rattle.points_to.specs.Indexed.{SiteGroups, UserGroups, IsIndexed}

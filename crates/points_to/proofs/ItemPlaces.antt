@@ -9,16 +9,16 @@ use Rattle.jvm_model.specs.declared.site.Site.{Site}
 use Rattle.op_model.specs.declared.node.NodeRef.{NodeRef}
 use Rattle.least_sets.proofs.Places.{place_of, contains_at, in_front, to_front, front_push}
 use Rattle.points_to_rules.specs.Facts.{Holder, may_hold, may_run, may_call}
-use Rattle.points_to_items.specs.Items.{CallSite, User as ItemUser, Item as RuleItem, known, used}
-use Rattle.points_to_items.proofs.Holders.{zip_place}
-use Rattle.points_to_tables.specs.declared.item.Item.{Item}
-use Rattle.points_to_tables.specs.declared.item.Item.TheVariants.{Holds, Runs, Calls, Uses}
-use Rattle.points_to_tables.specs.declared.keys.CallNo.{CallNo}
+use Rattle.points_to_constraints.specs.Items.{CallSite, User as ItemUser, Item as RuleItem, known, used}
+use Rattle.points_to_constraints.proofs.Holders.{zip_place}
+use Rattle.points_to_numbers.specs.declared.item.Item.{Item}
+use Rattle.points_to_numbers.specs.declared.item.Item.TheVariants.{Holds, Runs, Calls, Uses}
+use Rattle.points_to_numbers.specs.declared.keys.CallNo.{CallNo}
 use Rattle.points_to_rules.specs.declared.place.PlaceNo.{PlaceNo}
-use Rattle.points_to_tables.specs.declared.keys.UserNo.{UserNo}
-use Rattle.points_to_tables.specs.Numbered.{Numbered, Grows}
-use Rattle.points_to_tables.specs.Steps.{IsItemAt}
-use Rattle.points_to_tables.proofs.Growing.{grown_item}
+use Rattle.points_to_numbers.specs.declared.keys.UserNo.{UserNo}
+use Rattle.points_to_numbers.specs.Numbered.{Numbered, Grows}
+use Rattle.points_to_numbers.specs.Steps.{IsItemAt}
+use Rattle.points_to_numbers.proofs.Growing.{grown_item}
 
 -- ---- which item stands for what
 

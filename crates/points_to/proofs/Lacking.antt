@@ -8,7 +8,7 @@ use Rattle.jvm_model.specs.declared.reason.Reason.{Reason}
 use Rattle.jvm_model.specs.declared.site.Site.{Site}
 use Rattle.jvm_model.specs.Programs.{Program}
 use Rattle.jvm_model.specs.LinkedPrograms.{IsProgram}
-use Rattle.bytecode_machine.specs.Machine.{selecting_class}
+use Rattle.machine_bytecode.specs.Machine.{selecting_class}
 use Rattle.program_laws.proofs.Calls.{one_call_outcome}
 use Rattle.op_model.specs.declared.node.NodeRef.{NodeRef}
 use Rattle.op_model.specs.declared.op.CallKind.{CallKind}
@@ -16,13 +16,13 @@ use Rattle.op_model.specs.declared.op.CallKind.TheVariants.{Virtual, Special, St
 use Rattle.points_to_rules.specs.Calls.{SelectsFor}
 use Rattle.points_to_rules.specs.Refusals.{LacksTarget, not_selected, not_described}
 use Rattle.points_to_calls.specs.Lacks.{UserLacks}
-use Rattle.points_to_items.specs.Items.{CallSite, User as ItemUser, select}
-use Rattle.points_to_tables.specs.declared.entries.CallSite.{CallSite as Entry}
-use Rattle.points_to_tables.specs.declared.keys.CallNo.{CallNo}
-use Rattle.points_to_tables.specs.declared.keys.User.{User}
-use Rattle.points_to_tables.specs.declared.keys.User.TheVariants as users
-use Rattle.points_to_tables.specs.declared.keys.UserNo.{UserNo}
-use Rattle.points_to_tables.specs.Numbered.{Numbered, IsNumbered, IsUserAt, IsCallAt}
+use Rattle.points_to_constraints.specs.Items.{CallSite, User as ItemUser, select}
+use Rattle.points_to_numbers.specs.declared.entries.CallSite.{CallSite as Entry}
+use Rattle.points_to_numbers.specs.declared.keys.CallNo.{CallNo}
+use Rattle.points_to_numbers.specs.declared.keys.User.{User}
+use Rattle.points_to_numbers.specs.declared.keys.User.TheVariants as users
+use Rattle.points_to_numbers.specs.declared.keys.UserNo.{UserNo}
+use Rattle.points_to_numbers.specs.Numbered.{Numbered, IsNumbered, IsUserAt, IsCallAt}
 use Rattle.points_to.specs.declared.refusals.RefusedCall.{RefusedCall}
 use Rattle.points_to.specs.Passing.{SelectsAt, IsLackOf, NotesReason}
 

@@ -12,11 +12,11 @@ use Rattle.op_model.specs.Supplies.{GivenAs}
 use Rattle.least_sets.proofs.Places.{nothing_in}
 use Rattle.points_to_rules.specs.Facts.{Fact, may_run}
 use Rattle.points_to_rules.specs.Refusals.{IsRefusedIn, of_method, of_call, IsRefusedCall, IsCodeStart, IsNoLater, ComesFirst, by_method, by_offset, by_reason, same, IsFirstRefusal, IsUnrefused}
-use Rattle.points_to_items.specs.Items.{facts_of}
-use Rattle.points_to_items.proofs.ClosedFacts.{least_facts}
-use Rattle.points_to_items.proofs.MeantItems.{derivable_fact}
-use Rattle.points_to_tables.specs.declared.item.Item.{Item}
-use Rattle.points_to_tables.specs.Numbered.{Numbered}
+use Rattle.points_to_constraints.specs.Items.{facts_of}
+use Rattle.points_to_constraints.proofs.ClosedFacts.{least_facts}
+use Rattle.points_to_constraints.proofs.MeantItems.{derivable_fact}
+use Rattle.points_to_numbers.specs.declared.item.Item.{Item}
+use Rattle.points_to_numbers.specs.Numbered.{Numbered}
 use Rattle.points_to.specs.declared.refusals.RefusedCall.{RefusedCall}
 use Rattle.points_to.specs.declared.refusals.RefusedMethod.{RefusedMethod}
 use Rattle.points_to_rules.specs.declared.running_method.RunningMethod.{RunningMethod}

@@ -8,8 +8,8 @@ use Rattle.jvm_model.specs.declared.reason.Reason.{Reason}
 use Rattle.jvm_model.specs.declared.site.Site.{Site}
 use Rattle.jvm_model.specs.Programs.{Program}
 use Rattle.jvm_model.specs.Selection.{Selection, selected, no_code, nothing, several, hidden}
-use Rattle.linked_program.specs.Numbers.{IsMethodNumber}
-use Rattle.node_machine.specs.Nodes.{IsCodedInitialiser}
+use Rattle.program_model.specs.Numbers.{IsMethodNumber}
+use Rattle.machine_nodes.specs.Nodes.{IsCodedInitialiser}
 use Rattle.op_model.specs.declared.lowered.LoweredMethod.{LoweredMethod}
 use Rattle.op_model.specs.declared.node.Node.{Node}
 use Rattle.op_model.specs.declared.op.CallKind.{CallKind}
@@ -17,18 +17,18 @@ use Rattle.op_model.specs.declared.op.CallKind.TheVariants.{Virtual, Special, St
 use Rattle.op_model.specs.declared.op.Op.{Op}
 use Rattle.op_model.specs.declared.op.Op.TheVariants as ops
 use Rattle.op_model.specs.Supplies.{GivenAs}
-use Rattle.bytecode_machine.specs.Machine.{selecting_class}
+use Rattle.machine_bytecode.specs.Machine.{selecting_class}
 use Rattle.least_sets.specs.Rules.{Hold, IsClosedSet}
 use Rattle.points_to_rules.specs.Calls.{SelectsFor}
 use Rattle.points_to_rules.specs.Facts.{Holder, may_hold, may_run, may_call, may_write}
-use Rattle.points_to_items.specs.CallItems.{CallItem, GivesUnit, SelectItem}
-use Rattle.points_to_items.specs.CallItems as call_items
-use Rattle.points_to_items.specs.Items.{CallSite, User, pass_to, pass_fitting, read_field, write_field, read_elements, write_elements, throw_at, land_at, select, Item as RuleItem, known, used}
-use Rattle.points_to_items.specs.ItemRules.{StartItem, Passed, ItemInstance, of_start, of_node, of_call, of_user}
-use Rattle.points_to_items.specs.ItemRules as item_rules
+use Rattle.points_to_constraints.specs.CallItems.{CallItem, GivesUnit, SelectItem}
+use Rattle.points_to_constraints.specs.CallItems as call_items
+use Rattle.points_to_constraints.specs.Items.{CallSite, User, pass_to, pass_fitting, read_field, write_field, read_elements, write_elements, throw_at, land_at, select, Item as RuleItem, known, used}
+use Rattle.points_to_constraints.specs.ItemRules.{StartItem, Passed, ItemInstance, of_start, of_node, of_call, of_user}
+use Rattle.points_to_constraints.specs.ItemRules as item_rules
 use Rattle.points_to_rules.specs.WholeMethods.{NamesNumbers}
-use Rattle.points_to_items.specs.NodeItems.{NodeItem, FlowItem, OpItem, LoadStaticItem, NewArrayItem, CallNodeItem, TriggerItem}
-use Rattle.points_to_items.specs.NodeItems as node_items
+use Rattle.points_to_constraints.specs.NodeItems.{NodeItem, FlowItem, OpItem, LoadStaticItem, NewArrayItem, CallNodeItem, TriggerItem}
+use Rattle.points_to_constraints.specs.NodeItems as node_items
 use Rattle.points_to_rules.specs.Solutions.{IsSupplyOf}
 
 -- The call whose target the user selects, if it selects one, is resolved to a method of the program.

@@ -7,7 +7,7 @@ use Rattle.std.proofs.lemmas.List.Elements.{All-contains}
 use Rattle.std.proofs.lemmas.Option.{same_Some, none-some, slice_get_within}
 use Rattle.jvm_model.specs.declared.number.MethodNo.{MethodNo}
 use Rattle.jvm_model.specs.Programs.{Program}
-use Rattle.linked_program.specs.Numbers.{IsMethodNumber}
+use Rattle.program_model.specs.Numbers.{IsMethodNumber}
 use Rattle.op_model.specs.declared.lowered.LoweredMethod.{LoweredMethod}
 use Rattle.op_model.specs.declared.node.NodeRef.{NodeRef}
 use Rattle.op_model.specs.Supplies.{GivenAs}
@@ -15,12 +15,12 @@ use Rattle.least_sets.proofs.Growing.{back_to}
 use Rattle.points_to_rules.specs.Facts.{may_run}
 use Rattle.points_to_rules.specs.Rules.{start_call, node_of}
 use Rattle.points_to_rules.specs.WholeMethods.{AreWholeMethods, NamesNumbers}
-use Rattle.points_to_items.specs.Items.{CallSite, Item as RuleItem, known}
-use Rattle.points_to_items.specs.NodeItems.{IsCallOf}
+use Rattle.points_to_constraints.specs.Items.{CallSite, Item as RuleItem, known}
+use Rattle.points_to_constraints.specs.NodeItems.{IsCallOf}
 use Rattle.points_to_methods.specs.NewCalls.{AddsCalls}
-use Rattle.points_to_tables.specs.declared.item.Item.{Item}
-use Rattle.points_to_tables.specs.declared.item.Item.TheVariants.{Holds, Runs, Calls, Uses}
-use Rattle.points_to_tables.specs.Numbered.{Numbered, Extends}
+use Rattle.points_to_numbers.specs.declared.item.Item.{Item}
+use Rattle.points_to_numbers.specs.declared.item.Item.TheVariants.{Holds, Runs, Calls, Uses}
+use Rattle.points_to_numbers.specs.Numbered.{Numbered, Extends}
 use Rattle.points_to.specs.Concluding.{AddsCallsBy, ResolvesIn}
 use Rattle.points_to_rules.specs.Solutions.{IsSupplyOf}
 use Rattle.points_to.proofs.GivenMethods.{GivesOne}

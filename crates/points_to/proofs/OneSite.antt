@@ -9,12 +9,12 @@ use Rattle.op_model.specs.declared.node.NodeRef.{NodeRef}
 use Rattle.op_model.specs.declared.op.Call.{Call as NodeCall}
 use Rattle.op_model.specs.declared.op.Op.TheVariants.{Call}
 use Rattle.op_model.specs.Supplies.{GivenAs}
-use Rattle.slot_laws.proofs.Places.{same_node}
+use Rattle.slot_names.proofs.PlacesOfSlots.{same_node}
 use Rattle.points_to_rules.specs.Rules.{IsNodeOf, node_of}
 use Rattle.points_to_rules.specs.WholeMethods.{AreWholeMethods}
-use Rattle.points_to_items.specs.Items.{CallSite}
-use Rattle.points_to_items.specs.NodeItems.{IsCallSite, IsCallOf}
-use Rattle.points_to_items.proofs.OneSite.{one_site}
+use Rattle.points_to_constraints.specs.Items.{CallSite}
+use Rattle.points_to_constraints.specs.NodeItems.{IsCallSite, IsCallOf}
+use Rattle.points_to_constraints.proofs.OneSite.{one_site}
 use Rattle.points_to.proofs.GivenMethods.{GivesOne}
 
 -- ---- sites of given methods

@@ -14,13 +14,13 @@ use Rattle.least_sets.proofs.Derivations.{All-derivable}
 use Rattle.least_sets.proofs.Places.{place_of, contains_at, All-from_contains}
 use Rattle.points_to_rules.specs.Facts.{Holder, Fact, may_hold, may_run, may_call, may_write}
 use Rattle.points_to_rules.specs.Rules.{Instance}
-use Rattle.points_to_items.specs.Items.{CallSite, Item as RuleItem, known, used, facts_of}
-use Rattle.points_to_items.specs.ItemRules.{ItemInstance}
-use Rattle.points_to_items.proofs.MeantItems.{derivable_fact}
-use Rattle.points_to_tables.specs.declared.item.Item.{Item}
-use Rattle.points_to_tables.specs.declared.item.Item.TheVariants.{Holds, Runs, Calls, Uses}
-use Rattle.points_to_tables.specs.Numbered.{Numbered, AreApart}
-use Rattle.points_to_tables.specs.Steps.{IsItemAt}
+use Rattle.points_to_constraints.specs.Items.{CallSite, Item as RuleItem, known, used, facts_of}
+use Rattle.points_to_constraints.specs.ItemRules.{ItemInstance}
+use Rattle.points_to_constraints.proofs.MeantItems.{derivable_fact}
+use Rattle.points_to_numbers.specs.declared.item.Item.{Item}
+use Rattle.points_to_numbers.specs.declared.item.Item.TheVariants.{Holds, Runs, Calls, Uses}
+use Rattle.points_to_numbers.specs.Numbered.{Numbered, AreApart}
+use Rattle.points_to_numbers.specs.Steps.{IsItemAt}
 use Rattle.points_to.specs.Queues.{weight_of, pairs_among}
 use Rattle.points_to_rules.proofs.CountedPairs.{count_pairs}
 use Rattle.points_to_rules.specs.Solutions.{pair_of, pairs_in}

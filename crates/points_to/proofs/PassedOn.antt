@@ -7,13 +7,13 @@ use Rattle.jvm_model.specs.declared.number.SiteNo.{SiteNo}
 use Rattle.jvm_model.specs.declared.reason.Reason.{Reason}
 use Rattle.jvm_model.specs.declared.site.Site.{Site}
 use Rattle.jvm_model.specs.Programs.{Program}
-use Rattle.points_to_items.specs.ItemRules.{Passed}
-use Rattle.points_to_items.specs.Items.{User as ItemUser, select, Item as RuleItem}
-use Rattle.points_to_tables.specs.declared.item.Item.{Item}
-use Rattle.points_to_tables.specs.declared.keys.UserNo.{UserNo}
-use Rattle.points_to_tables.specs.Numbered.{Numbered, Extends, Grows, IsNumbered}
-use Rattle.points_to_tables.specs.Steps.{Adds}
-use Rattle.points_to_tables.proofs.Adding.{adds_same, adds_next}
+use Rattle.points_to_constraints.specs.ItemRules.{Passed}
+use Rattle.points_to_constraints.specs.Items.{User as ItemUser, select, Item as RuleItem}
+use Rattle.points_to_numbers.specs.declared.item.Item.{Item}
+use Rattle.points_to_numbers.specs.declared.keys.UserNo.{UserNo}
+use Rattle.points_to_numbers.specs.Numbered.{Numbered, Extends, Grows, IsNumbered}
+use Rattle.points_to_numbers.specs.Steps.{Adds}
+use Rattle.points_to_numbers.proofs.Adding.{adds_same, adds_next}
 use Rattle.points_to.specs.declared.refusals.RefusedCall.{RefusedCall}
 use Rattle.points_to.specs.Passing.{IsKnownUser, SelectsAt, IsPassed, IsLackOf, NotesReason, NotesCalls, PassesToSome, PassesSome, LacksForSome, LacksSome}
 use Rattle.points_to.proofs.Noting.{calls_same, calls_next}

@@ -7,7 +7,7 @@ use Rattle.jvm_model.specs.declared.number.MethodNo.{MethodNo}
 use Rattle.jvm_model.specs.declared.reason.Reason.{Reason}
 use Rattle.jvm_model.specs.declared.site.Site.{Site}
 use Rattle.jvm_model.specs.Programs.{Program}
-use Rattle.node_machine.specs.NodeSteps.{is_selecting_kind}
+use Rattle.machine_nodes.specs.NodeSteps.{is_selecting_kind}
 use Rattle.op_model.specs.declared.lowered.LoweredMethod.{LoweredMethod}
 use Rattle.op_model.specs.declared.node.Node.{Node}
 use Rattle.op_model.specs.declared.node.NodeRef.{NodeRef}
@@ -23,15 +23,15 @@ use Rattle.points_to_rules.specs.Calls.{SelectsFor}
 use Rattle.points_to_rules.specs.Facts.{Holder, Fact, may_hold, may_run}
 use Rattle.points_to_rules.specs.Refusals.{LacksTarget, not_selected, not_described, IsRefusedCall}
 use Rattle.points_to_rules.specs.Rules.{IsNodeOf, IsSlot, node_of}
-use Rattle.points_to_items.specs.CallItems.{CallItem, SelectItem, GivesUnit}
-use Rattle.points_to_items.specs.CallItems as call_items
-use Rattle.points_to_items.specs.Items.{CallSite, User, pass_to, pass_fitting, read_field, write_field, read_elements, write_elements, throw_at, land_at, select, Item as RuleItem, known, used, facts_of}
-use Rattle.points_to_items.specs.ItemRules.{StartItem, Passed, ItemInstance, of_start, of_node, of_call, of_user}
+use Rattle.points_to_constraints.specs.CallItems.{CallItem, SelectItem, GivesUnit}
+use Rattle.points_to_constraints.specs.CallItems as call_items
+use Rattle.points_to_constraints.specs.Items.{CallSite, User, pass_to, pass_fitting, read_field, write_field, read_elements, write_elements, throw_at, land_at, select, Item as RuleItem, known, used, facts_of}
+use Rattle.points_to_constraints.specs.ItemRules.{StartItem, Passed, ItemInstance, of_start, of_node, of_call, of_user}
 use Rattle.points_to_rules.specs.WholeMethods.{AreWholeMethods}
-use Rattle.points_to_items.specs.ItemRules as item_rules
-use Rattle.points_to_items.specs.NodeItems.{NodeItem, FlowItem, OpItem, LoadStaticItem, NewArrayItem, CallNodeItem, TriggerItem, IsUnitHolder, IsCallSite}
-use Rattle.points_to_items.specs.NodeItems as node_items
-use Rattle.points_to_items.proofs.CallSites.{site_at, is_site_at, site_of_call, argument_there}
+use Rattle.points_to_constraints.specs.ItemRules as item_rules
+use Rattle.points_to_constraints.specs.NodeItems.{NodeItem, FlowItem, OpItem, LoadStaticItem, NewArrayItem, CallNodeItem, TriggerItem, IsUnitHolder, IsCallSite}
+use Rattle.points_to_constraints.specs.NodeItems as node_items
+use Rattle.points_to_constraints.proofs.CallSites.{site_at, is_site_at, site_of_call, argument_there}
 use Rattle.points_to.specs.declared.refusals.RefusedCall.{RefusedCall}
 use Rattle.points_to.specs.Closing.{IsLackIn}
 use Rattle.points_to.proofs.ItemPlaces.{zip_back}

@@ -14,8 +14,8 @@ use Rattle.least_sets.proofs.Growing.{back_to}
 use Rattle.least_sets.proofs.Places.{contains_at, in_longer, nothing_in}
 use Rattle.points_to_rules.specs.Facts.{Fact, may_run}
 use Rattle.points_to_rules.specs.WholeMethods.{AreWholeMethods}
-use Rattle.points_to_tables.specs.declared.item.Item.{Item}
-use Rattle.points_to_tables.specs.declared.item.Item.TheVariants.{Holds, Runs, Calls, Uses}
+use Rattle.points_to_numbers.specs.declared.item.Item.{Item}
+use Rattle.points_to_numbers.specs.declared.item.Item.TheVariants.{Holds, Runs, Calls, Uses}
 use Rattle.points_to_rules.specs.declared.running_method.RunningMethod.{RunningMethod}
 use Rattle.points_to.specs.Concluding.{AddsMethodsBy, IsRunningAs}
 use Rattle.points_to_rules.specs.Solutions.{AreRunning}

@@ -13,13 +13,13 @@ use Rattle.least_sets.proofs.Growing.{IsClosedFront, IsClosedFront-none, IsClose
 use Rattle.least_sets.proofs.Joined.{IsDerivation-append}
 use Rattle.least_sets.proofs.Places.{place_of, contains_at, in_front, nothing_in}
 use Rattle.points_to_rules.specs.Facts.{may_run}
-use Rattle.points_to_items.specs.Items.{Item as RuleItem, known}
-use Rattle.points_to_items.specs.ItemRules.{StartItem, ItemInstance, of_start, of_node, of_call, of_user}
-use Rattle.points_to_items.proofs.Holders.{zip_place}
-use Rattle.points_to_tables.specs.declared.item.Item.{Item}
-use Rattle.points_to_tables.specs.declared.item.Item.TheVariants.{Runs}
-use Rattle.points_to_tables.specs.Numbered.{Numbered, Grows, AreApart}
-use Rattle.points_to_tables.specs.Steps.{IsItemAt, Adds}
+use Rattle.points_to_constraints.specs.Items.{Item as RuleItem, known}
+use Rattle.points_to_constraints.specs.ItemRules.{StartItem, ItemInstance, of_start, of_node, of_call, of_user}
+use Rattle.points_to_constraints.proofs.Holders.{zip_place}
+use Rattle.points_to_numbers.specs.declared.item.Item.{Item}
+use Rattle.points_to_numbers.specs.declared.item.Item.TheVariants.{Runs}
+use Rattle.points_to_numbers.specs.Numbered.{Numbered, Grows, AreApart}
+use Rattle.points_to_numbers.specs.Steps.{IsItemAt, Adds}
 use Rattle.points_to.specs.declared.refusals.RefusedCall.{RefusedCall}
 use Rattle.points_to.specs.declared.refusals.RefusedMethod.{RefusedMethod}
 use Rattle.points_to_rules.specs.declared.running_method.RunningMethod.{RunningMethod}

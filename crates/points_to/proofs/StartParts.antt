@@ -5,28 +5,28 @@ use Rattle.std.proofs.lemmas.Option.{same_Some, slice_get_within}
 use Rattle.jvm_model.specs.declared.number.MethodNo.{MethodNo}
 use Rattle.jvm_model.specs.declared.site.Site.{Site}
 use Rattle.jvm_model.specs.Programs.{Program, Method}
-use Rattle.linked_program.specs.Numbers.{name_at}
-use Rattle.node_machine.specs.Nodes.{IsCodedInitialiser}
+use Rattle.program_model.specs.Numbers.{name_at}
+use Rattle.machine_nodes.specs.Nodes.{IsCodedInitialiser}
 use Rattle.op_model.specs.declared.node.NodeRef.{NodeRef}
 use Rattle.op_model.specs.declared.op.CallKind.TheVariants.{Static}
 use Rattle.least_sets.proofs.Growing.{back_to}
 use Rattle.points_to_rules.specs.Facts.{Holder, kept_objects, may_hold, may_run, may_call}
 use Rattle.points_to_rules.specs.Rules.{start_call}
-use Rattle.points_to_items.specs.Items.{Landing, CallSite, Item as RuleItem, known}
-use Rattle.points_to_items.specs.ItemRules.{StartItem}
-use Rattle.points_to_items.specs.ItemRules as item_rules
+use Rattle.points_to_constraints.specs.Items.{Landing, CallSite, Item as RuleItem, known}
+use Rattle.points_to_constraints.specs.ItemRules.{StartItem}
+use Rattle.points_to_constraints.specs.ItemRules as item_rules
 use Rattle.points_to_methods.specs.Initiated.{IsInitiated}
-use Rattle.points_to_tables.specs.declared.item.Item.{Item}
-use Rattle.points_to_tables.specs.declared.item.Item.TheVariants.{Runs, Calls}
-use Rattle.points_to_tables.specs.declared.entries.Arm.{Arm}
-use Rattle.points_to_tables.specs.declared.keys.CallNo.{CallNo}
-use Rattle.points_to_tables.specs.declared.keys.LandingNo.{LandingNo}
+use Rattle.points_to_numbers.specs.declared.item.Item.{Item}
+use Rattle.points_to_numbers.specs.declared.item.Item.TheVariants.{Runs, Calls}
+use Rattle.points_to_numbers.specs.declared.entries.Arm.{Arm}
+use Rattle.points_to_numbers.specs.declared.keys.CallNo.{CallNo}
+use Rattle.points_to_numbers.specs.declared.keys.LandingNo.{LandingNo}
 use Rattle.points_to_rules.specs.declared.place.Place.{Place}
 use Rattle.points_to_rules.specs.declared.place.PlaceNo.{PlaceNo}
-use Rattle.points_to_tables.specs.Numbered.{Numbered, Extends, Grows, IsHolderAt, IsArmAt, IsLandingAt, IsUnitAt, IsCallAt}
-use Rattle.points_to_tables.specs.Steps.{Adds, IsHoldingOf}
-use Rattle.points_to_tables.proofs.Adding.{OfOne, adds_both, adds_only, adds_same}
-use Rattle.points_to_tables.proofs.Growing.{grows_same}
+use Rattle.points_to_numbers.specs.Numbered.{Numbered, Extends, Grows, IsHolderAt, IsArmAt, IsLandingAt, IsUnitAt, IsCallAt}
+use Rattle.points_to_numbers.specs.Steps.{Adds, IsHoldingOf}
+use Rattle.points_to_numbers.proofs.Adding.{OfOne, adds_both, adds_only, adds_same}
+use Rattle.points_to_numbers.proofs.Growing.{grows_same}
 use Rattle.points_to.specs.Starting.{ArgumentItem, EntryItem, InitialiserItem, IsStartCall, IsNumberOfStart}
 
 -- ---- the call

@@ -3,11 +3,11 @@ use Rattle.std.proofs.Common.{◌≡◌, ℕ, List, [], ◌++◌, Some, sym, sub
 use Rattle.std.specs.List.{slice_get, All, AllZip, Contains}
 use Rattle.std.proofs.lemmas.List.Elements.{All-contains}
 use Rattle.least_sets.proofs.Places.{place_of, contains_at, All-from_contains, in_longer}
-use Rattle.points_to_items.specs.Items.{Item as RuleItem}
-use Rattle.points_to_items.proofs.Holders.{zip_made, zip_place}
-use Rattle.points_to_tables.specs.declared.item.Item.{Item}
-use Rattle.points_to_tables.specs.Numbered.{Numbered}
-use Rattle.points_to_tables.specs.Steps.{IsItemAt, Adds}
+use Rattle.points_to_constraints.specs.Items.{Item as RuleItem}
+use Rattle.points_to_constraints.proofs.Holders.{zip_made, zip_place}
+use Rattle.points_to_numbers.specs.declared.item.Item.{Item}
+use Rattle.points_to_numbers.specs.Numbered.{Numbered}
+use Rattle.points_to_numbers.specs.Steps.{IsItemAt, Adds}
 use Rattle.points_to.specs.Queues.{Takes}
 use Rattle.points_to.proofs.ItemPlaces.{StandFor, zip_back, zip_append, zip_weaker, rule_is}
 

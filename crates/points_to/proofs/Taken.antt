@@ -3,7 +3,7 @@ use Rattle.std.proofs.Common.{◌≡◌, ℕ, ◌+◌, ◌<◌, inl, inr, List, 
 use Rattle.std.specs.List.{All, Contains}
 use Rattle.std.proofs.lemmas.List.Elements.{All-append, All-contains, All-more, All-weaker, Contains-append_left, Contains-get_or}
 use Rattle.least_sets.proofs.Places.{All-from_contains, first_or_later, nothing_in}
-use Rattle.points_to_tables.specs.declared.item.Item.{Item}
+use Rattle.points_to_numbers.specs.declared.item.Item.{Item}
 use Rattle.points_to.specs.Queues.{Takes}
 
 -- one step more

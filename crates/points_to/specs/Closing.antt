@@ -13,11 +13,11 @@ use Rattle.least_sets.specs.Rules.{IsLeast, IsWithoutDoubles}
 use Rattle.points_to_rules.specs.Facts.{Holder, Fact, may_hold, may_run}
 use Rattle.points_to_rules.specs.Refusals.{LacksTarget}
 use Rattle.points_to_rules.specs.Rules.{Instance}
-use Rattle.points_to_items.specs.ItemRules.{ItemInstance}
-use Rattle.points_to_items.specs.Items.{CallSite, select, Item as RuleItem, known, used, facts_of}
-use Rattle.points_to_tables.specs.declared.item.Item.{Item}
-use Rattle.points_to_tables.specs.Numbered.{Numbered}
-use Rattle.points_to_tables.specs.Steps.{IsItemAt}
+use Rattle.points_to_constraints.specs.ItemRules.{ItemInstance}
+use Rattle.points_to_constraints.specs.Items.{CallSite, select, Item as RuleItem, known, used, facts_of}
+use Rattle.points_to_numbers.specs.declared.item.Item.{Item}
+use Rattle.points_to_numbers.specs.Numbered.{Numbered}
+use Rattle.points_to_numbers.specs.Steps.{IsItemAt}
 use Rattle.points_to.specs.declared.refusals.RefusedCall.{RefusedCall}
 use Rattle.points_to.specs.declared.refusals.RefusedMethod.{RefusedMethod}
 use Rattle.points_to_rules.specs.declared.running_method.RunningMethod.{RunningMethod}

@@ -4,9 +4,9 @@ use Rattle.std.specs.Prelude.{List}
 use Rattle.std.specs.declared.vec.Vec.{Vec}
 use Rattle.std.specs.declared.alloc.Global.{Global}
 use Rattle.jvm_model.specs.declared.number.SiteNo.{SiteNo}
-use Rattle.points_to_tables.specs.declared.item.Item.{Item}
-use Rattle.points_to_tables.specs.declared.item.Item.TheVariants.{Holds, Runs, Calls, Uses}
-use Rattle.points_to_tables.specs.declared.keys.UserNo.{UserNo}
+use Rattle.points_to_numbers.specs.declared.item.Item.{Item}
+use Rattle.points_to_numbers.specs.declared.item.Item.TheVariants.{Holds, Runs, Calls, Uses}
+use Rattle.points_to_numbers.specs.declared.keys.UserNo.{UserNo}
 use Rattle.grouped_lists.specs.Groups.{IsPut, IsSame}
 
 abbrev pub SiteGroups : Type 0

@@ -7,12 +7,12 @@ use Rattle.jvm_model.specs.declared.number.SiteNo.{SiteNo}
 use Rattle.jvm_model.specs.declared.reason.Reason.{Reason}
 use Rattle.jvm_model.specs.declared.site.Site.{Site}
 use Rattle.jvm_model.specs.Programs.{Program}
-use Rattle.linked_program.specs.Numbers.{IsMethodNumber}
+use Rattle.program_model.specs.Numbers.{IsMethodNumber}
 use Rattle.points_to_rules.specs.Refusals.{LacksTarget}
-use Rattle.points_to_items.specs.Items.{CallSite, User as ItemUser, select, Item as RuleItem}
-use Rattle.points_to_items.specs.ItemRules.{Passed}
-use Rattle.points_to_tables.specs.declared.keys.UserNo.{UserNo}
-use Rattle.points_to_tables.specs.Numbered.{Numbered, IsNumbered}
+use Rattle.points_to_constraints.specs.Items.{CallSite, User as ItemUser, select, Item as RuleItem}
+use Rattle.points_to_constraints.specs.ItemRules.{Passed}
+use Rattle.points_to_numbers.specs.declared.keys.UserNo.{UserNo}
+use Rattle.points_to_numbers.specs.Numbered.{Numbered, IsNumbered}
 use Rattle.points_to.specs.declared.refusals.RefusedCall.{RefusedCall}
 use Rattle.points_to.specs.declared.refusals.RefusedMethod.{RefusedMethod}
 use Rattle.points_to_rules.specs.declared.solve_fault.SolveFault.{SolveFault}

@@ -7,10 +7,10 @@ use Rattle.jvm_model.specs.Programs.{Program}
 use Rattle.op_model.specs.Supplies.{GivenAs}
 use Rattle.points_to_rules.specs.Facts.{Fact}
 use Rattle.points_to_rules.specs.Solutions.{AreRunning, IsSolution}
-use Rattle.points_to_items.specs.Items.{Item as RuleItem, facts_of}
-use Rattle.points_to_tables.specs.declared.item.Item.{Item}
-use Rattle.points_to_tables.specs.Numbered.{Numbered}
-use Rattle.points_to_tables.specs.Steps.{IsItemAt}
+use Rattle.points_to_constraints.specs.Items.{Item as RuleItem, facts_of}
+use Rattle.points_to_numbers.specs.declared.item.Item.{Item}
+use Rattle.points_to_numbers.specs.Numbered.{Numbered}
+use Rattle.points_to_numbers.specs.Steps.{IsItemAt}
 use Rattle.points_to.specs.declared.solution.Solution.{Solution}
 
 -- The facts among the items that the numbers stand for.

@@ -3,13 +3,13 @@
 use Rattle.std.specs.Prelude.{◌≡◌, ◌⊎◌, ℕ, List, length, Some, slice_get}
 use Rattle.jvm_model.specs.declared.number.MethodNo.{MethodNo}
 use Rattle.jvm_model.specs.Programs.{Program, Method}
-use Rattle.bytecode_machine.specs.Objects.{string_name}
-use Rattle.bytecode_machine.specs.Start.{boot_site}
-use Rattle.node_machine.specs.Nodes.{IsCodedInitialiser}
+use Rattle.machine_bytecode.specs.Objects.{string_name}
+use Rattle.machine_bytecode.specs.Start.{boot_site}
+use Rattle.machine_nodes.specs.Nodes.{IsCodedInitialiser}
 use Rattle.slot_names.specs.declared.variable.Variable.TheVariants.{Parameter}
 use Rattle.points_to_rules.specs.Facts.{variable, elements_of, may_hold, may_run, may_call}
 use Rattle.points_to_rules.specs.Rules.{HasArguments, argument_site, start_call}
-use Rattle.points_to_items.specs.Items.{CallSite, Item as RuleItem, known}
+use Rattle.points_to_constraints.specs.Items.{CallSite, Item as RuleItem, known}
 use Rattle.points_to_methods.specs.Initiated.{IsInitiated}
 
 -- There is one call, that of the entry from the start.

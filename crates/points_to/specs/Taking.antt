@@ -8,10 +8,10 @@ use Rattle.jvm_model.specs.declared.number.MethodNo.{MethodNo}
 use Rattle.jvm_model.specs.Programs.{Program}
 use Rattle.least_sets.specs.Rules.{IsWithoutDoubles}
 use Rattle.op_model.specs.Supplies.{GivenAs}
-use Rattle.points_to_items.specs.ItemRules.{StartItem}
-use Rattle.points_to_tables.specs.declared.item.Item.{Item}
-use Rattle.points_to_tables.specs.Numbered.{Numbered, AreApart, Grows}
-use Rattle.points_to_tables.specs.Steps.{Adds}
+use Rattle.points_to_constraints.specs.ItemRules.{StartItem}
+use Rattle.points_to_numbers.specs.declared.item.Item.{Item}
+use Rattle.points_to_numbers.specs.Numbered.{Numbered, AreApart, Grows}
+use Rattle.points_to_numbers.specs.Steps.{Adds}
 use Rattle.points_to.specs.declared.closing.Working.{Working}
 use Rattle.points_to_rules.specs.declared.solve_fault.SolveFault.{SolveFault}
 use Rattle.points_to.specs.Concluding.{AddsCallsBy, AddsMethodsBy, FollowsFrom, LacksBy, RefusedBy}

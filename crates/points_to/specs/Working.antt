@@ -4,7 +4,7 @@ use Rattle.std.specs.Prelude.{◌≡◌, ℕ, [], None}
 use Rattle.grouped_lists.specs.Groups.{values_at}
 use Rattle.jvm_model.specs.Programs.{Program}
 use Rattle.points_to_calls.specs.KeptAnswers.{AreRight}
-use Rattle.points_to_tables.specs.Numbered.{Numbered, none_numbered}
+use Rattle.points_to_numbers.specs.Numbered.{Numbered, none_numbered}
 use Rattle.points_to.specs.declared.closing.Working.{Working}
 
 -- Nothing is taken in, numbered, kept or refused yet.

@@ -3,7 +3,7 @@
 ghost use Rattle.std.specs.Prelude.{◌≡◌, ◌<◌, ℕ, [], length, All, Contains, IfOk, OnOk, IfErr};
 ghost use Rattle.grouped_lists.specs.Groups.{values_at};
 ghost use Rattle.least_sets.specs.Rules.{IsWithoutDoubles};
-ghost use Rattle.linked_program.specs.Numbers.{IsMethodNumber};
+ghost use Rattle.program_model.specs.Numbers.{IsMethodNumber};
 ghost use Rattle.op_model.specs.Supplies.{IsSameSupply};
 ghost use Rattle.points_to_calls.specs.KeptAnswers.{AreRight};
 ghost use Rattle.points_to_rules.specs.Solutions.{IsSupplyOf};
@@ -21,10 +21,10 @@ use crate::refusals::Refusals;
 use crate::solution::Solution;
 use crate::start::start_items;
 use jvm_model::MethodNo;
-use linked_program::program::Program;
 use op_model::Supply;
+use points_to_numbers::{Item, Tables};
 use points_to_rules::{RunningMethod, SolveFailure};
-use points_to_tables::{Item, Tables};
+use program_model::program::Program;
 use std::alloc::Global;
 
 /// The least items by numbers with the methods that may run and have code, and the first refusals.

@@ -1,11 +1,11 @@
 //! What follows from an item, together with those of one place that came before it.
 
 ghost use Rattle.std.specs.Prelude.{◌≡◌, ◌⊎◌, length, [], OnOk, IfErr};
-ghost use Rattle.linked_program.specs.Numbers.{IsMethodNumber};
+ghost use Rattle.program_model.specs.Numbers.{IsMethodNumber};
 ghost use Rattle.op_model.specs.Supplies.{IsSameSupply};
 ghost use Rattle.points_to_calls.specs.KeptAnswers.{AreRight};
-ghost use Rattle.points_to_tables.specs.Numbered.{Grows, IsNumbered};
-ghost use Rattle.points_to_tables.specs.Steps.{Adds};
+ghost use Rattle.points_to_numbers.specs.Numbered.{Grows, IsNumbered};
+ghost use Rattle.points_to_numbers.specs.Steps.{Adds};
 ghost use Rattle.points_to_rules.specs.Solutions.{IsSupplyOf};
 ghost use Rattle.grouped_lists.specs.Groups.{values_at};
 ghost use Rattle.points_to.specs.Indexed.{IsIndexed};
@@ -16,15 +16,15 @@ use crate::found::Found;
 use crate::index::Index;
 use crate::refusals::RefusedMethod;
 use crate::solve_failure::no_room;
-use class_initialisers::is_coded;
+use entry_points::is_coded;
 use failure::Failure;
 use jvm_model::MethodNo;
-use linked_program::program::Program;
 use op_model::Supply;
 use points_to_calls::target_items;
 use points_to_methods::method_items;
+use points_to_numbers::{CallNo, Item};
 use points_to_rules::{RunningMethod, SolveFailure};
-use points_to_tables::{CallNo, Item};
+use program_model::program::Program;
 use std::alloc::Global;
 
 /// What follows from an item together with those in the index, which then has it too. A method that is given as nodes is added to `methods`,

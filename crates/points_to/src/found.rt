@@ -3,17 +3,17 @@
 ghost use Rattle.std.specs.Prelude.{◌≡◌, length, Some, None, All, OnOk, IfErr};
 ghost use Rattle.jvm_model.specs.Programs.{Program as LinkedProgram};
 ghost use Rattle.points_to_calls.specs.KeptAnswers.{AreRight};
-ghost use Rattle.points_to_tables.specs.Numbered.{Numbered, Grows, IsNumbered, none_numbered};
-ghost use Rattle.points_to_tables.specs.Steps.{Adds};
+ghost use Rattle.points_to_numbers.specs.Numbered.{Numbered, Grows, IsNumbered, none_numbered};
+ghost use Rattle.points_to_numbers.specs.Steps.{Adds};
 ghost use Rattle.points_to.specs.Passing.{IsKnownUser, IsOutOfMemory, IsPassed, IsLackOf, NotesCalls, NotesReason, PassesToSome, PassesSome, LacksForSome, LacksSome};
 
 use crate::refusals::{Refusals, RefusedCall};
 use crate::solve_failure::no_room;
 use jvm_model::{Reason, SiteNo};
-use linked_program::program::Program;
 use points_to_calls::{Answers, pass};
+use points_to_numbers::{Item, Tables, User, UserNo};
 use points_to_rules::SolveFailure;
-use points_to_tables::{Item, Tables, User, UserNo};
+use program_model::program::Program;
 use std::alloc::Global;
 
 /// The numbers that were given, the answers that are kept of classes, and the first refusals.

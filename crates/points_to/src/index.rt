@@ -5,7 +5,7 @@ ghost use Rattle.grouped_lists.specs.Groups.{values_at};
 
 use grouped_lists::Groups;
 use jvm_model::SiteNo;
-use points_to_tables::UserNo;
+use points_to_numbers::UserNo;
 use std::alloc::Global;
 
 /// The sites and the users of each place, by its number.

@@ -1,16 +1,16 @@
 //! The initialisers of the class of the entry, which the start runs (JVMS 5.5).
 
 ghost use Rattle.std.specs.Prelude.{OnOk};
-ghost use Rattle.linked_program.specs.Numbers.{IsMethodNumber};
-ghost use Rattle.points_to_tables.specs.Steps.{Makes};
+ghost use Rattle.program_model.specs.Numbers.{IsMethodNumber};
+ghost use Rattle.points_to_numbers.specs.Steps.{Makes};
 ghost use Rattle.points_to.specs.Starting.{InitialiserItem};
 
-use class_index::index_failure::IndexFailure;
-use class_initialisers::coded_initialisers;
+use entry_points::coded_initialisers;
 use jvm_model::MethodNo;
-use linked_program::program::Program;
 use points_to_methods::initiated_items;
-use points_to_tables::{Item, Tables};
+use points_to_numbers::{Item, Tables};
+use program_index::index_failure::IndexFailure;
+use program_model::program::Program;
 use std::alloc::Global;
 
 /// Adds that the initialisers of the class of the entry run, and that what they throw is kept.

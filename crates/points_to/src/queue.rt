@@ -6,8 +6,8 @@ ghost use Rattle.points_to.specs.Queues.{Takes, IsQueueEnd, pairs_among, weight_
 
 use failure::Failure;
 use indexmap::IndexSet;
+use points_to_numbers::Item;
 use points_to_rules::{SolveFailure, SolveFault};
-use points_to_tables::Item;
 use std::alloc::Global;
 
 /// The items that were found, and how many pairs of a place and a site are among them.

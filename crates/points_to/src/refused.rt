@@ -9,9 +9,9 @@ use crate::refusals::{Refusals, RefusedCall, RefusedMethod, leads_method};
 use failure::Failure;
 use jvm_model::layout::code_place;
 use jvm_model::{Name, Refusal};
-use linked_program::method_body::MethodBody;
-use linked_program::program::Program;
 use points_to_rules::SolveFailure;
+use program_model::method_body::MethodBody;
+use program_model::program::Program;
 use std::alloc::Global;
 
 /// Before a method's code stand the limits of the stack and of the local variables, and the code's length (JVMS 4.7.3).

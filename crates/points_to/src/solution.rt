@@ -1,8 +1,8 @@
 //! What the solver answers.
 
 use crate::queue::Queue;
+use points_to_numbers::Tables;
 use points_to_rules::RunningMethod;
-use points_to_tables::Tables;
 
 /// The least sets, by numbers, and the methods that may run and have code.
 #[derive(Drop)]

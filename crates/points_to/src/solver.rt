@@ -1,7 +1,7 @@
 //! The solver.
 
 ghost use Rattle.std.specs.Prelude.{◌≡◌, Some, None, IfOk, OnOk, IfErr};
-ghost use Rattle.linked_program.specs.Numbers.{IsMethodNumber};
+ghost use Rattle.program_model.specs.Numbers.{IsMethodNumber};
 ghost use Rattle.op_model.specs.Supplies.{IsSameSupply};
 ghost use Rattle.points_to.specs.Refusing.{IsNamed, IsOfCoded, IsRefusing};
 ghost use Rattle.points_to.specs.Solutions.{IsSolved};
@@ -13,9 +13,9 @@ use crate::refused::first_refusal;
 use crate::solution::Solution;
 use failure::Failure;
 use jvm_model::MethodNo;
-use linked_program::program::Program;
 use op_model::Supply;
 use points_to_rules::{SolveFailure, SolveFault};
+use program_model::program::Program;
 use std::alloc::Global;
 
 /// The least sets over what the supplier gives, from an entry method, where no method that may run and no call in one is refused, and there are

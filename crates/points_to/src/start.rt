@@ -1,21 +1,21 @@
 //! What the start of the program leads to: the entry runs and is called, with an array of strings; and the initialisers of its class run.
 
 ghost use Rattle.std.specs.Prelude.{◌≡◌, length, IfOk, IfErr, OnOk};
-ghost use Rattle.linked_program.specs.Numbers.{IsMethodNumber};
-ghost use Rattle.points_to_items.specs.ItemRules.{StartItem};
-ghost use Rattle.points_to_tables.specs.Numbered.{Grows};
-ghost use Rattle.points_to_tables.specs.Steps.{Adds};
+ghost use Rattle.program_model.specs.Numbers.{IsMethodNumber};
+ghost use Rattle.points_to_constraints.specs.ItemRules.{StartItem};
+ghost use Rattle.points_to_numbers.specs.Numbered.{Grows};
+ghost use Rattle.points_to_numbers.specs.Steps.{Adds};
 ghost use Rattle.points_to.specs.Passing.{IsOutOfMemory};
 ghost use Rattle.points_to.specs.Starting.{ArgumentItem, EntryItem, IsArgument, IsNumberOfStart, IsStartCall};
 
 use crate::initialisers::initialiser_items;
 use crate::solve_failure::no_room;
-use class_index::index_failure::IndexFailure;
 use jvm_model::{MethodNo, Sequence};
-use linked_program::program::Program;
 use op_model::{CallKind, NodeRef};
+use points_to_numbers::{CallNo, CallSite, Item, Landing, Tables, add_holding, boot_site};
 use points_to_rules::{Place, SolveFailure};
-use points_to_tables::{CallNo, CallSite, Item, Landing, Tables, add_holding, boot_site};
+use program_index::index_failure::IndexFailure;
+use program_model::program::Program;
 use slot_names::Variable;
 use std::alloc::Global;
 

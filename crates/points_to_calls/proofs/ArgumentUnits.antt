@@ -15,7 +15,7 @@ use Rattle.jvm_model.proofs.FieldKinds.{field_of_kind, no_field}
 use Rattle.jvm_model.proofs.Fields.{not_closing}
 use Rattle.jvm_model.proofs.MethodKinds.{method_in_grammar}
 use Rattle.jvm_model.proofs.Parameters.{joined, rest_of_parameters, HasRead}
-use Rattle.bytecode_machine.specs.Described.{argument_unit}
+use Rattle.machine_bytecode.specs.Described.{argument_unit}
 use Rattle.points_to_rules.specs.Calls.{IsUnitOf}
 use Rattle.points_to_calls.specs.Units.{unit_by_kinds}
 

@@ -11,8 +11,8 @@ use Rattle.jvm_model.specs.Programs.{Program, Method, in_file, described}
 use Rattle.points_to_rules.specs.Calls.{IsOfFile, IsDescribedBy}
 use Rattle.points_to_rules.specs.Facts.{kept_objects, may_run}
 use Rattle.points_to_rules.proofs.TargetBodies.{not_both}
-use Rattle.points_to_items.specs.CallItems.{call_allocates, CallItem, runs, pass, receive, target_throws, keep_argument, give_argument, give_new, give_kept, described_throws}
-use Rattle.points_to_items.specs.Items.{CallSite, Item as RuleItem, known}
+use Rattle.points_to_constraints.specs.CallItems.{call_allocates, CallItem, runs, pass, receive, target_throws, keep_argument, give_argument, give_new, give_kept, described_throws}
+use Rattle.points_to_constraints.specs.Items.{CallSite, Item as RuleItem, known}
 use Rattle.points_to_calls.specs.Describing.{StubPart, StubItem, BodyItem}
 use Rattle.points_to_calls.specs.Parts.{RuleGift, unit, made, fitting, Gets, ResultsGet, ResultGives, FileItem, UnitPassed}
 

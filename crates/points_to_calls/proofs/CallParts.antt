@@ -4,7 +4,7 @@ use Rattle.std.specs.List.{slice_get, AllZip}
 use Rattle.std.proofs.lemmas.Option.{none-some, same_Some}
 use Rattle.points_to_rules.specs.Facts.{Holder}
 use Rattle.points_to_rules.specs.declared.place.PlaceNo.{PlaceNo}
-use Rattle.points_to_tables.specs.Numbered.{Numbered, IsUnitAt}
+use Rattle.points_to_numbers.specs.Numbered.{Numbered, IsUnitAt}
 use Rattle.points_to_calls.specs.Parts.{unit_in}
 
 pub results_at : (n : Numbered) (places : List PlaceNo) (holders : List Holder) (k : ℕ) → AllZip (λ (place : PlaceNo) (h : Holder). slice_get n.holders place.0 ≡ Some h) places holders

@@ -14,16 +14,16 @@ use Rattle.jvm_model.specs.declared.stub.StubResult.TheVariants.{Primitive, Void
 use Rattle.jvm_model.specs.Programs.{Class, Program, Method, described, object_name, IsUndescribed}
 use Rattle.jvm_model.specs.Soundness.{is_array}
 use Rattle.jvm_model.specs.Subtypes.{class_named, Fits, by_class, by_array, by_itself, by_elements}
-use Rattle.bytecode_machine.specs.Machine.{selecting_class}
+use Rattle.machine_bytecode.specs.Machine.{selecting_class}
 use Rattle.jvm_model.specs.Selection.{Selection, selected, no_code, nothing, several, hidden}
-use Rattle.linked_program.specs.Numbers.{IsMethodNumber}
+use Rattle.program_model.specs.Numbers.{IsMethodNumber}
 use Rattle.op_model.specs.declared.op.CallKind.{CallKind}
 use Rattle.op_model.specs.declared.op.CallKind.TheVariants.{Virtual, Special, Static, Interface}
 use Rattle.points_to_rules.specs.Calls.{IsDescribedBy, SelectsFor}
 use Rattle.points_to_rules.specs.Facts.{kept_objects}
 use Rattle.points_to_rules.specs.Refusals.{not_selected, not_described}
-use Rattle.points_to_items.specs.CallItems.{SelectItem, called, received, kept, given}
-use Rattle.points_to_items.specs.Items.{CallSite, Item as RuleItem}
+use Rattle.points_to_constraints.specs.CallItems.{SelectItem, called, received, kept, given}
+use Rattle.points_to_constraints.specs.Items.{CallSite, Item as RuleItem}
 use Rattle.points_to_calls.specs.Describing.{ReceiverItem}
 use Rattle.points_to_calls.specs.Lacks.{CallLacks}
 use Rattle.points_to_calls.specs.Parts.{RuleGift, made, Gets, ResultsGet, ResultGives, KeptItem, GotItem}

@@ -8,23 +8,23 @@ use Rattle.jvm_model.specs.Programs.{Method, Program}
 use Rattle.op_model.specs.declared.op.CallKind.{CallKind}
 use Rattle.op_model.specs.declared.op.CallKind.TheVariants.{Virtual, Special, Static, Interface}
 use Rattle.points_to_rules.specs.Facts.{Holder}
-use Rattle.points_to_items.specs.CallItems.{GivesUnit}
-use Rattle.points_to_items.specs.Items.{CallSite, User as ItemUser, pass_to, pass_fitting, used}
-use Rattle.points_to_tables.specs.declared.item.Item.{Item}
-use Rattle.points_to_tables.specs.declared.keys.User.{User}
-use Rattle.points_to_tables.specs.declared.keys.User.TheVariants as users
+use Rattle.points_to_constraints.specs.CallItems.{GivesUnit}
+use Rattle.points_to_constraints.specs.Items.{CallSite, User as ItemUser, pass_to, pass_fitting, used}
+use Rattle.points_to_numbers.specs.declared.item.Item.{Item}
+use Rattle.points_to_numbers.specs.declared.keys.User.{User}
+use Rattle.points_to_numbers.specs.declared.keys.User.TheVariants as users
 use Rattle.points_to_rules.specs.declared.place.PlaceNo.{PlaceNo}
-use Rattle.points_to_tables.specs.declared.keys.ClassNameNo.{ClassNameNo}
-use Rattle.points_to_tables.specs.Numbered.{Numbered, Grows, IsNumbered, IsUserAt}
-use Rattle.points_to_tables.proofs.Growing.{grows_same}
+use Rattle.points_to_numbers.specs.declared.keys.ClassNameNo.{ClassNameNo}
+use Rattle.points_to_numbers.specs.Numbered.{Numbered, Grows, IsNumbered, IsUserAt}
+use Rattle.points_to_numbers.proofs.Growing.{grows_same}
 use Rattle.points_to_calls.specs.declared.gift.Gift.{Gift}
 use Rattle.points_to_calls.specs.declared.gift.Gift.TheVariants as gifts
 use Rattle.points_to_calls.specs.Giving.{ResolvesIn, MakesUser}
 use Rattle.points_to_calls.specs.Parts.{unit_in, RuleGift, made, fitting, IsGiftAt, GetsUnit, Gets, GetsAt, ResultsGet}
-use Rattle.points_to_tables.specs.Steps.{Makes}
+use Rattle.points_to_numbers.specs.Steps.{Makes}
 use Rattle.points_to_calls.proofs.CallParts.{unit_there, there_from_unit}
-use Rattle.points_to_tables.proofs.Making.{makes_none, makes_same, makes_grown}
-use Rattle.points_to_tables.proofs.Adding.{OfOneBelow}
+use Rattle.points_to_numbers.proofs.Making.{makes_none, makes_same, makes_grown}
+use Rattle.points_to_numbers.proofs.Adding.{OfOneBelow}
 
 -- ---- while the tables grow
 

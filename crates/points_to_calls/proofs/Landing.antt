@@ -9,18 +9,18 @@ use Rattle.jvm_model.specs.LinkedPrograms.{IsProgram}
 use Rattle.jvm_model.specs.Programs.{Class, Program}
 use Rattle.jvm_model.specs.Soundness.{is_array}
 use Rattle.jvm_model.specs.Subtypes.{Fits, by_class, by_array, by_itself, by_elements, IsSubtype, class_named}
-use Rattle.type_fit.proofs.ClassNames.{class_plain}
+use Rattle.hierarchy.proofs.ClassNames.{class_plain}
 use Rattle.op_model.specs.declared.node.NodeHandler.{NodeHandler}
-use Rattle.node_machine.specs.NodeSteps.{Takes, all, fitting}
-use Rattle.linked_program.specs.Numbers.{name_at}
+use Rattle.machine_nodes.specs.NodeSteps.{Takes, all, fitting}
+use Rattle.program_model.specs.Numbers.{name_at}
 use Rattle.hierarchy.proofs.ClassPlaces.{name_at-at, class_there}
 use Rattle.points_to_rules.specs.Facts.{Holder}
-use Rattle.points_to_items.specs.CallItems.{LandsIn}
-use Rattle.points_to_items.specs.Items.{Arm as ItemArm, Landing as ItemLanding}
-use Rattle.points_to_tables.specs.declared.entries.Arm.{Arm}
-use Rattle.points_to_tables.specs.declared.entries.Landing.{Landing}
+use Rattle.points_to_constraints.specs.CallItems.{LandsIn}
+use Rattle.points_to_constraints.specs.Items.{Arm as ItemArm, Landing as ItemLanding}
+use Rattle.points_to_numbers.specs.declared.entries.Arm.{Arm}
+use Rattle.points_to_numbers.specs.declared.entries.Landing.{Landing}
 use Rattle.points_to_rules.specs.declared.place.PlaceNo.{PlaceNo}
-use Rattle.points_to_tables.specs.Numbered.{Numbered, IsArmAt, IsLandingAt}
+use Rattle.points_to_numbers.specs.Numbered.{Numbered, IsArmAt, IsLandingAt}
 use Rattle.points_to_calls.specs.Parts.{GoesTo, IsLandingPlace}
 
 -- ---- what a handler takes

@@ -5,15 +5,15 @@ use Rattle.std.proofs.lemmas.Option.{none-some, same_Some, slice_get_within}
 use Rattle.jvm_model.specs.declared.number.MethodNo.{MethodNo}
 use Rattle.slot_names.specs.declared.variable.Variable.TheVariants.{Parameter}
 use Rattle.points_to_rules.specs.Facts.{Holder, variable}
-use Rattle.points_to_items.specs.CallItems.{is_passed}
-use Rattle.points_to_items.specs.Items.{CallSite, pass_to, used}
-use Rattle.points_to_tables.specs.declared.item.Item.{Item}
-use Rattle.points_to_tables.specs.Numbered.{Numbered}
-use Rattle.points_to_tables.proofs.Adding.{OfOneBelow}
+use Rattle.points_to_constraints.specs.CallItems.{is_passed}
+use Rattle.points_to_constraints.specs.Items.{CallSite, pass_to, used}
+use Rattle.points_to_numbers.specs.declared.item.Item.{Item}
+use Rattle.points_to_numbers.specs.Numbered.{Numbered}
+use Rattle.points_to_numbers.proofs.Adding.{OfOneBelow}
 use Rattle.points_to_calls.specs.Parts.{PassesUnit, UnitPassed, unit_in}
-use Rattle.points_to_tables.specs.Steps.{Makes}
+use Rattle.points_to_numbers.specs.Steps.{Makes}
 use Rattle.points_to_calls.proofs.CallParts.{unit_there, there_from_unit}
-use Rattle.points_to_tables.proofs.Making.{makes_none, makes_same}
+use Rattle.points_to_numbers.proofs.Making.{makes_none, makes_same}
 
 -- a unit that is not passed
 pub none_passed : (n : Numbered) (site : CallSite) (target : MethodNo) (u : ℕ) (a : List Item) → is_passed site.kind u ≡ false → Makes n n (PassesUnit site target u) a a

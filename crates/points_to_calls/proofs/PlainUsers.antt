@@ -2,12 +2,12 @@
 use Rattle.std.proofs.Common.{◌≡◌, ◌↔◌, None, refl}
 use Rattle.jvm_model.specs.declared.site.Site.{Site}
 use Rattle.jvm_model.specs.Programs.{Program}
-use Rattle.points_to_items.specs.ItemRules.{Passed}
-use Rattle.points_to_items.specs.Items.{CallSite, User as ItemUser, pass_to, pass_fitting, read_field, write_field, read_elements, write_elements, throw_at, land_at, select, Item as RuleItem}
-use Rattle.points_to_tables.specs.declared.keys.CallNo.{CallNo}
-use Rattle.points_to_tables.specs.declared.keys.User.{User}
-use Rattle.points_to_tables.specs.declared.keys.User.TheVariants as users
-use Rattle.points_to_tables.specs.Numbered.{Numbered, IsUserAt}
+use Rattle.points_to_constraints.specs.ItemRules.{Passed}
+use Rattle.points_to_constraints.specs.Items.{CallSite, User as ItemUser, pass_to, pass_fitting, read_field, write_field, read_elements, write_elements, throw_at, land_at, select, Item as RuleItem}
+use Rattle.points_to_numbers.specs.declared.keys.CallNo.{CallNo}
+use Rattle.points_to_numbers.specs.declared.keys.User.{User}
+use Rattle.points_to_numbers.specs.declared.keys.User.TheVariants as users
+use Rattle.points_to_numbers.specs.Numbered.{Numbered, IsUserAt}
 use Rattle.points_to_calls.specs.Lacks.{UserLacks}
 use Rattle.points_to_calls.specs.Users.{PlainPassed}
 

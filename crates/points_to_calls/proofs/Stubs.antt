@@ -13,17 +13,17 @@ use Rattle.jvm_model.specs.declared.stub.StubResult.TheVariants.{Kept}
 use Rattle.jvm_model.specs.Programs.{Program}
 use Rattle.jvm_model.specs.Stubs.{result_class}
 use Rattle.points_to_rules.specs.Calls.{IsUnitOf}
-use Rattle.points_to_items.specs.Items.{CallSite, Item as RuleItem}
-use Rattle.points_to_tables.specs.declared.item.Item.{Item}
-use Rattle.points_to_tables.specs.declared.keys.ClassNameNo.{ClassNameNo}
-use Rattle.points_to_tables.specs.Numbered.{Numbered, Grows}
+use Rattle.points_to_constraints.specs.Items.{CallSite, Item as RuleItem}
+use Rattle.points_to_numbers.specs.declared.item.Item.{Item}
+use Rattle.points_to_numbers.specs.declared.keys.ClassNameNo.{ClassNameNo}
+use Rattle.points_to_numbers.specs.Numbered.{Numbered, Grows}
 use Rattle.points_to_calls.specs.declared.gift.Gift.{Gift}
 use Rattle.points_to_calls.specs.declared.gift.Gift.TheVariants as gifts
 use Rattle.points_to_calls.specs.Describing.{gift_of_unit, IsReceiverAt, IsGiftFor}
 use Rattle.points_to_calls.specs.Parts.{RuleGift, unit, made, fitting, ArgumentGives, ResultGives}
-use Rattle.points_to_tables.specs.Steps.{Makes}
+use Rattle.points_to_numbers.specs.Steps.{Makes}
 use Rattle.points_to_calls.specs.Units.{IsArgumentUnit}
-use Rattle.points_to_tables.proofs.Making.{makes_none, makes_same}
+use Rattle.points_to_numbers.proofs.Making.{makes_none, makes_same}
 
 -- what the clauses of a call give together of its answer
 pub if_ok_three : {T E A B : Type 0} (r : Result T E) (P Q : T → Type 0) → OnOk r A → OnOk r B → IfOk r P → ((x : T) → A → B → P x → Q x) → IfOk r Q

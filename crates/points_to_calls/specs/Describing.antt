@@ -7,8 +7,8 @@ use Rattle.jvm_model.specs.declared.stub.StubMethod.{StubMethod}
 use Rattle.jvm_model.specs.Programs.{Program}
 use Rattle.jvm_model.specs.declared.number.MethodNo.{MethodNo}
 use Rattle.points_to_rules.specs.Calls.{IsOfFile, IsDescribedBy}
-use Rattle.points_to_items.specs.Items.{CallSite, Item as RuleItem}
-use Rattle.points_to_tables.specs.Numbered.{Numbered, Grows}
+use Rattle.points_to_constraints.specs.Items.{CallSite, Item as RuleItem}
+use Rattle.points_to_numbers.specs.Numbered.{Numbered, Grows}
 use Rattle.points_to_calls.specs.declared.gift.Gift.{Gift}
 use Rattle.points_to_calls.specs.declared.gift.Gift.TheVariants.{Unit as OfUnit, Made}
 use Rattle.points_to_calls.specs.Parts.{RuleGift, IsGiftAt, FileItem, KeptItem, GotItem, ThrownItem}

@@ -3,13 +3,13 @@
 use Rattle.std.specs.Prelude.{◌≡◌, ℕ, length, Option, Some, None, slice_get}
 use Rattle.jvm_model.specs.declared.number.MethodNo.{MethodNo}
 use Rattle.jvm_model.specs.Programs.{Program}
-use Rattle.linked_program.specs.Numbers.{IsMethodNumber}
+use Rattle.program_model.specs.Numbers.{IsMethodNumber}
 use Rattle.op_model.specs.declared.op.CallKind.{CallKind}
 use Rattle.points_to_rules.specs.Facts.{Holder}
-use Rattle.points_to_items.specs.CallItems.{GivesUnit}
-use Rattle.points_to_items.specs.Items.{CallSite, User as ItemUser}
-use Rattle.points_to_tables.specs.declared.keys.User.{User}
-use Rattle.points_to_tables.specs.Numbered.{Numbered, Grows, IsUserAt}
+use Rattle.points_to_constraints.specs.CallItems.{GivesUnit}
+use Rattle.points_to_constraints.specs.Items.{CallSite, User as ItemUser}
+use Rattle.points_to_numbers.specs.declared.keys.User.{User}
+use Rattle.points_to_numbers.specs.Numbered.{Numbered, Grows, IsUserAt}
 
 -- The method that the call of the number is resolved to is one of the program.
 abbrev pub ResolvesIn : Program → Numbered → ℕ → Type 0

@@ -8,7 +8,7 @@ use Rattle.jvm_model.specs.declared.site.Site.{Site}
 use Rattle.jvm_model.specs.Programs.{Program}
 use Rattle.jvm_model.specs.Subtypes.{Fits}
 use Rattle.points_to_rules.specs.Calls.{SelectsAs}
-use Rattle.points_to_tables.specs.Numbered.{Numbered}
+use Rattle.points_to_numbers.specs.Numbered.{Numbered}
 use Rattle.points_to_calls.specs.declared.answer_keys.FitKey.{FitKey}
 use Rattle.points_to_calls.specs.declared.answer_keys.SelectKey.{SelectKey}
 use Rattle.points_to_calls.specs.declared.kept.Answers.{Answers}

@@ -5,7 +5,7 @@ use Rattle.jvm_model.specs.declared.reason.Reason.{Reason}
 use Rattle.jvm_model.specs.declared.site.Site.{Site}
 use Rattle.jvm_model.specs.Programs.{Program}
 use Rattle.points_to_rules.specs.Refusals.{LacksTarget}
-use Rattle.points_to_items.specs.Items.{CallSite, User, pass_to, pass_fitting, read_field, write_field, read_elements, write_elements, throw_at, land_at, select}
+use Rattle.points_to_constraints.specs.Items.{CallSite, User, pass_to, pass_fitting, read_field, write_field, read_elements, write_elements, throw_at, land_at, select}
 
 -- Why the call has no target for an object of the site, if it has none.
 abbrev pub CallLacks : Program → CallSite → Site → Option Reason → Type 0

@@ -10,15 +10,15 @@ use Rattle.jvm_model.specs.declared.stub.StubResult.{StubResult}
 use Rattle.jvm_model.specs.declared.stub.StubResult.TheVariants.{Primitive, Void, Null, Given, New, Kept}
 use Rattle.jvm_model.specs.Programs.{Program}
 use Rattle.jvm_model.specs.Stubs.{result_class}
-use Rattle.node_machine.specs.NodeSteps.{Takes}
+use Rattle.machine_nodes.specs.NodeSteps.{Takes}
 use Rattle.slot_names.specs.declared.variable.Variable.TheVariants.{Parameter}
 use Rattle.points_to_rules.specs.Calls.{IsUnitOf}
 use Rattle.points_to_rules.specs.Facts.{Holder, variable, kept_objects, returned_by, thrown_by, may_hold}
-use Rattle.points_to_items.specs.CallItems.{LandsIn, call_allocates, is_passed, GivesUnit}
-use Rattle.points_to_items.specs.Items.{Landing, CallSite, User, pass_to, pass_fitting, land_at, Item as RuleItem, known, used}
-use Rattle.points_to_tables.specs.declared.entries.Arm.{Arm}
+use Rattle.points_to_constraints.specs.CallItems.{LandsIn, call_allocates, is_passed, GivesUnit}
+use Rattle.points_to_constraints.specs.Items.{Landing, CallSite, User, pass_to, pass_fitting, land_at, Item as RuleItem, known, used}
+use Rattle.points_to_numbers.specs.declared.entries.Arm.{Arm}
 use Rattle.points_to_rules.specs.declared.place.PlaceNo.{PlaceNo}
-use Rattle.points_to_tables.specs.Numbered.{Numbered}
+use Rattle.points_to_numbers.specs.Numbered.{Numbered}
 use Rattle.points_to_calls.specs.declared.gift.Gift.{Gift}
 use Rattle.points_to_calls.specs.declared.gift.Gift.TheVariants as gifts
 

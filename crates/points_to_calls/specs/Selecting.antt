@@ -6,11 +6,11 @@ use Rattle.jvm_model.specs.declared.reason.Reason.{Reason}
 use Rattle.jvm_model.specs.declared.site.Site.{Site}
 use Rattle.jvm_model.specs.declared.stub.StubMethod.{StubMethod}
 use Rattle.jvm_model.specs.Programs.{Program}
-use Rattle.linked_program.specs.Numbers.{method_number}
+use Rattle.program_model.specs.Numbers.{method_number}
 use Rattle.slot_names.specs.declared.variable.Variable.TheVariants.{Parameter}
 use Rattle.points_to_rules.specs.Calls.{IsDescribedBy}
 use Rattle.points_to_rules.specs.Facts.{variable, may_hold, may_call}
-use Rattle.points_to_items.specs.Items.{CallSite, Item as RuleItem, known}
+use Rattle.points_to_constraints.specs.Items.{CallSite, Item as RuleItem, known}
 use Rattle.points_to_calls.specs.Parts.{KeptItem, GotItem}
 
 -- The answer is the only one of which the fact holds; or it holds of none.

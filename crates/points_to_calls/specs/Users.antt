@@ -3,8 +3,8 @@
 use Rattle.std.specs.Prelude.{ℕ, List}
 use Rattle.jvm_model.specs.declared.site.Site.{Site}
 use Rattle.jvm_model.specs.Programs.{Program}
-use Rattle.points_to_items.specs.ItemRules.{Passed}
-use Rattle.points_to_items.specs.Items.{User, pass_to, pass_fitting, read_field, write_field, read_elements, write_elements, throw_at, land_at, select, Item}
+use Rattle.points_to_constraints.specs.ItemRules.{Passed}
+use Rattle.points_to_constraints.specs.Items.{User, pass_to, pass_fitting, read_field, write_field, read_elements, write_elements, throw_at, land_at, select, Item}
 use Rattle.points_to_rules.specs.Facts.{Holder}
 
 -- The holder has an object of the site, if it fits the class.

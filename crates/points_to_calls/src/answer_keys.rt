@@ -1,7 +1,7 @@
 //! The keys of kept answers. A key names classes and methods by their numbers, so that it is small and is copied.
 
 use jvm_model::MethodNo;
-use points_to_tables::ClassNameNo;
+use points_to_numbers::ClassNameNo;
 
 /// The question whether objects of the lower class fit the upper one.
 #[derive(Clone, Copy, Debug, PartialEq, Eq, Hash)]

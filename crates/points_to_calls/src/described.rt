@@ -5,22 +5,22 @@ ghost use Rattle.jvm_model.specs.declared.site.Site.{Site};
 ghost use Rattle.points_to_calls.specs.Describing.{gift_of_unit, IsGiftFor, IsReceiverAt, MakesGift, MakesSite, ReceiverItem, StubItem};
 ghost use Rattle.points_to_calls.specs.Giving.{ResolvesIn};
 ghost use Rattle.points_to_calls.specs.Parts.{ArgumentGives, ArgumentKept, ClassThrown, GotItem, KeptItem, ResultGives, ResultGot, ThrownItem};
-ghost use Rattle.points_to_tables.specs.Steps.{Makes};
+ghost use Rattle.points_to_numbers.specs.Steps.{Makes};
 ghost use Rattle.points_to_calls.specs.Units.{IsReadOf};
-ghost use Rattle.points_to_items.specs.CallItems.{call_allocates};
-ghost use Rattle.points_to_items.specs.Items.{CallSite};
-ghost use Rattle.points_to_tables.specs.Numbered.{IsNumbered, Numbered};
+ghost use Rattle.points_to_constraints.specs.CallItems.{call_allocates};
+ghost use Rattle.points_to_constraints.specs.Items.{CallSite};
+ghost use Rattle.points_to_numbers.specs.Numbered.{IsNumbered, Numbered};
 
 use crate::descriptors::{read_descriptor, unit_of};
 use crate::gift::Gift;
 use crate::giving::{give, give_results};
 use crate::landings::lands;
-use class_index::index_failure::IndexFailure;
 use jvm_model::result_class::result_class;
 use jvm_model::{Descriptor, SiteKind, SiteNo, StubArgument, StubMethod, StubResult};
-use linked_program::program::Program;
+use points_to_numbers::{CallNo, Item, SiteKey, Tables};
 use points_to_rules::Place;
-use points_to_tables::{CallNo, Item, SiteKey, Tables};
+use program_index::index_failure::IndexFailure;
+use program_model::program::Program;
 use std::alloc::Global;
 
 /// A described method, its descriptor, and the object that selects it, if that is looked at alone.

@@ -1,7 +1,7 @@
 //! What the place of a result, or of what the library keeps, gets by a call.
 
 use jvm_model::{MethodNo, SiteNo};
-use points_to_tables::ClassNameNo;
+use points_to_numbers::ClassNameNo;
 
 /// What a place gets.
 #[derive(Clone, Copy, Debug)]

@@ -1,22 +1,22 @@
 //! What places get by a call.
 
 ghost use Rattle.std.specs.Prelude.{◌≡◌, Some, slice_get, IfOk, OnOk};
-ghost use Rattle.linked_program.specs.Numbers.{IsMethodNumber};
+ghost use Rattle.program_model.specs.Numbers.{IsMethodNumber};
 ghost use Rattle.points_to_calls.specs.Giving.{MakesUser, ResolvesIn};
 ghost use Rattle.points_to_calls.specs.Parts.{RuleGift, Gets, GetsAt, GetsUnit, IsGiftAt, ResultsGet};
-ghost use Rattle.points_to_tables.specs.Steps.{Makes};
-ghost use Rattle.points_to_items.specs.Items.{CallSite as ItemCallSite, User as ItemUser, used};
+ghost use Rattle.points_to_numbers.specs.Steps.{Makes};
+ghost use Rattle.points_to_constraints.specs.Items.{CallSite as ItemCallSite, User as ItemUser, used};
 ghost use Rattle.points_to_rules.specs.Facts.{Holder};
-ghost use Rattle.points_to_tables.specs.Numbered.{IsNumbered, IsUserAt};
+ghost use Rattle.points_to_numbers.specs.Numbered.{IsNumbered, IsUserAt};
 
 use crate::gift::Gift;
 use crate::reading::{argument_of, result_count, result_of};
-use class_index::index_failure::IndexFailure;
 use jvm_model::MethodNo;
-use linked_program::program::Program;
 use op_model::CallKind;
+use points_to_numbers::{CallNo, Item, Tables, User, add_use};
 use points_to_rules::{Place, PlaceNo};
-use points_to_tables::{CallNo, Item, Tables, User, add_use};
+use program_index::index_failure::IndexFailure;
+use program_model::program::Program;
 
 /// Adds that each object of a place goes to a user.
 pub(crate) fn add_use_at(

@@ -5,20 +5,20 @@ ghost use Rattle.std.specs.Prelude.{◌≡◌, ◌↔◌, ℕ, List, [], Some, s
 ghost use Rattle.jvm_model.specs.declared.site.Site.{Site};
 ghost use Rattle.jvm_model.specs.Programs.{Program as LinkedProgram};
 ghost use Rattle.jvm_model.specs.Subtypes.{Fits};
-ghost use Rattle.linked_program.specs.Numbers.{IsMethodNumber};
+ghost use Rattle.program_model.specs.Numbers.{IsMethodNumber};
 ghost use Rattle.points_to_calls.specs.KeptAnswers.{AreRight};
 ghost use Rattle.points_to_calls.specs.Selecting.{IsOnlyAnswer};
 ghost use Rattle.points_to_rules.specs.Calls.{SelectsAs};
-ghost use Rattle.points_to_tables.specs.Numbered.{Numbered, IsNumbered};
+ghost use Rattle.points_to_numbers.specs.Numbered.{Numbered, IsNumbered};
 
 use crate::answer_keys::{FitKey, SelectKey};
 use crate::selection::selected_from;
+use hierarchy::fits;
 use indexmap::IndexMap;
 use jvm_model::{MethodNo, Reason};
-use linked_program::program::Program;
-use points_to_tables::{ClassNameNo, Tables};
+use points_to_numbers::{ClassNameNo, Tables};
+use program_model::program::Program;
 use std::alloc::{AllocError, Global};
-use type_fit::fits;
 
 /// Answers about classes whose names are numbered. They stay right while the tables grow.
 #[derive(Drop)]

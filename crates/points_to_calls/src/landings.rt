@@ -1,18 +1,18 @@
 //! Where exceptions go.
 
 ghost use Rattle.std.specs.Prelude.{◌≡◌, ◌↔◌, ℕ, List, Some, slice_get, IfSome, IsTrue};
-ghost use Rattle.linked_program.specs.Numbers.{name_at, IsClassNumber};
-ghost use Rattle.node_machine.specs.NodeSteps.{Takes};
+ghost use Rattle.program_model.specs.Numbers.{name_at, IsClassNumber};
+ghost use Rattle.machine_nodes.specs.NodeSteps.{Takes};
 ghost use Rattle.points_to_calls.specs.Parts.{GoesTo, IsLandingPlace};
-ghost use Rattle.points_to_items.specs.Items.{Landing as ItemLanding};
-ghost use Rattle.points_to_tables.specs.Numbered.{IsNumbered};
+ghost use Rattle.points_to_constraints.specs.Items.{Landing as ItemLanding};
+ghost use Rattle.points_to_numbers.specs.Numbered.{IsNumbered};
 
+use hierarchy::fits;
 use jvm_model::ClassNo;
-use linked_program::program::Program;
 use op_model::NodeHandler;
+use points_to_numbers::{Landing, LandingNo, Tables};
 use points_to_rules::PlaceNo;
-use points_to_tables::{Landing, LandingNo, Tables};
-use type_fit::fits;
+use program_model::program::Program;
 
 /// Where an exception of a class goes: the place of the first handler that takes it, or else that outside of the method.
 pub(crate) fn lands(program: &Program, tables: &Tables, landing: LandingNo, class: &[u8]) -> PlaceNo

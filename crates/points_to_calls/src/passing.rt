@@ -2,21 +2,21 @@
 
 ghost use Rattle.std.specs.Prelude.{◌≡◌, length, Some, slice_get, IfOk, OnOk};
 ghost use Rattle.jvm_model.specs.declared.site.Site.{Site};
-ghost use Rattle.linked_program.specs.Numbers.{IsMethodNumber};
+ghost use Rattle.program_model.specs.Numbers.{IsMethodNumber};
 ghost use Rattle.points_to_calls.specs.KeptAnswers.{AreRight};
 ghost use Rattle.points_to_calls.specs.Lacks.{UserLacks};
-ghost use Rattle.points_to_items.specs.ItemRules.{Passed};
-ghost use Rattle.points_to_items.specs.Items.{CallSite, User as ItemUser, select};
-ghost use Rattle.points_to_tables.specs.Numbered.{Grows, IsNumbered};
-ghost use Rattle.points_to_tables.specs.Steps.{Adds};
+ghost use Rattle.points_to_constraints.specs.ItemRules.{Passed};
+ghost use Rattle.points_to_constraints.specs.Items.{CallSite, User as ItemUser, select};
+ghost use Rattle.points_to_numbers.specs.Numbered.{Grows, IsNumbered};
+ghost use Rattle.points_to_numbers.specs.Steps.{Adds};
 
 use crate::kept::Answers;
 use crate::plain::pass_plain;
 use crate::selecting::select_items;
-use class_index::index_failure::IndexFailure;
 use jvm_model::{Reason, SiteNo};
-use linked_program::program::Program;
-use points_to_tables::{Item, Tables, User, UserNo};
+use points_to_numbers::{Item, Tables, User, UserNo};
+use program_index::index_failure::IndexFailure;
+use program_model::program::Program;
 use std::alloc::Global;
 
 /// Adds what a user makes of an object of its place; and why it lacks the target of its call, if it does.

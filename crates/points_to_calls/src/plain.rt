@@ -2,23 +2,23 @@
 
 ghost use Rattle.std.specs.Prelude.{◌≡◌, ℕ, List, Some, slice_get, codes, OnOk};
 ghost use Rattle.jvm_model.specs.declared.site.Site.{Site};
-ghost use Rattle.points_to_tables.specs.Steps.{Makes};
+ghost use Rattle.points_to_numbers.specs.Steps.{Makes};
 ghost use Rattle.points_to_calls.specs.KeptAnswers.{AreRight};
 ghost use Rattle.points_to_calls.specs.Users.{FittingPassed, PlainPassed};
-ghost use Rattle.points_to_items.specs.ItemRules.{LandsAs};
-ghost use Rattle.points_to_items.specs.Items.{Landing as ItemLanding, User as ItemUser};
+ghost use Rattle.points_to_constraints.specs.ItemRules.{LandsAs};
+ghost use Rattle.points_to_constraints.specs.Items.{Landing as ItemLanding, User as ItemUser};
 ghost use Rattle.points_to_rules.specs.Facts.{Holder};
-ghost use Rattle.points_to_tables.specs.Numbered.{IsNumbered, IsUserAt};
+ghost use Rattle.points_to_numbers.specs.Numbered.{IsNumbered, IsUserAt};
 
 use crate::giving::add_use_at;
 use crate::kept::{Answers, fits_kept};
 use crate::landings::lands;
-use class_index::index_failure::IndexFailure;
+use hierarchy::fits;
 use jvm_model::SiteNo;
-use linked_program::program::Program;
+use points_to_numbers::{ClassNameNo, Item, LandingNo, Tables, User, add_use};
 use points_to_rules::{Place, PlaceNo};
-use points_to_tables::{ClassNameNo, Item, LandingNo, Tables, User, add_use};
-use type_fit::fits;
+use program_index::index_failure::IndexFailure;
+use program_model::program::Program;
 
 /// The class of the objects of a site.
 pub(crate) fn class_of(tables: &Tables, site: SiteNo) -> &[u8]

@@ -2,11 +2,11 @@
 
 ghost use Rattle.std.specs.Prelude.{◌≡◌, length, Some, slice_get};
 ghost use Rattle.points_to_calls.specs.Parts.{unit_in};
-ghost use Rattle.points_to_items.specs.Items.{CallSite as ItemCallSite};
-ghost use Rattle.points_to_tables.specs.Numbered.{IsNumbered, IsUnitAt};
+ghost use Rattle.points_to_constraints.specs.Items.{CallSite as ItemCallSite};
+ghost use Rattle.points_to_numbers.specs.Numbered.{IsNumbered, IsUnitAt};
 
+use points_to_numbers::{CallNo, Tables};
 use points_to_rules::PlaceNo;
-use points_to_tables::{CallNo, Tables};
 
 /// How many units of arguments a call has.
 pub(crate) fn argument_count(tables: &Tables, call: CallNo) -> usize

@@ -3,27 +3,27 @@
 ghost use Rattle.std.specs.Prelude.{◌≡◌, ◌↔◌, Some, slice_get, IsTrue, IfOk, OnOk};
 ghost use Rattle.jvm_model.specs.declared.site.Site.{Site};
 ghost use Rattle.jvm_model.specs.Programs.{IsUndescribed};
-ghost use Rattle.linked_program.specs.Numbers.{IsMethodNumber};
+ghost use Rattle.program_model.specs.Numbers.{IsMethodNumber};
 ghost use Rattle.points_to_calls.specs.Giving.{ResolvesIn};
 ghost use Rattle.points_to_calls.specs.KeptAnswers.{AreRight};
 ghost use Rattle.points_to_calls.specs.Lacks.{CallLacks};
-ghost use Rattle.points_to_tables.specs.Steps.{Makes};
+ghost use Rattle.points_to_numbers.specs.Steps.{Makes};
 ghost use Rattle.points_to_calls.specs.Selecting.{DescribedItem, IsOnlyAnswer, TargetItem};
-ghost use Rattle.points_to_items.specs.CallItems.{SelectItem};
-ghost use Rattle.points_to_items.specs.Items.{CallSite};
+ghost use Rattle.points_to_constraints.specs.CallItems.{SelectItem};
+ghost use Rattle.points_to_constraints.specs.Items.{CallSite};
 ghost use Rattle.points_to_rules.specs.Calls.{SelectsFor};
-ghost use Rattle.points_to_tables.specs.Numbered.{IsNumbered};
+ghost use Rattle.points_to_numbers.specs.Numbered.{IsNumbered};
 
 use crate::answer_keys::SelectKey;
 use crate::described::receiver_items;
 use crate::kept::{Answers, selected_kept};
-use class_index::index_failure::IndexFailure;
 use jvm_model::{AccessFlag, MethodNo, Reason, SiteNo};
-use linked_program::method_body::MethodBody;
-use linked_program::program::Program;
 use op_model::CallKind;
+use points_to_numbers::{CallNo, Item, Tables, add_holding};
 use points_to_rules::Place;
-use points_to_tables::{CallNo, Item, Tables, add_holding};
+use program_index::index_failure::IndexFailure;
+use program_model::method_body::MethodBody;
+use program_model::program::Program;
 use slot_names::Variable;
 use std::alloc::{AllocError, Global};
 

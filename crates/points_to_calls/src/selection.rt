@@ -1,18 +1,18 @@
 //! What a call of a resolved method selects by the class of an object.
 
 ghost use Rattle.std.specs.Prelude.{◌≡◌, Some};
-ghost use Rattle.bytecode_machine.specs.Machine.{selecting_class};
+ghost use Rattle.machine_bytecode.specs.Machine.{selecting_class};
 ghost use Rattle.jvm_model.specs.declared.site.Site.{Site};
-ghost use Rattle.linked_program.specs.Numbers.{IsMethodNumber};
+ghost use Rattle.program_model.specs.Numbers.{IsMethodNumber};
 ghost use Rattle.points_to_calls.specs.Selecting.{IsOnlyAnswer};
 ghost use Rattle.points_to_rules.specs.Calls.{SelectsAs};
 
 use hierarchy::classes::find_class;
+use hierarchy::fits;
 use hierarchy::select::select;
 use jvm_model::grammar::is_array;
 use jvm_model::{MethodNo, Reason};
-use linked_program::program::Program;
-use type_fit::fits;
+use program_model::program::Program;
 
 /// The class from which the method is selected that a call on an object of a class goes to: an array has those of java/lang/Object.
 fn selecting_class(class: &[u8]) -> &[u8]

@@ -1,27 +1,27 @@
 //! What a call leads to that goes to a target.
 
 ghost use Rattle.std.specs.Prelude.{◌≡◌, length, Some, slice_get, OnOk};
-ghost use Rattle.linked_program.specs.Numbers.{IsMethodNumber};
+ghost use Rattle.program_model.specs.Numbers.{IsMethodNumber};
 ghost use Rattle.points_to_calls.specs.Describing.{BodyItem};
 ghost use Rattle.points_to_calls.specs.Giving.{ResolvesIn};
 ghost use Rattle.points_to_calls.specs.Parts.{FileItem, PassesUnit, UnitPassed};
-ghost use Rattle.points_to_items.specs.CallItems.{CallItem, is_passed};
-ghost use Rattle.points_to_items.specs.Items.{CallSite};
-ghost use Rattle.points_to_tables.specs.Numbered.{Grows, IsNumbered};
-ghost use Rattle.points_to_tables.specs.Steps.{Adds, Makes};
+ghost use Rattle.points_to_constraints.specs.CallItems.{CallItem, is_passed};
+ghost use Rattle.points_to_constraints.specs.Items.{CallSite};
+ghost use Rattle.points_to_numbers.specs.Numbered.{Grows, IsNumbered};
+ghost use Rattle.points_to_numbers.specs.Steps.{Adds, Makes};
 
 use crate::described::stub_items;
 use crate::gift::Gift;
 use crate::giving::{add_use_at, give_results};
 use crate::reading::{argument_count, argument_of};
-use class_index::index_failure::IndexFailure;
-use class_index::text_index::next_number;
 use jvm_model::MethodNo;
-use linked_program::method_body::MethodBody;
-use linked_program::program::Program;
 use op_model::CallKind;
+use points_to_numbers::{CallNo, Item, Tables, User, add_use};
 use points_to_rules::Place;
-use points_to_tables::{CallNo, Item, Tables, User, add_use};
+use program_index::index_failure::IndexFailure;
+use program_index::text_index::next_number;
+use program_model::method_body::MethodBody;
+use program_model::program::Program;
 use slot_names::Variable;
 use std::alloc::Global;
 

@@ -7,14 +7,14 @@ use Rattle.jvm_model.specs.declared.number.FieldNo.{FieldNo}
 use Rattle.jvm_model.specs.LinkedPrograms.{IsProgram}
 use Rattle.jvm_model.specs.Programs.{Class, Field, Program}
 use Rattle.jvm_model.specs.Subtypes.{class_named}
-use Rattle.bytecode_machine.specs.Start.{boot_site}
+use Rattle.machine_bytecode.specs.Start.{boot_site}
 use Rattle.hierarchy.proofs.ClassPlaces.{class_of_number}
-use Rattle.linked_program.specs.Whole.{IsFieldView}
-use Rattle.linked_program.specs.declared.member_view.MemberView.{MemberView}
+use Rattle.program_model.specs.Whole.{IsFieldView}
+use Rattle.program_model.specs.declared.member_view.MemberView.{MemberView}
 use Rattle.op_model.specs.declared.lowered.LoweredMethod.{LoweredMethod}
 use Rattle.op_model.specs.declared.node.Node.{Node}
-use Rattle.points_to_items.specs.Items.{Item, known, pass_to, used}
-use Rattle.points_to_items.specs.NodeItems.{LoadStaticItem, begin, read}
+use Rattle.points_to_constraints.specs.Items.{Item, known, pass_to, used}
+use Rattle.points_to_constraints.specs.NodeItems.{LoadStaticItem, begin, read}
 use Rattle.points_to_rules.specs.Facts.{Holder, may_hold, static_field}
 use Rattle.points_to_rules.specs.Rules.{BeginsWith, IsSlotAfter, constant, holding}
 

@@ -3,8 +3,8 @@ use Rattle.std.proofs.Common.{ℕ, ◌+◌, ◌<◌, ◌≤◌, List, [], ◌∷
 use Rattle.std.specs.List.{AllZip}
 use Rattle.std.proofs.lemmas.List.{take_more, take_all}
 use Rattle.std.proofs.lemmas.Slice.Zip.{all_zipped_more}
-use Rattle.points_to_tables.specs.Numbered.{Grows, Numbered}
-use Rattle.points_to_tables.proofs.Growing.{grows_same, grows_on}
+use Rattle.points_to_numbers.specs.Numbered.{Grows, Numbered}
+use Rattle.points_to_numbers.proofs.Growing.{grows_same, grows_on}
 use Rattle.points_to_methods.specs.CallEntries.{GrowsTo}
 
 -- what holds of the tables as they are

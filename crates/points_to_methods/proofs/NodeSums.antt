@@ -10,17 +10,17 @@ use Rattle.op_model.specs.declared.node.Node.{Node}
 use Rattle.op_model.specs.declared.op.Call.{Call as NodeCall}
 use Rattle.op_model.specs.declared.op.Op.{Op}
 use Rattle.op_model.specs.declared.op.Op.TheVariants.{Assign, Load, Store, LoadElement, StoreElement, LoadStatic, StoreStatic, New, NewArray, Constant, Call, Return, Throw, Cast, Probe}
-use Rattle.points_to_items.specs.Items.{Item as RuleItem}
+use Rattle.points_to_constraints.specs.Items.{Item as RuleItem}
 use Rattle.points_to_rules.specs.WholeMethods.{IsWholeMethod, NamesNumbers}
-use Rattle.points_to_items.specs.NodeItems.{FlowItem, EnterItem, HandleItem, OpItem, RaiseItem, TriggerItem, NodeItem, flows, enters, handles, operates, raises, triggers}
+use Rattle.points_to_constraints.specs.NodeItems.{FlowItem, EnterItem, HandleItem, OpItem, RaiseItem, TriggerItem, NodeItem, flows, enters, handles, operates, raises, triggers}
 use Rattle.points_to_methods.specs.NodeCalls.{AddsNode}
-use Rattle.points_to_nodes.specs.Operations.{IsSimple}
-use Rattle.points_to_nodes.proofs.NamedSlots.{read_node}
-use Rattle.points_to_tables.specs.declared.item.Item.{Item}
-use Rattle.points_to_tables.specs.Numbered.{Numbered}
-use Rattle.points_to_tables.specs.Steps.{Makes}
-use Rattle.points_to_tables.proofs.Adding.{adds_both, adds_same}
-use Rattle.points_to_tables.proofs.Growing.{grows_on}
+use Rattle.points_to_methods.specs.Operations.{IsSimple}
+use Rattle.points_to_methods.proofs.NamedSlots.{read_node}
+use Rattle.points_to_numbers.specs.declared.item.Item.{Item}
+use Rattle.points_to_numbers.specs.Numbered.{Numbered}
+use Rattle.points_to_numbers.specs.Steps.{Makes}
+use Rattle.points_to_numbers.proofs.Adding.{adds_both, adds_same}
+use Rattle.points_to_numbers.proofs.Growing.{grows_on}
 use Rattle.slot_names.proofs.ListPlaces.{contains_at}
 use Rattle.points_to_methods.proofs.NumberedCalls.{no_call, call_after, call_before}
 

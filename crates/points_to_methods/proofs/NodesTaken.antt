@@ -5,15 +5,15 @@ use Rattle.std.proofs.lemmas.Option.{slice_get_within, same_Some}
 use Rattle.jvm_model.specs.Programs.{Program}
 use Rattle.op_model.specs.declared.lowered.LoweredMethod.{LoweredMethod}
 use Rattle.op_model.specs.declared.node.Node.{Node}
-use Rattle.points_to_items.specs.Items.{Item as RuleItem}
-use Rattle.points_to_items.specs.ItemRules.{MethodItem}
-use Rattle.points_to_items.specs.NodeItems.{NodeItem}
+use Rattle.points_to_constraints.specs.Items.{Item as RuleItem}
+use Rattle.points_to_constraints.specs.ItemRules.{MethodItem}
+use Rattle.points_to_constraints.specs.NodeItems.{NodeItem}
 use Rattle.points_to_methods.specs.NodeCalls.{AddsCallsBelow, AddsNode}
-use Rattle.points_to_tables.specs.declared.item.Item.{Item}
-use Rattle.points_to_tables.specs.Numbered.{Grows, Numbered}
-use Rattle.points_to_tables.specs.Steps.{Adds}
-use Rattle.points_to_tables.proofs.Adding.{OfOneBelow, adds_below_next, adds_below_start, adds_same}
-use Rattle.points_to_tables.proofs.Growing.{grows_on, grows_same}
+use Rattle.points_to_numbers.specs.declared.item.Item.{Item}
+use Rattle.points_to_numbers.specs.Numbered.{Grows, Numbered}
+use Rattle.points_to_numbers.specs.Steps.{Adds}
+use Rattle.points_to_numbers.proofs.Adding.{OfOneBelow, adds_below_next, adds_below_start, adds_same}
+use Rattle.points_to_numbers.proofs.Growing.{grows_on, grows_same}
 use Rattle.slot_names.specs.NodePlaces.{AreInOrder}
 use Rattle.slot_names.proofs.ListPlaces.{contains_at, place_in}
 use Rattle.points_to_methods.proofs.NumberedCalls.{more_calls, no_calls}

@@ -6,11 +6,11 @@ use Rattle.std.proofs.lemmas.Option.{slice_get_within}
 use Rattle.op_model.specs.declared.lowered.LoweredMethod.{LoweredMethod}
 use Rattle.op_model.specs.declared.node.Node.{Node}
 use Rattle.op_model.specs.declared.node.NodeRef.{NodeRef}
-use Rattle.points_to_items.specs.Items.{CallSite}
-use Rattle.points_to_items.specs.NodeItems.{IsCallOf}
+use Rattle.points_to_constraints.specs.Items.{CallSite}
+use Rattle.points_to_constraints.specs.NodeItems.{IsCallOf}
 use Rattle.points_to_methods.specs.NewCalls.{AddsCalls, IsNewCall}
 use Rattle.points_to_methods.specs.NodeCalls.{AddsCallOf, AddsCallsBelow, IsCallAt, IsCallBelow}
-use Rattle.points_to_tables.specs.Numbered.{Extends}
+use Rattle.points_to_numbers.specs.Numbered.{Extends}
 use Rattle.slot_names.specs.NodePlaces.{AreInOrder}
 use Rattle.slot_names.proofs.ListPlaces.{contains_at, stands_below}
 

@@ -11,15 +11,15 @@ use Rattle.op_model.specs.declared.op.Op.TheVariants.{Call}
 use Rattle.slot_names.proofs.ListPlaces.{contains_at}
 use Rattle.points_to_rules.specs.Facts.{Holder}
 use Rattle.points_to_rules.specs.Rules.{IsSlot, IsSlotAt}
-use Rattle.points_to_items.specs.Items.{CallSite as ItemCallSite}
+use Rattle.points_to_constraints.specs.Items.{CallSite as ItemCallSite}
 use Rattle.points_to_rules.specs.WholeMethods.{HasNodeAt, IsWholeMethod}
-use Rattle.points_to_items.specs.NodeItems.{AreResults, IsCallSite, IsUnitHolder}
-use Rattle.points_to_tables.specs.declared.entries.CallSite.{CallSite}
-use Rattle.points_to_tables.specs.declared.keys.LandingNo.{LandingNo}
+use Rattle.points_to_constraints.specs.NodeItems.{AreResults, IsCallSite, IsUnitHolder}
+use Rattle.points_to_numbers.specs.declared.entries.CallSite.{CallSite}
+use Rattle.points_to_numbers.specs.declared.keys.LandingNo.{LandingNo}
 use Rattle.points_to_rules.specs.declared.place.PlaceNo.{PlaceNo}
-use Rattle.points_to_tables.specs.Numbered.{Extends, Grows, IsCallAt, IsUnitAt, Numbered}
-use Rattle.points_to_tables.proofs.Growing.{grows_on}
-use Rattle.points_to_nodes.specs.Landings.{StandsForLanding}
+use Rattle.points_to_numbers.specs.Numbered.{Extends, Grows, IsCallAt, IsUnitAt, Numbered}
+use Rattle.points_to_numbers.proofs.Growing.{grows_on}
+use Rattle.points_to_methods.specs.Landings.{StandsForLanding}
 use Rattle.points_to_methods.specs.CallEntries.{GrowsTo, StandsForUnit, StandsForResult, StandForResults}
 use Rattle.points_to_methods.specs.NodeCalls.{AddsCallOf}
 use Rattle.points_to_methods.proofs.EntryLists.{grows_to_same, longer_list, stood}

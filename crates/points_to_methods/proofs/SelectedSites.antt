@@ -5,7 +5,7 @@ use Rattle.std.specs.Option.{option_flatten}
 use Rattle.std.proofs.lemmas.Option.{none-some, same_Some}
 use Rattle.jvm_model.specs.declared.number.MethodNo.{MethodNo}
 use Rattle.jvm_model.specs.Programs.{Program}
-use Rattle.node_machine.specs.NodeSteps.{is_selecting_kind}
+use Rattle.machine_nodes.specs.NodeSteps.{is_selecting_kind}
 use Rattle.op_model.specs.declared.lowered.LoweredMethod.{LoweredMethod}
 use Rattle.op_model.specs.declared.node.Node.{Node}
 use Rattle.op_model.specs.declared.node.NodeRef.{NodeRef}
@@ -14,13 +14,13 @@ use Rattle.slot_names.specs.Tables.{NameTable}
 use Rattle.slot_names.proofs.ListPlaces.{contains_at}
 use Rattle.points_to_rules.specs.Facts.{Holder, may_call}
 use Rattle.points_to_rules.specs.Rules.{IsSlot}
-use Rattle.points_to_items.specs.Items.{CallSite, Item, known, select, used}
-use Rattle.points_to_items.specs.NodeItems.{CallNodeItem, IsCallSite, IsUnitHolder}
-use Rattle.points_to_items.specs.NodeItems as node_items
-use Rattle.points_to_nodes.specs.Known.{IsNamedMethod}
-use Rattle.points_to_nodes.specs.Slots.{slot_holder}
-use Rattle.points_to_items.proofs.OneSite.{one_site}
-use Rattle.points_to_nodes.proofs.NamedSlots.{reached, slot_is}
+use Rattle.points_to_constraints.specs.Items.{CallSite, Item, known, select, used}
+use Rattle.points_to_constraints.specs.NodeItems.{CallNodeItem, IsCallSite, IsUnitHolder}
+use Rattle.points_to_constraints.specs.NodeItems as node_items
+use Rattle.points_to_methods.specs.Known.{IsNamedMethod}
+use Rattle.points_to_methods.specs.Slots.{slot_holder}
+use Rattle.points_to_constraints.proofs.OneSite.{one_site}
+use Rattle.points_to_methods.proofs.NamedSlots.{reached, slot_is}
 use Rattle.points_to_methods.specs.CallParts.{ChosenItem, SelectingItem}
 
 -- ---- the first argument

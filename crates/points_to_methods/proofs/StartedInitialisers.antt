@@ -7,22 +7,22 @@ use Rattle.jvm_model.specs.declared.number.ClassNo.{ClassNo}
 use Rattle.jvm_model.specs.declared.number.MethodNo.{MethodNo}
 use Rattle.jvm_model.specs.Programs.{Program}
 use Rattle.hierarchy.proofs.ClassPlaces.{name_at-at}
-use Rattle.linked_program.specs.Numbers.{name_at}
-use Rattle.node_machine.specs.Nodes.{IsCodedInitialiser}
+use Rattle.program_model.specs.Numbers.{name_at}
+use Rattle.machine_nodes.specs.Nodes.{IsCodedInitialiser}
 use Rattle.op_model.specs.declared.lowered.LoweredMethod.{LoweredMethod}
 use Rattle.op_model.specs.declared.node.Node.{Node}
-use Rattle.points_to_items.specs.Items.{Item, Landing, land_at, used}
+use Rattle.points_to_constraints.specs.Items.{Item, Landing, land_at, used}
 use Rattle.points_to_rules.specs.WholeMethods.{IsWholeMethod, NamesNumbers}
-use Rattle.points_to_items.specs.NodeItems.{IsLanding, TriggerItem, keeps_thrown, runs, throws}
+use Rattle.points_to_constraints.specs.NodeItems.{IsLanding, TriggerItem, keeps_thrown, runs, throws}
 use Rattle.points_to_rules.specs.Facts.{thrown_by}
 use Rattle.points_to_rules.specs.Rules.{StartsAt}
-use Rattle.points_to_tables.proofs.Adding.{OfOne}
+use Rattle.points_to_numbers.proofs.Adding.{OfOne}
 use Rattle.slot_names.specs.Tables.{NameTable}
 use Rattle.slot_names.proofs.ListPlaces.{contains_at}
-use Rattle.points_to_nodes.specs.Known.{IsNamedMethod}
-use Rattle.points_to_items.proofs.OneSite.{one_landing}
-use Rattle.points_to_nodes.proofs.NamedSlots.{reached}
-use Rattle.points_to_nodes.proofs.RaisedObjects.{class_numbered}
+use Rattle.points_to_methods.specs.Known.{IsNamedMethod}
+use Rattle.points_to_constraints.proofs.OneSite.{one_landing}
+use Rattle.points_to_methods.proofs.NamedSlots.{reached}
+use Rattle.points_to_methods.proofs.RaisedObjects.{class_numbered}
 use Rattle.points_to_methods.specs.Started.{IsStarted}
 
 -- the trigger of a node, as it is read at the node's place

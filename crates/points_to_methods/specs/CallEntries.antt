@@ -6,9 +6,9 @@ use Rattle.op_model.specs.declared.lowered.LoweredMethod.{LoweredMethod}
 use Rattle.op_model.specs.declared.node.Node.{Node}
 use Rattle.points_to_rules.specs.Facts.{Holder}
 use Rattle.points_to_rules.specs.Rules.{IsSlotAt}
-use Rattle.points_to_items.specs.NodeItems.{IsUnitHolder}
+use Rattle.points_to_constraints.specs.NodeItems.{IsUnitHolder}
 use Rattle.points_to_rules.specs.declared.place.PlaceNo.{PlaceNo}
-use Rattle.points_to_tables.specs.Numbered.{Grows, IsUnitAt, Numbered}
+use Rattle.points_to_numbers.specs.Numbered.{Grows, IsUnitAt, Numbered}
 
 -- What was numbered stays, no call is numbered, and what is numbered then has the property.
 pub record GrowsTo (P : Numbered → Type 0) (old new : Numbered) : Type 0 where

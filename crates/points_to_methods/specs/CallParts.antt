@@ -2,11 +2,11 @@
 -- What a call leads to as a node, in two parts: its chosen target, and the targets that it selects.
 use Rattle.std.specs.Prelude.{◌≡◌, true, Option, Some, slice_get}
 use Rattle.jvm_model.specs.declared.number.MethodNo.{MethodNo}
-use Rattle.node_machine.specs.NodeSteps.{is_selecting_kind}
+use Rattle.machine_nodes.specs.NodeSteps.{is_selecting_kind}
 use Rattle.op_model.specs.declared.node.NodeRef.{NodeRef}
 use Rattle.op_model.specs.declared.op.CallKind.{CallKind}
 use Rattle.points_to_rules.specs.Facts.{Holder, may_call}
-use Rattle.points_to_items.specs.Items.{CallSite, Item, known, select, used}
+use Rattle.points_to_constraints.specs.Items.{CallSite, Item, known, select, used}
 
 -- The call of the node may go to the target that was chosen for it.
 abbrev pub ChosenItem : NodeRef → Option MethodNo → Item → Type 0

@@ -3,7 +3,7 @@
 use Rattle.std.specs.Prelude.{◌≡◌, ◌⊎◌}
 use Rattle.jvm_model.specs.declared.number.MethodNo.{MethodNo}
 use Rattle.points_to_rules.specs.Facts.{kept_objects, thrown_by, may_run}
-use Rattle.points_to_items.specs.Items.{pass_to, Item as RuleItem, known, used}
+use Rattle.points_to_constraints.specs.Items.{pass_to, Item as RuleItem, known, used}
 
 -- It runs, and what it throws is kept.
 abbrev pub IsInitiated : MethodNo → RuleItem → Type 0

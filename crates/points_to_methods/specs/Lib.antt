@@ -1,3 +1,10 @@
+pub mod Known
+pub mod Fixed
+pub mod Slots
+pub mod Arrays
+pub mod Operations
+pub mod Landings
+pub mod Raises
 pub mod NewCalls
 pub mod Initiated
 pub mod NodeCalls

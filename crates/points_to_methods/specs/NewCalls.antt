@@ -2,8 +2,8 @@
 -- The calls that are numbered for a method.
 use Rattle.std.specs.Prelude.{◌≡◌, ◌≤◌, ◌⊎◌, ℕ, List, length, Some, slice_get}
 use Rattle.op_model.specs.declared.lowered.LoweredMethod.{LoweredMethod}
-use Rattle.points_to_items.specs.Items.{CallSite}
-use Rattle.points_to_items.specs.NodeItems.{IsCallOf}
+use Rattle.points_to_constraints.specs.Items.{CallSite}
+use Rattle.points_to_constraints.specs.NodeItems.{IsCallOf}
 
 -- The number is that of a new call, which was not there before.
 pub record IsNewCall (old new : List CallSite) (number : ℕ) (site : CallSite) : Type 0 where

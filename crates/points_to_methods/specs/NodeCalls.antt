@@ -5,11 +5,11 @@ use Rattle.op_model.specs.declared.lowered.LoweredMethod.{LoweredMethod}
 use Rattle.op_model.specs.declared.node.Node.{Node}
 use Rattle.op_model.specs.declared.op.Call.{Call as NodeCall}
 use Rattle.op_model.specs.declared.op.Op.TheVariants.{Call}
-use Rattle.points_to_items.specs.Items.{CallSite, Item as RuleItem}
-use Rattle.points_to_items.specs.NodeItems.{IsCallSite}
-use Rattle.points_to_tables.specs.declared.item.Item.{Item}
-use Rattle.points_to_tables.specs.Numbered.{Grows, Numbered}
-use Rattle.points_to_tables.specs.Steps.{Adds}
+use Rattle.points_to_constraints.specs.Items.{CallSite, Item as RuleItem}
+use Rattle.points_to_constraints.specs.NodeItems.{IsCallSite}
+use Rattle.points_to_numbers.specs.declared.item.Item.{Item}
+use Rattle.points_to_numbers.specs.Numbered.{Grows, Numbered}
+use Rattle.points_to_numbers.specs.Steps.{Adds}
 use Rattle.points_to_methods.specs.NewCalls.{IsNewCall}
 
 -- It is the call site of the node.

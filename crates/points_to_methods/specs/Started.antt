@@ -3,7 +3,7 @@
 use Rattle.std.specs.Prelude.{◌≡◌, ◌⊎◌}
 use Rattle.jvm_model.specs.declared.number.MethodNo.{MethodNo}
 use Rattle.points_to_rules.specs.Facts.{thrown_by}
-use Rattle.points_to_items.specs.Items.{Landing, land_at, Item as RuleItem, used}
+use Rattle.points_to_constraints.specs.Items.{Landing, land_at, Item as RuleItem, used}
 use Rattle.points_to_methods.specs.Initiated.{IsInitiated}
 
 -- It runs, and what it throws is kept, and goes to the landing.

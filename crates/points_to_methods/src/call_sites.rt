@@ -3,19 +3,19 @@
 ghost use Rattle.std.specs.Prelude.{◌≡◌, ◌+◌, length, Some, slice_get, IfOk, OnOk};
 ghost use Rattle.std.specs.List.{AllZip};
 ghost use Rattle.op_model.specs.declared.node.Node.{Node};
-ghost use Rattle.points_to_items.specs.Items.{CallSite as ItemCallSite};
+ghost use Rattle.points_to_constraints.specs.Items.{CallSite as ItemCallSite};
 ghost use Rattle.points_to_rules.specs.WholeMethods.{HasNodeAt};
-ghost use Rattle.points_to_items.specs.NodeItems.{IsCallSite};
+ghost use Rattle.points_to_constraints.specs.NodeItems.{IsCallSite};
 ghost use Rattle.points_to_methods.specs.CallEntries.{GrowsTo, StandsForUnit, StandsForResult, StandForResults};
-ghost use Rattle.points_to_nodes.specs.Known.{HasNode, IsNamed};
-ghost use Rattle.points_to_tables.specs.Numbered.{Grows};
+ghost use Rattle.points_to_methods.specs.Known.{HasNode, IsNamed};
+ghost use Rattle.points_to_numbers.specs.Numbered.{Grows};
 
-use class_index::index_failure::IndexFailure;
+use crate::{NamedMethod, key_of, landing_of, node_at, slot_place};
 use jvm_model::Sequence;
 use op_model::{Call, NodeRef};
-use points_to_nodes::{NamedMethod, key_of, landing_of, node_at, slot_place};
+use points_to_numbers::{CallNo, CallSite, Tables};
 use points_to_rules::PlaceNo;
-use points_to_tables::{CallNo, CallSite, Tables};
+use program_index::index_failure::IndexFailure;
 use std::alloc::Global;
 
 /// The number of the call of a node, which is a new one.

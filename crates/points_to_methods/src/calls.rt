@@ -2,23 +2,23 @@
 
 ghost use Rattle.std.specs.Prelude.{◌≡◌, Some, slice_get, OnOk};
 ghost use Rattle.std.specs.Option.{option_flatten};
-ghost use Rattle.node_machine.specs.NodeSteps.{is_selecting_kind};
+ghost use Rattle.machine_nodes.specs.NodeSteps.{is_selecting_kind};
 ghost use Rattle.op_model.specs.declared.node.Node.{Node};
 ghost use Rattle.op_model.specs.declared.op.Op.TheVariants as operations;
-ghost use Rattle.points_to_items.specs.Items.{CallSite};
-ghost use Rattle.points_to_items.specs.NodeItems.{CallNodeItem, IsCallSite};
+ghost use Rattle.points_to_constraints.specs.Items.{CallSite};
+ghost use Rattle.points_to_constraints.specs.NodeItems.{CallNodeItem, IsCallSite};
 ghost use Rattle.points_to_methods.specs.CallParts.{ChosenItem, SelectingItem};
 ghost use Rattle.points_to_methods.specs.NodeCalls.{AddsNode};
-ghost use Rattle.points_to_nodes.specs.Known.{HasNode, IsNamed};
-ghost use Rattle.points_to_tables.specs.Numbered.{IsNumbered, Numbered};
-ghost use Rattle.points_to_tables.specs.Steps.{Adds, Makes};
+ghost use Rattle.points_to_methods.specs.Known.{HasNode, IsNamed};
+ghost use Rattle.points_to_numbers.specs.Numbered.{IsNumbered, Numbered};
+ghost use Rattle.points_to_numbers.specs.Steps.{Adds, Makes};
 
 use crate::call_sites::call_site;
-use class_index::index_failure::IndexFailure;
+use crate::{NamedMethod, key_of, slot_place};
 use jvm_model::MethodNo;
 use op_model::{Call, CallKind};
-use points_to_nodes::{NamedMethod, key_of, slot_place};
-use points_to_tables::{CallNo, Item, Tables, User, add_use};
+use points_to_numbers::{CallNo, Item, Tables, User, add_use};
+use program_index::index_failure::IndexFailure;
 use std::alloc::Global;
 
 /// Adds what the call of a node leads to. The call gets a number.

@@ -1,20 +1,20 @@
 //! The items of a method.
 
 ghost use Rattle.std.specs.Prelude.{IfOk, OnOk};
-ghost use Rattle.points_to_items.specs.ItemRules.{MethodItem};
+ghost use Rattle.points_to_constraints.specs.ItemRules.{MethodItem};
 ghost use Rattle.points_to_rules.specs.WholeMethods.{IsWholeMethod};
 ghost use Rattle.points_to_methods.specs.NewCalls.{AddsCalls};
-ghost use Rattle.points_to_tables.specs.Numbered.{Grows};
-ghost use Rattle.points_to_tables.specs.Steps.{Adds};
+ghost use Rattle.points_to_numbers.specs.Numbered.{Grows};
+ghost use Rattle.points_to_numbers.specs.Steps.{Adds};
 ghost use Rattle.slot_names.specs.KeptNames.{name_table};
 ghost use Rattle.slot_names.specs.Tables.{AreNames};
 
+use crate::NamedMethod;
 use crate::nodes::node_items;
-use class_index::index_failure::IndexFailure;
-use linked_program::program::Program;
 use op_model::LoweredMethod;
-use points_to_nodes::NamedMethod;
-use points_to_tables::{Item, Tables};
+use points_to_numbers::{Item, Tables};
+use program_index::index_failure::IndexFailure;
+use program_model::program::Program;
 use slot_names::{Names, names_of};
 use std::alloc::Global;
 

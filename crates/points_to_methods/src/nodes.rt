@@ -2,17 +2,17 @@
 
 ghost use Rattle.std.specs.Prelude.{◌≡◌, Some, slice_get, OnOk};
 ghost use Rattle.op_model.specs.declared.node.Node.{Node};
-ghost use Rattle.points_to_items.specs.NodeItems.{NodeItem, OpItem};
-ghost use Rattle.points_to_nodes.specs.Known.{HasNode, IsNamed};
+ghost use Rattle.points_to_constraints.specs.NodeItems.{NodeItem, OpItem};
+ghost use Rattle.points_to_methods.specs.Known.{HasNode, IsNamed};
 ghost use Rattle.points_to_methods.specs.NodeCalls.{AddsNode};
 
 use crate::calls::call_items;
 use crate::statics::load_static;
 use crate::triggers::trigger_items;
-use class_index::index_failure::IndexFailure;
+use crate::{NamedMethod, enter_items, flow_items, handle_items, op_items, raise_items};
 use op_model::Op;
-use points_to_nodes::{NamedMethod, enter_items, flow_items, handle_items, op_items, raise_items};
-use points_to_tables::{Item, Tables};
+use points_to_numbers::{Item, Tables};
+use program_index::index_failure::IndexFailure;
 use std::alloc::Global;
 
 /// Adds what a node leads to.

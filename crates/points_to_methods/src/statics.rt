@@ -1,18 +1,18 @@
 //! Loads of static fields: what the field holds, and what it begins with.
 
 ghost use Rattle.std.specs.Prelude.{◌≡◌, ℕ, List, Some, option_map, slice_get, IfSome, OnOk};
-ghost use Rattle.linked_program.specs.Numbers.{IsFieldNumber};
+ghost use Rattle.program_model.specs.Numbers.{IsFieldNumber};
 ghost use Rattle.op_model.specs.declared.node.Node.{Node};
-ghost use Rattle.points_to_items.specs.NodeItems.{LoadStaticItem};
-ghost use Rattle.points_to_nodes.specs.Known.{HasNode, IsNamed};
+ghost use Rattle.points_to_constraints.specs.NodeItems.{LoadStaticItem};
+ghost use Rattle.points_to_methods.specs.Known.{HasNode, IsNamed};
 ghost use Rattle.points_to_rules.specs.Rules.{BeginsWith};
-ghost use Rattle.points_to_tables.specs.Steps.{Makes};
+ghost use Rattle.points_to_numbers.specs.Steps.{Makes};
 
-use class_index::index_failure::IndexFailure;
+use crate::{FixedPlace, NamedMethod, Passing, hold, pass_after};
 use jvm_model::FieldNo;
-use linked_program::program::Program;
-use points_to_nodes::{FixedPlace, NamedMethod, Passing, hold, pass_after};
-use points_to_tables::{Item, Tables, boot_site};
+use points_to_numbers::{Item, Tables, boot_site};
+use program_index::index_failure::IndexFailure;
+use program_model::program::Program;
 
 /// Adds what a load of a static field leads to.
 pub(crate) fn load_static(

@@ -2,20 +2,20 @@
 
 ghost use Rattle.std.specs.Prelude.{◌≡◌, Some, slice_get, OnOk};
 ghost use Rattle.op_model.specs.declared.node.Node.{Node};
-ghost use Rattle.points_to_items.specs.Items.{Landing};
-ghost use Rattle.points_to_items.specs.NodeItems.{TriggerItem};
-ghost use Rattle.points_to_nodes.specs.Known.{HasNode, IsNamed};
-ghost use Rattle.points_to_tables.specs.Numbered.{IsNumbered};
-ghost use Rattle.points_to_tables.specs.Steps.{Makes};
+ghost use Rattle.points_to_constraints.specs.Items.{Landing};
+ghost use Rattle.points_to_constraints.specs.NodeItems.{TriggerItem};
+ghost use Rattle.points_to_methods.specs.Known.{HasNode, IsNamed};
+ghost use Rattle.points_to_numbers.specs.Numbered.{IsNumbered};
+ghost use Rattle.points_to_numbers.specs.Steps.{Makes};
 ghost use Rattle.points_to_methods.specs.Initiated.{IsInitiated};
 ghost use Rattle.points_to_methods.specs.Started.{IsStarted};
 
-use class_index::index_failure::IndexFailure;
-use class_initialisers::coded_initialisers;
+use crate::{NamedMethod, landing_of};
+use entry_points::coded_initialisers;
 use jvm_model::MethodNo;
-use points_to_nodes::{NamedMethod, landing_of};
+use points_to_numbers::{Item, LandingNo, Tables, User, add_use};
 use points_to_rules::Place;
-use points_to_tables::{Item, LandingNo, Tables, User, add_use};
+use program_index::index_failure::IndexFailure;
 use std::alloc::Global;
 
 /// Adds that the initialisers run that a node may start; what they throw is kept, and is thrown on at the node.

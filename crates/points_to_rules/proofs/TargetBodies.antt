@@ -6,8 +6,8 @@ use Rattle.jvm_model.specs.declared.class_file.ClassFile.{ClassFile}
 use Rattle.jvm_model.specs.declared.number.MethodNo.{MethodNo}
 use Rattle.jvm_model.specs.declared.stub.StubMethod.{StubMethod}
 use Rattle.jvm_model.specs.Programs.{Program, Method, Body, in_file, described}
-use Rattle.linked_program.specs.Bodies.{IsBodyView}
-use Rattle.linked_program.specs.declared.method_body.MethodBody.TheVariants.{InFile, Described}
+use Rattle.program_model.specs.Bodies.{IsBodyView}
+use Rattle.program_model.specs.declared.method_body.MethodBody.TheVariants.{InFile, Described}
 use Rattle.points_to_rules.specs.Calls.{IsOfFile, IsDescribedBy}
 
 pub file_by_view : (p : Program) (target : MethodNo) (m : Method) (file : Bor ClassFile) (number : ℕ) → slice_get p.methods target.0 ≡ Some m

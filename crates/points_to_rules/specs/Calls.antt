@@ -15,8 +15,8 @@ use Rattle.jvm_model.specs.Selection.{Selection}
 use Rattle.jvm_model.specs.Subtypes.{Fits}
 use Rattle.op_model.specs.declared.op.CallKind.{CallKind}
 use Rattle.op_model.specs.declared.op.CallKind.TheVariants.{Virtual, Special, Static, Interface}
-use Rattle.bytecode_machine.specs.Described.{argument_unit}
-use Rattle.bytecode_machine.specs.Machine.{selecting_class}
+use Rattle.machine_bytecode.specs.Described.{argument_unit}
+use Rattle.machine_bytecode.specs.Machine.{selecting_class}
 
 -- ---- selection
 

@@ -8,7 +8,7 @@ use Rattle.op_model.specs.declared.op.Op.{Op}
 use Rattle.op_model.specs.declared.op.Op.TheVariants.{Assign, Load, Store, LoadElement, StoreElement, LoadStatic, StoreStatic, New, NewArray, Constant, Call, Return, Throw, Cast, Probe}
 use Rattle.op_model.specs.declared.op.Source.{Source}
 use Rattle.op_model.specs.declared.op.Source.TheVariants.{Slot, Null, Primitive}
-use Rattle.node_machine.specs.Slots.{argument_slots}
+use Rattle.machine_nodes.specs.Slots.{argument_slots}
 
 abbrev pub source_slots : Source → List ℕ
 source_slots (Slot z) = z ∷ []

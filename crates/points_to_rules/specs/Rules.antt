@@ -23,10 +23,10 @@ use Rattle.op_model.specs.declared.node.NodeRef.{NodeRef}
 use Rattle.op_model.specs.declared.op.Call.{Call as NodeCall}
 use Rattle.op_model.specs.declared.op.Op.TheVariants.{Load, Store, LoadElement, StoreElement, LoadStatic, StoreStatic, New, NewArray, Constant, Call, Return, Throw, Cast}
 use Rattle.op_model.specs.Supplies.{GivenAs}
-use Rattle.bytecode_machine.specs.Objects.{string_name}
-use Rattle.bytecode_machine.specs.Start.{boot_site}
-use Rattle.node_machine.specs.Nodes.{IsClassNumber, IsCodedInitialiser}
-use Rattle.node_machine.specs.NodeSteps.{Takes, IsFirstTaking}
+use Rattle.machine_bytecode.specs.Objects.{string_name}
+use Rattle.machine_bytecode.specs.Start.{boot_site}
+use Rattle.machine_nodes.specs.Nodes.{IsClassNumber, IsCodedInitialiser}
+use Rattle.machine_nodes.specs.NodeSteps.{Takes, IsFirstTaking}
 use Rattle.slot_names.specs.declared.variable.Variable.{Variable}
 use Rattle.slot_names.specs.declared.variable.Variable.TheVariants.{Parameter}
 use Rattle.slot_names.specs.Variables.{keeps, moves, effect_on, IsPredecessor, IsFirstNode, IsVariable}

@@ -7,14 +7,14 @@ use Rattle.jvm_model.specs.declared.number.FieldNo.{FieldNo}
 use Rattle.jvm_model.specs.declared.number.MethodNo.{MethodNo}
 use Rattle.jvm_model.specs.declared.site.Site.{Site}
 use Rattle.jvm_model.specs.Programs.{Program}
-use Rattle.linked_program.specs.Numbers.{IsClassNumber, IsFieldNumber, IsMethodNumber}
+use Rattle.program_model.specs.Numbers.{IsClassNumber, IsFieldNumber, IsMethodNumber}
 use Rattle.op_model.specs.declared.lowered.LoweredMethod.{LoweredMethod}
 use Rattle.op_model.specs.declared.node.Node.{Node}
 use Rattle.op_model.specs.declared.node.NodeHandler.{NodeHandler}
 use Rattle.op_model.specs.declared.op.Call.{Call as NodeCall}
 use Rattle.op_model.specs.declared.op.Op.TheVariants.{LoadStatic, Constant, Call}
 use Rattle.op_model.specs.Supplies.{Given, GivenAs, IsCodedMethod}
-use Rattle.bytecode_machine.specs.Start.{boot_site}
+use Rattle.machine_bytecode.specs.Start.{boot_site}
 use Rattle.slot_names.specs.Variables.{AreReachedNodes}
 use Rattle.points_to_rules.specs.ReadSlots.{read_slots}
 

@@ -15,3 +15,14 @@ pub mod Outcomes
 pub mod Paths
 pub mod Signed
 pub mod SpecialCalls
+pub mod Bounded
+pub mod Classes
+pub mod Ranks
+pub mod Declaring
+pub mod Inheriting
+pub mod Resolving
+pub mod FieldSearches
+pub mod Targets
+pub mod SpecialTargets
+pub mod Choosing
+pub mod CallOutcomes

@@ -3,6 +3,8 @@
 //! definitions alone.
 #![tactic(auto)]
 
+pub mod each_resolution;
+pub mod each_selection;
 pub mod linking;
 pub mod resolution;
 pub mod selection;

@@ -11,7 +11,7 @@ use Rattle.jvm_model.specs.declared.site.Site.{Site}
 use Rattle.jvm_model.specs.declared.site.SiteKind.{SiteKind}
 use Rattle.jvm_model.specs.LinkedPrograms.{IsProgram}
 use Rattle.jvm_model.specs.Programs.{Program}
-use Rattle.linked_program.specs.Numbers.{name_at, IsClassNumber}
+use Rattle.program_model.specs.Numbers.{name_at, IsClassNumber}
 use Rattle.least_sets.proofs.Places.{contains_at, in_longer, pushed_at}
 use Rattle.slot_names.proofs.ListPlaces.{stands_below}
 use Rattle.site_report.specs.declared.tracked_site.TrackedSite.{TrackedSite}

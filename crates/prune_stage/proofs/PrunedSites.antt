@@ -12,8 +12,8 @@ use Rattle.jvm_model.specs.declared.number.MethodNo.{MethodNo}
 use Rattle.jvm_model.specs.declared.number.SiteNo.{SiteNo}
 use Rattle.jvm_model.specs.declared.site.Site.{Site}
 use Rattle.jvm_model.specs.Lookups.{Signature}
-use Rattle.bytecode_machine.specs.Events.{event_for}
-use Rattle.node_machine.specs.NodeSteps.{is_selecting_kind}
+use Rattle.machine_bytecode.specs.Events.{event_for}
+use Rattle.machine_nodes.specs.NodeSteps.{is_selecting_kind}
 use Rattle.op_model.specs.declared.lowered.LoweredMethod.{LoweredMethod}
 use Rattle.op_model.specs.declared.op.Call.{Call as NodeCall}
 use Rattle.least_sets.specs.Rules.{IsWithoutDoubles}

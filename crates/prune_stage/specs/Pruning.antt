@@ -6,8 +6,8 @@ use Rattle.jvm_model.specs.declared.automaton.Event.{Event}
 use Rattle.jvm_model.specs.declared.number.MethodNo.{MethodNo}
 use Rattle.jvm_model.specs.declared.site.Site.{Site}
 use Rattle.jvm_model.specs.Programs.{Program}
-use Rattle.bytecode_machine.specs.Events.{event_for}
-use Rattle.node_machine.specs.NodeSteps.{is_selecting_kind}
+use Rattle.machine_bytecode.specs.Events.{event_for}
+use Rattle.machine_nodes.specs.NodeSteps.{is_selecting_kind}
 use Rattle.op_model.specs.declared.lowered.LoweredMethod.{LoweredMethod}
 use Rattle.op_model.specs.declared.node.Node.{Node}
 use Rattle.op_model.specs.declared.op.Call.{Call as NodeCall}

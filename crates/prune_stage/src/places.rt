@@ -1,13 +1,13 @@
 //! The places of the sites of a ground among those that are tracked.
 
 ghost use Rattle.std.specs.Prelude.{◌≡◌, ◌↔◌, ℕ, Some, length, slice_get, Contains, IfOk};
-ghost use Rattle.linked_program.specs.Numbers.{IsClassNumber};
+ghost use Rattle.program_model.specs.Numbers.{IsClassNumber};
 ghost use Rattle.site_report.specs.Sites.{AreInOrder};
 ghost use Rattle.prune_stage.specs.Places.{ArePlaces, IsPlaceIn, IsTracking};
 
 use ground::Ground;
 use jvm_model::{Site, SiteNo};
-use linked_program::program::Program;
+use program_model::program::Program;
 use site_report::TrackedSite;
 use std::alloc::{AllocError, Global};
 

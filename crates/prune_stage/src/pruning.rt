@@ -4,7 +4,7 @@ ghost use Rattle.std.specs.Prelude.{◌≡◌, ◌↔◌, ◌<◌, length, Some,
 ghost use Rattle.std.specs.List.{AllZip};
 ghost use Rattle.jvm_model.specs.Automata.{IsAutomaton};
 ghost use Rattle.jvm_model.specs.declared.site.Site.{Site as RuleSite};
-ghost use Rattle.linked_program.specs.Numbers.{IsClassNumber};
+ghost use Rattle.program_model.specs.Numbers.{IsClassNumber};
 ghost use Rattle.ground.specs.Findings.{gives_listed};
 ghost use Rattle.site_report.specs.Sites.{AreInOrder};
 ghost use Rattle.prune_stage.specs.Pruning.{IsPruned, IsPruningOf};

@@ -13,13 +13,13 @@ use Rattle.flow_graph.specs.declared.steps.Graph.{Graph}
 use Rattle.flow_graph.proofs.WholeFlow.{flow_of}
 use Rattle.op_model.specs.declared.lowered.LoweredMethod.{LoweredMethod}
 use Rattle.op_model.specs.declared.node.Node.{Node}
-use Rattle.bytecode_machine.specs.Objects.{Subject}
-use Rattle.node_machine.specs.Nodes.{AreStartNodes, IsClassNumber}
+use Rattle.machine_bytecode.specs.Objects.{Subject}
+use Rattle.machine_nodes.specs.Nodes.{AreStartNodes, IsClassNumber}
 use Rattle.lowering.specs.Refusals.{IsAccepted}
 use Rattle.lowering_laws.proofs.Concerned.{one_concerned}
 use Rattle.simulation.proofs.Known.{LoweredCode}
 use Rattle.simulation.proofs.StartFrames.{OneConcerned}
-use Rattle.node_laws.proofs.StartNodes.{has_number, some_start}
+use Rattle.machine_laws.proofs.StartNodes.{has_number, some_start}
 use Rattle.simulation.specs.Simulation.{HasEntry, HasExceptions, exception_names}
 
 pub accepted_code : (p : Program) → IsProgram p → (number : ℕ) (code : Code) (graph : Graph) (l : LoweredMethod) → IsAccepted p number code graph l → LoweredCode p number l

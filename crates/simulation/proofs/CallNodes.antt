@@ -15,12 +15,12 @@ use Rattle.op_model.specs.declared.op.CallKind.{CallKind}
 use Rattle.op_model.specs.declared.op.CallKind.TheVariants.{Virtual, Special, Static, Interface}
 use Rattle.op_model.specs.declared.op.Op.{Op}
 use Rattle.op_model.specs.declared.op.Op.TheVariants.{Call}
-use Rattle.bytecode_machine.specs.Machine.{AtInstruction, HasKind, IsTarget, NamesMethod, SelectsByObject}
-use Rattle.bytecode_machine.specs.Objects.{IsOf}
-use Rattle.bytecode_machine.specs.States.{Frame, Value, World, null_value, primitive_value, reference_to, slot_at}
-use Rattle.node_machine.specs.NodeSteps.{IsTargetOf, is_selecting_kind}
-use Rattle.node_machine.specs.Slots.{AreLeft, argument_slots, argument_values, returned_value}
-use Rattle.method_nodes.specs.Operations.{IsCallOp, IsOp, unit_slots, value_slot}
+use Rattle.machine_bytecode.specs.Machine.{AtInstruction, HasKind, IsTarget, NamesMethod, SelectsByObject}
+use Rattle.machine_bytecode.specs.Objects.{IsOf}
+use Rattle.machine_bytecode.specs.States.{Frame, Value, World, null_value, primitive_value, reference_to, slot_at}
+use Rattle.machine_nodes.specs.NodeSteps.{IsTargetOf, is_selecting_kind}
+use Rattle.machine_nodes.specs.Slots.{AreLeft, argument_slots, argument_values, returned_value}
+use Rattle.lowering_spec.specs.Operations.{IsCallOp, IsOp, unit_slots, value_slot}
 use Rattle.program_laws.proofs.Orders.{first_there, more_there, none_there, where_there}
 use Rattle.program_laws.proofs.SpecialCalls.{one_special}
 use Rattle.simulation.proofs.Known.{told}

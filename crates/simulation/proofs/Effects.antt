@@ -5,8 +5,8 @@ use Rattle.std.proofs.lemmas.Bool.{cases_eq}
 use Rattle.std.proofs.lemmas.List.{length-map, get_or_past, length-set, get_or-set_same, get_or-set_other, get_or_append_left, get_or-append_right, get_or-map}
 use Rattle.std.proofs.lemmas.Option.{slice_get_within, get_or_from_slice_get}
 use Rattle.jvm_model.specs.Table.{Row, UnitSource, a_primitive}
-use Rattle.bytecode_machine.specs.States.{Value, primitive_value, slot_at}
-use Rattle.bytecode_machine.specs.Machine.{value_of, written, effect}
+use Rattle.machine_bytecode.specs.States.{Value, primitive_value, slot_at}
+use Rattle.machine_bytecode.specs.Machine.{value_of, written, effect}
 
 -- ---- values that are written from a slot on
 

@@ -3,11 +3,11 @@ use Rattle.std.proofs.Common.{◌≡◌, ℕ, ◌≤◌, List, [], ◌∷◌, �
 use Rattle.std.specs.List.{All}
 use Rattle.op_model.specs.declared.lowered.LoweredMethod.{LoweredMethod}
 use Rattle.op_model.specs.Supplies.{Given}
-use Rattle.bytecode_machine.specs.Executions.{IsExecution}
-use Rattle.bytecode_machine.specs.Objects.{Subject}
-use Rattle.bytecode_machine.specs.States.{State}
-use Rattle.node_machine.specs.NodeExecutions.{AreNodeSteps, IsNodeExecution}
-use Rattle.node_machine.specs.NodeSteps.{NodeStep}
+use Rattle.machine_bytecode.specs.Executions.{IsExecution}
+use Rattle.machine_bytecode.specs.Objects.{Subject}
+use Rattle.machine_bytecode.specs.States.{State}
+use Rattle.machine_nodes.specs.NodeExecutions.{AreNodeSteps, IsNodeExecution}
+use Rattle.machine_nodes.specs.NodeSteps.{NodeStep}
 use Rattle.simulation.proofs.Accepted.{accepted_code, exceptions_of, once_of, start_of}
 use Rattle.simulation.proofs.Known.{LoweredCode}
 use Rattle.simulation.proofs.Simulated.{beginning, execution_shown, head_is, tail_is}

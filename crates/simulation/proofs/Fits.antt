@@ -10,10 +10,10 @@ use Rattle.jvm_model.specs.Programs.{Method, Program}
 use Rattle.jvm_model.specs.Table.{UnitKind, is_call, is_trigger}
 use Rattle.flow_graph.specs.Graphing.{HasStep}
 use Rattle.op_model.specs.declared.lowered.LoweredMethod.{LoweredMethod}
-use Rattle.bytecode_machine.specs.Machine.{AtInstruction, Concerns}
-use Rattle.bytecode_machine.specs.Objects.{Subject}
-use Rattle.bytecode_machine.specs.States.{Frame, Mode, running, throwing, ended, State}
-use Rattle.node_machine.specs.Nodes.{HasInitialiser}
+use Rattle.machine_bytecode.specs.Machine.{AtInstruction, Concerns}
+use Rattle.machine_bytecode.specs.Objects.{Subject}
+use Rattle.machine_bytecode.specs.States.{Frame, Mode, running, throwing, ended, State}
+use Rattle.machine_nodes.specs.Nodes.{HasInitialiser}
 use Rattle.simulation.proofs.Known.{LoweredCode}
 
 -- An offset of a method is that of a step of its graph, of a height for which something holds: whatever code it has.

@@ -9,10 +9,10 @@ use Rattle.jvm_model.specs.Programs.{Class, Program}
 use Rattle.jvm_model.specs.Subtypes.{Fits}
 use Rattle.flow_graph.specs.Flows.{caught_at, covering_from, covers}
 use Rattle.op_model.specs.declared.node.NodeHandler.{NodeHandler}
-use Rattle.bytecode_machine.specs.Machine.{Handles, IsFirstHandler, TakesClass}
-use Rattle.node_machine.specs.Nodes.{IsClassNumber}
-use Rattle.node_machine.specs.NodeSteps.{IsFirstTaking, Takes, all as takes_all, fitting}
-use Rattle.method_nodes.specs.LoweredMethods.{IsCatch, IsHandlerAt, all as catches_all, of_class}
+use Rattle.machine_bytecode.specs.Machine.{Handles, IsFirstHandler, TakesClass}
+use Rattle.machine_nodes.specs.Nodes.{IsClassNumber}
+use Rattle.machine_nodes.specs.NodeSteps.{IsFirstTaking, Takes, all as takes_all, fitting}
+use Rattle.lowering_spec.specs.LoweredMethods.{IsCatch, IsHandlerAt, all as catches_all, of_class}
 use Rattle.program_laws.proofs.Orders.{first_there, more_there, none_there, where_there}
 
 -- ---- one handler

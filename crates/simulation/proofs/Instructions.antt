@@ -10,8 +10,8 @@ use Rattle.jvm_model.specs.declared.pool.PoolEntry.{PoolEntry}
 use Rattle.jvm_model.specs.Instructions.{DecodedInstruction, IsCallRow, IsFieldRow, IsRowAt, RowBy, array_row, instruction}
 use Rattle.jvm_model.specs.Table.{Row, UnitKind, UnitSource, Operands, pool_2_and_dimensions, Flow, onward, jump, branch, branch_if_null, branch_if_object, branch_if_same, branch_if_other, leave, subroutine, Action, plain, load_constant, load_element, store_element, probe_element, probe_array, probe_object, get_static, put_static, get_field, put_field, invoke_virtual, invoke_special, invoke_static, invoke_interface, make_object, make_array, throw_object, cast, leave_method, refused}
 use Rattle.code_reader.specs.CodeReading.{known_targets}
-use Rattle.bytecode_machine.specs.Machine.{Goes, is_null}
-use Rattle.bytecode_machine.specs.States.{Value, World, slot_at}
+use Rattle.machine_bytecode.specs.Machine.{Goes, is_null}
+use Rattle.machine_bytecode.specs.States.{Value, World, slot_at}
 use Rattle.flow_graph.specs.Flows.{each_once, may_go_next}
 use Rattle.program_laws.proofs.Orders.{none_there, first_there, more_there, where_there}
 

@@ -27,11 +27,11 @@ use Rattle.flow_graph.specs.Flows.{falls_off, goes_next, may_go_next, offset_aft
 use Rattle.flow_graph.specs.Graphing.{HasStep, IsFlow, IsStep}
 use Rattle.op_model.specs.declared.lowered.LoweredMethod.{LoweredMethod}
 use Rattle.op_model.specs.declared.node.Node.{Node}
-use Rattle.bytecode_machine.specs.Machine.{AtInstruction, Goes, MethodCode}
-use Rattle.bytecode_machine.specs.States.{Frame, Value, World}
-use Rattle.node_machine.specs.Nodes.{AreThrownAt}
-use Rattle.method_nodes.specs.LoweredMethods.{HasTrigger, IsLowered, IsNodeOf, IsPlacedAt}
-use Rattle.method_nodes.specs.Operations.{IsOp, Placed}
+use Rattle.machine_bytecode.specs.Machine.{AtInstruction, Goes, MethodCode}
+use Rattle.machine_bytecode.specs.States.{Frame, Value, World}
+use Rattle.machine_nodes.specs.Nodes.{AreThrownAt}
+use Rattle.lowering_spec.specs.LoweredMethods.{HasTrigger, IsLowered, IsNodeOf, IsPlacedAt}
+use Rattle.lowering_spec.specs.Operations.{IsOp, Placed}
 use Rattle.program_laws.proofs.Orders.{first_there, none_there, where_there}
 use Rattle.simulation.proofs.Instructions.{each_of, find_zip, goes_by, known_there, met_once, row_without, without_targets}
 use Rattle.simulation.proofs.Locals.{uses_locals, stores_fit}

@@ -17,12 +17,12 @@ use Rattle.jvm_model.specs.Resolution.{FindsAmong, FindsField, above, first, its
 use Rattle.jvm_model.specs.Table.{Row, UnitKind, any_kind, primitive, reference, UnitSource, popped, the_local, a_null, a_primitive, the_made, Action, plain, load_constant, load_element, store_element, probe_element, probe_array, probe_object, get_static, put_static, get_field, put_field, invoke_virtual, invoke_special, invoke_static, invoke_interface, make_object, make_array, throw_object, cast, leave_method, refused}
 use Rattle.op_model.specs.declared.op.Op.{Op}
 use Rattle.op_model.specs.declared.op.Op.TheVariants.{Load, Store, LoadElement, StoreElement, LoadStatic, StoreStatic, New, NewArray, Cast, Probe}
-use Rattle.bytecode_machine.specs.Machine.{AtInstruction, HasKind, LoadsConstant, of_string as loads_string, of_class as loads_class, Makes, NamesArrays, NamesClass, NamesField, effect, nested, of_primitives, of_references, value_of}
-use Rattle.bytecode_machine.specs.Objects.{Subject, IsConstant, MakesArrays, MakesObject, Passes, ReadsElement, ReadsField, Refers, WritesElement, WritesField}
-use Rattle.bytecode_machine.specs.States.{Frame, Value, World, is_reference_kind, is_reference_type, null_value, primitive_value, reference_to, site_at, slot_at, with_static}
-use Rattle.node_machine.specs.NodeSteps.{Leads}
-use Rattle.node_machine.specs.Slots.{AreLeft}
-use Rattle.method_nodes.specs.Operations.{IsAssign, IsOp, LoadsConstantOf, field_no, new_site, of_class, of_string}
+use Rattle.machine_bytecode.specs.Machine.{AtInstruction, HasKind, LoadsConstant, of_string as loads_string, of_class as loads_class, Makes, NamesArrays, NamesClass, NamesField, effect, nested, of_primitives, of_references, value_of}
+use Rattle.machine_bytecode.specs.Objects.{Subject, IsConstant, MakesArrays, MakesObject, Passes, ReadsElement, ReadsField, Refers, WritesElement, WritesField}
+use Rattle.machine_bytecode.specs.States.{Frame, Value, World, is_reference_kind, is_reference_type, null_value, primitive_value, reference_to, site_at, slot_at, with_static}
+use Rattle.machine_nodes.specs.NodeSteps.{Leads}
+use Rattle.machine_nodes.specs.Slots.{AreLeft}
+use Rattle.lowering_spec.specs.Operations.{IsAssign, IsOp, LoadsConstantOf, field_no, new_site, of_class, of_string}
 use Rattle.program_laws.proofs.Orders.{first_there, more_there, none_there, where_there}
 use Rattle.simulation.proofs.Instructions.{without_targets}
 use Rattle.simulation.proofs.Known.{told}

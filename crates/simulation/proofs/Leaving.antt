@@ -20,14 +20,14 @@ use Rattle.op_model.specs.declared.node.Node.{Node}
 use Rattle.op_model.specs.declared.op.Op.{Op}
 use Rattle.op_model.specs.declared.op.Op.TheVariants.{Return}
 use Rattle.op_model.specs.Supplies.{Given}
-use Rattle.bytecode_machine.specs.Machine.{At, AtInstruction, HasKind, HasOperands, IsAfterCall, Resumes, Returns, of_code, of_start as from_the_start}
-use Rattle.bytecode_machine.specs.Objects.{Subject}
-use Rattle.bytecode_machine.specs.States.{Frame, running, State, Value}
-use Rattle.node_machine.specs.Nodes.{AreStartNodes, IsClassNumber}
-use Rattle.node_machine.specs.NodeSteps.{AtNode, NodeStep}
-use Rattle.node_machine.specs.NodeSteps.{Returns as NodeReturns, returns, Resumes as NodeResumes, resumes}
-use Rattle.node_machine.specs.Slots.{AreLeft, returned_value}
-use Rattle.method_nodes.specs.Operations.{IsOp, value_slot}
+use Rattle.machine_bytecode.specs.Machine.{At, AtInstruction, HasKind, HasOperands, IsAfterCall, Resumes, Returns, of_code, of_start as from_the_start}
+use Rattle.machine_bytecode.specs.Objects.{Subject}
+use Rattle.machine_bytecode.specs.States.{Frame, running, State, Value}
+use Rattle.machine_nodes.specs.Nodes.{AreStartNodes, IsClassNumber}
+use Rattle.machine_nodes.specs.NodeSteps.{AtNode, NodeStep}
+use Rattle.machine_nodes.specs.NodeSteps.{Returns as NodeReturns, returns, Resumes as NodeResumes, resumes}
+use Rattle.machine_nodes.specs.Slots.{AreLeft, returned_value}
+use Rattle.lowering_spec.specs.Operations.{IsOp, value_slot}
 use Rattle.program_laws.proofs.Orders.{first_there, more_there}
 use Rattle.simulation.proofs.CallNodes.{call_at, result_kinds, returned_left}
 use Rattle.simulation.proofs.Fits.{Calling, Fits, FitsBelow, FitsHeld, FitsRunning, HasDescriptor, IsFull, Stands, fits_at, from_code, from_start, held_calling, held_running, in_code, in_start, runs_in}

@@ -4,8 +4,8 @@ use Rattle.std.specs.Prelude.{Contains}
 use Rattle.std.proofs.lemmas.Bool.{cases_lt}
 use Rattle.std.proofs.lemmas.List.{get_or_append_left, get_or_past, get_or_at, get_or-append_right, get_or-replicate, length-replicate, append-nil}
 use Rattle.std.proofs.lemmas.Option.{same_Some, none-some}
-use Rattle.bytecode_machine.specs.States.{Value, primitive_value, slot_at}
-use Rattle.node_machine.specs.Slots.{AreLeft, AreSame}
+use Rattle.machine_bytecode.specs.States.{Value, primitive_value, slot_at}
+use Rattle.machine_nodes.specs.Slots.{AreLeft, AreSame}
 
 -- these list the slots of what was popped, but for some that read as primitives
 pub record ArePopped (kept units : List Value) (operands : List ℕ) : Type 0 where

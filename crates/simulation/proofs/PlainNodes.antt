@@ -8,10 +8,10 @@ use Rattle.jvm_model.specs.Table.{Row, UnitSource, popped, the_local, a_null, a_
 use Rattle.op_model.specs.declared.op.Move.{Move}
 use Rattle.op_model.specs.declared.op.Source.{Source}
 use Rattle.op_model.specs.declared.op.Source.TheVariants as sources
-use Rattle.bytecode_machine.specs.States.{Value, primitive_value, slot_at}
-use Rattle.bytecode_machine.specs.Machine.{value_of, effect}
-use Rattle.node_machine.specs.Slots.{source_value, AreMoved}
-use Rattle.method_nodes.specs.Moves.{IsSourceOf, IsWrite, stored, pushed, cleared, AreMovesOf}
+use Rattle.machine_bytecode.specs.States.{Value, primitive_value, slot_at}
+use Rattle.machine_bytecode.specs.Machine.{value_of, effect}
+use Rattle.machine_nodes.specs.Slots.{source_value, AreMoved}
+use Rattle.lowering_spec.specs.Moves.{IsSourceOf, IsWrite, stored, pushed, cleared, AreMovesOf}
 use Rattle.simulation.proofs.Rows.{is_unmade, are_unmade, all_at}
 use Rattle.simulation.proofs.Effects.{at_store, at_push, past_pushes, not_stored}
 

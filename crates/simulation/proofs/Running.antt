@@ -21,16 +21,16 @@ use Rattle.op_model.specs.declared.op.Call.{Call as NodeCall}
 use Rattle.op_model.specs.declared.op.Op.{Op}
 use Rattle.op_model.specs.declared.op.Op.TheVariants.{Throw}
 use Rattle.op_model.specs.Supplies.{Given}
-use Rattle.bytecode_machine.specs.Described.{GivesResult, ThrowsListed}
-use Rattle.bytecode_machine.specs.Events.{HasEvents}
-use Rattle.bytecode_machine.specs.Machine.{Advances, At, AtInstruction, Calls, EntersTarget, GetsException, GetsResult, HasKind, HasOperands, IsOpen, Raises, Throws, effect, entered, exception_class, value_of}
-use Rattle.bytecode_machine.specs.Objects.{Subject}
-use Rattle.bytecode_machine.specs.States.{Frame, running, State, Value, is_reference_type, null_value, primitive_value, slot_at, waiting}
-use Rattle.node_machine.specs.Nodes.{IsClassNumber, StandsAt, of_method, raised}
-use Rattle.node_machine.specs.NodeSteps.{AtNode, IsTargetOf, Leads, NodeStep, is_selecting_kind}
-use Rattle.node_machine.specs.NodeSteps.{Advances as NodeAdvances, advances, Calls as NodeCalls, EntersTarget as NodeEnters, enters, GetsResult as NodeResult, gets_result, GetsException as NodeException, gets_exception, Raises as NodeRaises, raises, Throws as NodeThrows, throws}
-use Rattle.node_machine.specs.Slots.{AreLeft, AreSame, argument_slots, argument_values}
-use Rattle.method_nodes.specs.Operations.{IsAssign, IsOp, Placed, value_slot}
+use Rattle.machine_bytecode.specs.Described.{GivesResult, ThrowsListed}
+use Rattle.machine_bytecode.specs.Events.{HasEvents}
+use Rattle.machine_bytecode.specs.Machine.{Advances, At, AtInstruction, Calls, EntersTarget, GetsException, GetsResult, HasKind, HasOperands, IsOpen, Raises, Throws, effect, entered, exception_class, value_of}
+use Rattle.machine_bytecode.specs.Objects.{Subject}
+use Rattle.machine_bytecode.specs.States.{Frame, running, State, Value, is_reference_type, null_value, primitive_value, slot_at, waiting}
+use Rattle.machine_nodes.specs.Nodes.{IsClassNumber, StandsAt, of_method, raised}
+use Rattle.machine_nodes.specs.NodeSteps.{AtNode, IsTargetOf, Leads, NodeStep, is_selecting_kind}
+use Rattle.machine_nodes.specs.NodeSteps.{Advances as NodeAdvances, advances, Calls as NodeCalls, EntersTarget as NodeEnters, enters, GetsResult as NodeResult, gets_result, GetsException as NodeException, gets_exception, Raises as NodeRaises, raises, Throws as NodeThrows, throws}
+use Rattle.machine_nodes.specs.Slots.{AreLeft, AreSame, argument_slots, argument_values}
+use Rattle.lowering_spec.specs.Operations.{IsAssign, IsOp, Placed, value_slot}
 use Rattle.program_laws.proofs.Orders.{first_there}
 use Rattle.simulation.proofs.CallNodes.{CallAt, arguments_are, call_at, call_popped, calls_it, node_target, result_kinds, result_left}
 use Rattle.simulation.proofs.Effects.{length_after}

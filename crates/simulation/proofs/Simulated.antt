@@ -7,14 +7,14 @@ use Rattle.jvm_model.specs.LinkedPrograms.{IsProgram}
 use Rattle.op_model.specs.declared.lowered.LoweredMethod.{LoweredMethod}
 use Rattle.op_model.specs.declared.node.Node.{Node}
 use Rattle.op_model.specs.Supplies.{Given}
-use Rattle.bytecode_machine.specs.Executions.{AreSteps, IsExecution}
-use Rattle.bytecode_machine.specs.Machine.{Step, advances, enters, gets_result, gets_exception, enters_entry, returns, resumes, ends, raises, throws, catches, unwinds, starts, denies, wraps}
-use Rattle.bytecode_machine.specs.Objects.{Subject}
-use Rattle.bytecode_machine.specs.Start.{IsFirst}
-use Rattle.bytecode_machine.specs.States.{State}
-use Rattle.node_machine.specs.NodeExecutions.{AreNodeSteps, IsNodeExecution}
-use Rattle.node_machine.specs.NodeSteps.{NodeStep}
-use Rattle.node_machine.specs.Nodes.{AreStartNodes, IsClassNumber}
+use Rattle.machine_bytecode.specs.Executions.{AreSteps, IsExecution}
+use Rattle.machine_bytecode.specs.Machine.{Step, advances, enters, gets_result, gets_exception, enters_entry, returns, resumes, ends, raises, throws, catches, unwinds, starts, denies, wraps}
+use Rattle.machine_bytecode.specs.Objects.{Subject}
+use Rattle.machine_bytecode.specs.Start.{IsFirst}
+use Rattle.machine_bytecode.specs.States.{State}
+use Rattle.machine_nodes.specs.NodeExecutions.{AreNodeSteps, IsNodeExecution}
+use Rattle.machine_nodes.specs.NodeSteps.{NodeStep}
+use Rattle.machine_nodes.specs.Nodes.{AreStartNodes, IsClassNumber}
 use Rattle.simulation.proofs.Fits.{Fits, in_start}
 use Rattle.simulation.proofs.Known.{LoweredCode}
 use Rattle.simulation.proofs.Leaving.{back, resume}

@@ -12,11 +12,11 @@ use Rattle.flow_graph.specs.declared.steps.GraphStep.{GraphStep}
 use Rattle.op_model.specs.declared.lowered.LoweredMethod.{LoweredMethod}
 use Rattle.op_model.specs.declared.node.Node.{Node}
 use Rattle.op_model.specs.Supplies.{Given}
-use Rattle.bytecode_machine.specs.Machine.{AtInstruction, Concerns}
-use Rattle.bytecode_machine.specs.Objects.{Subject}
-use Rattle.bytecode_machine.specs.States.{Frame}
-use Rattle.node_machine.specs.Nodes.{AreStartNodes, HasInitialiser, IsClassNumber, IsInitialisationError, StandsAt, initialising, of_start}
-use Rattle.method_nodes.specs.LoweredMethods.{HasTrigger, for_class, no_trigger}
+use Rattle.machine_bytecode.specs.Machine.{AtInstruction, Concerns}
+use Rattle.machine_bytecode.specs.Objects.{Subject}
+use Rattle.machine_bytecode.specs.States.{Frame}
+use Rattle.machine_nodes.specs.Nodes.{AreStartNodes, HasInitialiser, IsClassNumber, IsInitialisationError, StandsAt, initialising, of_start}
+use Rattle.lowering_spec.specs.LoweredMethods.{HasTrigger, for_class, no_trigger}
 use Rattle.simulation.proofs.Known.{LoweredCode, NodeHere, base, here_node, throws as lists, told, trigger}
 
 -- ---- the start

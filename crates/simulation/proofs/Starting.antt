@@ -18,14 +18,14 @@ use Rattle.jvm_model.specs.Table.{UnitKind, reference, null_pointer}
 use Rattle.op_model.specs.declared.lowered.LoweredMethod.{LoweredMethod}
 use Rattle.op_model.specs.declared.node.Node.{Node}
 use Rattle.op_model.specs.Supplies.{Given}
-use Rattle.bytecode_machine.specs.Machine.{AtStart, Denies, Ends, EntersEntry, IsInitialiser, IsTriggered, MethodCode, Starts, ThrowsNew, by_instruction, by_start, entered, exception_class}
-use Rattle.bytecode_machine.specs.Objects.{Subject}
-use Rattle.bytecode_machine.specs.Start.{arguments_of}
-use Rattle.bytecode_machine.specs.States.{Frame, running, State, primitive_value, runs_on, waiting, with_started}
-use Rattle.node_machine.specs.Nodes.{AreStartNodes, HasInitialiser, IsClassNumber}
-use Rattle.node_machine.specs.NodeSteps.{AtNode, NodeStep}
-use Rattle.node_machine.specs.NodeSteps.{Starts as NodeStarts, starts, Raises as NodeRaises, raises, EntersEntry as NodeEntry, enters_entry, Ends as NodeEnds, ends}
-use Rattle.node_laws.proofs.CodedInitialisers.{coded_initialiser}
+use Rattle.machine_bytecode.specs.Machine.{AtStart, Denies, Ends, EntersEntry, IsInitialiser, IsTriggered, MethodCode, Starts, ThrowsNew, by_instruction, by_start, entered, exception_class}
+use Rattle.machine_bytecode.specs.Objects.{Subject}
+use Rattle.machine_bytecode.specs.Start.{arguments_of}
+use Rattle.machine_bytecode.specs.States.{Frame, running, State, primitive_value, runs_on, waiting, with_started}
+use Rattle.machine_nodes.specs.Nodes.{AreStartNodes, HasInitialiser, IsClassNumber}
+use Rattle.machine_nodes.specs.NodeSteps.{AtNode, NodeStep}
+use Rattle.machine_nodes.specs.NodeSteps.{Starts as NodeStarts, starts, Raises as NodeRaises, raises, EntersEntry as NodeEntry, enters_entry, Ends as NodeEnds, ends}
+use Rattle.machine_laws.proofs.CodedInitialisers.{coded_initialiser}
 use Rattle.program_laws.proofs.Orders.{first_there}
 use Rattle.simulation.proofs.Fits.{Fits, RunsAt, at_start, by_instruction as trigger_at, by_start as trigger_start, called, fits_at, from_start, in_code, running_throws, runs_in, triggered}
 use Rattle.simulation.proofs.Known.{LoweredCode, same_code}

@@ -9,8 +9,8 @@ use Rattle.flow_graph.specs.declared.steps.Graph.{Graph}
 use Rattle.op_model.specs.declared.lowered.LoweredMethod.{LoweredMethod}
 use Rattle.op_model.specs.Supplies.{Given, IsMapOf}
 use Rattle.lowering.specs.Refusals.{IsAccepted}
-use Rattle.folder_supply.specs.Supplied.{IsSupplied, IsSupplyOutcome, bad_code, bad_flow, lowered, not_lowered}
-use Rattle.bytecode_machine.specs.Objects.{Subject}
+use Rattle.lowering_supply.specs.Supplied.{IsSupplied, IsSupplyOutcome, bad_code, bad_flow, lowered, not_lowered}
+use Rattle.machine_bytecode.specs.Objects.{Subject}
 use Rattle.simulation.specs.Simulation.{HasEntry, HasExceptions, IsRun}
 
 abbrev answer : LoweredMethod → Result LoweredMethod Refusal

@@ -9,8 +9,8 @@ use Rattle.jvm_model.specs.Programs.{Class, Method, Program, is_static}
 use Rattle.jvm_model.specs.Resolution.{IsFirst, IsFound, IsFoundIn, IsFoundInInterface, IsInstanceWith, IsOnlyDefault, declared_there, of_object}
 use Rattle.jvm_model.specs.Selection.{IsSelectable, Overrides, Selects, SelectsFrom, SelectsSpecial, by_default, is_direct, upward}
 use Rattle.jvm_model.specs.Table.{Action, plain, load_constant, load_element, store_element, probe_element, probe_array, probe_object, get_static, put_static, get_field, put_field, invoke_virtual, invoke_special, invoke_static, invoke_interface, make_object, make_array, throw_object, cast, leave_method, refused}
-use Rattle.bytecode_machine.specs.Machine.{IsTarget, NamesMethod, SelectsByObject}
-use Rattle.bytecode_machine.specs.States.{Value, World}
+use Rattle.machine_bytecode.specs.Machine.{IsTarget, NamesMethod, SelectsByObject}
+use Rattle.machine_bytecode.specs.States.{Value, World}
 use Rattle.program_laws.proofs.Signed.{resolved_signed}
 
 -- the action calls on an object

@@ -15,14 +15,14 @@ use Rattle.op_model.specs.declared.lowered.LoweredMethod.{LoweredMethod}
 use Rattle.op_model.specs.declared.node.Node.{Node}
 use Rattle.op_model.specs.declared.node.NodeHandler.{NodeHandler}
 use Rattle.op_model.specs.Supplies.{Given}
-use Rattle.bytecode_machine.specs.Machine.{Catches, Handles, IsFirstHandler, IsUncaught, Throwing, Unwinds, Wraps, of_code, of_start as from_the_start, unwound}
-use Rattle.bytecode_machine.specs.Objects.{Subject}
-use Rattle.bytecode_machine.specs.States.{Frame, Value, World, State, moved_to, primitive_value, reference_to, runs_on, throwing, waiting_no_more}
-use Rattle.node_machine.specs.Nodes.{AreStartNodes, IsClassNumber, StandsAt}
-use Rattle.node_machine.specs.NodeSteps.{IsUncaught as NodeUncaught, NodeStep}
-use Rattle.node_machine.specs.NodeSteps.{Catches as NodeCatches, catches, Unwinds as NodeUnwinds, unwinds, Wraps as NodeWraps, wraps}
-use Rattle.node_machine.specs.Slots.{AreCaught}
-use Rattle.method_nodes.specs.LoweredMethods.{IsHandlerAt}
+use Rattle.machine_bytecode.specs.Machine.{Catches, Handles, IsFirstHandler, IsUncaught, Throwing, Unwinds, Wraps, of_code, of_start as from_the_start, unwound}
+use Rattle.machine_bytecode.specs.Objects.{Subject}
+use Rattle.machine_bytecode.specs.States.{Frame, Value, World, State, moved_to, primitive_value, reference_to, runs_on, throwing, waiting_no_more}
+use Rattle.machine_nodes.specs.Nodes.{AreStartNodes, IsClassNumber, StandsAt}
+use Rattle.machine_nodes.specs.NodeSteps.{IsUncaught as NodeUncaught, NodeStep}
+use Rattle.machine_nodes.specs.NodeSteps.{Catches as NodeCatches, catches, Unwinds as NodeUnwinds, unwinds, Wraps as NodeWraps, wraps}
+use Rattle.machine_nodes.specs.Slots.{AreCaught}
+use Rattle.lowering_spec.specs.LoweredMethods.{IsHandlerAt}
 use Rattle.program_laws.proofs.Orders.{first_there, more_there, none_there}
 use Rattle.simulation.proofs.Fits.{Fits, FitsBelow, FitsThrowing, IsFull, RunsAt, Stands, Triggering, at_start, at_step, by_instruction, by_start, fits_at, held_running, held_throws, held_triggering, in_code, runs_in, start_offset, throws_in, triggering_throws}
 use Rattle.simulation.proofs.Handlers.{caught_there, first_taking, none_taking}

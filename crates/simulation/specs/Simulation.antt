@@ -9,9 +9,9 @@ use Rattle.jvm_model.specs.Table.{null_pointer, array_index, array_store, arithm
 use Rattle.flow_graph.specs.declared.steps.Graph.{Graph}
 use Rattle.op_model.specs.declared.lowered.LoweredMethod.{LoweredMethod}
 use Rattle.op_model.specs.Supplies.{Given}
-use Rattle.bytecode_machine.specs.Machine.{exception_class}
-use Rattle.bytecode_machine.specs.Objects.{Subject}
-use Rattle.bytecode_machine.specs.States.{Frame, State}
+use Rattle.machine_bytecode.specs.Machine.{exception_class}
+use Rattle.machine_bytecode.specs.Objects.{Subject}
+use Rattle.machine_bytecode.specs.States.{Frame, State}
 use Rattle.lowering.specs.Refusals.{IsAccepted}
 
 -- The method of the frame, if it has one, is given as nodes.

@@ -2,13 +2,13 @@
 
 ghost use Rattle.std.specs.Prelude.{◌≤◌, List, [], ◌∷◌, ◌++◌, length, All};
 ghost use Rattle.op_model.specs.Supplies.{Given, IsMapOf};
-ghost use Rattle.bytecode_machine.specs.Executions.{IsExecution};
-ghost use Rattle.bytecode_machine.specs.Objects.{Subject};
-ghost use Rattle.bytecode_machine.specs.States.{State};
-ghost use Rattle.node_machine.specs.NodeExecutions.{IsNodeExecution};
-ghost use Rattle.node_machine.specs.NodeSteps.{NodeStep};
+ghost use Rattle.machine_bytecode.specs.Executions.{IsExecution};
+ghost use Rattle.machine_bytecode.specs.Objects.{Subject};
+ghost use Rattle.machine_bytecode.specs.States.{State};
+ghost use Rattle.machine_nodes.specs.NodeExecutions.{IsNodeExecution};
+ghost use Rattle.machine_nodes.specs.NodeSteps.{NodeStep};
 ghost use Rattle.jvm_model.specs.LinkedPrograms.{IsProgram};
-ghost use Rattle.folder_supply.specs.Supplied.{IsSupplied};
+ghost use Rattle.lowering_supply.specs.Supplied.{IsSupplied};
 ghost use Rattle.simulation.specs.Simulation.{AreLowered, HasEntry, HasExceptions, IsRun};
 
 /// Each execution of the machine that runs bytecode, in whose states each frame is of a method that has nodes, is an execution of the

@@ -4,9 +4,9 @@ use Rattle.list_laws.proofs.Places.{stands_below}
 use Rattle.jvm_model.specs.declared.number.MethodNo.{MethodNo}
 use Rattle.jvm_model.specs.Lookups.{Signature}
 use Rattle.jvm_model.specs.Programs.{Method, Program}
-use Rattle.linked_program.specs.Numbers.{name_at, IsClassNumber, IsMethodNumber}
-use Rattle.linked_program.specs.Whole.{IsMethodView}
-use Rattle.linked_program.specs.declared.member_view.MemberView.{MemberView}
+use Rattle.program_model.specs.Numbers.{name_at, IsClassNumber, IsMethodNumber}
+use Rattle.program_model.specs.Whole.{IsMethodView}
+use Rattle.program_model.specs.declared.member_view.MemberView.{MemberView}
 use Rattle.site_report.specs.Lines.{method_text, printed_method}
 use Rattle.site_report.specs.Printed.{printed}
 

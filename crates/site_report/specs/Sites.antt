@@ -6,7 +6,7 @@ use Rattle.jvm_model.specs.declared.site.Site.{Site}
 use Rattle.jvm_model.specs.declared.site.SiteKind.{SiteKind}
 use Rattle.jvm_model.specs.declared.site.SiteKind.TheVariants.{Boot, New, Result, Thrown}
 use Rattle.jvm_model.specs.Programs.{Program}
-use Rattle.linked_program.specs.Numbers.{name_at, IsClassNumber, IsMethodNumber}
+use Rattle.program_model.specs.Numbers.{name_at, IsClassNumber, IsMethodNumber}
 use Rattle.site_report.specs.declared.tracked_site.TrackedSite.{TrackedSite}
 
 -- The allocation site: its class by name.

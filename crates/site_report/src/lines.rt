@@ -2,7 +2,7 @@
 
 ghost use Rattle.std.specs.Prelude.{◌≡◌, ◌+◌, ◌<◌, ◌^◌, ◌++◌, OnOk, IfOk, Some, codes};
 ghost use Rattle.std.specs.Fmt.{decimal};
-ghost use Rattle.linked_program.specs.Numbers.{IsMethodNumber};
+ghost use Rattle.program_model.specs.Numbers.{IsMethodNumber};
 ghost use Rattle.site_report.specs.Lines.{verdict_line, summary_line, site_text, method_text};
 ghost use Rattle.site_report.specs.Sites.{IsKnownSite};
 ghost use Rattle.site_report.specs.Verdicts.{verdict_words};
@@ -11,7 +11,7 @@ use crate::printed::push_name;
 use crate::tracked_site::TrackedSite;
 use crate::verdict::Verdict;
 use jvm_model::MethodNo;
-use linked_program::program::Program;
+use program_model::program::Program;
 use std::alloc::{AllocError, Global};
 
 /// The line of a site: `safe STAGE METHOD OFFSET CLASS`, `unproved METHOD OFFSET CLASS`, or `limit STAGE METHOD OFFSET CLASS`. The method is its

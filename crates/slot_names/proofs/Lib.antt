@@ -9,3 +9,13 @@ pub mod EnteredNodes
 pub mod ReachedNodes
 pub mod NamedTables
 pub mod PlaceBounds
+pub mod PlacesOfSlots
+mod Chains
+pub mod Effects
+mod Operations
+pub mod OneVariable
+pub mod MergePoints
+pub mod EachVariable
+mod Origins
+pub mod Frames
+mod Steps

@@ -9,3 +9,4 @@ pub mod MovedRows
 pub mod NodePlaces
 pub mod Arriving
 pub mod NamedNodes
+pub mod Sharing

@@ -5,6 +5,7 @@
 mod arrivals;
 mod branch;
 mod entry;
+pub mod laws;
 mod moved;
 mod moves;
 mod names;
@@ -13,6 +14,7 @@ mod places;
 mod rows;
 mod variable;
 
+pub use laws::{each_variable, one_variable, slots_of_one_variable};
 pub use names::{Names, names_of};
 pub use places::{place_number, place_of};
 pub use variable::Variable;

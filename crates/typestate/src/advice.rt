@@ -6,7 +6,7 @@ use command_words::{Request, UsageFault, read_words};
 use failure::Failure;
 use jvm_model::Reason;
 use property_file::read_property;
-use run_outcomes::Status;
+use run_spec::Status;
 use std::alloc::Global;
 use std::fmt::Display;
 use stub_file::read_stubs;

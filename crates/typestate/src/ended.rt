@@ -2,14 +2,14 @@
 
 ghost use Rattle.std.specs.Prelude.{◌≡◌, ◌≢◌, ℕ, ◌≤◌, List, map, string_bytes, IfSome};
 ghost use Rattle.ts_outside.specs.Counts.{Rose};
-ghost use Rattle.run_truth.specs.Truth.{SaysSafe};
-ghost use Rattle.run_outcomes.specs.Inputs.{HaveDifferentNames};
-ghost use Rattle.run_outcomes.specs.WholeInputs.{IsWholeInput};
-ghost use Rattle.run_truth.specs.Claims.{IsTrueOfRun, KeepsProtocol, WroteLine};
-ghost use Rattle.run_truth.specs.Reports.{IsReportedOfRun};
+ghost use Rattle.run_soundness.specs.Truth.{SaysSafe};
+ghost use Rattle.run_spec.specs.Inputs.{HaveDifferentNames};
+ghost use Rattle.run_spec.specs.WholeInputs.{IsWholeInput};
+ghost use Rattle.run_soundness.specs.Claims.{IsTrueOfRun, KeepsProtocol, WroteLine};
+ghost use Rattle.run_soundness.specs.Reports.{IsReportedOfRun};
 ghost use Rattle.typestate_core.specs.Answers.{AnswersRun, HandsRun, IsReportOrFault};
 ghost use Rattle.typestate_core.specs.ReadingOrder.{AsksInOrder, IsMisused, IsUsageEnd, RunCalls, is_report};
-ghost use Rattle.run_outcomes.specs.Statuses.{code_of};
+ghost use Rattle.run_spec.specs.Statuses.{code_of};
 
 use std::alloc::Global;
 use ts_outside::{Sink, Tree};

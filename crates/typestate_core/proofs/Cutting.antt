@@ -1,7 +1,7 @@
 -- A text is cut into lines.
 use Rattle.std.proofs.Common.{◌≡◌, ◌≢◌, ◌∙◌, ℕ, zero, suc, ◌<◌, Bool, true, false, nat_eq, if◌then◌else◌, List, [], ◌∷◌, ◌++◌, length, take, drop, get_or, All, eq-eqb, eqb-true, refl, sym, ap, append_assoc, arith}
 use Rattle.std.proofs.lemmas.List.Elements.{All-head, All-tail}
-use Rattle.folder_report.specs.Texts.{text_of}
+use Rattle.report_analysis.specs.Texts.{text_of}
 use Rattle.typestate_core.specs.Output.{IsLine, lines_in, with_first}
 
 -- a newline ends a line at once

@@ -2,9 +2,9 @@
 use Rattle.std.proofs.Common.{◌≡◌, ℕ, List, [], Option, Some, None, IfSome, subst}
 use Rattle.ts_outside.specs.Files.{File}
 use Rattle.ts_outside.specs.Handed.{Handed}
-use Rattle.run_outcomes.specs.declared.status.Status.{Status}
-use Rattle.run_outcomes.specs.declared.status.Status.TheVariants.{AllSafe, SomeUnproved, Refused, RejectedCertificate, ReadFault, WriteFault, Usage, Memory}
-use Rattle.run_outcomes.specs.Outcomes.{Outcome}
+use Rattle.run_spec.specs.declared.status.Status.{Status}
+use Rattle.run_spec.specs.declared.status.Status.TheVariants.{AllSafe, SomeUnproved, Refused, RejectedCertificate, ReadFault, WriteFault, Usage, Memory}
+use Rattle.run_spec.specs.Outcomes.{Outcome}
 use Rattle.typestate_core.specs.declared.answer.Answer.{Answer}
 use Rattle.typestate_core.specs.Answers.{IsReported, HandsRun, lines_of}
 use Rattle.typestate_core.specs.Output.{Hands, HandsInVain, lines_in}

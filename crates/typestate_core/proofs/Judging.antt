@@ -20,11 +20,11 @@ use Rattle.property_file.specs.Refusals.{IsPropertyRefusal}
 use Rattle.stub_file.specs.declared.stub_failure.StubFault.{StubFault}
 use Rattle.stub_file.specs.declared.stub_failure.StubFault.TheVariants as stub_faults
 use Rattle.stub_file.specs.StubFile.{IsStubFile, IsStubRefusal}
-use Rattle.run_outcomes.specs.declared.status.Status.{Status}
-use Rattle.run_outcomes.specs.declared.status.Status.TheVariants as statuses
-use Rattle.run_outcomes.specs.Inputs.{Input}
-use Rattle.run_outcomes.specs.Lines.{missing_line, refused_line, usage_line}
-use Rattle.run_outcomes.specs.Outcomes.{EndsWith, FolderOutcome, LinkOutcome, Outcome, PropertyOutcome, StubOutcome, unusable, usable, property_no_document, broken_property, has_property, no_stub_file, stubs_no_document, broken_stubs, no_stubs, has_stubs, refused_folder, has_classes}
+use Rattle.run_spec.specs.declared.status.Status.{Status}
+use Rattle.run_spec.specs.declared.status.Status.TheVariants as statuses
+use Rattle.run_spec.specs.Inputs.{Input}
+use Rattle.run_spec.specs.Lines.{missing_line, refused_line, usage_line}
+use Rattle.run_spec.specs.Outcomes.{EndsWith, FolderOutcome, LinkOutcome, Outcome, PropertyOutcome, StubOutcome, unusable, usable, property_no_document, broken_property, has_property, no_stub_file, stubs_no_document, broken_stubs, no_stubs, has_stubs, refused_folder, has_classes}
 use Rattle.typestate_core.specs.declared.answer.Answer.{Answer}
 use Rattle.typestate_core.specs.Answers.{Says, lines_of}
 use Rattle.typestate_core.proofs.Options.{at_some, if_ok, if_some}

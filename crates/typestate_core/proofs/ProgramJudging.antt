@@ -14,22 +14,22 @@ use Rattle.jvm_model.specs.LinkedPrograms.{IsProgram}
 use Rattle.jvm_model.specs.Linking.{Links}
 use Rattle.jvm_model.specs.Programs.{Program}
 use Rattle.jvm_model.specs.Subtypes.{class_named}
-use Rattle.linked_program.specs.declared.link_failure.LinkFault.{LinkFault}
-use Rattle.linked_program.specs.declared.link_failure.LinkFault.TheVariants as links
-use Rattle.linked_program.specs.Numbers.{name_at, IsClassNumber}
-use Rattle.linking.specs.LinkAnswers.{IsLinkAnswer}
+use Rattle.program_model.specs.declared.link_failure.LinkFault.{LinkFault}
+use Rattle.program_model.specs.declared.link_failure.LinkFault.TheVariants as links
+use Rattle.program_model.specs.Numbers.{name_at, IsClassNumber}
+use Rattle.program_linking.specs.LinkAnswers.{IsLinkAnswer}
 use Rattle.hierarchy.proofs.ClassPlaces.{class_of_number, not_named}
 use Rattle.command_words.specs.Requests.{Wanted}
-use Rattle.entry_method.specs.Entries.{IsEntry, NamesMethod}
-use Rattle.folder_supply.specs.Supplied.{IsSupplied}
+use Rattle.entry_points.specs.Entries.{IsEntry, NamesMethod}
+use Rattle.lowering_supply.specs.Supplied.{IsSupplied}
 use Rattle.points_to_rules.specs.declared.solve_fault.SolveFault.{SolveFault}
 use Rattle.points_to_rules.specs.declared.solve_fault.SolveFault.TheVariants as solve_faults
 use Rattle.points_to_rules.specs.Solutions.{IsSolveEnd}
-use Rattle.run_outcomes.specs.declared.status.Status.{Status}
-use Rattle.run_outcomes.specs.declared.status.Status.TheVariants as statuses
-use Rattle.run_outcomes.specs.Inputs.{Input, all_stubs}
-use Rattle.run_outcomes.specs.Lines.{no_file, refused_line}
-use Rattle.run_outcomes.specs.Outcomes.{AnalysisOutcome, ClassOutcome, EndsWith, EntryOutcome, LinkOutcome, pair_limit, refused_method, no_class, has_class, no_entry, has_entry, unlinked, linked}
+use Rattle.run_spec.specs.declared.status.Status.{Status}
+use Rattle.run_spec.specs.declared.status.Status.TheVariants as statuses
+use Rattle.run_spec.specs.Inputs.{Input, all_stubs}
+use Rattle.run_spec.specs.Lines.{no_file, refused_line}
+use Rattle.run_spec.specs.Outcomes.{AnalysisOutcome, ClassOutcome, EndsWith, EntryOutcome, LinkOutcome, pair_limit, refused_method, no_class, has_class, no_entry, has_entry, unlinked, linked}
 use Rattle.typestate_core.specs.declared.answer.Answer.{Answer}
 use Rattle.typestate_core.specs.Answers.{OfInputs, Says, lines_of}
 use Rattle.typestate_core.specs.Ends.{SaysEnd}

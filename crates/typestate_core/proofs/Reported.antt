@@ -5,13 +5,13 @@ use Rattle.jvm_model.specs.declared.number.MethodNo.{MethodNo}
 use Rattle.jvm_model.specs.Programs.{Program}
 use Rattle.ground.specs.Findings.{Findings}
 use Rattle.command_words.specs.Requests.{Wanted}
-use Rattle.folder_report.specs.Analyses.{IsAnalysis}
-use Rattle.folder_supply.specs.Supplied.{IsSupplied}
+use Rattle.report_analysis.specs.Analyses.{IsAnalysis}
+use Rattle.lowering_supply.specs.Supplied.{IsSupplied}
 use Rattle.points_to_rules.specs.Facts.{may_hold, may_run, may_call}
-use Rattle.report_rules.specs.Reports.{IsReport}
-use Rattle.report_rules.proofs.SameFacts.{AreKept, all_kept, report_into}
-use Rattle.run_outcomes.specs.Inputs.{Input}
-use Rattle.run_outcomes.specs.Outcomes.{AnalysisOutcome, asked_of, report_status, reported}
+use Rattle.report_spec.specs.Reports.{IsReport}
+use Rattle.report_spec.proofs.SameFacts.{AreKept, all_kept, report_into}
+use Rattle.run_spec.specs.Inputs.{Input}
+use Rattle.run_spec.specs.Outcomes.{AnalysisOutcome, asked_of, report_status, reported}
 use Rattle.typestate_core.specs.declared.answer.Answer.{Answer}
 use Rattle.typestate_core.specs.Answers.{OfInputs, lines_of}
 use Rattle.typestate_core.proofs.PlainFacts.{found_in_all, plain_in_found}

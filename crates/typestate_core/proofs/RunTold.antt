@@ -1,14 +1,14 @@
 -- From the outcome and what was written to what the run says of the input.
 use Rattle.std.proofs.Common.{◌≡◌, ◌∙◌, ◌⊎◌, inl, inr, ℕ, List, Option, Some, None, IfSome, sym, subst}
 use Rattle.ts_outside.specs.Files.{File}
-use Rattle.run_outcomes.specs.declared.status.Status.{Status}
-use Rattle.run_outcomes.specs.declared.status.Status.TheVariants as statuses
-use Rattle.run_outcomes.specs.Inputs.{HaveDifferentNames}
-use Rattle.run_outcomes.specs.Outcomes.{Outcome}
-use Rattle.run_outcomes.specs.WholeInputs.{IsWholeInput}
+use Rattle.run_spec.specs.declared.status.Status.{Status}
+use Rattle.run_spec.specs.declared.status.Status.TheVariants as statuses
+use Rattle.run_spec.specs.Inputs.{HaveDifferentNames}
+use Rattle.run_spec.specs.Outcomes.{Outcome}
+use Rattle.run_spec.specs.WholeInputs.{IsWholeInput}
 use Rattle.typestate_core.specs.declared.answer.Answer.{Answer}
 use Rattle.typestate_core.specs.Answers.{AnswersRun, IsReported, IsReportOrFault, lines_of}
-use Rattle.folder_report.specs.Texts.{text_of}
+use Rattle.report_analysis.specs.Texts.{text_of}
 use Rattle.typestate_core.specs.Output.{TakesAll, TakesFront}
 use Rattle.typestate_core.proofs.Cutting.{text_of_lines}
 

@@ -2,13 +2,13 @@
 use Rattle.std.proofs.Common.{◌≡◌, ◌∙◌, ℕ, List, [], ◌∷◌, ◌++◌, take, drop, length, Option, Some, None, IfSome, option_map, sym, ap, append_assoc, length-append, subst, arith}
 use Rattle.std.proofs.lemmas.List.{append_cancel_left, take-append-drop}
 use Rattle.ts_outside.specs.Files.{File}
-use Rattle.run_truth.specs.Truth.{SaysSafe}
-use Rattle.run_outcomes.specs.declared.status.Status.{Status}
-use Rattle.run_outcomes.specs.declared.status.Status.TheVariants as statuses
-use Rattle.run_outcomes.specs.Outcomes.{Outcome}
-use Rattle.run_truth.specs.Claims.{KeepsProtocol, StandsIn, WroteLine}
+use Rattle.run_soundness.specs.Truth.{SaysSafe}
+use Rattle.run_spec.specs.declared.status.Status.{Status}
+use Rattle.run_spec.specs.declared.status.Status.TheVariants as statuses
+use Rattle.run_spec.specs.Outcomes.{Outcome}
+use Rattle.run_soundness.specs.Claims.{KeepsProtocol, StandsIn, WroteLine}
 use Rattle.typestate_core.specs.Answers.{AnswersRun}
-use Rattle.folder_report.specs.Texts.{text_of}
+use Rattle.report_analysis.specs.Texts.{text_of}
 use Rattle.typestate_core.specs.Output.{TakesAll, TakesFront}
 use Rattle.typestate_core.proofs.Written.{TakesAll-nil}
 

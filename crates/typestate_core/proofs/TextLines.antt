@@ -8,11 +8,11 @@ use Rattle.points_to_rules.specs.Facts.{Fact}
 use Rattle.site_report.specs.declared.tracked_site.TrackedSite.{TrackedSite}
 use Rattle.site_report.specs.declared.verdict.Verdict.{Verdict}
 use Rattle.site_report.proofs.PlainLines.{IsLine as IsTold}
-use Rattle.report_rules.specs.Reports.{IsReport, is_limit, is_safe, is_unproved, report_lines}
-use Rattle.report_rules.specs.Verdicts.{Asked}
-use Rattle.folder_report.specs.Texts.{IsReportText}
-use Rattle.run_truth.proofs.LineForms.{report_are_lines}
-use Rattle.folder_report.specs.Texts.{text_of}
+use Rattle.report_spec.specs.Reports.{IsReport, is_limit, is_safe, is_unproved, report_lines}
+use Rattle.report_spec.specs.Verdicts.{Asked}
+use Rattle.report_analysis.specs.Texts.{IsReportText}
+use Rattle.run_soundness.proofs.LineForms.{report_are_lines}
+use Rattle.report_analysis.specs.Texts.{text_of}
 use Rattle.typestate_core.specs.Output.{IsLine, lines_in}
 use Rattle.typestate_core.proofs.Cutting.{lines_of_text}
 

@@ -9,13 +9,13 @@ use Rattle.jvm_model.specs.declared.automaton.Automaton.{Automaton}
 use Rattle.jvm_model.specs.declared.program.NamedClass.{NamedClass}
 use Rattle.jvm_model.specs.declared.stub.StubClass.{StubClass}
 use Rattle.command_words.specs.Requests.{Wanted}
-use Rattle.run_outcomes.specs.declared.status.Status.{Status}
-use Rattle.run_outcomes.specs.declared.status.Status.TheVariants.{AllSafe, SomeUnproved, Refused, RejectedCertificate, ReadFault, WriteFault, Usage, Memory}
+use Rattle.run_spec.specs.declared.status.Status.{Status}
+use Rattle.run_spec.specs.declared.status.Status.TheVariants.{AllSafe, SomeUnproved, Refused, RejectedCertificate, ReadFault, WriteFault, Usage, Memory}
 use Rattle.typestate_core.specs.declared.answer.Answer.{Answer}
 use Rattle.typestate_core.specs.declared.answer.ReadFault.{ReadFault as Unread}
-use Rattle.run_outcomes.specs.Inputs.{Input}
-use Rattle.run_outcomes.specs.Outcomes.{Outcome}
-use Rattle.folder_report.specs.Texts.{text_of}
+use Rattle.run_spec.specs.Inputs.{Input}
+use Rattle.run_spec.specs.Outcomes.{Outcome}
+use Rattle.report_analysis.specs.Texts.{text_of}
 use Rattle.typestate_core.specs.ReadingOrder.{is_report}
 use Rattle.typestate_core.specs.Output.{TakesAll, TakesFront, Hands, HandsInVain, lines_in}
 

@@ -12,8 +12,8 @@ use Rattle.class_folder.specs.FolderCalls.{AreNames, StopsReading, folder_questi
 use Rattle.command_words.specs.Requests.{Wanted, AsksFor}
 use Rattle.property_file.specs.PropertyFile.{IsPropertyFile}
 use Rattle.stub_file.specs.StubFile.{IsStubFile}
-use Rattle.run_outcomes.specs.declared.status.Status.{Status}
-use Rattle.run_outcomes.specs.declared.status.Status.TheVariants.{AllSafe, SomeUnproved, Refused, RejectedCertificate, ReadFault, WriteFault, Usage, Memory}
+use Rattle.run_spec.specs.declared.status.Status.{Status}
+use Rattle.run_spec.specs.declared.status.Status.TheVariants.{AllSafe, SomeUnproved, Refused, RejectedCertificate, ReadFault, WriteFault, Usage, Memory}
 
 -- ---- the words
 

@@ -4,12 +4,12 @@ ghost use Rattle.std.specs.Prelude.{◌≡◌, ◌++◌, [], ◌∷◌, IfOk, If
 ghost use Rattle.std.specs.Fmt.{decimal};
 ghost use Rattle.failure.specs.declared.Failure.TheVariants.{OutOfMemory};
 ghost use Rattle.typestate_core.specs.Answers.{Says, lines_of};
-ghost use Rattle.run_outcomes.specs.Lines.{missing_line, option_word, refused_line, usage_line};
+ghost use Rattle.run_spec.specs.Lines.{missing_line, option_word, refused_line, usage_line};
 
 use command_words::{NumberOption, UsageFault};
 use failure::Failure;
 use jvm_model::{Reason, reason_word};
-use run_outcomes::Status;
+use run_spec::Status;
 use site_report::push_name;
 use std::alloc::{AllocError, Global};
 use thiserror::Error;

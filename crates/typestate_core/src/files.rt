@@ -8,7 +8,7 @@ ghost use Rattle.ts_outside.specs.Counts.{Rose};
 ghost use Rattle.command_words.specs.Requests.{wanted_of};
 ghost use Rattle.typestate_core.specs.Answers.{IsReported, SaysUsage, lines_of, read_fault, reports};
 ghost use Rattle.typestate_core.specs.ReadingOrder.{AsksInOrder, FolderCalls, IsMisused, PropertyCalls, RunCalls, StubCalls};
-ghost use Rattle.run_outcomes.specs.Outcomes.{FolderOutcome, Outcome, PropertyOutcome, StubOutcome};
+ghost use Rattle.run_spec.specs.Outcomes.{FolderOutcome, Outcome, PropertyOutcome, StubOutcome};
 
 use crate::answer::{Answer, ReadFault, RunFailure, miss, misuse, refuse};
 use crate::program::judge_classes;

@@ -1,7 +1,7 @@
 //! Laws of the lines of a text: they call nothing, and stand on the definitions alone.
 
 ghost use Rattle.std.specs.Prelude.{◌≡◌, ℕ, List, All};
-ghost use Rattle.folder_report.specs.Texts.{text_of};
+ghost use Rattle.report_analysis.specs.Texts.{text_of};
 ghost use Rattle.typestate_core.specs.Output.{IsLine, lines_in};
 
 /// A text is the text of the lines into which it is cut; and the text of some lines, each of which ends with its only newline, is cut into these.

@@ -10,5 +10,5 @@ mod program;
 mod verifier;
 
 pub use laws::text_is_cut;
-pub use run_outcomes::Status;
+pub use run_spec::Status;
 pub use verifier::run;

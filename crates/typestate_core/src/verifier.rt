@@ -2,11 +2,11 @@
 
 ghost use Rattle.std.specs.Prelude.{◌≡◌, ◌≢◌, ℕ, ◌≤◌, List, map, string_bytes, IfSome};
 ghost use Rattle.ts_outside.specs.Counts.{Rose};
-ghost use Rattle.run_truth.specs.Truth.{SaysSafe};
-ghost use Rattle.run_outcomes.specs.Inputs.{HaveDifferentNames};
-ghost use Rattle.run_outcomes.specs.WholeInputs.{IsWholeInput};
-ghost use Rattle.run_truth.specs.Claims.{IsTrueOfRun, KeepsProtocol, WroteLine};
-ghost use Rattle.run_truth.specs.Reports.{IsReportedOfRun};
+ghost use Rattle.run_soundness.specs.Truth.{SaysSafe};
+ghost use Rattle.run_spec.specs.Inputs.{HaveDifferentNames};
+ghost use Rattle.run_spec.specs.WholeInputs.{IsWholeInput};
+ghost use Rattle.run_soundness.specs.Claims.{IsTrueOfRun, KeepsProtocol, WroteLine};
+ghost use Rattle.run_soundness.specs.Reports.{IsReportedOfRun};
 ghost use Rattle.typestate_core.specs.Answers.{AnswersRun, HandsRun, IsReportOrFault};
 ghost use Rattle.typestate_core.specs.ReadingOrder.{AsksInOrder, IsMisused, IsUsageEnd, RunCalls, is_report};
 
@@ -14,10 +14,10 @@ use crate::answer::{Answer, ReadFault};
 use crate::files::judge;
 use crate::output::write_lines;
 use failure::Failure;
-use run_outcomes::{Status, whole_input_is_reported};
-use run_truth::run_laws::{
+use run_soundness::run_laws::{
     safe_runs_keep_the_protocol, written_safe_lines_are_reported, written_safe_lines_are_true,
 };
+use run_spec::{Status, whole_input_is_reported};
 use std::alloc::Global;
 use ts_outside::{Sink, Tree};
 

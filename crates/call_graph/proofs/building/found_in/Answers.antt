@@ -1,7 +1,7 @@
 use Rattle.std.proofs.Common.{List, map, sym, ◌∙◌, ap, subst}
 use Rattle.std.specs.List.{Contains}
 use Rattle.points_to_rules.specs.declared.running_method.RunningMethod.{RunningMethod}
-use Rattle.points_to_tables.specs.declared.item.Item.{Item}
+use Rattle.points_to_numbers.specs.declared.item.Item.{Item}
 use Rattle.ground.specs.Lists.{HaveDifferentNumbers, nodes_of, number_of}
 use Rattle.call_graph.specs.Sets.{AreSetsOf}
 use Rattle.call_graph.specs.Written.{AreWrites}

@@ -1,7 +1,7 @@
 use Rattle.std.proofs.Common.{refl, sym, subst}
 use Rattle.std.proofs.lemmas.Result.{on_ok_weaker}
-use Rattle.points_to_tables.specs.declared.item.Item.{Item}
-use Rattle.points_to_tables.specs.Steps.{IsItemAt}
+use Rattle.points_to_numbers.specs.declared.item.Item.{Item}
+use Rattle.points_to_numbers.specs.Steps.{IsItemAt}
 use Rattle.call_graph.specs.declared.sets.Sets.{Sets}
 use Rattle.ground.proofs.ExactKeys.{same_methods, tells_methods}
 use Rattle.ground.proofs.KeySets.{inserted_adds}

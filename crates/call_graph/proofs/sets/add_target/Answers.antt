@@ -1,6 +1,6 @@
 use Rattle.std.proofs.Common.{refl}
 use Rattle.std.proofs.lemmas.Result.{on_ok_weaker}
-use Rattle.points_to_tables.proofs.AddedKeys.{inserted}
+use Rattle.points_to_numbers.proofs.AddedKeys.{inserted}
 use Rattle.call_graph.specs.declared.sets.Sets.{Sets}
 use Rattle.ground.proofs.ExactKeys.{same_calls, tells_calls}
 use Rattle.ground.proofs.KeySets.{apart_from_distinct_keys}

@@ -1,6 +1,6 @@
 use Rattle.std.proofs.Common.{List, sym, subst, take}
 use Rattle.std.proofs.lemmas.List.{take_more}
-use Rattle.points_to_tables.specs.declared.item.Item.{Item}
+use Rattle.points_to_numbers.specs.declared.item.Item.{Item}
 use Rattle.call_graph.specs.Sets.{AreSetsOf}
 use Rattle.call_graph.proofs.sets.sets_of.Goals as goal
 

@@ -2,7 +2,7 @@ use Rattle.std.proofs.Common.{◌∙◌, ℕ, List, Result, Err, refl, sym, ap, 
 use Rattle.jvm_model.specs.declared.reason.Reason.{Reason}
 use Rattle.jvm_model.specs.Lookups.{lent_signature}
 use Rattle.jvm_model.specs.Resolution.{Resolves, found, other_kind, not_found}
-use Rattle.linked_program.specs.Numbers.{name_at}
+use Rattle.program_model.specs.Numbers.{name_at}
 use Rattle.hierarchy.proofs.ClassPlaces.{name_at-at}
 use Rattle.hierarchy.proofs.Resolving.{same_kind, other_kind_of, resolves_within}
 use Rattle.hierarchy.proofs.resolve.resolve_method.Goals as goal

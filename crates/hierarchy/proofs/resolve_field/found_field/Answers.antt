@@ -1,6 +1,6 @@
 use Rattle.std.proofs.Common.{Some}
 use Rattle.jvm_model.specs.Lookups.{lent_signature}
-use Rattle.linked_program.specs.Numbers.{name_at}
+use Rattle.program_model.specs.Numbers.{name_at}
 use Rattle.hierarchy.proofs.FieldWalks.{field_first, field_within}
 use Rattle.hierarchy.proofs.resolve_field.found_field.Goals as goal
 

@@ -1,5 +1,5 @@
 use Rattle.jvm_model.specs.Lookups.{lent_signature}
-use Rattle.linked_program.specs.Numbers.{name_at}
+use Rattle.program_model.specs.Numbers.{name_at}
 use Rattle.hierarchy.specs.Searches.{IsSuch}
 use Rattle.hierarchy.proofs.Declaring.{walk_found}
 use Rattle.hierarchy.proofs.search.found_upward.Goals as goal

@@ -1,6 +1,6 @@
 use Rattle.std.proofs.Common.{◌∙◌}
 use Rattle.jvm_model.specs.Lookups.{lent_signature}
-use Rattle.linked_program.specs.Numbers.{name_at}
+use Rattle.program_model.specs.Numbers.{name_at}
 use Rattle.hierarchy.proofs.ClassPlaces.{class_of_method}
 use Rattle.hierarchy.proofs.Declaring.{object_declares}
 use Rattle.hierarchy.proofs.search.of_object.Goals as goal

@@ -1,5 +1,5 @@
 use Rattle.jvm_model.specs.Lookups.{lent_signature}
-use Rattle.linked_program.specs.Numbers.{name_at}
+use Rattle.program_model.specs.Numbers.{name_at}
 use Rattle.hierarchy.proofs.ClassPlaces.{method_there}
 use Rattle.hierarchy.proofs.Hiding.{hidden_iff}
 use Rattle.hierarchy.proofs.select.is_package_overridden.Goals as goal

@@ -1,4 +1,4 @@
-use Rattle.linked_program.specs.Numbers.{name_at}
+use Rattle.program_model.specs.Numbers.{name_at}
 use Rattle.hierarchy.proofs.Hiding.{reached_found}
 use Rattle.hierarchy.proofs.special.is_upward.Goals as goal
 

@@ -2,7 +2,7 @@ use Rattle.std.proofs.Common.{◌∙◌, refl, sym}
 use Rattle.std.proofs.lemmas.Bool.{false≢true}
 use Rattle.jvm_model.specs.Lookups.{lent_signature}
 use Rattle.jvm_model.specs.Selection.{at_super, at_named}
-use Rattle.linked_program.specs.Numbers.{name_at}
+use Rattle.program_model.specs.Numbers.{name_at}
 use Rattle.hierarchy.proofs.ClassPlaces.{names_differ}
 use Rattle.hierarchy.proofs.Chains.{step_at, top_at}
 use Rattle.hierarchy.proofs.Hiding.{super_upward, upward_super, reached_top}

@@ -1,6 +1,6 @@
 use Rattle.jvm_model.specs.Lookups.{lent_signature}
 use Rattle.jvm_model.specs.Selection.{upward}
-use Rattle.linked_program.specs.Numbers.{name_at}
+use Rattle.program_model.specs.Numbers.{name_at}
 use Rattle.hierarchy.proofs.ClassPlaces.{class_of_number}
 use Rattle.hierarchy.proofs.Resolving.{instance_default}
 use Rattle.hierarchy.proofs.special.selected_from.Goals as goal

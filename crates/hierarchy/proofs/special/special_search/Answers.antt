@@ -3,7 +3,7 @@ use Rattle.jvm_model.specs.Lookups.{Signature, lent_signature}
 use Rattle.jvm_model.specs.Programs.{Program}
 use Rattle.jvm_model.specs.Selection.{SelectsSpecial, StartsSearch}
 use Rattle.jvm_model.specs.declared.number.MethodNo.{MethodNo}
-use Rattle.linked_program.specs.Numbers.{name_at, IsMethodNumber}
+use Rattle.program_model.specs.Numbers.{name_at, IsMethodNumber}
 use Rattle.hierarchy.specs.Searches.{Finds, SelectsInstance}
 use Rattle.hierarchy.proofs.Resolving.{instance_within, special_from, special_instance}
 use Rattle.hierarchy.proofs.special.special_search.Goals as goal

@@ -1,5 +1,5 @@
 use Rattle.jvm_model.specs.Lookups.{lent_signature}
-use Rattle.linked_program.specs.Numbers.{name_at}
+use Rattle.program_model.specs.Numbers.{name_at}
 use Rattle.hierarchy.proofs.Inheriting.{inherited_found}
 use Rattle.hierarchy.proofs.superinterfaces.first_inherited.Goals as goal
 

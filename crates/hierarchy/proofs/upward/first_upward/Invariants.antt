@@ -1,4 +1,4 @@
-use Rattle.linked_program.specs.Numbers.{name_at}
+use Rattle.program_model.specs.Numbers.{name_at}
 use Rattle.hierarchy.specs.Upward.{IsFirstUpward}
 use Rattle.hierarchy.proofs.Chains.{HasRoom}
 use Rattle.hierarchy.proofs.upward.first_upward.Given as goal

@@ -1,9 +1,9 @@
 use Rattle.std.proofs.Common.{List, None, Some, sym, ◌∙◌, subst, arith}
 use Rattle.jvm_model.specs.declared.pool.PoolEntry.{PoolEntry}
-use Rattle.linked_program.specs.Numbers.{name_at}
-use Rattle.instruction_reasons.specs.Named.{NamesMember}
-use Rattle.instruction_reasons.specs.Judgements.{IsNamedMember}
-use Rattle.instruction_reasons.specs.Reasons.{IsFirstReason}
+use Rattle.program_model.specs.Numbers.{name_at}
+use Rattle.lowering_reasons.specs.Named.{NamesMember}
+use Rattle.lowering_reasons.specs.Judgements.{IsNamedMember}
+use Rattle.lowering_reasons.specs.Reasons.{IsFirstReason}
 use Rattle.std.proofs.lemmas.Option.{none-some}
 use Rattle.std.proofs.lemmas.Result.{err_from_is_err_and}
 use Rattle.jvm_model.specs.RowViews.{row_view}

@@ -3,7 +3,7 @@ use Rattle.std.specs.Option.{IfNone}
 use Rattle.std.specs.Result.{IfOk}
 use Rattle.jvm_model.specs.declared.code.Handler.{Handler}
 use Rattle.jvm_model.specs.declared.pool.PoolEntry.{PoolEntry}
-use Rattle.node_parts.specs.Entries.{AreKnown}
+use Rattle.lowering_handlers.specs.Entries.{AreKnown}
 use Rattle.lowering.proofs.lower.first_missing.Goals as goal
 
 pub returns-clause-none : goal.returns-clause-none

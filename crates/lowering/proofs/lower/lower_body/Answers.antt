@@ -4,9 +4,9 @@ use Rattle.std.specs.Option.{IfNone, IfSome}
 use Rattle.std.proofs.lemmas.Option.{slice_get_within}
 use Rattle.std.proofs.lemmas.Result.{err_from_is_err_and}
 use Rattle.flow_graph.specs.declared.steps.GraphStep.{GraphStep}
-use Rattle.method_nodes.specs.LoweredMethods.{IsNodeOf}
+use Rattle.lowering_spec.specs.LoweredMethods.{IsNodeOf}
 use Rattle.op_model.specs.declared.node.Node.{Node}
-use Rattle.node_parts.specs.Entries.{AreKnown, IsFirstUnknown}
+use Rattle.lowering_handlers.specs.Entries.{AreKnown, IsFirstUnknown}
 use Rattle.lowering.specs.Orders.{IsInOrder}
 use Rattle.lowering.proofs.Answered.{first_of_entries, free_of, method_number, nodes_of, ordered_of, own_code, refused_is, steps_answer}
 use Rattle.lowering.proofs.lower.lower_body.Goals as goal

@@ -4,10 +4,10 @@ use Rattle.jvm_model.specs.declared.code.Handler.{Handler}
 use Rattle.jvm_model.specs.declared.number.ClassNo.{ClassNo}
 use Rattle.jvm_model.specs.declared.pool.PoolEntry.{PoolEntry}
 use Rattle.jvm_model.specs.RowViews.{row_view}
-use Rattle.method_nodes.specs.LoweredMethods.{IsHandlerAt}
-use Rattle.node_machine.specs.Nodes.{AreThrownAt}
-use Rattle.node_parts.specs.Catches.{IsUnknownEntry}
-use Rattle.node_parts.specs.Exceptions.{IsThrownList}
+use Rattle.lowering_spec.specs.LoweredMethods.{IsHandlerAt}
+use Rattle.machine_nodes.specs.Nodes.{AreThrownAt}
+use Rattle.lowering_handlers.specs.Catches.{IsUnknownEntry}
+use Rattle.lowering_handlers.specs.Exceptions.{IsThrownList}
 use Rattle.lowering.proofs.NodesMade.{ordered_node, same_handlers}
 use Rattle.lowering.proofs.node.node.Goals as goal
 

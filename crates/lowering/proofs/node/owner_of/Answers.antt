@@ -1,5 +1,5 @@
 use Rattle.std.proofs.Common.{Some, refl, sym, subst}
-use Rattle.instruction_reasons.specs.declared.judgement.NamedMember.{NamedMember}
+use Rattle.lowering_reasons.specs.declared.judgement.NamedMember.{NamedMember}
 use Rattle.lowering.specs.Bodies.{IsMemberNumber, NamesOwner}
 use Rattle.lowering.proofs.MemberOwners.{field_class, field_owner, method_class, method_owner}
 use Rattle.lowering.proofs.node.owner_of.Goals as goal

@@ -2,7 +2,7 @@ use Rattle.std.proofs.Common.{List, inr, subst}
 use Rattle.std.specs.List.{All, Contains}
 use Rattle.std.specs.Result.{OnOk}
 use Rattle.std.proofs.lemmas.Result.{IfErr-weaker}
-use Rattle.points_to_tables.specs.declared.item.Item.{Item}
+use Rattle.points_to_numbers.specs.declared.item.Item.{Item}
 use Rattle.points_to.specs.Queues.{Takes}
 use Rattle.points_to.proofs.GivenMethods.{on_always}
 use Rattle.points_to.proofs.closing.take_in.Goals as goal

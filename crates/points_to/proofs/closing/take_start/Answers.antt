@@ -2,9 +2,9 @@ use Rattle.std.proofs.Common.{List, [], inr, subst}
 use Rattle.std.specs.List.{All, Contains}
 use Rattle.std.specs.Result.{OnOk}
 use Rattle.std.proofs.lemmas.Result.{IfErr-weaker}
-use Rattle.points_to_items.specs.ItemRules.{StartItem}
-use Rattle.points_to_tables.specs.declared.item.Item.{Item}
-use Rattle.points_to_tables.specs.Steps.{Adds}
+use Rattle.points_to_constraints.specs.ItemRules.{StartItem}
+use Rattle.points_to_numbers.specs.declared.item.Item.{Item}
+use Rattle.points_to_numbers.specs.Steps.{Adds}
 use Rattle.points_to.specs.Queues.{IsQueueEnd, Takes}
 use Rattle.points_to.specs.Taking.{IsStarted, IsTakingEnd}
 use Rattle.points_to.proofs.GivenMethods.{on_always}

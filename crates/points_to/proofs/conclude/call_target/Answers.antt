@@ -1,7 +1,7 @@
 use Rattle.std.proofs.Common.{refl}
 use Rattle.failure.proofs.HandedOn.{handed_ok}
 use Rattle.points_to_calls.proofs.RightAnswers.{grown_right}
-use Rattle.points_to_tables.proofs.Adding.{adds_none, adds_same}
+use Rattle.points_to_numbers.proofs.Adding.{adds_none, adds_same}
 use Rattle.points_to.specs.Concluding.{IsCallItem}
 use Rattle.points_to.proofs.GivenMethods.{start_leads_nowhere, call_items, caller_there, none_there, some_there}
 use Rattle.points_to.proofs.conclude.call_target.Goals as goal

@@ -3,8 +3,8 @@ use Rattle.jvm_model.specs.declared.reason.Refusal.{Refusal}
 use Rattle.op_model.specs.declared.lowered.LoweredMethod.{LoweredMethod}
 use Rattle.failure.proofs.HandedOn.{handed_ok}
 use Rattle.points_to_calls.proofs.RightAnswers.{grown_right}
-use Rattle.points_to_items.specs.ItemRules.{MethodItem}
-use Rattle.points_to_tables.proofs.Adding.{adds_none, adds_same}
+use Rattle.points_to_constraints.specs.ItemRules.{MethodItem}
+use Rattle.points_to_numbers.proofs.Adding.{adds_none, adds_same}
 use Rattle.points_to.specs.Concluding.{IsGivenItem, IsRefusedAs}
 use Rattle.points_to.proofs.GivenMethods.{given_items, given_unrefused, refused_ungiven, one_refusal}
 use Rattle.points_to.proofs.Noting.{methods_none, methods_one}

@@ -1,7 +1,7 @@
 use Rattle.std.proofs.Common.{refl, sym, ◌∙◌, ap}
 use Rattle.std.proofs.lemmas.Option.{none-some}
 use Rattle.op_model.specs.declared.node.NodeRef.{NodeRef}
-use Rattle.points_to_items.specs.Items.{select}
+use Rattle.points_to_constraints.specs.Items.{select}
 use Rattle.points_to.specs.Passing.{NotesReason}
 use Rattle.points_to.proofs.Lacking.{selecting, selected_call, one_noted, kept_call, noted_now}
 use Rattle.points_to.proofs.Noting.{calls_none, calls_one}

@@ -2,12 +2,12 @@ use Rattle.std.proofs.Common.{◌↔◌, List, sym, subst}
 use Rattle.std.specs.List.{Contains}
 use Rattle.hierarchy.proofs.ClassPlaces.{place_there}
 use Rattle.jvm_model.specs.declared.number.MethodNo.{MethodNo}
-use Rattle.linked_program.specs.Numbers.{name_at}
-use Rattle.node_machine.specs.Nodes.{IsCodedInitialiser}
-use Rattle.points_to_items.specs.Items.{Item as RuleItem}
+use Rattle.program_model.specs.Numbers.{name_at}
+use Rattle.machine_nodes.specs.Nodes.{IsCodedInitialiser}
+use Rattle.points_to_constraints.specs.Items.{Item as RuleItem}
 use Rattle.points_to_methods.specs.Initiated.{IsInitiated}
-use Rattle.points_to_tables.proofs.Making.{makes_start, makes_next_read, makes_all, makes_same}
-use Rattle.points_to_tables.proofs.Adding.{OfOne}
+use Rattle.points_to_numbers.proofs.Making.{makes_start, makes_next_read, makes_all, makes_same}
+use Rattle.points_to_numbers.proofs.Adding.{OfOne}
 use Rattle.points_to.specs.Starting.{InitialiserItem}
 use Rattle.points_to.proofs.StartParts.{all_initiated}
 use Rattle.points_to.proofs.initialisers.initialiser_items.Goals as goal

@@ -1,9 +1,9 @@
 use Rattle.std.proofs.Common.{take}
 use Rattle.jvm_model.specs.declared.number.MethodNo.{MethodNo}
-use Rattle.points_to_items.specs.Items.{Item as RuleItem}
+use Rattle.points_to_constraints.specs.Items.{Item as RuleItem}
 use Rattle.points_to_methods.specs.Initiated.{IsInitiated}
-use Rattle.points_to_tables.proofs.Adding.{OfOne}
-use Rattle.points_to_tables.specs.Steps.{Makes}
+use Rattle.points_to_numbers.proofs.Adding.{OfOne}
+use Rattle.points_to_numbers.specs.Steps.{Makes}
 use Rattle.points_to.proofs.initialisers.initialiser_items.Given as goal
 
 abbrev pub invariant-loop-initialiser : goal.invariant-loop-initialiser

@@ -1,7 +1,7 @@
 use Rattle.std.proofs.Common.{◌≡◌, ◌+◌, refl, ◌∙◌, arith}
 use Rattle.std.proofs.lemmas.Option.{slice_get_within}
 use Rattle.hierarchy.proofs.ClassPlaces.{place_there}
-use Rattle.class_initialisers.proofs.CodedMethods.{shown_parts, shown_description, class_at}
+use Rattle.entry_points.proofs.CodedMethods.{shown_parts, shown_description, class_at}
 use Rattle.points_to.proofs.refused.call_refusal.Goals as goal
 
 pub method_body-requires : goal.method_body-requires

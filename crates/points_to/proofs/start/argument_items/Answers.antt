@@ -5,7 +5,7 @@ use Rattle.jvm_model.specs.Soundness.{plain_descriptor}
 use Rattle.jvm_model.specs.Lookups.{Signature}
 use Rattle.hierarchy.proofs.ClassPlaces.{place_there}
 use Rattle.points_to_rules.specs.Rules.{HasArguments}
-use Rattle.points_to_tables.proofs.Adding.{adds_same}
+use Rattle.points_to_numbers.proofs.Adding.{adds_same}
 use Rattle.points_to.specs.Starting.{ArgumentItem, IsArgument}
 use Rattle.points_to.proofs.start.argument_items.Goals as goal
 

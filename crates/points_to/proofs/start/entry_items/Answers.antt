@@ -1,7 +1,7 @@
 use Rattle.std.proofs.Common.{sym, ◌∙◌, ap, subst, List, ◌++◌, ◌∷◌, []}
-use Rattle.points_to_tables.specs.declared.item.Item.{Item}
-use Rattle.points_to_tables.specs.declared.item.Item.TheVariants.{Calls}
-use Rattle.points_to_tables.specs.Steps.{Adds}
+use Rattle.points_to_numbers.specs.declared.item.Item.{Item}
+use Rattle.points_to_numbers.specs.declared.item.Item.TheVariants.{Calls}
+use Rattle.points_to_numbers.specs.Steps.{Adds}
 use Rattle.points_to.specs.Starting.{EntryItem}
 use Rattle.points_to.proofs.StartParts.{entry_added}
 use Rattle.points_to.proofs.start.entry_items.Goals as goal

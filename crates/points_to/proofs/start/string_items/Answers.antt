@@ -1,15 +1,15 @@
 use Rattle.std.proofs.Common.{◌≡◌, refl, sym, ◌∙◌, ap}
 use Rattle.std.proofs.lemmas.Option.{same_Some}
-use Rattle.bytecode_machine.specs.Objects.{string_name}
-use Rattle.bytecode_machine.specs.Start.{boot_site}
+use Rattle.machine_bytecode.specs.Objects.{string_name}
+use Rattle.machine_bytecode.specs.Start.{boot_site}
 use Rattle.slot_names.specs.declared.variable.Variable.TheVariants.{Parameter}
 use Rattle.points_to_rules.specs.Facts.{variable, elements_of, may_hold}
 use Rattle.points_to_rules.specs.Rules.{argument_site}
-use Rattle.points_to_items.specs.Items.{Item as RuleItem, known}
+use Rattle.points_to_constraints.specs.Items.{Item as RuleItem, known}
 use Rattle.points_to_rules.specs.declared.place.Place.TheVariants as places
-use Rattle.points_to_tables.specs.Steps.{IsHoldingOf}
-use Rattle.points_to_tables.proofs.Adding.{adds_both, adds_same}
-use Rattle.points_to_tables.proofs.Growing.{grows_on}
+use Rattle.points_to_numbers.specs.Steps.{IsHoldingOf}
+use Rattle.points_to_numbers.proofs.Adding.{adds_both, adds_same}
+use Rattle.points_to_numbers.proofs.Growing.{grows_on}
 use Rattle.points_to.proofs.StartParts.{one_holding}
 use Rattle.points_to.proofs.start.string_items.Goals as goal
 

@@ -1,7 +1,7 @@
 use Rattle.std.proofs.Common.{◌∙◌, refl, ap}
 use Rattle.op_model.specs.declared.node.NodeRef.{NodeRef}
-use Rattle.points_to_items.specs.CallItems.{call_allocates}
-use Rattle.points_to_tables.proofs.Growing.{grows_on}
+use Rattle.points_to_constraints.specs.CallItems.{call_allocates}
+use Rattle.points_to_numbers.proofs.Growing.{grows_on}
 use Rattle.points_to_calls.proofs.Stubs.{if_ok_three}
 use Rattle.points_to_calls.proofs.described.allocated.Goals as goal
 

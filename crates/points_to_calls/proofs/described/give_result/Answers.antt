@@ -1,10 +1,10 @@
 use Rattle.std.proofs.Common.{Option, subst}
 use Rattle.std.proofs.lemmas.Result.{IfOk-weaker}
-use Rattle.points_to_items.specs.Items.{Item as RuleItem}
+use Rattle.points_to_constraints.specs.Items.{Item as RuleItem}
 use Rattle.points_to_calls.specs.declared.gift.Gift.{Gift}
 use Rattle.points_to_calls.specs.Describing.{IsGiftFor}
 use Rattle.points_to_calls.specs.Parts.{RuleGift, ResultGives, ResultGot, ResultsGet}
-use Rattle.points_to_tables.proofs.Making.{makes_grown}
+use Rattle.points_to_numbers.proofs.Making.{makes_grown}
 use Rattle.points_to_calls.proofs.Stubs.{only_gift, no_gift, none_gift}
 use Rattle.points_to_calls.proofs.described.give_result.Goals as goal
 

@@ -1,10 +1,10 @@
 use Rattle.std.proofs.Common.{refl}
 use Rattle.std.proofs.lemmas.Result.{IfOk-weaker}
 use Rattle.points_to_rules.specs.Facts.{kept_objects}
-use Rattle.points_to_items.specs.Items.{Item as RuleItem}
+use Rattle.points_to_constraints.specs.Items.{Item as RuleItem}
 use Rattle.points_to_calls.specs.Parts.{RuleGift, ArgumentGives, ArgumentKept, Gets}
 use Rattle.points_to_calls.proofs.Gifts.{gift_on}
-use Rattle.points_to_tables.proofs.Making.{makes_grown}
+use Rattle.points_to_numbers.proofs.Making.{makes_grown}
 use Rattle.points_to_calls.proofs.Stubs.{only_gift}
 use Rattle.points_to_calls.proofs.described.keep_argument.Goals as goal
 

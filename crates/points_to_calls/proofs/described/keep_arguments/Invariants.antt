@@ -1,11 +1,11 @@
 use Rattle.std.proofs.Common.{◌≡◌, Option, Some, take}
 use Rattle.std.specs.List.{slice_get}
 use Rattle.jvm_model.specs.declared.site.Site.{Site}
-use Rattle.points_to_items.specs.Items.{CallSite}
-use Rattle.points_to_tables.proofs.Adding.{OfOne}
+use Rattle.points_to_constraints.specs.Items.{CallSite}
+use Rattle.points_to_numbers.proofs.Adding.{OfOne}
 use Rattle.points_to_calls.specs.Describing.{IsReceiverAt}
 use Rattle.points_to_calls.specs.Parts.{ArgumentKept}
-use Rattle.points_to_tables.specs.Steps.{Makes}
+use Rattle.points_to_numbers.specs.Steps.{Makes}
 use Rattle.points_to_calls.proofs.described.keep_arguments.Given as goal
 
 abbrev pub invariant-loop-argument : goal.invariant-loop-argument

@@ -1,7 +1,7 @@
 use Rattle.std.proofs.Common.{ℕ, ◌<◌, length, arith, ap, subst, List, get_or, ◌∙◌}
 use Rattle.points_to_calls.specs.Parts.{ClassThrown}
-use Rattle.points_to_tables.specs.Steps.{Makes}
-use Rattle.points_to_tables.proofs.Making.{makes_next, makes_all}
+use Rattle.points_to_numbers.specs.Steps.{Makes}
+use Rattle.points_to_numbers.proofs.Making.{makes_next, makes_all}
 use Rattle.points_to_calls.proofs.described.throw_all.Goals as goal
 
 pub throw_class-requires : goal.throw_class-requires

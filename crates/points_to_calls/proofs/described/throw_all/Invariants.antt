@@ -1,9 +1,9 @@
 use Rattle.std.proofs.Common.{◌≡◌, Some, take}
 use Rattle.std.specs.List.{slice_get}
-use Rattle.points_to_items.specs.Items.{CallSite}
-use Rattle.points_to_tables.proofs.Adding.{OfOne}
+use Rattle.points_to_constraints.specs.Items.{CallSite}
+use Rattle.points_to_numbers.proofs.Adding.{OfOne}
 use Rattle.points_to_calls.specs.Parts.{ClassThrown}
-use Rattle.points_to_tables.specs.Steps.{Makes}
+use Rattle.points_to_numbers.specs.Steps.{Makes}
 use Rattle.points_to_calls.proofs.described.throw_all.Given as goal
 
 abbrev pub invariant-loop-class : goal.invariant-loop-class

@@ -1,12 +1,12 @@
 use Rattle.std.proofs.Common.{refl, ap}
 use Rattle.jvm_model.specs.declared.site.SiteKind.TheVariants as kinds
 use Rattle.points_to_rules.specs.Facts.{Holder, may_hold}
-use Rattle.points_to_items.specs.CallItems.{call_allocates}
-use Rattle.points_to_items.specs.Items.{known}
-use Rattle.points_to_tables.specs.declared.item.Item.TheVariants.{Holds}
+use Rattle.points_to_constraints.specs.CallItems.{call_allocates}
+use Rattle.points_to_constraints.specs.Items.{known}
+use Rattle.points_to_numbers.specs.declared.item.Item.TheVariants.{Holds}
 use Rattle.points_to_calls.specs.Parts.{ClassThrown}
 use Rattle.points_to_calls.proofs.Landing.{one_landing}
-use Rattle.points_to_tables.proofs.Making.{makes_grown, makes_one}
+use Rattle.points_to_numbers.proofs.Making.{makes_grown, makes_one}
 use Rattle.points_to_calls.proofs.described.throw_class.Goals as goal
 use Rattle.std.proofs.Common.{◌∙◌}
 

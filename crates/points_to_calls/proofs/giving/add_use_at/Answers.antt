@@ -1,7 +1,7 @@
 use Rattle.std.proofs.Common.{◌≡◌, refl}
-use Rattle.points_to_tables.specs.declared.item.Item.TheVariants.{Uses}
-use Rattle.points_to_items.specs.Items.{Item as RuleItem, used}
-use Rattle.points_to_tables.proofs.Making.{makes_grown, makes_one}
+use Rattle.points_to_numbers.specs.declared.item.Item.TheVariants.{Uses}
+use Rattle.points_to_constraints.specs.Items.{Item as RuleItem, used}
+use Rattle.points_to_numbers.proofs.Making.{makes_grown, makes_one}
 use Rattle.points_to_calls.proofs.giving.add_use_at.Goals as goal
 
 pub returns : goal.returns

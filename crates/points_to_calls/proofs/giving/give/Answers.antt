@@ -1,14 +1,14 @@
 use Rattle.std.proofs.Common.{◌≡◌, sym, subst, refl}
 use Rattle.std.proofs.lemmas.Result.{IfOk-weaker}
 use Rattle.points_to_rules.specs.Facts.{kept_objects, returned_by, may_hold}
-use Rattle.points_to_items.specs.Items.{Item as RuleItem, pass_to, pass_fitting, known}
-use Rattle.points_to_tables.specs.declared.item.Item.TheVariants.{Holds}
+use Rattle.points_to_constraints.specs.Items.{Item as RuleItem, pass_to, pass_fitting, known}
+use Rattle.points_to_numbers.specs.declared.item.Item.TheVariants.{Holds}
 use Rattle.points_to_rules.specs.declared.place.Place.TheVariants as places
-use Rattle.points_to_tables.specs.declared.keys.User.TheVariants as users
+use Rattle.points_to_numbers.specs.declared.keys.User.TheVariants as users
 use Rattle.points_to_calls.specs.declared.gift.Gift.{Gift}
 use Rattle.points_to_calls.specs.Parts.{RuleGift, Gets, IsGiftAt}
-use Rattle.points_to_tables.specs.Steps.{Makes}
-use Rattle.points_to_tables.proofs.Making.{makes_one, makes_used, on_ok_three}
+use Rattle.points_to_numbers.specs.Steps.{Makes}
+use Rattle.points_to_numbers.proofs.Making.{makes_one, makes_used, on_ok_three}
 use Rattle.points_to_calls.proofs.giving.give.Goals as goal
 
 pub add_use-requires-clause-user : goal.add_use-requires-clause-user

@@ -1,7 +1,7 @@
 use Rattle.std.proofs.Common.{arith}
 use Rattle.points_to_calls.specs.Parts.{GetsAt}
 use Rattle.points_to_calls.proofs.Gifts.{resolves_on, gift_on, results_got}
-use Rattle.points_to_tables.proofs.Making.{makes_below_next}
+use Rattle.points_to_numbers.proofs.Making.{makes_below_next}
 use Rattle.points_to_calls.proofs.giving.give_results.Goals as goal
 
 pub give_at-requires-clause-call : goal.give_at-requires-clause-call

@@ -1,9 +1,9 @@
 use Rattle.std.proofs.Common.{◌≡◌, Some}
 use Rattle.std.specs.List.{slice_get}
-use Rattle.points_to_items.specs.Items.{CallSite as ItemCallSite}
-use Rattle.points_to_tables.proofs.Adding.{OfOneBelow}
+use Rattle.points_to_constraints.specs.Items.{CallSite as ItemCallSite}
+use Rattle.points_to_numbers.proofs.Adding.{OfOneBelow}
 use Rattle.points_to_calls.specs.Parts.{RuleGift, IsGiftAt, GetsAt}
-use Rattle.points_to_tables.specs.Steps.{Makes}
+use Rattle.points_to_numbers.specs.Steps.{Makes}
 use Rattle.points_to_calls.proofs.giving.give_results.Given as goal
 
 abbrev pub invariant-loop-number : goal.invariant-loop-number

@@ -1,6 +1,6 @@
 use Rattle.std.proofs.Common.{subst, Option}
 use Rattle.std.proofs.lemmas.Result.{IfOk-weaker}
-use Rattle.points_to_tables.specs.declared.keys.User.{User}
+use Rattle.points_to_numbers.specs.declared.keys.User.{User}
 use Rattle.points_to_calls.specs.Giving.{MakesUser}
 use Rattle.points_to_calls.specs.Parts.{unit_in}
 use Rattle.points_to_calls.proofs.CallParts.{stands_for, no_place}

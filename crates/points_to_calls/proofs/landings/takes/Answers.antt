@@ -2,7 +2,7 @@ use Rattle.std.proofs.Common.{◌≡◌, ◌<◌, length, sym, subst, List, ℕ,
 use Rattle.std.specs.Option.{IfSome}
 use Rattle.jvm_model.specs.declared.number.ClassNo.{ClassNo}
 use Rattle.jvm_model.specs.Subtypes.{Fits}
-use Rattle.linked_program.specs.Numbers.{name_at, IsClassNumber}
+use Rattle.program_model.specs.Numbers.{name_at, IsClassNumber}
 use Rattle.hierarchy.proofs.ClassPlaces.{class_of_number}
 use Rattle.points_to_calls.proofs.Landing.{takes_fitting, fits_taken, fits_above}
 use Rattle.points_to_calls.proofs.landings.takes.Goals as goal

@@ -1,12 +1,12 @@
 use Rattle.std.proofs.Common.{sym, subst}
 use Rattle.std.proofs.lemmas.Result.{IfOk-weaker}
-use Rattle.points_to_items.specs.ItemRules.{Passed}
-use Rattle.points_to_items.specs.Items.{User as ItemUser}
-use Rattle.points_to_tables.specs.declared.keys.User.{User}
-use Rattle.points_to_tables.specs.Numbered.{IsUserAt}
-use Rattle.points_to_tables.specs.Steps.{Adds}
+use Rattle.points_to_constraints.specs.ItemRules.{Passed}
+use Rattle.points_to_constraints.specs.Items.{User as ItemUser}
+use Rattle.points_to_numbers.specs.declared.keys.User.{User}
+use Rattle.points_to_numbers.specs.Numbered.{IsUserAt}
+use Rattle.points_to_numbers.specs.Steps.{Adds}
 use Rattle.points_to_calls.specs.Users.{PlainPassed}
-use Rattle.points_to_tables.proofs.Making.{makes_same}
+use Rattle.points_to_numbers.proofs.Making.{makes_same}
 use Rattle.points_to_calls.proofs.PlainUsers.{no_selection, plain_passed, plain_lacks}
 use Rattle.points_to_calls.proofs.RightAnswers.{grown_right}
 use Rattle.points_to_calls.proofs.passing.pass.Goals as goal

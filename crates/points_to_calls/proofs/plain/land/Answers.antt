@@ -1,11 +1,11 @@
 use Rattle.std.proofs.Common.{ℕ, List, refl, ap, subst}
 use Rattle.points_to_rules.specs.Facts.{Holder, may_hold}
-use Rattle.points_to_items.specs.CallItems.{LandsIn}
-use Rattle.points_to_items.specs.ItemRules.{LandsAs}
-use Rattle.points_to_items.specs.Items.{known}
-use Rattle.points_to_tables.specs.declared.item.Item.TheVariants.{Holds}
+use Rattle.points_to_constraints.specs.CallItems.{LandsIn}
+use Rattle.points_to_constraints.specs.ItemRules.{LandsAs}
+use Rattle.points_to_constraints.specs.Items.{known}
+use Rattle.points_to_numbers.specs.declared.item.Item.TheVariants.{Holds}
 use Rattle.points_to_calls.proofs.Landing.{one_landing}
-use Rattle.points_to_tables.proofs.Making.{makes_one}
+use Rattle.points_to_numbers.proofs.Making.{makes_one}
 use Rattle.points_to_calls.proofs.plain.land.Goals as goal
 use Rattle.std.proofs.Common.{◌∙◌}
 

@@ -1,9 +1,9 @@
 use Rattle.std.proofs.Common.{refl, sym, ◌∙◌}
 use Rattle.std.proofs.lemmas.Bool.{false≢true}
 use Rattle.points_to_rules.specs.Facts.{may_hold}
-use Rattle.points_to_items.specs.Items.{known}
-use Rattle.points_to_tables.specs.declared.item.Item.TheVariants.{Holds}
-use Rattle.points_to_tables.proofs.Making.{makes_none, makes_one}
+use Rattle.points_to_constraints.specs.Items.{known}
+use Rattle.points_to_numbers.specs.declared.item.Item.TheVariants.{Holds}
+use Rattle.points_to_numbers.proofs.Making.{makes_none, makes_one}
 use Rattle.points_to_calls.specs.Users.{FittingPassed}
 use Rattle.points_to_calls.proofs.plain.pass_if_fits.Goals as goal
 

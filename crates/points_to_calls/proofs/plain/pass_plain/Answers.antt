@@ -4,16 +4,16 @@ use Rattle.std.proofs.lemmas.Bool.{false≢true}
 use Rattle.std.proofs.lemmas.Result.{IfOk-weaker}
 use Rattle.jvm_model.specs.Subtypes.{Fits}
 use Rattle.points_to_rules.specs.Facts.{field_of, elements_of, may_hold}
-use Rattle.points_to_items.specs.ItemRules.{LandsAs}
-use Rattle.points_to_items.specs.Items.{User as ItemUser, Item as RuleItem, pass_to, throw_at, known, used}
-use Rattle.points_to_tables.specs.declared.item.Item.TheVariants.{Holds}
+use Rattle.points_to_constraints.specs.ItemRules.{LandsAs}
+use Rattle.points_to_constraints.specs.Items.{User as ItemUser, Item as RuleItem, pass_to, throw_at, known, used}
+use Rattle.points_to_numbers.specs.declared.item.Item.TheVariants.{Holds}
 use Rattle.points_to_rules.specs.declared.place.Place.TheVariants as places
-use Rattle.points_to_tables.specs.declared.keys.User.{User}
-use Rattle.points_to_tables.specs.declared.keys.User.TheVariants as users
-use Rattle.points_to_tables.specs.Numbered.{IsUserAt}
-use Rattle.points_to_tables.specs.Steps.{Makes}
+use Rattle.points_to_numbers.specs.declared.keys.User.{User}
+use Rattle.points_to_numbers.specs.declared.keys.User.TheVariants as users
+use Rattle.points_to_numbers.specs.Numbered.{IsUserAt}
+use Rattle.points_to_numbers.specs.Steps.{Makes}
 use Rattle.points_to_calls.specs.Users.{PlainPassed}
-use Rattle.points_to_tables.proofs.Making.{makes_none, makes_one, makes_same, makes_grown, makes_used, on_ok_three}
+use Rattle.points_to_numbers.proofs.Making.{makes_none, makes_one, makes_same, makes_grown, makes_used, on_ok_three}
 use Rattle.points_to_calls.proofs.plain.pass_plain.Goals as goal
 
 pub add_use-requires-clause-place : goal.add_use-requires-clause-place

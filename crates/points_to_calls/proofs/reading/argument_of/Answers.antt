@@ -1,7 +1,7 @@
 use Rattle.std.proofs.Common.{ap, sym, ◌∙◌, subst, refl, List, Option}
 use Rattle.std.proofs.lemmas.Option.{slice_get_read, slice_get_past}
 use Rattle.points_to_rules.specs.declared.place.PlaceNo.{PlaceNo}
-use Rattle.points_to_tables.specs.Numbered.{IsUnitAt}
+use Rattle.points_to_numbers.specs.Numbered.{IsUnitAt}
 use Rattle.points_to_calls.specs.Parts.{unit_in}
 use Rattle.points_to_calls.proofs.CallParts.{units_at, unit_there, no_unit_there}
 use Rattle.points_to_calls.proofs.reading.argument_of.Goals as goal

@@ -1,5 +1,5 @@
 use Rattle.std.proofs.Common.{◌∙◌}
-use Rattle.linked_program.proofs.Bridges.{zip_length}
+use Rattle.program_model.proofs.Bridges.{zip_length}
 use Rattle.points_to_calls.proofs.reading.result_count.Goals as goal
 
 pub returns : goal.returns

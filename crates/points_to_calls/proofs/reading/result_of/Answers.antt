@@ -1,7 +1,7 @@
 use Rattle.std.proofs.Common.{ap, sym, ◌∙◌, subst, refl, slice_get, List, Option}
 use Rattle.std.proofs.lemmas.Option.{slice_get_read, slice_get_past}
 use Rattle.points_to_rules.specs.declared.place.PlaceNo.{PlaceNo}
-use Rattle.points_to_tables.specs.Numbered.{IsUnitAt}
+use Rattle.points_to_numbers.specs.Numbered.{IsUnitAt}
 use Rattle.points_to_calls.proofs.CallParts.{results_at}
 use Rattle.points_to_calls.proofs.reading.result_of.Goals as goal
 

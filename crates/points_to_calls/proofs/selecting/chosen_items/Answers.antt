@@ -2,12 +2,12 @@ use Rattle.std.proofs.Common.{◌≡◌, refl, ◌⊎◌}
 use Rattle.std.proofs.lemmas.Result.{IfOk-weaker}
 use Rattle.slot_names.specs.declared.variable.Variable.TheVariants.{Parameter}
 use Rattle.points_to_rules.specs.Facts.{variable, may_hold, may_call}
-use Rattle.points_to_items.specs.Items.{Item as RuleItem, known}
-use Rattle.points_to_tables.specs.declared.item.Item.TheVariants.{Calls}
+use Rattle.points_to_constraints.specs.Items.{Item as RuleItem, known}
+use Rattle.points_to_numbers.specs.declared.item.Item.TheVariants.{Calls}
 use Rattle.points_to_rules.specs.declared.place.Place.TheVariants as places
 use Rattle.points_to_calls.specs.Selecting.{DescribedItem}
 use Rattle.points_to_calls.proofs.Gifts.{resolves_on}
-use Rattle.points_to_tables.proofs.Making.{makes_one, makes_both, makes_held}
+use Rattle.points_to_numbers.proofs.Making.{makes_one, makes_both, makes_held}
 use Rattle.points_to_calls.proofs.selecting.chosen_items.Goals as goal
 
 pub add_holding-requires-clause-place : goal.add_holding-requires-clause-place

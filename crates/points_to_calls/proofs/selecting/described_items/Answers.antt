@@ -3,7 +3,7 @@ use Rattle.hierarchy.proofs.ClassPlaces.{method_there}
 use Rattle.points_to_calls.specs.Describing.{ReceiverItem}
 use Rattle.points_to_calls.specs.Selecting.{DescribedItem}
 use Rattle.points_to_rules.proofs.TargetBodies.{file_by_view, described_by_view, not_both}
-use Rattle.points_to_tables.proofs.Making.{makes_none, makes_same}
+use Rattle.points_to_numbers.proofs.Making.{makes_none, makes_same}
 use Rattle.points_to_calls.proofs.ChosenTargets.{receiver_described}
 use Rattle.points_to_calls.proofs.selecting.described_items.Goals as goal
 

@@ -3,9 +3,9 @@ use Rattle.std.proofs.lemmas.Bool.{false≢true}
 use Rattle.jvm_model.specs.declared.number.MethodNo.{MethodNo}
 use Rattle.jvm_model.specs.declared.reason.Reason.{Reason}
 use Rattle.points_to_rules.specs.Calls.{SelectsFor}
-use Rattle.points_to_items.specs.CallItems.{SelectItem}
+use Rattle.points_to_constraints.specs.CallItems.{SelectItem}
 use Rattle.points_to_calls.specs.Selecting.{IsOnlyAnswer, TargetItem}
-use Rattle.points_to_tables.proofs.Making.{makes_none, makes_same}
+use Rattle.points_to_numbers.proofs.Making.{makes_none, makes_same}
 use Rattle.points_to_calls.proofs.ChosenTargets.{by_target, only_matched, lacks_stub, lacks_none, none_lacks, none_selected, reason_selected, selected_within}
 use Rattle.points_to_calls.proofs.selecting.select_items.Goals as goal
 

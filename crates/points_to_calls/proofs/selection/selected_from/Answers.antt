@@ -2,9 +2,9 @@ use Rattle.std.proofs.Common.{ℕ, List, sym, ap, ◌∙◌, subst}
 use Rattle.std.proofs.lemmas.Bool.{false≢true}
 use Rattle.jvm_model.specs.Selection.{Selection}
 use Rattle.jvm_model.specs.Subtypes.{Fits}
-use Rattle.bytecode_machine.specs.Machine.{selecting_class}
+use Rattle.machine_bytecode.specs.Machine.{selecting_class}
 use Rattle.hierarchy.proofs.ClassPlaces.{class_of_method, class_there, contained, method_there, somewhere}
-use Rattle.linked_program.specs.Numbers.{method_number}
+use Rattle.program_model.specs.Numbers.{method_number}
 use Rattle.program_laws.proofs.Calls.{one_call_outcome}
 use Rattle.points_to_calls.proofs.ChosenTargets.{selecting_there}
 use Rattle.points_to_calls.proofs.selection.selected_from.Goals as goal

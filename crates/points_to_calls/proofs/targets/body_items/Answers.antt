@@ -4,7 +4,7 @@ use Rattle.points_to_calls.specs.Describing.{BodyItem, StubItem}
 use Rattle.points_to_calls.specs.Parts.{FileItem}
 use Rattle.points_to_calls.proofs.CallParted.{file_body, stub_body}
 use Rattle.points_to_rules.proofs.TargetBodies.{file_by_view, described_by_view}
-use Rattle.points_to_tables.proofs.Making.{makes_same}
+use Rattle.points_to_numbers.proofs.Making.{makes_same}
 use Rattle.points_to_calls.proofs.targets.body_items.Goals as goal
 
 pub returns-in-InFile : goal.returns-in-InFile

@@ -1,10 +1,10 @@
 use Rattle.std.proofs.Common.{◌≡◌, refl}
 use Rattle.points_to_rules.specs.Facts.{thrown_by}
-use Rattle.points_to_items.specs.Items.{Item as RuleItem, land_at, used}
+use Rattle.points_to_constraints.specs.Items.{Item as RuleItem, land_at, used}
 use Rattle.points_to_rules.specs.declared.place.Place.TheVariants as places
-use Rattle.points_to_tables.specs.declared.keys.User.TheVariants as users
+use Rattle.points_to_numbers.specs.declared.keys.User.TheVariants as users
 use Rattle.points_to_calls.specs.Parts.{ResultsGet, returned}
-use Rattle.points_to_tables.proofs.Making.{makes_both, makes_used, on_ok_three}
+use Rattle.points_to_numbers.proofs.Making.{makes_both, makes_used, on_ok_three}
 use Rattle.points_to_calls.proofs.targets.file_items.Goals as goal
 
 pub call_of-requires : goal.call_of-requires

@@ -3,12 +3,12 @@ use Rattle.std.proofs.lemmas.Result.{IfOk-weaker}
 use Rattle.op_model.specs.declared.op.CallKind.{CallKind}
 use Rattle.slot_names.specs.declared.variable.Variable.TheVariants.{Parameter}
 use Rattle.points_to_rules.specs.Facts.{variable}
-use Rattle.points_to_items.specs.CallItems.{is_passed}
-use Rattle.points_to_items.specs.Items.{Item as RuleItem, pass_to, used}
+use Rattle.points_to_constraints.specs.CallItems.{is_passed}
+use Rattle.points_to_constraints.specs.Items.{Item as RuleItem, pass_to, used}
 use Rattle.points_to_calls.specs.Parts.{unit_in}
-use Rattle.points_to_tables.specs.Steps.{Makes}
+use Rattle.points_to_numbers.specs.Steps.{Makes}
 use Rattle.points_to_calls.proofs.CallParts.{stands_for, no_place}
-use Rattle.points_to_tables.proofs.Making.{makes_grown}
+use Rattle.points_to_numbers.proofs.Making.{makes_grown}
 use Rattle.points_to_calls.proofs.PassedUnits.{none_passed, no_reference, unit_passed}
 use Rattle.points_to_calls.proofs.targets.pass_unit.Goals as goal
 

@@ -1,6 +1,6 @@
 use Rattle.std.proofs.Common.{arith}
 use Rattle.points_to_calls.specs.Parts.{PassesUnit}
-use Rattle.points_to_tables.proofs.Making.{makes_below_next}
+use Rattle.points_to_numbers.proofs.Making.{makes_below_next}
 use Rattle.points_to_calls.proofs.PassedUnits.{units_passed}
 use Rattle.points_to_calls.proofs.targets.pass_units.Goals as goal
 

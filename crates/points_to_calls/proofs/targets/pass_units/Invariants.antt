@@ -1,9 +1,9 @@
 use Rattle.std.proofs.Common.{◌≡◌, Some}
 use Rattle.std.specs.List.{slice_get}
-use Rattle.points_to_items.specs.Items.{CallSite}
-use Rattle.points_to_tables.proofs.Adding.{OfOneBelow}
+use Rattle.points_to_constraints.specs.Items.{CallSite}
+use Rattle.points_to_numbers.proofs.Adding.{OfOneBelow}
 use Rattle.points_to_calls.specs.Parts.{PassesUnit}
-use Rattle.points_to_tables.specs.Steps.{Makes}
+use Rattle.points_to_numbers.specs.Steps.{Makes}
 use Rattle.points_to_calls.proofs.targets.pass_units.Given as goal
 
 abbrev pub invariant-loop-unit : goal.invariant-loop-unit

@@ -1,14 +1,14 @@
 use Rattle.std.proofs.Common.{◌≡◌, ◌∙◌, refl, ◌⊎◌}
 use Rattle.points_to_rules.specs.Facts.{may_run}
-use Rattle.points_to_items.specs.CallItems.{CallItem}
-use Rattle.points_to_items.specs.Items.{Item as RuleItem, known}
-use Rattle.points_to_tables.specs.declared.item.Item.TheVariants.{Runs}
+use Rattle.points_to_constraints.specs.CallItems.{CallItem}
+use Rattle.points_to_constraints.specs.Items.{Item as RuleItem, known}
+use Rattle.points_to_numbers.specs.declared.item.Item.TheVariants.{Runs}
 use Rattle.points_to_calls.specs.Describing.{BodyItem}
 use Rattle.points_to_calls.specs.Parts.{UnitPassed}
 use Rattle.points_to_calls.proofs.CallParted.{PartedItem, parted}
 use Rattle.points_to_calls.proofs.Gifts.{resolves_on}
-use Rattle.points_to_tables.proofs.Making.{makes_one, makes_both, makes_same}
-use Rattle.points_to_tables.proofs.Growing.{grows_on}
+use Rattle.points_to_numbers.proofs.Making.{makes_one, makes_both, makes_same}
+use Rattle.points_to_numbers.proofs.Growing.{grows_on}
 use Rattle.points_to_calls.proofs.targets.target_items.Goals as goal
 
 pub body_items-requires-clause-call : goal.body_items-requires-clause-call

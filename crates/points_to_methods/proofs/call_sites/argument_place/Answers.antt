@@ -1,7 +1,7 @@
 use Rattle.std.proofs.Common.{sym, subst}
-use Rattle.points_to_nodes.specs.Fixed.{holder_of}
-use Rattle.points_to_nodes.specs.Known.{names_at}
-use Rattle.points_to_nodes.proofs.NamedSlots.{slot_has}
+use Rattle.points_to_methods.specs.Fixed.{holder_of}
+use Rattle.points_to_methods.specs.Known.{names_at}
+use Rattle.points_to_methods.proofs.NamedSlots.{slot_has}
 use Rattle.points_to_rules.specs.Rules.{IsSlot}
 use Rattle.points_to_methods.proofs.NumberedSites.{primitive_unit, unit_there}
 use Rattle.points_to_methods.proofs.call_sites.argument_place.Goals as goal

@@ -1,5 +1,5 @@
 use Rattle.std.proofs.Common.{refl, arith}
-use Rattle.points_to_tables.proofs.Growing.{grows_same}
+use Rattle.points_to_numbers.proofs.Growing.{grows_same}
 use Rattle.points_to_methods.specs.CallEntries.{StandsForUnit}
 use Rattle.points_to_methods.proofs.EntryLists.{entry_more, entries_all}
 use Rattle.points_to_methods.proofs.NumberedSites.{longer_unit}

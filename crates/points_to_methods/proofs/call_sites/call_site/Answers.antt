@@ -1,7 +1,7 @@
 use Rattle.std.proofs.Common.{◌≡◌, ℕ, ◌+◌, sym, ap, ◌∙◌}
 use Rattle.op_model.specs.declared.node.Node.{Node}
-use Rattle.points_to_tables.proofs.Growing.{grows_on}
-use Rattle.points_to_nodes.proofs.NamedSlots.{read_node}
+use Rattle.points_to_numbers.proofs.Growing.{grows_on}
+use Rattle.points_to_methods.proofs.NamedSlots.{read_node}
 use Rattle.slot_names.proofs.ListPlaces.{stands_below}
 use Rattle.points_to_methods.proofs.NumberedSites.{sited_then}
 use Rattle.points_to_methods.proofs.call_sites.call_site.Goals as goal

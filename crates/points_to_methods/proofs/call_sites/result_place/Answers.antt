@@ -1,7 +1,7 @@
 use Rattle.std.proofs.Common.{sym, subst}
-use Rattle.points_to_nodes.specs.Fixed.{holder_of}
-use Rattle.points_to_nodes.specs.Known.{names_at}
-use Rattle.points_to_nodes.proofs.NamedSlots.{there_has}
+use Rattle.points_to_methods.specs.Fixed.{holder_of}
+use Rattle.points_to_methods.specs.Known.{names_at}
+use Rattle.points_to_methods.proofs.NamedSlots.{there_has}
 use Rattle.points_to_rules.specs.Rules.{IsSlotAt}
 use Rattle.slot_names.proofs.ListPlaces.{place_in}
 use Rattle.points_to_methods.proofs.call_sites.result_place.Goals as goal

@@ -1,8 +1,8 @@
 use Rattle.std.proofs.Common.{◌≡◌, ℕ, List, refl, sym, ap, subst, ◌∙◌, arith}
 use Rattle.std.specs.List.{AllZip}
 use Rattle.op_model.specs.declared.node.Node.{Node}
-use Rattle.points_to_tables.proofs.Growing.{grows_same}
-use Rattle.points_to_nodes.proofs.NamedSlots.{read_node}
+use Rattle.points_to_numbers.proofs.Growing.{grows_same}
+use Rattle.points_to_methods.proofs.NamedSlots.{read_node}
 use Rattle.slot_names.proofs.ListPlaces.{stands_below}
 use Rattle.points_to_methods.specs.CallEntries.{GrowsTo, StandsForResult}
 use Rattle.points_to_methods.proofs.EntryLists.{entry_more, entries_all}

@@ -1,9 +1,9 @@
 use Rattle.std.proofs.Common.{◌⊎◌}
-use Rattle.points_to_items.specs.Items.{Item}
-use Rattle.points_to_items.specs.NodeItems.{CallNodeItem}
-use Rattle.points_to_tables.proofs.Adding.{adds_both, adds_same}
-use Rattle.points_to_tables.proofs.Growing.{grows_on}
-use Rattle.points_to_nodes.specs.Known.{names_at}
+use Rattle.points_to_constraints.specs.Items.{Item}
+use Rattle.points_to_constraints.specs.NodeItems.{CallNodeItem}
+use Rattle.points_to_numbers.proofs.Adding.{adds_both, adds_same}
+use Rattle.points_to_numbers.proofs.Growing.{grows_on}
+use Rattle.points_to_methods.specs.Known.{names_at}
 use Rattle.slot_names.proofs.ListPlaces.{stands_below}
 use Rattle.points_to_methods.specs.CallParts.{ChosenItem, SelectingItem}
 use Rattle.points_to_methods.proofs.NumberedSites.{adds_call}

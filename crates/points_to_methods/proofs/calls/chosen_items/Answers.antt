@@ -2,10 +2,10 @@ use Rattle.std.proofs.Common.{refl, sym, ap, subst, ◌∙◌}
 use Rattle.std.proofs.lemmas.Option.{none-some, same_Some}
 use Rattle.jvm_model.specs.declared.number.MethodNo.{MethodNo}
 use Rattle.points_to_rules.specs.Facts.{may_call}
-use Rattle.points_to_items.specs.Items.{known}
-use Rattle.points_to_tables.specs.declared.item.Item.TheVariants.{Calls}
-use Rattle.points_to_tables.specs.Steps.{Adds}
-use Rattle.points_to_tables.proofs.Adding.{adds_none, adds_only}
+use Rattle.points_to_constraints.specs.Items.{known}
+use Rattle.points_to_numbers.specs.declared.item.Item.TheVariants.{Calls}
+use Rattle.points_to_numbers.specs.Steps.{Adds}
+use Rattle.points_to_numbers.proofs.Adding.{adds_none, adds_only}
 use Rattle.points_to_methods.specs.CallParts.{ChosenItem}
 use Rattle.points_to_methods.proofs.calls.chosen_items.Goals as goal
 

@@ -1,11 +1,11 @@
 use Rattle.std.proofs.Common.{◌≡◌, true, refl, sym, ◌∙◌}
 use Rattle.std.proofs.lemmas.Bool.{false≢true}
-use Rattle.node_machine.specs.NodeSteps.{is_selecting_kind}
-use Rattle.points_to_items.specs.Items.{select}
-use Rattle.points_to_tables.specs.declared.keys.User.TheVariants as users
-use Rattle.points_to_tables.proofs.Making.{makes_none, makes_same, makes_used}
-use Rattle.points_to_nodes.specs.Fixed.{holder_of}
-use Rattle.points_to_nodes.specs.Known.{names_at}
+use Rattle.machine_nodes.specs.NodeSteps.{is_selecting_kind}
+use Rattle.points_to_constraints.specs.Items.{select}
+use Rattle.points_to_numbers.specs.declared.keys.User.TheVariants as users
+use Rattle.points_to_numbers.proofs.Making.{makes_none, makes_same, makes_used}
+use Rattle.points_to_methods.specs.Fixed.{holder_of}
+use Rattle.points_to_methods.specs.Known.{names_at}
 use Rattle.points_to_methods.specs.CallParts.{SelectingItem}
 use Rattle.points_to_methods.proofs.SelectedSites.{not_selecting, selects, without_first}
 use Rattle.points_to_methods.proofs.calls.select_items.Goals as goal

@@ -1,5 +1,5 @@
-use Rattle.points_to_items.specs.NodeItems.{FlowItem, EnterItem, HandleItem, OpItem, RaiseItem, TriggerItem, NodeItem}
-use Rattle.points_to_tables.proofs.Making.{makes_both}
+use Rattle.points_to_constraints.specs.NodeItems.{FlowItem, EnterItem, HandleItem, OpItem, RaiseItem, TriggerItem, NodeItem}
+use Rattle.points_to_numbers.proofs.Making.{makes_both}
 use Rattle.points_to_methods.proofs.NodeSums.{PartItem, all_parts, node_after, node_before, node_same}
 use Rattle.points_to_methods.proofs.nodes.node_items.Goals as goal
 

@@ -1,7 +1,7 @@
 use Rattle.std.proofs.lemmas.Option.{none-some, same_Some}
-use Rattle.bytecode_machine.specs.Start.{boot_site}
-use Rattle.points_to_items.specs.NodeItems.{LoadStaticItem}
-use Rattle.points_to_tables.proofs.Making.{makes_both, makes_grown, makes_same}
+use Rattle.machine_bytecode.specs.Start.{boot_site}
+use Rattle.points_to_constraints.specs.NodeItems.{LoadStaticItem}
+use Rattle.points_to_numbers.proofs.Making.{makes_both, makes_grown, makes_same}
 use Rattle.points_to_methods.proofs.BegunFields.{loaded_alone, loaded_begun}
 use Rattle.points_to_methods.proofs.statics.load_static.Goals as goal
 

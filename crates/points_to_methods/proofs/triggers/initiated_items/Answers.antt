@@ -1,10 +1,10 @@
 use Rattle.std.proofs.Common.{◌≡◌, refl}
 use Rattle.points_to_rules.specs.Facts.{kept_objects, may_run, thrown_by}
-use Rattle.points_to_items.specs.Items.{Item as RuleItem, known, pass_to, used}
-use Rattle.points_to_tables.specs.declared.item.Item.TheVariants.{Runs}
+use Rattle.points_to_constraints.specs.Items.{Item as RuleItem, known, pass_to, used}
+use Rattle.points_to_numbers.specs.declared.item.Item.TheVariants.{Runs}
 use Rattle.points_to_rules.specs.declared.place.Place.TheVariants as places
-use Rattle.points_to_tables.specs.declared.keys.User.TheVariants as users
-use Rattle.points_to_tables.proofs.Making.{makes_both, makes_grown, makes_one, makes_used}
+use Rattle.points_to_numbers.specs.declared.keys.User.TheVariants as users
+use Rattle.points_to_numbers.proofs.Making.{makes_both, makes_grown, makes_one, makes_used}
 use Rattle.points_to_methods.specs.Initiated.{IsInitiated}
 use Rattle.points_to_methods.proofs.triggers.initiated_items.Goals as goal
 

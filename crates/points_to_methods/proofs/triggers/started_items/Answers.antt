@@ -1,9 +1,9 @@
 use Rattle.std.proofs.Common.{◌≡◌, refl}
 use Rattle.points_to_rules.specs.Facts.{thrown_by}
-use Rattle.points_to_items.specs.Items.{Item as RuleItem, land_at, used}
+use Rattle.points_to_constraints.specs.Items.{Item as RuleItem, land_at, used}
 use Rattle.points_to_rules.specs.declared.place.Place.TheVariants as places
-use Rattle.points_to_tables.specs.declared.keys.User.TheVariants as users
-use Rattle.points_to_tables.proofs.Making.{makes_both, makes_used}
+use Rattle.points_to_numbers.specs.declared.keys.User.TheVariants as users
+use Rattle.points_to_numbers.proofs.Making.{makes_both, makes_used}
 use Rattle.points_to_methods.specs.Initiated.{IsInitiated}
 use Rattle.points_to_methods.proofs.triggers.started_items.Goals as goal
 

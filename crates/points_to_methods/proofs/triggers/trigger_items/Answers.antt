@@ -2,12 +2,12 @@ use Rattle.std.proofs.Common.{◌≡◌, length, List, Some, None, sym, subst, �
 use Rattle.std.specs.Vec.{vec_len}
 use Rattle.std.proofs.lemmas.Bool.{eqb-true}
 use Rattle.jvm_model.specs.declared.number.MethodNo.{MethodNo}
-use Rattle.points_to_items.specs.NodeItems.{TriggerItem}
-use Rattle.points_to_nodes.specs.Known.{names_at}
+use Rattle.points_to_constraints.specs.NodeItems.{TriggerItem}
+use Rattle.points_to_methods.specs.Known.{names_at}
 use Rattle.slot_names.proofs.ListPlaces.{stands_below}
-use Rattle.points_to_tables.proofs.Adding.{OfOne}
-use Rattle.points_to_tables.proofs.Making.{makes_all, makes_grown, makes_next_read, makes_none, makes_same, makes_start}
-use Rattle.points_to_tables.specs.Steps.{Makes}
+use Rattle.points_to_numbers.proofs.Adding.{OfOne}
+use Rattle.points_to_numbers.proofs.Making.{makes_all, makes_grown, makes_next_read, makes_none, makes_same, makes_start}
+use Rattle.points_to_numbers.specs.Steps.{Makes}
 use Rattle.points_to_methods.specs.Started.{IsStarted}
 use Rattle.points_to_methods.proofs.StartedInitialisers.{all_started, none_found, none_started, trigger_numbered, trigger_read, untriggered}
 use Rattle.points_to_methods.proofs.triggers.trigger_items.Goals as goal

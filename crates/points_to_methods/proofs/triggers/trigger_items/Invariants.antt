@@ -1,9 +1,9 @@
 use Rattle.std.proofs.Common.{◌≡◌, Some, take}
 use Rattle.std.specs.List.{slice_get}
 use Rattle.jvm_model.specs.declared.number.MethodNo.{MethodNo}
-use Rattle.points_to_items.specs.Items.{Landing}
-use Rattle.points_to_tables.proofs.Adding.{OfOne}
-use Rattle.points_to_tables.specs.Steps.{Makes}
+use Rattle.points_to_constraints.specs.Items.{Landing}
+use Rattle.points_to_numbers.proofs.Adding.{OfOne}
+use Rattle.points_to_numbers.specs.Steps.{Makes}
 use Rattle.points_to_methods.specs.Started.{IsStarted}
 use Rattle.points_to_methods.proofs.triggers.trigger_items.Given as goal
 

@@ -3,7 +3,7 @@ use Rattle.std.specs.Prelude.{IsTrue}
 use Rattle.std.specs.List.{AllZip}
 use Rattle.std.proofs.lemmas.Option.{slice_get_read}
 use Rattle.std.proofs.lemmas.Slice.Zip.{all_zipped_more}
-use Rattle.linked_program.proofs.Pieces.{take_one_more}
+use Rattle.program_model.proofs.Pieces.{take_one_more}
 use Rattle.prune_stage.specs.StageOne.{IsSafe, picked}
 use Rattle.prune_stage.specs.declared.event_set.EventSet.{EventSet}
 use Rattle.prune_stage.proofs.answers.answers_of.Goals as goal

@@ -3,7 +3,7 @@ use Rattle.std.specs.Prelude.{IsTrue}
 use Rattle.std.specs.List.{AllZip}
 use Rattle.std.proofs.lemmas.Result.{IfOk-weaker}
 use Rattle.jvm_model.specs.Programs.{Program}
-use Rattle.linked_program.specs.Numbers.{IsClassNumber}
+use Rattle.program_model.specs.Numbers.{IsClassNumber}
 use Rattle.prune_stage.specs.StageOne.{IsSafe, picked}
 use Rattle.prune_stage.specs.declared.event_set.EventSet.{EventSet}
 use Rattle.prune_stage.specs.Marks.{IsMarked}

@@ -1,6 +1,6 @@
 use Rattle.std.proofs.Common.{◌≡◌, ◌++◌, map, take}
 use Rattle.std.specs.Option.{option_to_list}
-use Rattle.node_machine.specs.Slots.{argument_slots}
+use Rattle.machine_nodes.specs.Slots.{argument_slots}
 use Rattle.slot_names.specs.OperationMoves.{erasing}
 use Rattle.slot_names.proofs.moves.moves_of_call.Given as goal
 

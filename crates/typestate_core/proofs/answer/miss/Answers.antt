@@ -1,6 +1,6 @@
 use Rattle.std.proofs.Common.{refl}
-use Rattle.run_outcomes.specs.Lines.{missing_line}
-use Rattle.run_truth.proofs.LineForms.{missing_is_line}
+use Rattle.run_spec.specs.Lines.{missing_line}
+use Rattle.run_soundness.proofs.LineForms.{missing_is_line}
 use Rattle.typestate_core.proofs.TextLines.{one_line}
 use Rattle.typestate_core.proofs.answer.miss.Goals as goal
 

@@ -1,7 +1,7 @@
 use Rattle.std.proofs.Common.{Global, map, refl, string_bytes}
 use Rattle.command_words.specs.Requests.{wanted_of}
-use Rattle.run_outcomes.specs.declared.status.Status.TheVariants as statuses
-use Rattle.run_outcomes.specs.Lines.{usage_line}
+use Rattle.run_spec.specs.declared.status.Status.TheVariants as statuses
+use Rattle.run_spec.specs.Lines.{usage_line}
 use Rattle.typestate_core.specs.Answers.{reports}
 use Rattle.typestate_core.proofs.CallOrder.{no_report, no_run_calls, run_calls}
 use Rattle.typestate_core.proofs.Judging.{usable_told, usage_told}

@@ -4,8 +4,8 @@ use Rattle.command_words.specs.Requests.{wanted_of}
 use Rattle.stub_file.specs.declared.stub_failure.StubFault.TheVariants.{BadToml, BadStub}
 use Rattle.stub_file.specs.StubFile.{IsStubFile, IsStubRefusal}
 use Rattle.jvm_model.specs.declared.reason.Reason.TheVariants as reasons
-use Rattle.run_outcomes.specs.declared.status.Status.TheVariants as statuses
-use Rattle.run_outcomes.specs.Lines.{missing_line, refused_line}
+use Rattle.run_spec.specs.declared.status.Status.TheVariants as statuses
+use Rattle.run_spec.specs.Lines.{missing_line, refused_line}
 use Rattle.typestate_core.specs.Answers.{reports}
 use Rattle.typestate_core.proofs.CallOrder.{no_report, no_stub_calls, stubs_end, stubs_go_on}
 use Rattle.typestate_core.proofs.Judging.{broken_stubs_told, no_stub_file_told, no_stubs_told, stubs_no_document_told, stubs_told}

@@ -5,8 +5,8 @@ use Rattle.property_file.specs.declared.property_failure.PropertyFault.TheVarian
 use Rattle.property_file.specs.PropertyFile.{IsPropertyFile}
 use Rattle.property_file.specs.Refusals.{IsPropertyRefusal}
 use Rattle.jvm_model.specs.declared.reason.Reason.TheVariants as reasons
-use Rattle.run_outcomes.specs.declared.status.Status.TheVariants as statuses
-use Rattle.run_outcomes.specs.Lines.{missing_line, refused_line}
+use Rattle.run_spec.specs.declared.status.Status.TheVariants as statuses
+use Rattle.run_spec.specs.Lines.{missing_line, refused_line}
 use Rattle.typestate_core.specs.Answers.{reports}
 use Rattle.typestate_core.proofs.CallOrder.{no_report, property_ends, property_goes_on}
 use Rattle.typestate_core.proofs.Judging.{broken_property_told, no_document_told, property_told}

@@ -2,8 +2,8 @@ use Rattle.std.proofs.Common.{◌≡◌, ◌∙◌, ap, false, refl}
 use Rattle.failure.specs.declared.Failure.TheVariants.{Cause}
 use Rattle.class_folder.specs.declared.fault.FolderFault.TheVariants.{Refused}
 use Rattle.command_words.specs.Requests.{wanted_of}
-use Rattle.run_outcomes.specs.declared.status.Status.TheVariants as statuses
-use Rattle.run_outcomes.specs.Lines.{missing_line, refused_line}
+use Rattle.run_spec.specs.declared.status.Status.TheVariants as statuses
+use Rattle.run_spec.specs.Lines.{missing_line, refused_line}
 use Rattle.typestate_core.specs.Answers.{reports}
 use Rattle.typestate_core.proofs.CallOrder.{folder_calls, folder_ends, no_report}
 use Rattle.typestate_core.proofs.Judging.{classes_told, refused_folder_told}

@@ -1,9 +1,9 @@
 use Rattle.std.proofs.Common.{◌≡◌, ℕ, sym, subst}
 use Rattle.command_words.specs.Requests.{wanted_of}
-use Rattle.folder_report.proofs.OwnProgram.{of_own_program}
-use Rattle.folder_supply.specs.Supplied.{IsSupplied}
+use Rattle.report_analysis.proofs.OwnProgram.{of_own_program}
+use Rattle.lowering_supply.specs.Supplied.{IsSupplied}
 use Rattle.jvm_model.specs.Programs.{Program}
-use Rattle.linked_program.specs.Numbers.{IsClassNumber, name_at}
+use Rattle.program_model.specs.Numbers.{IsClassNumber, name_at}
 use Rattle.points_to_rules.specs.Solutions.{IsSolveEnd}
 use Rattle.typestate_core.proofs.ProgramJudging.{end_told}
 use Rattle.typestate_core.proofs.Reported.{reported_told}

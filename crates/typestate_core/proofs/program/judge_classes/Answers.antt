@@ -1,9 +1,9 @@
 use Rattle.std.proofs.Common.{◌≡◌, ◌∙◌, ◌++◌, List, ap, subst}
 use Rattle.failure.specs.declared.Failure.TheVariants.{Cause}
 use Rattle.jvm_model.specs.declared.stub.StubClass.{StubClass}
-use Rattle.linked_program.specs.declared.link_failure.LinkFault.TheVariants.{Refused}
+use Rattle.program_model.specs.declared.link_failure.LinkFault.TheVariants.{Refused}
 use Rattle.command_words.specs.Requests.{wanted_of}
-use Rattle.run_outcomes.specs.Inputs.{Input, all_stubs}
+use Rattle.run_spec.specs.Inputs.{Input, all_stubs}
 use Rattle.typestate_core.proofs.ProgramJudging.{linked_told, unlinked_told}
 use Rattle.typestate_core.proofs.program.judge_classes.Goals as goal
 

@@ -1,5 +1,5 @@
 use Rattle.std.proofs.Common.{Contains}
-use Rattle.folder_supply.specs.Supplied.{IsSupplied}
+use Rattle.lowering_supply.specs.Supplied.{IsSupplied}
 use Rattle.typestate_core.proofs.TextLines.{report_cut}
 use Rattle.typestate_core.proofs.program.report_on.Goals as goal
 

@@ -1,6 +1,6 @@
 use Rattle.std.proofs.Common.{Global, map, string_bytes}
-use Rattle.run_truth.specs.Claims.{IsTrueOfRun}
-use Rattle.run_truth.specs.Reports.{IsReportedOfRun}
+use Rattle.run_soundness.specs.Claims.{IsTrueOfRun}
+use Rattle.run_soundness.specs.Reports.{IsReportedOfRun}
 use Rattle.typestate_core.proofs.RunTold.{complete_told}
 use Rattle.typestate_core.proofs.SafeLines.{told_of_lines, all_safe_told}
 use Rattle.typestate_core.proofs.verifier.run.Goals as goal

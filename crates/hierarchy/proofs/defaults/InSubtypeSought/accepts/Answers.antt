@@ -1,7 +1,7 @@
 use Rattle.std.proofs.Common.{ℕ, List, sym, subst}
 use Rattle.std.specs.Bool.{IsTrue}
 use Rattle.jvm_model.specs.Subtypes.{IsProperSubtype}
-use Rattle.linked_program.specs.Numbers.{name_at}
+use Rattle.program_model.specs.Numbers.{name_at}
 use Rattle.hierarchy.proofs.ClassPlaces.{method_there}
 use Rattle.hierarchy.proofs.defaults.InSubtypeSought.accepts.Goals as goal
 

@@ -1,7 +1,7 @@
 use Rattle.std.proofs.Common.{◌∙◌, sym, subst}
 use Rattle.std.proofs.lemmas.Bool.{false≢true}
 use Rattle.jvm_model.specs.Lookups.{lent_signature}
-use Rattle.linked_program.specs.Numbers.{name_at}
+use Rattle.program_model.specs.Numbers.{name_at}
 use Rattle.hierarchy.specs.Searches.{Hides}
 use Rattle.hierarchy.proofs.ClassPlaces.{name_at-at, names_differ}
 use Rattle.hierarchy.proofs.select.HidingStep.at.Goals as goal

@@ -5,7 +5,7 @@ use Rattle.points_to.specs.Passing.{IsPassed, IsLackOf, NotesReason}
 use Rattle.points_to.proofs.Lacking.{lacks_are}
 use Rattle.points_to.proofs.Noting.{calls_same}
 use Rattle.points_to.proofs.PassedOn.{reason_before, passed_here}
-use Rattle.points_to_tables.proofs.Adding.{adds_same}
+use Rattle.points_to_numbers.proofs.Adding.{adds_same}
 use Rattle.points_to.proofs.found.Found.pass.Goals as goal
 
 pub returns-clause-adds : goal.returns-clause-adds

@@ -1,8 +1,8 @@
 use Rattle.std.proofs.Common.{refl, ◌∙◌}
 use Rattle.jvm_model.specs.declared.number.SiteNo.{SiteNo}
-use Rattle.points_to_items.specs.Items.{Item as RuleItem}
-use Rattle.points_to_tables.proofs.Adding.{adds_start, adds_all}
-use Rattle.points_to_tables.proofs.Growing.{grows_same, grows_on}
+use Rattle.points_to_constraints.specs.Items.{Item as RuleItem}
+use Rattle.points_to_numbers.proofs.Adding.{adds_start, adds_all}
+use Rattle.points_to_numbers.proofs.Growing.{grows_same, grows_on}
 use Rattle.points_to.specs.declared.refusals.RefusedCall.{RefusedCall}
 use Rattle.points_to.specs.Passing.{IsPassed, IsLackOf}
 use Rattle.points_to.proofs.Noting.{calls_start, calls_all}

@@ -1,7 +1,7 @@
 use Rattle.std.proofs.Common.{◌≡◌, length, take}
 use Rattle.points_to_calls.specs.KeptAnswers.{AreRight}
-use Rattle.points_to_tables.specs.Numbered.{Grows}
-use Rattle.points_to_tables.specs.Steps.{Adds}
+use Rattle.points_to_numbers.specs.Numbered.{Grows}
+use Rattle.points_to_numbers.specs.Steps.{Adds}
 use Rattle.points_to.specs.Passing.{NotesCalls, PassesToSome, LacksForSome}
 use Rattle.points_to.proofs.found.Found.pass_to_each.Given as goal
 

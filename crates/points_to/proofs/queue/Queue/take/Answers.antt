@@ -1,7 +1,7 @@
 use Rattle.std.proofs.Common.{sym, subst, List}
 use Rattle.std.specs.List.{Contains}
 use Rattle.indexmap.proofs.CallerLemmas.{Contains-insert_key}
-use Rattle.points_to_tables.specs.declared.item.Item.{Item}
+use Rattle.points_to_numbers.specs.declared.item.Item.{Item}
 use Rattle.least_sets.specs.Rules.{IsWithoutDoubles}
 use Rattle.points_to.specs.declared.queue.Queue.{Queue}
 use Rattle.points_to.proofs.ExactItems.{same_items, exact_items, apart_from_unique}

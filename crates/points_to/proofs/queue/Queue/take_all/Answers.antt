@@ -1,7 +1,7 @@
 use Rattle.std.specs.List.{Contains}
 use Rattle.least_sets.proofs.Growing.{All-whole}
-use Rattle.points_to_tables.specs.declared.item.Item.{Item}
-use Rattle.points_to_tables.specs.declared.item.Item.TheVariants.{Holds}
+use Rattle.points_to_numbers.specs.declared.item.Item.{Item}
+use Rattle.points_to_numbers.specs.declared.item.Item.TheVariants.{Holds}
 use Rattle.points_to.proofs.Taken.{takes_more, held_more}
 use Rattle.points_to.proofs.queue.Queue.take_all.Goals as goal
 

@@ -1,6 +1,0 @@
-use Rattle.std.proofs.Common.{All}
-use Rattle.linking.specs.LinkAnswers.{IsSoundFile}
-use Rattle.case_files.proofs.class_files.read_files.Given as goal
-
-abbrev pub invariant-loop-name : goal.invariant-loop-name
-invariant-loop-name g l = All IsSoundFile l.files.items

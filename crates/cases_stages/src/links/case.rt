@@ -1,0 +1,109 @@
+//! A case: a folder of class files, with or without a stub file, and with queries.
+
+use crate::links::answer::answer;
+use crate::links::flow::tell_graph;
+use crate::links::query::{Query, Search, query_of};
+use anyhow::Result;
+use cases_files::{CaseFailure, CaseFault, is_refusal, link_case, read_all_stubs, read_files};
+use failure::Failure;
+use program_model::program::Program;
+use std::alloc::{AllocError, Global};
+use ts_outside::{Tree, TreeFault};
+
+/// The file of the queries of a case, one a line.
+const QUERIES: &str = "queries";
+
+/// Prints what linking says of the files of a case, and the answer to each of its queries.
+pub fn tell_case<R: Print, T: Tree>(rt: &R, alloc: Global, tree: &mut T) -> Result<()> {
+    match linked(alloc, tree) {
+        Ok(program) => tell_linked(rt, alloc, tree, &program),
+        Err(failure) => tell_unlinked(rt, alloc, tree, failure),
+    }
+}
+
+/// Prints how many classes a program has, and the answer to each query.
+fn tell_linked<R: Print, T: Tree>(
+    rt: &R,
+    alloc: Global,
+    tree: &mut T,
+    program: &Program,
+) -> Result<()> {
+    let count = program.class_count();
+    println!(rt; "linked {count} classes")?;
+    tell_answers(rt, alloc, tree, Some(program))
+}
+
+/// Prints the refusal for which nothing is linked, and the answer to each query. Another failure is handed on.
+fn tell_unlinked<R: Print, T: Tree>(
+    rt: &R,
+    alloc: Global,
+    tree: &mut T,
+    failure: CaseFailure,
+) -> Result<()> {
+    if is_refusal(&failure) {
+        println!(rt; "{failure}")?;
+        return tell_answers(rt, alloc, tree, None);
+    }
+    Err(failure.into())
+}
+
+/// The program of the files of a case.
+fn linked<T: Tree>(alloc: Global, tree: &mut T) -> Result<Program, CaseFailure> {
+    let files = read_files(alloc, tree)?;
+    let stubs = read_all_stubs(alloc, tree)?;
+    link_case(alloc, files, stubs)
+}
+
+/// Prints each query and its answer.
+fn tell_answers<R: Print, T: Tree>(
+    rt: &R,
+    alloc: Global,
+    tree: &mut T,
+    program: Option<&Program>,
+) -> Result<()> {
+    let queries = queries_of(alloc, tree)?;
+    for line in queries.lines() {
+        let text = answer_to(alloc, tree, program, line)?;
+        println!(rt; "{line}: {text}")?;
+    }
+    Ok(())
+}
+
+/// The queries of a case; none if there is no such file.
+fn queries_of<T: Tree>(alloc: Global, tree: &mut T) -> Result<String, CaseFailure> {
+    match tree.read(alloc, QUERIES, u32::MAX) {
+        Ok(bytes) => match String::from_utf8(bytes) {
+            Ok(text) => Ok(text),
+            Err(_) => Err(Failure::Cause(CaseFault::Unread)),
+        },
+        Err(Failure::Cause(TreeFault::Missing)) => Ok(String::new(alloc)),
+        Err(Failure::Cause(TreeFault::Failed)) => Err(Failure::Cause(CaseFault::Unread)),
+        Err(Failure::OutOfMemory) => Err(Failure::OutOfMemory),
+    }
+}
+
+/// The answer to the query of a line.
+fn answer_to<T: Tree>(
+    alloc: Global,
+    tree: &mut T,
+    program: Option<&Program>,
+    line: &str,
+) -> Result<String, CaseFailure> {
+    match query_of(alloc, line)? {
+        Some(Query::Graph(method)) => tell_graph(alloc, tree, &method),
+        Some(Query::OfProgram(search)) => Ok(answer_in(alloc, program, &search)?),
+        None => Ok(String::from_str(alloc, "no such query")?),
+    }
+}
+
+/// The answer of a program, if one was linked.
+fn answer_in(
+    alloc: Global,
+    program: Option<&Program>,
+    search: &Search<'_>,
+) -> Result<String, AllocError> {
+    match program {
+        Some(program) => answer(alloc, program, search),
+        None => String::from_str(alloc, "no program"),
+    }
+}

@@ -1,0 +1,33 @@
+//! The program of the files of a case.
+
+use crate::members::{Members, members_of};
+use anyhow::Result;
+use cases_files::{CaseFailure, is_refusal, link_case, read_all_stubs, read_files};
+use program_model::program::Program;
+use std::alloc::Global;
+use ts_outside::Tree;
+
+/// The program of a case, and the members of its classes.
+#[derive(Drop)]
+pub struct Linked {
+    pub program: Program,
+    pub members: Members,
+}
+
+/// The program of the files of a case, and what they declare.
+pub fn read_case<T: Tree>(alloc: Global, tree: &mut T) -> Result<Linked, CaseFailure> {
+    let files = read_files(alloc, tree)?;
+    let stubs = read_all_stubs(alloc, tree)?;
+    let members = members_of(alloc, &files, &stubs)?;
+    let program = link_case(alloc, files, stubs)?;
+    Ok(Linked { program, members })
+}
+
+/// Prints the refusal for which nothing is linked. Another failure is handed on.
+pub fn tell_failure<R: Print>(rt: &R, failure: CaseFailure) -> Result<()> {
+    if is_refusal(&failure) {
+        println!(rt; "{failure}")?;
+        return Ok(());
+    }
+    Err(failure.into())
+}

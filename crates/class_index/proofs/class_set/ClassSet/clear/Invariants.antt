@@ -1,8 +1,0 @@
-use Rattle.std.proofs.Common.{◌≡◌, length}
-use Rattle.class_index.proofs.class_set.ClassSet.clear.Given as goal
-
-abbrev pub invariant-loop : goal.invariant-loop
-invariant-loop l = l.self.size ≡ l.initial.self.size
-
-abbrev pub decreases-loop : goal.decreases-loop
-decreases-loop l = length l.self.items

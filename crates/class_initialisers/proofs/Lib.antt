@@ -1,3 +1,0 @@
-pub mod CodedMethods
-pub mod AddedMethods
-pub mod UpwardInitialisers

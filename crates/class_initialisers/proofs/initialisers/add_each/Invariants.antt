@@ -1,7 +1,0 @@
-use Rattle.std.proofs.Common.{take}
-use Rattle.class_initialisers.specs.Declaring.{AddsMethods, OneDeclares}
-use Rattle.class_initialisers.proofs.initialisers.add_each.Given as goal
-
--- the initialisers of the classes so far were added
-abbrev pub invariant-loop-number : goal.invariant-loop-number
-invariant-loop-number l = AddsMethods (OneDeclares l.program (take l.number-index l.classes)) l.fn.found.items l.found.items

@@ -1,5 +1,0 @@
-pub mod CallsOfNodes
-pub mod Frames
-pub mod Entered
-pub mod Entering
-pub mod Executions

@@ -1,2 +1,0 @@
-mod Files
-mod Starting

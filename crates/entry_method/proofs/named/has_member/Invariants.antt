@@ -1,7 +1,0 @@
-use Rattle.std.proofs.Common.{All, take}
-use Rattle.jvm_model.specs.declared.class_file.Member.{Member}
-use Rattle.entry_method.specs.Entries.{HasName}
-use Rattle.entry_method.proofs.named.has_member.Given as goal
-
-abbrev pub invariant-loop-member : goal.invariant-loop-member
-invariant-loop-member l = record { none : All (λ (m : Member). HasName l.pool l.name m → ⊥) (take l.member-index l.members) }

@@ -1,0 +1,5 @@
+pub mod CodedMethods
+pub mod AddedMethods
+pub mod UpwardInitialisers
+mod Files
+mod Starting

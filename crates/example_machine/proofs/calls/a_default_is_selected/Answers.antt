@@ -1,0 +1,5 @@
+use Rattle.example_machine.proofs.CallRuns.{a_default_is_selected}
+use Rattle.example_machine.proofs.calls.a_default_is_selected.Goals as goal
+
+pub returns : goal.returns
+returns c = a_default_is_selected

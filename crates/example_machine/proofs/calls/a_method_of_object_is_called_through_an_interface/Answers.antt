@@ -1,0 +1,5 @@
+use Rattle.example_machine.proofs.CallMore.{a_method_of_object_is_called_through_an_interface}
+use Rattle.example_machine.proofs.calls.a_method_of_object_is_called_through_an_interface.Goals as goal
+
+pub returns : goal.returns
+returns c = a_method_of_object_is_called_through_an_interface

@@ -1,0 +1,5 @@
+use Rattle.example_machine.proofs.CallResults.{an_argument_is_kept}
+use Rattle.example_machine.proofs.calls.an_argument_is_kept.Goals as goal
+
+pub returns : goal.returns
+returns c = an_argument_is_kept

@@ -1,0 +1,5 @@
+use Rattle.example_machine.proofs.WithinArrays.{a_cast_raises}
+use Rattle.example_machine.proofs.within.a_cast_raises.Goals as goal
+
+pub returns : goal.returns
+returns c = a_cast_raises

@@ -1,0 +1,5 @@
+use Rattle.example_machine.proofs.WithinRuns.{a_held_object_is_read}
+use Rattle.example_machine.proofs.within.a_held_object_is_read.Goals as goal
+
+pub returns : goal.returns
+returns c = a_held_object_is_read

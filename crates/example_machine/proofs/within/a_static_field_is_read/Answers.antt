@@ -1,0 +1,5 @@
+use Rattle.example_machine.proofs.WithinRuns.{a_static_field_is_read}
+use Rattle.example_machine.proofs.within.a_static_field_is_read.Goals as goal
+
+pub returns : goal.returns
+returns c = a_static_field_is_read

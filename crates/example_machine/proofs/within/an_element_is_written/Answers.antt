@@ -1,0 +1,5 @@
+use Rattle.example_machine.proofs.WithinArrays.{an_element_is_written}
+use Rattle.example_machine.proofs.within.an_element_is_written.Goals as goal
+
+pub returns : goal.returns
+returns c = an_element_is_written

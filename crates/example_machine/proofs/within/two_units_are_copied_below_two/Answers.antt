@@ -1,0 +1,5 @@
+use Rattle.example_machine.proofs.WithinUnits.{two_units_are_copied_below_two}
+use Rattle.example_machine.proofs.within.two_units_are_copied_below_two.Goals as goal
+
+pub returns : goal.returns
+returns c = two_units_are_copied_below_two

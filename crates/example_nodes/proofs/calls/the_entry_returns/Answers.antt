@@ -1,0 +1,5 @@
+use Rattle.example_nodes.proofs.CallRuns.{the_entry_returns}
+use Rattle.example_nodes.proofs.calls.the_entry_returns.Goals as goal
+
+pub returns : goal.returns
+returns c = the_entry_returns

@@ -1,0 +1,5 @@
+use Rattle.example_nodes.proofs.ComparedRuns.{a_test_of_two_strings_goes_on}
+use Rattle.example_nodes.proofs.compared.a_test_of_two_strings_goes_on.Goals as goal
+
+pub returns : goal.returns
+returns c = a_test_of_two_strings_goes_on

@@ -1,0 +1,5 @@
+use Rattle.example_nodes.proofs.LoweredRuns.{nodes_of_tables}
+use Rattle.example_nodes.proofs.lowering.nodes_of_tables.Goals as goal
+
+pub returns : goal.returns
+returns c = nodes_of_tables

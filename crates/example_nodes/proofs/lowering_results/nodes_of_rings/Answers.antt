@@ -1,0 +1,5 @@
+use Rattle.example_nodes.proofs.LoweredResults.{nodes_of_rings}
+use Rattle.example_nodes.proofs.lowering_results.nodes_of_rings.Goals as goal
+
+pub returns : goal.returns
+returns c = nodes_of_rings

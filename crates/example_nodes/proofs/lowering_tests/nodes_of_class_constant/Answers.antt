@@ -1,0 +1,5 @@
+use Rattle.example_nodes.proofs.LoweredTests.{nodes_of_class_constant}
+use Rattle.example_nodes.proofs.lowering_tests.nodes_of_class_constant.Goals as goal
+
+pub returns : goal.returns
+returns c = nodes_of_class_constant

@@ -1,0 +1,5 @@
+use Rattle.example_nodes.proofs.LoweredThrows.{nodes_of_inner}
+use Rattle.example_nodes.proofs.lowering_throws.nodes_of_inner.Goals as goal
+
+pub returns : goal.returns
+returns c = nodes_of_inner

@@ -1,0 +1,5 @@
+use Rattle.example_nodes.proofs.LoweredThrows.{nodes_of_null_throw}
+use Rattle.example_nodes.proofs.lowering_throws.nodes_of_null_throw.Goals as goal
+
+pub returns : goal.returns
+returns c = nodes_of_null_throw

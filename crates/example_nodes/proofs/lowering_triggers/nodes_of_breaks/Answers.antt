@@ -1,0 +1,5 @@
+use Rattle.example_nodes.proofs.LoweredTriggers.{nodes_of_breaks}
+use Rattle.example_nodes.proofs.lowering_triggers.nodes_of_breaks.Goals as goal
+
+pub returns : goal.returns
+returns c = nodes_of_breaks

@@ -1,0 +1,5 @@
+use Rattle.example_nodes.proofs.ReturnRuns.{a_number_is_given_back}
+use Rattle.example_nodes.proofs.returns.a_number_is_given_back.Goals as goal
+
+pub returns : goal.returns
+returns c = a_number_is_given_back

@@ -1,0 +1,5 @@
+use Rattle.example_nodes.proofs.WithinRuns.{a_field_is_written}
+use Rattle.example_nodes.proofs.within.a_field_is_written.Goals as goal
+
+pub returns : goal.returns
+returns c = a_field_is_written

@@ -1,0 +1,5 @@
+use Rattle.example_nodes.proofs.WithinRuns.{an_array_of_arrays_is_made}
+use Rattle.example_nodes.proofs.within.an_array_of_arrays_is_made.Goals as goal
+
+pub returns : goal.returns
+returns c = an_array_of_arrays_is_made

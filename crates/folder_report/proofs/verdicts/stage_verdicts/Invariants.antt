@@ -1,6 +1,0 @@
-use Rattle.std.proofs.Common.{◌≡◌, map, take}
-use Rattle.folder_report.specs.Written.{verdict_of}
-use Rattle.folder_report.proofs.verdicts.stage_verdicts.Given as goal
-
-abbrev pub invariant-loop-answer : goal.invariant-loop-answer
-invariant-loop-answer l = record { told : l.verdicts.items ≡ map verdict_of (take l.answer-index l.answers) }

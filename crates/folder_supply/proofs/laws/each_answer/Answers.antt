@@ -1,5 +1,0 @@
-use Rattle.folder_supply.proofs.EachAnswer.{each_answer}
-use Rattle.folder_supply.proofs.laws.each_answer.Goals as goal
-
-pub returns : goal.returns
-returns c = each_answer

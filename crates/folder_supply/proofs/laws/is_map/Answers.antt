@@ -1,5 +1,0 @@
-use Rattle.folder_supply.proofs.Maps.{is_map}
-use Rattle.folder_supply.proofs.laws.is_map.Goals as goal
-
-pub returns : goal.returns
-returns c = is_map

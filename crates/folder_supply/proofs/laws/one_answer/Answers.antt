@@ -1,5 +1,0 @@
-use Rattle.folder_supply.specs.OneAnswer.{one_answer}
-use Rattle.folder_supply.proofs.laws.one_answer.Goals as goal
-
-pub returns : goal.returns
-returns c = one_answer

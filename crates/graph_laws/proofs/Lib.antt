@@ -1,3 +1,0 @@
-pub mod EachEffect
-pub mod WalkEnds
-pub mod StepRows

@@ -1,5 +1,0 @@
-use Rattle.graph_laws.proofs.StepRows.{step_row}
-use Rattle.graph_laws.proofs.steps.steps_have_rows.Goals as goal
-
-pub returns : goal.returns
-returns c = step_row

@@ -1,9 +1,0 @@
-use Rattle.std.proofs.Common.{◌≡◌, map, drop}
-use Rattle.std.specs.List.{flat_map}
-use Rattle.jvm_model.specs.Linking.{with_descriptions, descriptions}
-use Rattle.linking.proofs.patches.stub_descriptions.Given as goal
-
-abbrev pub invariant-loop-patch : goal.invariant-loop-patch
-invariant-loop-patch l =
-    with_descriptions l.all (flat_map descriptions (map (λ s. s.now) (drop l.patch-index l.found)))
-    ≡ with_descriptions l.initial.all (flat_map descriptions (map (λ s. s.now) l.found))

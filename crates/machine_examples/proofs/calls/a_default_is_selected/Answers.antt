@@ -1,5 +1,0 @@
-use Rattle.machine_examples.proofs.CallRuns.{a_default_is_selected}
-use Rattle.machine_examples.proofs.calls.a_default_is_selected.Goals as goal
-
-pub returns : goal.returns
-returns c = a_default_is_selected

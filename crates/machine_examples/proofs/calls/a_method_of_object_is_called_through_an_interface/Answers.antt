@@ -1,5 +1,0 @@
-use Rattle.machine_examples.proofs.CallMore.{a_method_of_object_is_called_through_an_interface}
-use Rattle.machine_examples.proofs.calls.a_method_of_object_is_called_through_an_interface.Goals as goal
-
-pub returns : goal.returns
-returns c = a_method_of_object_is_called_through_an_interface

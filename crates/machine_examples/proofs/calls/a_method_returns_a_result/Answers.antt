@@ -1,5 +1,0 @@
-use Rattle.machine_examples.proofs.CallRuns.{a_method_returns_a_result}
-use Rattle.machine_examples.proofs.calls.a_method_returns_a_result.Goals as goal
-
-pub returns : goal.returns
-returns c = a_method_returns_a_result

@@ -1,5 +1,0 @@
-use Rattle.machine_examples.proofs.CallResults.{a_new_object_is_given}
-use Rattle.machine_examples.proofs.calls.a_new_object_is_given.Goals as goal
-
-pub returns : goal.returns
-returns c = a_new_object_is_given

@@ -1,5 +1,0 @@
-use Rattle.machine_examples.proofs.CallMore.{a_receiver_is_given_back}
-use Rattle.machine_examples.proofs.calls.a_receiver_is_given_back.Goals as goal
-
-pub returns : goal.returns
-returns c = a_receiver_is_given_back

@@ -1,5 +1,0 @@
-use Rattle.machine_examples.proofs.CallRuns.{an_interface_method_is_called}
-use Rattle.machine_examples.proofs.calls.an_interface_method_is_called.Goals as goal
-
-pub returns : goal.returns
-returns c = an_interface_method_is_called

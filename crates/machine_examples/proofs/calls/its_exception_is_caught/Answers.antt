@@ -1,5 +1,0 @@
-use Rattle.machine_examples.proofs.CallResults.{its_exception_is_caught}
-use Rattle.machine_examples.proofs.calls.its_exception_is_caught.Goals as goal
-
-pub returns : goal.returns
-returns c = its_exception_is_caught

@@ -1,5 +1,0 @@
-use Rattle.machine_examples.proofs.ExceptionRuns.{a_call_on_null_raises}
-use Rattle.machine_examples.proofs.exceptions.a_call_on_null_raises.Goals as goal
-
-pub returns : goal.returns
-returns c = a_call_on_null_raises

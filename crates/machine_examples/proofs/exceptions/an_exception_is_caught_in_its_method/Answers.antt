@@ -1,5 +1,0 @@
-use Rattle.machine_examples.proofs.ExceptionRuns.{an_exception_is_caught_in_its_method}
-use Rattle.machine_examples.proofs.exceptions.an_exception_is_caught_in_its_method.Goals as goal
-
-pub returns : goal.returns
-returns c = an_exception_is_caught_in_its_method

@@ -1,5 +1,0 @@
-use Rattle.machine_examples.proofs.ExceptionRuns.{an_uncaught_exception_ends_the_program}
-use Rattle.machine_examples.proofs.exceptions.an_uncaught_exception_ends_the_program.Goals as goal
-
-pub returns : goal.returns
-returns c = an_uncaught_exception_ends_the_program

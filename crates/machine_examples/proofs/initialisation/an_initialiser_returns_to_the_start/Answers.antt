@@ -1,5 +1,0 @@
-use Rattle.machine_examples.proofs.InitialiserRuns.{an_initialiser_returns_to_the_start}
-use Rattle.machine_examples.proofs.initialisation.an_initialiser_returns_to_the_start.Goals as goal
-
-pub returns : goal.returns
-returns c = an_initialiser_returns_to_the_start

@@ -1,5 +1,0 @@
-use Rattle.machine_examples.proofs.InitialiserRuns.{an_initialiser_starts}
-use Rattle.machine_examples.proofs.initialisation.an_initialiser_starts.Goals as goal
-
-pub returns : goal.returns
-returns c = an_initialiser_starts

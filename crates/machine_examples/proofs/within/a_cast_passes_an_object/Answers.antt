@@ -1,5 +1,0 @@
-use Rattle.machine_examples.proofs.WithinArrays.{a_cast_passes_an_object}
-use Rattle.machine_examples.proofs.within.a_cast_passes_an_object.Goals as goal
-
-pub returns : goal.returns
-returns c = a_cast_passes_an_object

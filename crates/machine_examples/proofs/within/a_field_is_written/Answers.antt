@@ -1,5 +1,0 @@
-use Rattle.machine_examples.proofs.WithinRuns.{a_field_is_written}
-use Rattle.machine_examples.proofs.within.a_field_is_written.Goals as goal
-
-pub returns : goal.returns
-returns c = a_field_is_written

@@ -1,5 +1,0 @@
-use Rattle.machine_examples.proofs.WithinArrays.{a_misfit_is_not_stored}
-use Rattle.machine_examples.proofs.within.a_misfit_is_not_stored.Goals as goal
-
-pub returns : goal.returns
-returns c = a_misfit_is_not_stored

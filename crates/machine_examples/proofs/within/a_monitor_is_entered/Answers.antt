@@ -1,5 +1,0 @@
-use Rattle.machine_examples.proofs.WithinTests.{a_monitor_is_entered}
-use Rattle.machine_examples.proofs.within.a_monitor_is_entered.Goals as goal
-
-pub returns : goal.returns
-returns c = a_monitor_is_entered

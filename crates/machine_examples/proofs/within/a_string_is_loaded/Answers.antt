@@ -1,5 +1,0 @@
-use Rattle.machine_examples.proofs.WithinRuns.{a_string_is_loaded}
-use Rattle.machine_examples.proofs.within.a_string_is_loaded.Goals as goal
-
-pub returns : goal.returns
-returns c = a_string_is_loaded

@@ -1,5 +1,0 @@
-use Rattle.machine_examples.proofs.WithinTests.{a_test_for_null_goes_on}
-use Rattle.machine_examples.proofs.within.a_test_for_null_goes_on.Goals as goal
-
-pub returns : goal.returns
-returns c = a_test_for_null_goes_on

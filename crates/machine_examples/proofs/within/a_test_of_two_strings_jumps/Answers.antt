@@ -1,5 +1,0 @@
-use Rattle.machine_examples.proofs.WithinCompared.{a_test_of_two_strings_jumps}
-use Rattle.machine_examples.proofs.within.a_test_of_two_strings_jumps.Goals as goal
-
-pub returns : goal.returns
-returns c = a_test_of_two_strings_jumps

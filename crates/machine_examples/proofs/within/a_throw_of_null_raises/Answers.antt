@@ -1,5 +1,0 @@
-use Rattle.machine_examples.proofs.WithinTests.{a_throw_of_null_raises}
-use Rattle.machine_examples.proofs.within.a_throw_of_null_raises.Goals as goal
-
-pub returns : goal.returns
-returns c = a_throw_of_null_raises

@@ -1,5 +1,0 @@
-use Rattle.machine_examples.proofs.WithinUnits.{a_unit_is_copied_below_one}
-use Rattle.machine_examples.proofs.within.a_unit_is_copied_below_one.Goals as goal
-
-pub returns : goal.returns
-returns c = a_unit_is_copied_below_one

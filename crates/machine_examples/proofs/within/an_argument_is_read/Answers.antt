@@ -1,5 +1,0 @@
-use Rattle.machine_examples.proofs.WithinArrays.{an_argument_is_read}
-use Rattle.machine_examples.proofs.within.an_argument_is_read.Goals as goal
-
-pub returns : goal.returns
-returns c = an_argument_is_read

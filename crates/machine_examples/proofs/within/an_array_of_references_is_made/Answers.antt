@@ -1,5 +1,0 @@
-use Rattle.machine_examples.proofs.WithinArrays.{an_array_of_references_is_made}
-use Rattle.machine_examples.proofs.within.an_array_of_references_is_made.Goals as goal
-
-pub returns : goal.returns
-returns c = an_array_of_references_is_made

@@ -1,5 +1,0 @@
-use Rattle.machine_examples.proofs.WithinRuns.{an_object_is_made}
-use Rattle.machine_examples.proofs.within.an_object_is_made.Goals as goal
-
-pub returns : goal.returns
-returns c = an_object_is_made

@@ -1,0 +1,23 @@
+//! What becomes of an object in a step of nodes.
+
+ghost use Rattle.std.specs.Prelude.{◌≡◌, ℕ, Some, slice_get};
+ghost use Rattle.jvm_model.specs.Automata.{IsAutomaton};
+ghost use Rattle.machine_bytecode.specs.Objects.{Subject};
+ghost use Rattle.machine_bytecode.specs.States.{Object, State};
+ghost use Rattle.op_model.specs.Supplies.{Given};
+ghost use Rattle.machine_nodes.specs.NodeSteps.{NodeStep};
+ghost use Rattle.machine_laws.specs.NodeSurvival.{Survives};
+
+/// An object stays at its place, with its site and its class; its automaton changes only by an event of it, at a call that
+/// selects by the object's class.
+pub fn objects_survive()
+    ensures { (x : Subject) (given : Given) (s t : State) → NodeStep x given s t → (place : ℕ) (o : Object) → slice_get s.world.heap place ≡ Some o
+        → Survives x given s t place o }
+{}
+
+/// The error state stays.
+pub fn errors_stay()
+    ensures { (x : Subject) (given : Given) → IsAutomaton x.property → (s t : State) → NodeStep x given s t → (place : ℕ) (o : Object)
+        → slice_get s.world.heap place ≡ Some o → o.automaton ≡ x.property.error
+        → (later : Object) × (slice_get t.world.heap place ≡ Some later) × (later.automaton ≡ x.property.error) }
+{}

@@ -1,5 +1,0 @@
-use Rattle.method_nodes.proofs.StepNodes.{same_offsets}
-use Rattle.method_nodes.proofs.laws.nodes_stand_at_steps.Goals as goal
-
-pub returns : goal.returns
-returns c p number pool code graph l is = same_offsets p number is.method pool code graph.steps l.nodes is.nodes

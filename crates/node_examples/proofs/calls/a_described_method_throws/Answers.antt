@@ -1,5 +1,0 @@
-use Rattle.node_examples.proofs.CallRuns.{a_described_method_throws}
-use Rattle.node_examples.proofs.calls.a_described_method_throws.Goals as goal
-
-pub returns : goal.returns
-returns c = a_described_method_throws

@@ -1,5 +1,0 @@
-use Rattle.node_examples.proofs.ComparedRuns.{a_cast_passes_an_array}
-use Rattle.node_examples.proofs.compared.a_cast_passes_an_array.Goals as goal
-
-pub returns : goal.returns
-returns c = a_cast_passes_an_array

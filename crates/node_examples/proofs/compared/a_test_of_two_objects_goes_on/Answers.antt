@@ -1,5 +1,0 @@
-use Rattle.node_examples.proofs.ComparedRuns.{a_test_of_two_objects_goes_on}
-use Rattle.node_examples.proofs.compared.a_test_of_two_objects_goes_on.Goals as goal
-
-pub returns : goal.returns
-returns c = a_test_of_two_objects_goes_on

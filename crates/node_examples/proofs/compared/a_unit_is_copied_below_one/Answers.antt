@@ -1,5 +1,0 @@
-use Rattle.node_examples.proofs.ComparedRuns.{a_unit_is_copied_below_one}
-use Rattle.node_examples.proofs.compared.a_unit_is_copied_below_one.Goals as goal
-
-pub returns : goal.returns
-returns c = a_unit_is_copied_below_one

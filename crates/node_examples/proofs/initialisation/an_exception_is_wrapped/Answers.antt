@@ -1,5 +1,0 @@
-use Rattle.node_examples.proofs.InitialiserRuns.{an_exception_is_wrapped}
-use Rattle.node_examples.proofs.initialisation.an_exception_is_wrapped.Goals as goal
-
-pub returns : goal.returns
-returns c = an_exception_is_wrapped

@@ -1,5 +1,0 @@
-use Rattle.node_examples.proofs.InitialiserRuns.{an_initialiser_starts_at_the_entry}
-use Rattle.node_examples.proofs.initialisation.an_initialiser_starts_at_the_entry.Goals as goal
-
-pub returns : goal.returns
-returns c = an_initialiser_starts_at_the_entry

@@ -1,5 +1,0 @@
-use Rattle.node_examples.proofs.LoweredRuns.{nodes_of_box_cast}
-use Rattle.node_examples.proofs.lowering.nodes_of_box_cast.Goals as goal
-
-pub returns : goal.returns
-returns c = nodes_of_box_cast

@@ -1,5 +1,0 @@
-use Rattle.node_examples.proofs.LoweredCalls.{nodes_of_gets_same}
-use Rattle.node_examples.proofs.lowering_calls.nodes_of_gets_same.Goals as goal
-
-pub returns : goal.returns
-returns c = nodes_of_gets_same

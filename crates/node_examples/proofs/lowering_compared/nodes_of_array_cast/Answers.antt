@@ -1,5 +1,0 @@
-use Rattle.node_examples.proofs.LoweredCompared.{nodes_of_array_cast}
-use Rattle.node_examples.proofs.lowering_compared.nodes_of_array_cast.Goals as goal
-
-pub returns : goal.returns
-returns c = nodes_of_array_cast

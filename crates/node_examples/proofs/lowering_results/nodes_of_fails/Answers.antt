@@ -1,5 +1,0 @@
-use Rattle.node_examples.proofs.LoweredResults.{nodes_of_fails}
-use Rattle.node_examples.proofs.lowering_results.nodes_of_fails.Goals as goal
-
-pub returns : goal.returns
-returns c = nodes_of_fails

@@ -1,5 +1,0 @@
-use Rattle.node_examples.proofs.LoweredResults.{nodes_of_gets_fresh}
-use Rattle.node_examples.proofs.lowering_results.nodes_of_gets_fresh.Goals as goal
-
-pub returns : goal.returns
-returns c = nodes_of_gets_fresh

@@ -1,5 +1,0 @@
-use Rattle.node_examples.proofs.LoweredResults.{nodes_of_rings}
-use Rattle.node_examples.proofs.lowering_results.nodes_of_rings.Goals as goal
-
-pub returns : goal.returns
-returns c = nodes_of_rings

@@ -1,5 +1,0 @@
-use Rattle.node_examples.proofs.LoweredTests.{nodes_of_null_cast}
-use Rattle.node_examples.proofs.lowering_tests.nodes_of_null_cast.Goals as goal
-
-pub returns : goal.returns
-returns c = nodes_of_null_cast

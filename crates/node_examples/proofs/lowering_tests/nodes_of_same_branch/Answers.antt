@@ -1,5 +1,0 @@
-use Rattle.node_examples.proofs.LoweredTests.{nodes_of_same_branch}
-use Rattle.node_examples.proofs.lowering_tests.nodes_of_same_branch.Goals as goal
-
-pub returns : goal.returns
-returns c = nodes_of_same_branch

@@ -1,5 +1,0 @@
-use Rattle.node_examples.proofs.LoweredThrows.{nodes_of_division}
-use Rattle.node_examples.proofs.lowering_throws.nodes_of_division.Goals as goal
-
-pub returns : goal.returns
-returns c = nodes_of_division

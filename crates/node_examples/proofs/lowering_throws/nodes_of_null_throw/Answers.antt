@@ -1,5 +1,0 @@
-use Rattle.node_examples.proofs.LoweredThrows.{nodes_of_null_throw}
-use Rattle.node_examples.proofs.lowering_throws.nodes_of_null_throw.Goals as goal
-
-pub returns : goal.returns
-returns c = nodes_of_null_throw

@@ -1,5 +1,0 @@
-use Rattle.node_examples.proofs.LoweredTriggers.{nodes_of_reads_ready}
-use Rattle.node_examples.proofs.lowering_triggers.nodes_of_reads_ready.Goals as goal
-
-pub returns : goal.returns
-returns c = nodes_of_reads_ready

@@ -1,5 +1,0 @@
-use Rattle.node_examples.proofs.ResultRuns.{a_new_object_is_given}
-use Rattle.node_examples.proofs.results.a_new_object_is_given.Goals as goal
-
-pub returns : goal.returns
-returns c = a_new_object_is_given

@@ -1,5 +1,0 @@
-use Rattle.node_examples.proofs.ResultRuns.{an_argument_is_given_back}
-use Rattle.node_examples.proofs.results.an_argument_is_given_back.Goals as goal
-
-pub returns : goal.returns
-returns c = an_argument_is_given_back

@@ -1,5 +1,0 @@
-use Rattle.node_examples.proofs.ReturnRuns.{a_reference_is_given_back}
-use Rattle.node_examples.proofs.returns.a_reference_is_given_back.Goals as goal
-
-pub returns : goal.returns
-returns c = a_reference_is_given_back

@@ -1,5 +1,0 @@
-use Rattle.node_examples.proofs.ReturnRuns.{an_event_leads_to_the_error}
-use Rattle.node_examples.proofs.returns.an_event_leads_to_the_error.Goals as goal
-
-pub returns : goal.returns
-returns c = an_event_leads_to_the_error

@@ -1,5 +1,0 @@
-use Rattle.node_examples.proofs.WithinTests.{a_cast_passes_null}
-use Rattle.node_examples.proofs.tests_within.a_cast_passes_null.Goals as goal
-
-pub returns : goal.returns
-returns c = a_cast_passes_null

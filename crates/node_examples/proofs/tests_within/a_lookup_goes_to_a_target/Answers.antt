@@ -1,5 +1,0 @@
-use Rattle.node_examples.proofs.WithinTests.{a_lookup_goes_to_a_target}
-use Rattle.node_examples.proofs.tests_within.a_lookup_goes_to_a_target.Goals as goal
-
-pub returns : goal.returns
-returns c = a_lookup_goes_to_a_target

@@ -1,5 +1,0 @@
-use Rattle.node_examples.proofs.WithinTests.{a_test_of_one_object_jumps}
-use Rattle.node_examples.proofs.tests_within.a_test_of_one_object_jumps.Goals as goal
-
-pub returns : goal.returns
-returns c = a_test_of_one_object_jumps

@@ -1,5 +1,0 @@
-use Rattle.node_examples.proofs.TriggerRuns.{an_initialiser_starts_at_a_call}
-use Rattle.node_examples.proofs.triggers.an_initialiser_starts_at_a_call.Goals as goal
-
-pub returns : goal.returns
-returns c = an_initialiser_starts_at_a_call

@@ -1,5 +1,0 @@
-use Rattle.node_examples.proofs.WithinRuns.{a_switch_goes_to_another_target}
-use Rattle.node_examples.proofs.within.a_switch_goes_to_another_target.Goals as goal
-
-pub returns : goal.returns
-returns c = a_switch_goes_to_another_target

@@ -1,5 +1,0 @@
-use Rattle.node_examples.proofs.WithinRuns.{a_switch_goes_to_its_default}
-use Rattle.node_examples.proofs.within.a_switch_goes_to_its_default.Goals as goal
-
-pub returns : goal.returns
-returns c = a_switch_goes_to_its_default

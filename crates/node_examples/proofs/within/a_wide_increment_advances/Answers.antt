@@ -1,5 +1,0 @@
-use Rattle.node_examples.proofs.WithinRuns.{a_wide_increment_advances}
-use Rattle.node_examples.proofs.within.a_wide_increment_advances.Goals as goal
-
-pub returns : goal.returns
-returns c = a_wide_increment_advances

@@ -1,5 +1,0 @@
-use Rattle.node_laws.proofs.Thrown.{raises_listed}
-use Rattle.node_laws.proofs.progress.listed_classes_are_raised.Goals as goal
-
-pub returns : goal.returns
-returns c = raises_listed

@@ -1,5 +1,0 @@
-use Rattle.node_laws.proofs.Starts.{enters_it, start_ends}
-use Rattle.node_laws.proofs.progress.start_goes_on.Goals as goal
-
-pub returns : goal.returns
-returns c = record { calls = enters_it; ends = start_ends }

@@ -1,2 +1,0 @@
-pub mod Survival
-pub mod Progress

@@ -1,7 +1,0 @@
-//! Laws of the machine that runs nodes: what no step changes, and that steps are there where they should be. They call nothing,
-//! and hold of each program. No layer needs them to prove its own: they show that the definitions say what they should.
-#![tactic(auto)]
-
-pub mod progress;
-pub mod start;
-pub mod survival;

@@ -1,7 +1,0 @@
-use Rattle.std.proofs.Common.{◌≡◌, ◌-◌, ◌++◌, map}
-use Rattle.bytecode_machine.specs.Machine.{nested_arrays}
-use Rattle.node_operations.specs.ByAction.{site_at}
-use Rattle.node_operations.proofs.arrays.nested_sites.Given as goal
-
-abbrev pub invariant-loop : goal.invariant-loop
-invariant-loop l = l.sites.items ++ map (site_at l.at) (nested_arrays (l.count - l.counter) l.rest) ≡ map (site_at l.at) (nested_arrays l.count l.array)

@@ -1,8 +1,0 @@
-use Rattle.std.proofs.Common.{[]}
-use Rattle.node_operations.proofs.MovesMade.{added}
-use Rattle.node_operations.proofs.UnitsMade.{kinds_more}
-use Rattle.node_operations.proofs.units.units_of.Goals as goal
-
-pub loop-kind-preserved : goal.loop-kind-preserved
-loop-kind-preserved c =
-    added [] _ _ _ _ _ c.loop-kind.invariant c.in_ok-push_kind.ensures (kinds_more c.args.kinds.now c.loop-kind.kind-index c.kind-item.result c.loop-kind-test.true c.kind-item.is)

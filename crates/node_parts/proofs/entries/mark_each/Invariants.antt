@@ -1,6 +1,0 @@
-use Rattle.std.proofs.Common.{take}
-use Rattle.node_parts.specs.Entries.{MarksEach}
-use Rattle.node_parts.proofs.entries.mark_each.Given as goal
-
-abbrev pub invariant-loop-place : goal.invariant-loop-place
-invariant-loop-place l = record { marks : MarksEach l.fn.used (take l.place-index l.places) l.used }

@@ -1,6 +1,0 @@
-use Rattle.std.proofs.Common.{take}
-use Rattle.node_parts.specs.Entries.{AreUsedMarks}
-use Rattle.node_parts.proofs.entries.used_entries.Given as goal
-
-abbrev pub invariant-loop-step : goal.invariant-loop-step
-invariant-loop-step l = record { marks : AreUsedMarks l.count (take l.step-index l.steps) l.used.items }

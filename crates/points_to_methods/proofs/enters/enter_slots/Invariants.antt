@@ -1,0 +1,9 @@
+use Rattle.points_to_numbers.proofs.Adding.{OfOneBelow}
+use Rattle.points_to_numbers.specs.Steps.{Makes}
+use Rattle.points_to_methods.specs.Known.{names_at}
+use Rattle.points_to_methods.specs.Slots.{EntersSlot}
+use Rattle.points_to_methods.proofs.enters.enter_slots.Given as goal
+
+abbrev pub invariant-loop-slot : goal.invariant-loop-slot
+invariant-loop-slot l =
+    Makes l.fn.tables l.tables (OfOneBelow (EntersSlot (names_at l.at) l.at.method.now.method) l.slot) l.fn.steps.items l.steps.items

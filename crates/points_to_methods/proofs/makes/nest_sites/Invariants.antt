@@ -1,0 +1,7 @@
+use Rattle.points_to_numbers.proofs.Adding.{OfOneBelow}
+use Rattle.points_to_numbers.specs.Steps.{Makes}
+use Rattle.points_to_methods.specs.Arrays.{NestsAt}
+use Rattle.points_to_methods.proofs.makes.nest_sites.Given as goal
+
+abbrev pub invariant-loop-place : goal.invariant-loop-place
+invariant-loop-place l = Makes l.fn.tables l.tables (OfOneBelow (NestsAt l.sites) l.place) l.fn.steps.items l.steps.items

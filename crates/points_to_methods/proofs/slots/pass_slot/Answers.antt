@@ -1,0 +1,16 @@
+use Rattle.std.proofs.Common.{◌≡◌}
+use Rattle.points_to_constraints.specs.Items.{pass_to, used}
+use Rattle.points_to_methods.specs.Fixed.{holder_of}
+use Rattle.points_to_methods.specs.Known.{names_at}
+use Rattle.points_to_methods.specs.Slots.{slot_holder}
+use Rattle.points_to_numbers.proofs.Making.{makes_item}
+use Rattle.points_to_methods.proofs.slots.pass_slot.Goals as goal
+
+pub returns : goal.returns
+returns c =
+    let l = c.args.at.now.method.now in
+    let names = names_at c.args.at.now in
+    let from = c.args.from in
+    let to = c.args.to in
+    let same : used (holder_of c.slot_place-source.result) (pass_to (holder_of c.slot_place-target.result)) ≡ used (slot_holder names from.node from.slot) (pass_to (slot_holder names to.node to.slot)) = cc in
+    makes_item c.args.tables.now c.pass.new.tables _ _ c.args.steps.now.items c.pass.new.steps.items same c.in_ok-pass.ensures

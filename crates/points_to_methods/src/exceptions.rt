@@ -1,0 +1,137 @@
+//! The exceptions of a node: the objects that it throws, and the new ones that it may throw itself.
+
+ghost use Rattle.std.specs.Prelude.{◌≡◌, ◌↔◌, length, Some, slice_get, IfOk, IsTrue, OnOk};
+ghost use Rattle.jvm_model.specs.declared.number.ClassNo.{ClassNo};
+ghost use Rattle.jvm_model.specs.declared.site.SiteKind.TheVariants as kinds;
+ghost use Rattle.program_model.specs.Numbers.{IsClassNumber};
+ghost use Rattle.machine_nodes.specs.NodeSteps.{Takes};
+ghost use Rattle.op_model.specs.declared.node.Node.{Node};
+ghost use Rattle.op_model.specs.declared.op.Op.TheVariants as operations;
+ghost use Rattle.points_to_constraints.specs.NodeItems.{OpItem, RaiseItem};
+ghost use Rattle.points_to_numbers.specs.Steps.{Makes};
+ghost use Rattle.points_to_methods.specs.Fixed.{holder_of};
+ghost use Rattle.points_to_methods.specs.Known.{HasNode, IsNamed};
+ghost use Rattle.points_to_methods.specs.Raises.{RaisesOf};
+ghost use Rattle.points_to_rules.specs.Rules.{Lands, site_of};
+ghost use Rattle.points_to_numbers.specs.Numbered.{Grows};
+
+use crate::adding::{FixedPlace, hold, key_of};
+use crate::landings::{handler_place, landing_of};
+use crate::named::{NamedMethod, slot_place};
+use hierarchy::fits;
+use jvm_model::{ClassNo, SiteKind, SiteNo};
+use op_model::NodeHandler;
+use points_to_numbers::{Item, SiteKey, Tables, User, add_use};
+use program_index::index_failure::IndexFailure;
+use program_model::program::Program;
+use std::alloc::Global;
+
+/// Adds that what a slot holds is thrown at a node.
+pub(crate) fn throw_slot(
+    alloc: Global,
+    at: &NamedMethod<'_>,
+    node: usize,
+    value: u32,
+    tables: &mut Tables,
+    steps: &mut Vec<Item>,
+) -> Result<(), IndexFailure>
+    requires known { IsNamed at.now }
+    requires there { HasNode at.now node }
+    ensures { (n : Node) → slice_get at.now.method.now.nodes node ≡ Some n
+        → OnOk result (Makes tables.old tables.new (OpItem (operations.Throw value) at.now.program.now at.now.method.now.method at.now.method.now n) steps.old.items steps.new.items) }
+{
+    let landing = landing_of(alloc, at, node, tables)?;
+    let from = slot_place(at, node, value);
+    add_use(tables, steps, key_of(from), User::ThrowAt(landing))?;
+    Ok(())
+}
+
+/// Adds what a node may throw itself: a new object of each of its classes, held where it lands.
+pub fn raise_items(
+    at: &NamedMethod<'_>,
+    node: usize,
+    tables: &mut Tables,
+    steps: &mut Vec<Item>,
+) -> Result<(), IndexFailure>
+    requires known { IsNamed at.now }
+    requires there { HasNode at.now node }
+    ensures { (n : Node) → slice_get at.now.method.now.nodes node ≡ Some n
+        → OnOk result (Makes tables.old tables.new (RaiseItem at.now.program.now at.now.method.now.method at.now.method.now n) steps.old.items steps.new.items) }
+{
+    let throws = &at.method.nodes.as_slice()[node].throws;
+    for class in throws.as_slice() {
+        raise_class(at, node, *class, tables, steps)?;
+    }
+    Ok(())
+}
+
+/// Adds that a node may throw a new object of a class.
+fn raise_class(
+    at: &NamedMethod<'_>,
+    node: usize,
+    class: ClassNo,
+    tables: &mut Tables,
+    steps: &mut Vec<Item>,
+) -> Result<(), IndexFailure>
+    requires known { IsNamed at.now }
+    requires there { HasNode at.now node }
+    requires class { IsClassNumber at.now.program.now class.0 }
+    ensures { (n : Node) → slice_get at.now.method.now.nodes node ≡ Some n
+        → OnOk result (Makes tables.old tables.new (RaisesOf at.now.program.now at.now.method.now n class) steps.old.items steps.new.items) }
+{
+    let name = at.program.class_name(class);
+    let site = raised_site(at, node, name, tables)?;
+    hold(tables, steps, raised_place(at, node, name), site)?;
+    Ok(())
+}
+
+/// The number of the site of what a node throws itself of a class.
+fn raised_site(
+    at: &NamedMethod<'_>,
+    node: usize,
+    class: &[u8],
+    tables: &mut Tables,
+) -> Result<SiteNo, IndexFailure>
+    requires { HasNode at.now node }
+    ensures grows { OnOk result (Grows tables.old tables.new) }
+    ensures calls { OnOk result (length tables.new.calls ≡ length tables.old.calls) }
+    ensures stands { IfOk result (λ number. (n : Node) → slice_get at.now.method.now.nodes node ≡ Some n
+        → slice_get tables.new.sites number.0 ≡ Some (site_of kinds.Thrown at.now.method.now.method n class.now)) }
+{
+    let offset = at.method.nodes.as_slice()[node].offset;
+    let class = tables.class_name(class)?;
+    let number = tables.site(SiteKey {
+        kind: SiteKind::Thrown,
+        method: Some(at.method.method),
+        offset,
+        class,
+    })?;
+    Ok(number)
+}
+
+/// The place of an object of a class that is thrown at a node: that of the first handler that takes it, or else that of what the method throws.
+fn raised_place(at: &NamedMethod<'_>, node: usize, class: &[u8]) -> FixedPlace
+    requires known { IsNamed at.now }
+    requires there { HasNode at.now node }
+    ensures { (n : Node) → slice_get at.now.method.now.nodes node ≡ Some n
+        → Lands at.now.program.now at.now.method.now.method at.now.method.now n class.now (holder_of result) }
+{
+    let handlers = &at.method.nodes.as_slice()[node].handlers;
+    for handler in handlers.as_slice() {
+        if takes(at.program, *handler, class) {
+            return handler_place(at, *handler);
+        }
+    }
+    FixedPlace::Thrown(at.method.method)
+}
+
+/// Whether a handler takes the objects of a class.
+fn takes(program: &Program, handler: NodeHandler, class: &[u8]) -> bool
+    requires { (catch : ClassNo) → handler.catch ≡ Some catch → IsClassNumber program.now catch.0 }
+    ensures { IsTrue result ↔ Takes program.now handler class.now }
+{
+    let Some(catch) = handler.catch else {
+        return true;
+    };
+    fits(program, program.class_name(catch), class)
+}

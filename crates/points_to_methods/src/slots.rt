@@ -1,0 +1,37 @@
+//! What one slot holds that another one holds at another node.
+
+ghost use Rattle.std.specs.Prelude.{OnOk};
+ghost use Rattle.points_to_numbers.specs.Steps.{Makes};
+ghost use Rattle.points_to_methods.specs.Known.{HasNode, IsNamed, names_at};
+ghost use Rattle.points_to_methods.specs.Slots.{PassesSlot};
+
+use crate::adding::{Passing, pass};
+use crate::named::{NamedMethod, slot_place};
+use points_to_numbers::{Item, Tables};
+use program_index::index_failure::IndexFailure;
+
+/// A slot at a node.
+#[derive(Clone, Copy)]
+pub(crate) struct SlotAt {
+    pub(crate) node: usize,
+    pub(crate) slot: u32,
+}
+
+/// Adds that what a slot holds at a node, another one holds at another node.
+pub(crate) fn pass_slot(
+    at: &NamedMethod<'_>,
+    from: SlotAt,
+    to: SlotAt,
+    tables: &mut Tables,
+    steps: &mut Vec<Item>,
+) -> Result<(), IndexFailure>
+    requires known { IsNamed at.now }
+    requires from { HasNode at.now from.node }
+    requires to { HasNode at.now to.node }
+    ensures { OnOk result (Makes tables.old tables.new (PassesSlot (names_at at.now) from.node from.slot to.node to.slot) steps.old.items steps.new.items) }
+{
+    let source = slot_place(at, from.node, from.slot);
+    let target = slot_place(at, to.node, to.slot);
+    pass(tables, steps, source, Passing::To, target)?;
+    Ok(())
+}

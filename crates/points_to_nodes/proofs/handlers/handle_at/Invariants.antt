@@ -1,9 +1,0 @@
-use Rattle.points_to_tables.proofs.Adding.{OfOneBelow}
-use Rattle.points_to_tables.specs.Steps.{Makes}
-use Rattle.points_to_nodes.specs.Known.{names_at}
-use Rattle.points_to_nodes.specs.Slots.{PassesSlot}
-use Rattle.points_to_nodes.proofs.handlers.handle_at.Given as goal
-
-abbrev pub invariant-loop-slot : goal.invariant-loop-slot
-invariant-loop-slot l =
-    Makes l.fn.tables l.tables (OfOneBelow (λ z. PassesSlot (names_at l.at) l.node z l.next z) l.slot) l.fn.steps.items l.steps.items

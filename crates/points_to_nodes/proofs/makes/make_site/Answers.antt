@@ -1,9 +1,0 @@
-use Rattle.points_to_items.specs.NodeItems.{MakesItem}
-use Rattle.points_to_tables.proofs.Making.{makes_grown}
-use Rattle.points_to_nodes.proofs.makes.make_site.Goals as goal
-
-pub returns : goal.returns
-returns c = λ n at.
-    let l = c.args.at.now.method.now in
-    makes_grown c.args.tables.now c.number_site.new.tables c.hold_after.new.tables (MakesItem l n c.args.target c.args.site.now) c.args.steps.now.items c.hold_after.new.steps.items
-    c.in_ok-number.ensures.grows c.in_ok-number.ensures.calls (c.in_ok-hold_after.ensures n c.args.site.now at c.in_ok-number.ensures.stands)

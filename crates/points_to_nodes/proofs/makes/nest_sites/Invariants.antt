@@ -1,7 +1,0 @@
-use Rattle.points_to_tables.proofs.Adding.{OfOneBelow}
-use Rattle.points_to_tables.specs.Steps.{Makes}
-use Rattle.points_to_nodes.specs.Arrays.{NestsAt}
-use Rattle.points_to_nodes.proofs.makes.nest_sites.Given as goal
-
-abbrev pub invariant-loop-place : goal.invariant-loop-place
-invariant-loop-place l = Makes l.fn.tables l.tables (OfOneBelow (NestsAt l.sites) l.place) l.fn.steps.items l.steps.items

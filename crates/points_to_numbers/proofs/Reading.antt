@@ -1,0 +1,102 @@
+-- What a number is read as: the key or the entry that stands there.
+use Rattle.std.proofs.Common.{◌≡◌, ℕ, ◌<◌, Option, Some, None, length, refl, ap, subst, Bor}
+use Rattle.std.specs.List.{slice_get}
+use Rattle.std.specs.Option.{option_copied, IsSome}
+use Rattle.std.proofs.lemmas.Option.{none-some}
+use Rattle.jvm_model.specs.declared.site.Site.{Site}
+use Rattle.points_to_rules.specs.Facts.{Holder}
+use Rattle.points_to_constraints.specs.Items.{Landing as ItemLanding, CallSite as ItemCallSite, User as ItemUser}
+use Rattle.points_to_numbers.specs.declared.entries.Landing.{Landing}
+use Rattle.points_to_numbers.specs.declared.entries.CallSite.{CallSite}
+use Rattle.points_to_numbers.specs.declared.keys.SiteKey.{SiteKey}
+use Rattle.points_to_rules.specs.declared.place.Place.{Place}
+use Rattle.points_to_numbers.specs.declared.keys.User.{User}
+use Rattle.points_to_numbers.specs.Numbered.{Numbered, IsNumbered, IsSiteAt, IsHolderAt, IsLandingAt, IsCallAt, IsUserAt}
+use Rattle.points_to_numbers.specs.Kept.{Kept, IsSound, numbered, site_from, landing_from, call_from, user_from, sites_of, holders_of, landings_of, calls_of}
+use Rattle.points_to_rules.specs.Places.{holder_from}
+use Rattle.points_to_numbers.proofs.Standing.{site_stands, holder_stands, landing_stands, call_stands, user_stands}
+use Rattle.points_to_numbers.proofs.KeptKeys.{read_at, within_at}
+
+module _ (k : Kept) (sound : IsSound k) where
+  site_read : (number : ℕ) (key : SiteKey) → slice_get k.sites number ≡ Some key → (s : Site) → slice_get (numbered k).sites number ≡ Some s → IsSiteAt (numbered k) key s
+  unfolding numbered
+  site_read = read_at (IsSiteAt (numbered k)) (site_from k.classes) (site_stands (numbered k)) k.sites sound.sites
+
+  site_within : (number : ℕ) → IsNumbered (numbered k).sites number → number < length k.sites
+  unfolding numbered
+  site_within = within_at (IsSiteAt (numbered k)) (site_from k.classes) (site_stands (numbered k)) k.sites
+
+  holder_read : (number : ℕ) (place : Place) → slice_get k.places number ≡ Some place → (h : Holder) → slice_get (numbered k).holders number ≡ Some h → IsHolderAt (numbered k) place h
+  unfolding numbered
+  holder_read = read_at (IsHolderAt (numbered k)) (holder_from (sites_of k)) (holder_stands (numbered k)) k.places sound.places
+
+  holder_within : (number : ℕ) → IsNumbered (numbered k).holders number → number < length k.places
+  unfolding numbered
+  holder_within = within_at (IsHolderAt (numbered k)) (holder_from (sites_of k)) (holder_stands (numbered k)) k.places
+
+  landing_read : (number : ℕ) (entry : Landing) → slice_get k.landings number ≡ Some entry → (l : ItemLanding) → slice_get (numbered k).landings number ≡ Some l → IsLandingAt (numbered k) entry l
+  unfolding numbered
+  landing_read = read_at (IsLandingAt (numbered k)) (landing_from (holders_of k)) (landing_stands (numbered k)) k.landings sound.landings
+
+  landing_within : (number : ℕ) → IsNumbered (numbered k).landings number → number < length k.landings
+  unfolding numbered
+  landing_within = within_at (IsLandingAt (numbered k)) (landing_from (holders_of k)) (landing_stands (numbered k)) k.landings
+
+  call_read : (number : ℕ) (entry : CallSite) → slice_get k.calls number ≡ Some entry → (c : ItemCallSite) → slice_get (numbered k).calls number ≡ Some c → IsCallAt (numbered k) entry c
+  unfolding numbered
+  call_read = read_at (IsCallAt (numbered k)) (call_from (holders_of k) (landings_of k)) (call_stands (numbered k)) k.calls sound.calls
+
+  call_within : (number : ℕ) → IsNumbered (numbered k).calls number → number < length k.calls
+  unfolding numbered
+  call_within = within_at (IsCallAt (numbered k)) (call_from (holders_of k) (landings_of k)) (call_stands (numbered k)) k.calls
+
+  user_read : (number : ℕ) (user : User) → slice_get k.users number ≡ Some user → (u : ItemUser) → slice_get (numbered k).users number ≡ Some u → IsUserAt (numbered k) user u
+  unfolding numbered
+  user_read = read_at (IsUserAt (numbered k)) (user_from k.classes (holders_of k) (landings_of k) (calls_of k)) (user_stands (numbered k)) k.users sound.users
+
+  user_within : (number : ℕ) → IsNumbered (numbered k).users number → number < length k.users
+  unfolding numbered
+  user_within = within_at (IsUserAt (numbered k)) (user_from k.classes (holders_of k) (landings_of k) (calls_of k)) (user_stands (numbered k)) k.users
+
+-- ---- by lists that are those of the tables
+
+module _ (k : Kept) (n : Numbered) (is : numbered k ≡ n) (sound : IsSound k) where
+  pub site_at : (number : ℕ) (key : SiteKey) → slice_get k.sites number ≡ Some key → (s : Site) → slice_get n.sites number ≡ Some s → IsSiteAt n key s
+  site_at number key at = subst (λ (o : Numbered). (s : Site) → slice_get o.sites number ≡ Some s → IsSiteAt o key s) is (site_read k sound number key at)
+
+  pub has_site : (number : ℕ) → IsNumbered n.sites number → number < length k.sites
+  has_site = subst (λ (o : Numbered). (number : ℕ) → IsNumbered o.sites number → number < length k.sites) is (site_within k sound)
+
+  pub holder_at : (number : ℕ) (place : Place) → slice_get k.places number ≡ Some place → (h : Holder) → slice_get n.holders number ≡ Some h → IsHolderAt n place h
+  holder_at number place at = subst (λ (o : Numbered). (h : Holder) → slice_get o.holders number ≡ Some h → IsHolderAt o place h) is (holder_read k sound number place at)
+
+  pub has_holder : (number : ℕ) → IsNumbered n.holders number → number < length k.places
+  has_holder = subst (λ (o : Numbered). (number : ℕ) → IsNumbered o.holders number → number < length k.places) is (holder_within k sound)
+
+  pub landing_at : (number : ℕ) (entry : Landing) → slice_get k.landings number ≡ Some entry → (l : ItemLanding) → slice_get n.landings number ≡ Some l → IsLandingAt n entry l
+  landing_at number entry at = subst (λ (o : Numbered). (l : ItemLanding) → slice_get o.landings number ≡ Some l → IsLandingAt o entry l) is (landing_read k sound number entry at)
+
+  pub has_landing : (number : ℕ) → IsNumbered n.landings number → number < length k.landings
+  has_landing = subst (λ (o : Numbered). (number : ℕ) → IsNumbered o.landings number → number < length k.landings) is (landing_within k sound)
+
+  pub call_at : (number : ℕ) (entry : CallSite) → slice_get k.calls number ≡ Some entry → (c : ItemCallSite) → slice_get n.calls number ≡ Some c → IsCallAt n entry c
+  call_at number entry at = subst (λ (o : Numbered). (c : ItemCallSite) → slice_get o.calls number ≡ Some c → IsCallAt o entry c) is (call_read k sound number entry at)
+
+  pub has_call : (number : ℕ) → IsNumbered n.calls number → number < length k.calls
+  has_call = subst (λ (o : Numbered). (number : ℕ) → IsNumbered o.calls number → number < length k.calls) is (call_within k sound)
+
+  pub user_at : (number : ℕ) (user : User) → slice_get k.users number ≡ Some user → (u : ItemUser) → slice_get n.users number ≡ Some u → IsUserAt n user u
+  user_at number user at = subst (λ (o : Numbered). (u : ItemUser) → slice_get o.users number ≡ Some u → IsUserAt o user u) is (user_read k sound number user at)
+
+  pub has_user : (number : ℕ) → IsNumbered n.users number → number < length k.users
+  has_user = subst (λ (o : Numbered). (number : ℕ) → IsNumbered o.users number → number < length k.users) is (user_within k sound)
+
+-- ---- names
+
+pub names_are : (k : Kept) (n : Numbered) → numbered k ≡ n → (number : ℕ) → slice_get k.classes number ≡ slice_get n.classes number
+unfolding numbered
+names_are k n is number = ap (λ (o : Numbered). slice_get o.classes number) is
+
+pub copied_some : {X : Type 0} (r : Option (Bor X)) (x : X) → option_copied r ≡ Some x → IsSome r
+copied_some None x e = absurd (none-some x e)
+copied_some (Some b) x e = refl

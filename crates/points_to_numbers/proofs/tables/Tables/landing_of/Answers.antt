@@ -1,0 +1,16 @@
+use Rattle.std.proofs.Common.{◌≡◌, length, arith, refl, vec_len}
+use Rattle.std.proofs.lemmas.Option.{slice_get_read}
+use Rattle.points_to_numbers.specs.Kept.{kept}
+use Rattle.points_to_numbers.proofs.Reading.{landing_at, has_landing}
+use Rattle.points_to_numbers.proofs.tables.Tables.landing_of.Goals as goal
+
+pub index-requires : goal.index-requires
+index-requires c =
+    let within = has_landing (kept c.self.inside) c.args.self.now c.self.view_is c.self.invariant c.args.landing.0 c.requires in
+    let long : vec_len c.self.inside.landings ≡ length c.self.inside.landings.items = omega arith in
+    omega (arith, within, long)
+
+pub returns : goal.returns
+returns c =
+    let within = has_landing (kept c.self.inside) c.args.self.now c.self.view_is c.self.invariant c.args.landing.0 c.requires in
+    landing_at (kept c.self.inside) c.args.self.now c.self.view_is c.self.invariant c.args.landing.0 c.index.result.now (slice_get_read c.self.inside.landings.items _ c.args.landing.0 c.index.result.now refl within c.index.ensures)

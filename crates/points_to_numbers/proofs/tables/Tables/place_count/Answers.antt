@@ -1,0 +1,7 @@
+use Rattle.std.proofs.Common.{◌∙◌}
+use Rattle.points_to_numbers.specs.Kept.{kept}
+use Rattle.points_to_numbers.proofs.KnownPlaces.{holders_are}
+use Rattle.points_to_numbers.proofs.tables.Tables.place_count.Goals as goal
+
+pub returns : goal.returns
+returns c = c.len.ensures.len ∙ holders_are (kept c.self.inside) c.args.self.now c.self.view_is c.self.invariant

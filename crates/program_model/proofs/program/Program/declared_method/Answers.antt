@@ -1,0 +1,12 @@
+use Rattle.jvm_model.specs.Lookups.{lent_signature}
+use Rattle.program_model.proofs.DeclaredMembers.{method_declared, declared_method}
+use Rattle.program_model.proofs.program.Program.declared_method.Goals as goal
+
+pub returns-in-Some-clause-found : goal.returns-in-Some-clause-found
+returns-in-Some-clause-found c =
+    method_declared c.self.inside.origins.items c.deref.result.now c.args.self.now c.deref.ensures.value c.self.view_is c.args.class.0 (lent_signature c.args.signature) c.in-Some.number c.in-Some.ensures.found
+
+pub returns-in-None-clause-none : goal.returns-in-None-clause-none
+returns-in-None-clause-none c = λ n d.
+    c.in-None.ensures.none n
+    (declared_method c.self.inside.origins.items c.deref.result.now c.args.self.now c.deref.ensures.value c.self.view_is c.args.class.0 (lent_signature c.args.signature) n d)

@@ -1,8 +1,0 @@
-pub mod Equality
-pub mod Only
-pub mod Looking
-pub mod Following
-pub mod Matching
-pub mod Stubs
-pub mod Finalizers
-pub mod FirstReasons

@@ -1,5 +1,0 @@
-use Rattle.reason_laws.proofs.FirstReasons.{has_reason_or_not}
-use Rattle.reason_laws.proofs.reasons.reasons_are_decided.Goals as goal
-
-pub returns : goal.returns
-returns c = has_reason_or_not

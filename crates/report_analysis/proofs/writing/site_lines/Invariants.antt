@@ -1,0 +1,5 @@
+use Rattle.report_analysis.proofs.FoundLines.{LeavesLines}
+use Rattle.report_analysis.proofs.writing.site_lines.Given as goal
+
+abbrev pub invariant-loop-place : goal.invariant-loop-place
+invariant-loop-place l = record { left : LeavesLines l.program l.sites l.verdicts l.text.items l.place }

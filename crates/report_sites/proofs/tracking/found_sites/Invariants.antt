@@ -1,0 +1,9 @@
+use Rattle.std.proofs.Common.{[], take}
+use Rattle.ground.specs.Added.{AreAdded, OfOne}
+use Rattle.report_sites.specs.Found.{IsSiteOfMethod}
+use Rattle.report_sites.proofs.tracking.found_sites.Given as goal
+
+abbrev pub invariant-loop-place : goal.invariant-loop-place
+invariant-loop-place l = record {
+  added : AreAdded (OfOne (IsSiteOfMethod l.program l.ground l.upper) (take l.place l.ground.methods)) [] l.sites.items;
+}

@@ -1,5 +1,0 @@
-use Rattle.run_outcomes.proofs.OneRun.{run_same}
-use Rattle.run_outcomes.proofs.laws.one_run.Goals as goal
-
-pub returns : goal.returns
-returns c = λ words files x y differ program a b. run_same words files x y differ program a b

@@ -1,5 +1,0 @@
-use Rattle.run_outcomes.proofs.WholeInputs.{whole_is_reported}
-use Rattle.run_outcomes.proofs.laws.whole_input_is_reported.Goals as goal
-
-pub returns : goal.returns
-returns c = whole_is_reported

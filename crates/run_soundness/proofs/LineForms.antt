@@ -1,0 +1,195 @@
+-- Each line of an outcome is a line, and only that of a report says that a site is safe.
+use Rattle.std.proofs.Common.{codes, ◌≡◌, ◌⊎◌, inl, inr, ℕ, Bool, true, false, not, eqb, nat_eq, List, [], ◌∷◌, ◌++◌, map, count_by, refl, ap}
+use Rattle.std.specs.List.{AllByRecursion, list_all}
+use Rattle.std.specs.Prelude.{slice_index_or}
+use Rattle.ts_outside.specs.Files.{File}
+use Rattle.jvm_model.specs.declared.automaton.Automaton.{Automaton}
+use Rattle.jvm_model.specs.declared.number.MethodNo.{MethodNo}
+use Rattle.jvm_model.specs.declared.reason.Reason.{Reason}
+use Rattle.jvm_model.specs.declared.reason.Reason.TheVariants.{Truncated, BadMagic, BadVersion, BadTag, BadIndex, BadUtf8, BadDescriptor, TrailingBytes, CodeMissing, CodeUnexpected, ClassTooLarge, BadOpcode, BadTarget, CodeCut, StackUnder, StackOver, StackMerge, FallsOff, BadLocal, BadHandler, Subroutine, InvokeDynamic, MethodConstant, DuplicateClass, MissingClass, Cycle, MissingField, MissingMethod, NoStub, NoImplementation, ClashingDefaults, PackageOverride, KindMismatch, Reflection, Threads, Finalizer, BadToml, BadProperty, BadStub, NoEntry, EntryShape, TooManyFiles, PairLimit}
+use Rattle.jvm_model.specs.declared.stub.StubClass.{StubClass}
+use Rattle.jvm_model.specs.Programs.{Program}
+use Rattle.jvm_model.specs.Words.{word_of}
+use Rattle.command_words.specs.declared.fault.NumberOption.{NumberOption}
+use Rattle.command_words.specs.declared.fault.NumberOption.TheVariants as options
+use Rattle.command_words.specs.declared.fault.UsageFault.{UsageFault}
+use Rattle.command_words.specs.declared.fault.UsageFault.TheVariants.{Words, Range}
+use Rattle.command_words.specs.Requests.{Wanted}
+use Rattle.site_report.specs.declared.tracked_site.TrackedSite.{TrackedSite}
+use Rattle.site_report.specs.declared.verdict.Verdict.{Verdict}
+use Rattle.site_report.specs.Lines.{summary_line}
+use Rattle.report_spec.specs.Reports.{is_limit, is_safe, is_unproved, line_of, report_lines}
+use Rattle.run_spec.specs.declared.status.Status.{Status}
+use Rattle.run_spec.specs.declared.status.Status.TheVariants.{AllSafe, SomeUnproved, Refused, Usage}
+use Rattle.run_spec.specs.Inputs.{Input}
+use Rattle.run_spec.specs.Lines.{missing_line, no_file, option_word, refused_line, usage_line}
+use Rattle.run_spec.specs.Outcomes.{AnalysisOutcome, ClassOutcome, EndsWith, EntryOutcome, FolderOutcome, LinkOutcome, Misses, Outcome, PropertyOutcome, Refuses, StubOutcome, pair_limit, refused_method, reported, report_status, no_class, has_class, no_entry, other_shape, has_entry, unlinked, linked, refused_folder, has_classes, no_stub_file, stubs_no_document, broken_stubs, no_stubs, has_stubs, no_property, property_no_document, broken_property, has_property, unusable, usable}
+use Rattle.run_soundness.specs.Truth.{SaysSafe}
+use Rattle.site_report.proofs.ReportLines.{verdict_is_line, summary_is_line}
+use Rattle.site_report.proofs.PlainLines.{IsLine, Among, IsPlain-test, word, number, name, ended}
+
+-- ---- single lines
+
+word_plain : (r : Reason) → list_all (λ b. not (eqb b 10)) (word_of r) ≡ true
+word_plain Truncated = refl
+word_plain BadMagic = refl
+word_plain BadVersion = refl
+word_plain BadTag = refl
+word_plain BadIndex = refl
+word_plain BadUtf8 = refl
+word_plain BadDescriptor = refl
+word_plain TrailingBytes = refl
+word_plain CodeMissing = refl
+word_plain CodeUnexpected = refl
+word_plain ClassTooLarge = refl
+word_plain BadOpcode = refl
+word_plain BadTarget = refl
+word_plain CodeCut = refl
+word_plain StackUnder = refl
+word_plain StackOver = refl
+word_plain StackMerge = refl
+word_plain FallsOff = refl
+word_plain BadLocal = refl
+word_plain BadHandler = refl
+word_plain Subroutine = refl
+word_plain InvokeDynamic = refl
+word_plain MethodConstant = refl
+word_plain DuplicateClass = refl
+word_plain MissingClass = refl
+word_plain Cycle = refl
+word_plain MissingField = refl
+word_plain MissingMethod = refl
+word_plain NoStub = refl
+word_plain NoImplementation = refl
+word_plain ClashingDefaults = refl
+word_plain PackageOverride = refl
+word_plain KindMismatch = refl
+word_plain Reflection = refl
+word_plain Threads = refl
+word_plain Finalizer = refl
+word_plain BadToml = refl
+word_plain BadProperty = refl
+word_plain BadStub = refl
+word_plain NoEntry = refl
+word_plain EntryShape = refl
+word_plain TooManyFiles = refl
+word_plain PairLimit = refl
+
+pub refused_is_line : (file : List ℕ) (offset : ℕ) (reason : Reason) → IsLine (refused_line file offset reason)
+refused_is_line file offset reason =
+    ended (word (word_of reason) (word_plain reason) (word (codes " ") refl (number offset (word (codes " ") refl (name file (IsPlain-test (codes "refused ") refl))))))
+
+pub missing_is_line : (file : List ℕ) → IsLine (missing_line file)
+missing_is_line file = ended (name file (IsPlain-test (codes "missing ") refl))
+
+option_plain : (o : NumberOption) → list_all (λ b. not (eqb b 10)) (option_word o) ≡ true
+option_plain options.Stages = refl
+option_plain options.Depth = refl
+option_plain options.FactLimit = refl
+option_plain options.PairLimit = refl
+
+pub usage_is_line : (fault : UsageFault) → IsLine (usage_line fault)
+usage_is_line Words = ended (IsPlain-test (codes "usage words") refl)
+usage_is_line (Range option) = ended (word (option_word option) (option_plain option) (IsPlain-test (codes "usage range ") refl))
+
+-- ---- the lines of a report
+
+pub report_are_lines : (p : Program) (found : List (TrackedSite × Verdict)) (safe unproved limit : ℕ)
+    → AllByRecursion IsLine (map (line_of p) found ++ summary_line safe unproved limit ∷ [])
+report_are_lines p [] safe unproved limit = (summary_is_line safe unproved limit, tt)
+report_are_lines p (f ∷ found) safe unproved limit = (verdict_is_line p f.0 f.1, report_are_lines p found safe unproved limit)
+
+-- ---- what is known of an outcome
+
+abbrev pub IsReport : Status → Type 0
+IsReport s = (s ≡ AllSafe) ⊎ (s ≡ SomeUnproved)
+
+-- Its lines are lines, and one of them that says that a site is safe is that of a report.
+pub record IsFormed (s : Status) (lines : List (List ℕ)) : Type 0 where
+  pub others : List (List ℕ)
+  pub same : lines ≡ others
+  pub are : AllByRecursion IsLine others
+  pub reports : (line : List ℕ) → Among line others → SaysSafe line → IsReport s
+
+-- the second letter of the word that says that a site is safe
+abbrev has_a : List ℕ → Bool
+has_a line = nat_eq (slice_index_or line 1 0) 97
+
+says_a : (line : List ℕ) → SaysSafe line → has_a line ≡ true
+says_a line (rest, e) = ap has_a e
+
+ends_formed : (s is : Status) (lines : List (List ℕ)) (line : List ℕ) → IsLine line → has_a line ≡ false → EndsWith s lines is line → IsFormed s lines
+ends_formed s is lines line is_line other ends = record {
+  others = line ∷ [];
+  same = ends.lines_are;
+  are = (is_line, tt);
+  reports = λ found among says. never found among says;
+}
+  where
+    never : (found : List ℕ) → Among found (line ∷ []) → SaysSafe found → IsReport s
+    never found (inl e) says = let a = says_a found says in let b = ap has_a e in absurd (cc (a, b, other))
+    never found (inr none) says = absurd none
+
+refuses_formed : (s : Status) (lines : List (List ℕ)) (file : List ℕ) (offset : ℕ) (reason : Reason) → Refuses s lines file offset reason → IsFormed s lines
+refuses_formed s lines file offset reason ends = ends_formed s Refused lines (refused_line file offset reason) (refused_is_line file offset reason) refl ends
+
+misses_formed : (s : Status) (lines : List (List ℕ)) (file : List ℕ) → Misses s lines file → IsFormed s lines
+misses_formed s lines file ends = ends_formed s Usage lines (missing_line file) (missing_is_line file) refl ends
+
+usage_formed : (s : Status) (lines : List (List ℕ)) (fault : UsageFault) → EndsWith s lines Usage (usage_line fault) → IsFormed s lines
+usage_formed s lines Words ends = ends_formed s Usage lines (usage_line Words) (usage_is_line Words) refl ends
+usage_formed s lines (Range option) ends = ends_formed s Usage lines (usage_line (Range option)) (usage_is_line (Range option)) refl ends
+
+status_reports : (all_safe : Bool) (s : Status) → s ≡ report_status all_safe → IsReport s
+status_reports true s is = inl is
+status_reports false s is = inr is
+
+-- ---- the levels
+
+analysis_formed : (i : Input) (p : Program) (entry : MethodNo) (s : Status) (lines : List (List ℕ)) → AnalysisOutcome i p entry s lines → IsFormed s lines
+analysis_formed i p entry s lines (pair_limit end ends) = refuses_formed s lines no_file 0 PairLimit ends
+analysis_formed i p entry s lines (refused_method r end ends) = refuses_formed s lines r.file r.offset r.reason ends
+analysis_formed i p entry s lines (reported facts all_safe solution report is) = record {
+  others = report_lines p report.found;
+  same = report.lines_are;
+  are = report_are_lines p report.found
+      (count_by (λ (f : TrackedSite × Verdict). is_safe f.1) report.found) (count_by (λ (f : TrackedSite × Verdict). is_unproved f.1) report.found)
+      (count_by (λ (f : TrackedSite × Verdict). is_limit f.1) report.found);
+  reports = λ line among says. status_reports all_safe s is;
+}
+
+class_formed : (i : Input) (p : Program) (entry : MethodNo) (s : Status) (lines : List (List ℕ)) → ClassOutcome i p entry s lines → IsFormed s lines
+class_formed i p entry s lines (no_class none ends) = refuses_formed s lines i.wanted.property 0 MissingClass ends
+class_formed i p entry s lines (has_class class named outcome) = analysis_formed i p entry s lines outcome
+
+entry_formed : (i : Input) (p : Program) (s : Status) (lines : List (List ℕ)) → EntryOutcome i p s lines → IsFormed s lines
+entry_formed i p s lines (no_entry none names ends) = refuses_formed s lines no_file 0 NoEntry ends
+entry_formed i p s lines (other_shape none names ends) = refuses_formed s lines no_file 0 EntryShape ends
+entry_formed i p s lines (has_entry entry is outcome) = class_formed i p entry s lines outcome
+
+link_formed : (i : Input) (s : Status) (lines : List (List ℕ)) → LinkOutcome i s lines → IsFormed s lines
+link_formed i s lines (unlinked r links ends) = refuses_formed s lines r.file r.offset r.reason ends
+link_formed i s lines (linked p links program outcome) = entry_formed i p s lines outcome
+
+folder_formed : (files : List File) (w : Wanted) (a : Automaton) (stubs : List StubClass) (s : Status) (lines : List (List ℕ)) → FolderOutcome files w a stubs s lines
+    → IsFormed s lines
+folder_formed files w a stubs s lines (refused_folder r refused ends) = refuses_formed s lines r.file r.offset r.reason ends
+folder_formed files w a stubs s lines (has_classes classes are outcome) =
+    link_formed (record { wanted = w; property = a; stubs = stubs; classes = classes }) s lines outcome
+
+stubs_formed : (files : List File) (w : Wanted) (a : Automaton) (s : Status) (lines : List (List ℕ)) → StubOutcome files w a s lines → IsFormed s lines
+stubs_formed files w a s lines (no_stub_file file given missing ends) = misses_formed s lines file ends
+stubs_formed files w a s lines (stubs_no_document file bytes given held bad ends) = refuses_formed s lines file 0 BadToml ends
+stubs_formed files w a s lines (broken_stubs file bytes class given held bad ends) = refuses_formed s lines file 0 BadStub ends
+stubs_formed files w a s lines (no_stubs none outcome) = folder_formed files w a [] s lines outcome
+stubs_formed files w a s lines (has_stubs file bytes stubs given held gives outcome) = folder_formed files w a stubs s lines outcome
+
+property_formed : (files : List File) (w : Wanted) (s : Status) (lines : List (List ℕ)) → PropertyOutcome files w s lines → IsFormed s lines
+property_formed files w s lines (no_property missing ends) = misses_formed s lines w.property ends
+property_formed files w s lines (property_no_document bytes held bad ends) = refuses_formed s lines w.property 0 BadToml ends
+property_formed files w s lines (broken_property bytes key held bad ends) = refuses_formed s lines w.property 0 BadProperty ends
+property_formed files w s lines (has_property bytes a held gives outcome) = stubs_formed files w a s lines outcome
+
+pub outcome_formed : (words : List (List ℕ)) (files : List File) (s : Status) (lines : List (List ℕ)) → Outcome words files s lines → IsFormed s lines
+outcome_formed words files s lines (unusable fault bad ends) = usage_formed s lines fault ends
+outcome_formed words files s lines (usable w asks outcome) = property_formed files w s lines outcome

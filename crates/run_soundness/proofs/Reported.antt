@@ -1,0 +1,138 @@
+-- A run whose status is that of a report has passed each level: each other case of a level ends with a line and the status of a refusal or of usage.
+use Rattle.std.proofs.Common.{◌≡◌, ◌⊎◌, inl, inr, ℕ, Bool, List, [], Option, Some, Ok, refl, sym, ap, subst}
+use Rattle.ts_outside.specs.Files.{File, file_at}
+use Rattle.jvm_model.specs.declared.automaton.Automaton.{Automaton}
+use Rattle.jvm_model.specs.declared.number.MethodNo.{MethodNo}
+use Rattle.jvm_model.specs.declared.stub.StubClass.{StubClass}
+use Rattle.jvm_model.specs.LinkedPrograms.{IsProgram}
+use Rattle.jvm_model.specs.Linking.{Links}
+use Rattle.jvm_model.specs.Lookups.{Signature}
+use Rattle.jvm_model.specs.Programs.{Class, Program}
+use Rattle.jvm_model.specs.Subtypes.{class_named}
+use Rattle.machine_bytecode.specs.Objects.{Subject}
+use Rattle.command_words.specs.Requests.{Wanted, AsksFor}
+use Rattle.entry_points.specs.Entries.{IsEntry, with_strings, plain}
+use Rattle.lowering_supply.specs.Supplied.{IsSupplied}
+use Rattle.points_to_rules.specs.Facts.{Fact}
+use Rattle.points_to_rules.specs.Solutions.{IsSolution}
+use Rattle.property_file.specs.PropertyFile.{IsPropertyFile}
+use Rattle.run_spec.specs.declared.status.Status.{Status}
+use Rattle.run_spec.specs.declared.status.Status.TheVariants.{AllSafe, SomeUnproved, Refused, Usage}
+use Rattle.run_spec.specs.Inputs.{AreStubs, Input, IsInput, all_stubs}
+use Rattle.run_spec.specs.Outcomes.{report_status, AnalysisOutcome, pair_limit, refused_method, reported, ClassOutcome, no_class, has_class, EntryOutcome, no_entry, other_shape, has_entry, LinkOutcome, unlinked, linked, FolderOutcome, refused_folder, has_classes, StubOutcome, no_stub_file, stubs_no_document, broken_stubs, no_stubs, has_stubs, PropertyOutcome, no_property, property_no_document, broken_property, has_property, Outcome, unusable, usable}
+use Rattle.simulation.specs.Simulation.{HasEntry, HasExceptions}
+use Rattle.run_spec.specs.RunSubjects.{IsRunOf}
+use Rattle.run_spec.specs.WholeInputs.{IsWholeInput}
+use Rattle.run_soundness.specs.Reports.{IsReportOf}
+use Rattle.run_soundness.proofs.BuiltIn.{has_exceptions}
+
+-- ---- the entry
+
+-- a method that can start a program takes nothing, or an array of strings, and has no result
+pub has_entry_method : (x : Subject) (class method : List ℕ) → IsEntry x.program class method x.entry → HasEntry x
+has_entry_method x class method (with_strings s) = record { method = s.found; stands = s.stands; descriptor = inr (ap (λ (k : Signature). k.descriptor) s.named) }
+has_entry_method x class method (plain none s) = record { method = s.found; stands = s.stands; descriptor = inl (ap (λ (k : Signature). k.descriptor) s.named) }
+
+-- ---- what is told of a run
+
+-- what is run
+abbrev subject : Program → Automaton → MethodNo → Subject
+subject p a entry = record { program = p; property = a; entry = entry.0 }
+
+-- the lines are the report on it by the least facts, and the status is that of the report
+abbrev HasReport : Subject → ℕ → Status → List (List ℕ) → Type 0
+HasReport x stages status lines = (facts : List Fact) × (all_safe : Bool) × IsReportOf x stages facts lines all_safe × (status ≡ report_status all_safe)
+
+-- the property's class is there, and there are least sets, with nothing refused and within the limit
+abbrev IsAnalysed : Subject → ℕ → Type 0
+IsAnalysed x limit =
+    ((class : Class) × (class_named x.program x.property.class_name ≡ Some class))
+    × ((facts : List Fact) × IsSolution x.program (IsSupplied x.program) (record { 0 = x.entry }) limit facts)
+
+-- what the run is of, with its report
+abbrev IsReported : List (List ℕ) → List File → Status → List (List ℕ) → Type 0
+IsReported words files status lines =
+    (x : Subject) × (run : IsRunOf words files x) × IsProgram x.program × HasExceptions x.program × HasEntry x × HasReport x run.input.wanted.stages status lines
+    × IsAnalysed x run.input.wanted.pair_limit
+
+-- ---- the levels, from the last to the first
+
+module _ (status : Status) (lines : List (List ℕ)) (ends : (status ≡ AllSafe) ⊎ (status ≡ SomeUnproved)) where
+  never_refused : status ≡ Refused → ⊥
+  never_refused is = elim ends [ inl safe ↦ cc | inr unproved ↦ cc ]
+
+  never_usage : status ≡ Usage → ⊥
+  never_usage is = elim ends [ inl safe ↦ cc | inr unproved ↦ cc ]
+
+  of_analysis : (i : Input) (p : Program) (entry : MethodNo) → AnalysisOutcome i p entry status lines
+      → HasReport (subject p i.property entry) i.wanted.stages status lines
+      × ((facts : List Fact) × IsSolution p (IsSupplied p) entry i.wanted.pair_limit facts)
+  of_analysis i p entry (pair_limit many e) = absurd (never_refused e.status_is)
+  of_analysis i p entry (refused_method r is e) = absurd (never_refused e.status_is)
+  of_analysis i p entry (reported facts all_safe solution report is) =
+      ((facts, all_safe, record { limit = i.wanted.pair_limit; solution = solution; report = report }, is), (facts, solution))
+
+  of_class : (i : Input) (p : Program) (entry : MethodNo) → ClassOutcome i p entry status lines
+      → HasReport (subject p i.property entry) i.wanted.stages status lines × IsAnalysed (subject p i.property entry) i.wanted.pair_limit
+  of_class i p entry (no_class none e) = absurd (never_refused e.status_is)
+  of_class i p entry (has_class class is next) = let told = of_analysis i p entry next in (told.0, ((class, is), told.1))
+
+  module _ (words : List (List ℕ)) (files : List File) where
+    module _ (i : Input) (is_input : IsInput words files i) where
+      of_entry : (p : Program) → Links i.classes (all_stubs i.stubs) (Ok p) → IsProgram p → EntryOutcome i p status lines → IsReported words files status lines
+      of_entry p links program (no_entry none no_name e) = absurd (never_refused e.status_is)
+      of_entry p links program (other_shape none named e) = absurd (never_refused e.status_is)
+      of_entry p links program (has_entry entry is next) =
+          let x = subject p i.property entry in
+          let run : IsRunOf words files x = record { input = i; is_input = is_input; property = refl; links = links; entry = is } in
+          let told = of_class i p entry next in
+          (x, run, program, has_exceptions i.classes i.stubs p links, has_entry_method x i.wanted.class i.wanted.method is, told.0, told.1)
+
+      of_link : LinkOutcome i status lines → IsReported words files status lines
+      of_link (unlinked r links e) = absurd (never_refused e.status_is)
+      of_link (linked p links program next) = of_entry p links program next
+
+    module _ (w : Wanted) (asks : AsksFor words w) where
+      module _ (property_bytes : List ℕ) (a : Automaton) (property_held : file_at files w.property ≡ Some property_bytes)
+          (property : IsPropertyFile property_bytes a) where
+        of_folder : (stubs : List StubClass) → AreStubs files w.stubs stubs → FolderOutcome files w a stubs status lines → IsReported words files status lines
+        of_folder stubs are_stubs (refused_folder r is e) = absurd (never_refused e.status_is)
+        of_folder stubs are_stubs (has_classes classes are next) =
+            of_link (record { wanted = w; property = a; stubs = stubs; classes = classes }) (record {
+              asks = asks;
+              property_bytes = property_bytes;
+              property_held = property_held;
+              property = property;
+              stubs = are_stubs;
+              classes = are;
+            }) next
+
+        of_stubs : StubOutcome files w a status lines → IsReported words files status lines
+        of_stubs (no_stub_file name asked none e) = absurd (never_usage e.status_is)
+        of_stubs (stubs_no_document name bytes asked held bad e) = absurd (never_refused e.status_is)
+        of_stubs (broken_stubs name bytes class asked held bad e) = absurd (never_refused e.status_is)
+        of_stubs (no_stubs unasked next) = of_folder [] (subst (λ (o : Option (List ℕ)). AreStubs files o []) (sym unasked) refl) next
+        of_stubs (has_stubs name bytes stubs asked held are next) =
+            of_folder stubs (subst (λ (o : Option (List ℕ)). AreStubs files o stubs) (sym asked) (bytes, held, are)) next
+
+      of_property : PropertyOutcome files w status lines → IsReported words files status lines
+      of_property (no_property none e) = absurd (never_usage e.status_is)
+      of_property (property_no_document bytes held bad e) = absurd (never_refused e.status_is)
+      of_property (broken_property bytes key held bad e) = absurd (never_refused e.status_is)
+      of_property (has_property bytes a held is next) = of_stubs bytes a held is next
+
+    of_words : Outcome words files status lines → IsReported words files status lines
+    of_words (unusable fault is e) = absurd (never_usage e.status_is)
+    of_words (usable w asks next) = of_property w asks next
+
+module _ (words : List (List ℕ)) (files : List File) (status : Status) (lines : List (List ℕ)) (outcome : Outcome words files status lines)
+    (ends : (status ≡ AllSafe) ⊎ (status ≡ SomeUnproved)) where
+  pub is_reported : (x : Subject) × (run : IsRunOf words files x) × IsProgram x.program × HasExceptions x.program × HasEntry x
+      × HasReport x run.input.wanted.stages status lines
+  is_reported = let (x, run, program, exceptions, entry, report, analysed) = of_words status lines ends words files outcome in (x, run, program, exceptions, entry, report)
+
+  -- nothing was missing, and nothing was refused
+  pub is_whole : IsWholeInput words files
+  is_whole =
+      let (x, run, program, exceptions, entry, report, analysed) = of_words status lines ends words files outcome in
+      record { x = x; run = run; class = analysed.0.0; is_class = analysed.0.1; facts = analysed.1.0; solution = analysed.1.1 }

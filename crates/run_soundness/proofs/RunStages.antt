@@ -1,0 +1,109 @@
+-- Of two runs that are asked for the same but for their last stages, level by level: where the one goes on, so does the other, and where the one ends with
+-- a line of its own, no line says that a site is safe.
+use Rattle.std.proofs.Common.{◌≡◌, ◌≢◌, ◌≤◌, ℕ, false, List, [], Some, None, AllPairs, Contains, refl, sym, subst}
+use Rattle.std.proofs.lemmas.List.Elements.{All-nil}
+use Rattle.ts_outside.specs.Files.{File}
+use Rattle.jvm_model.specs.declared.automaton.Automaton.{Automaton}
+use Rattle.jvm_model.specs.declared.number.MethodNo.{MethodNo}
+use Rattle.jvm_model.specs.declared.reason.Reason.TheVariants.{BadToml, BadProperty, BadStub, NoEntry, EntryShape, MissingClass, PairLimit}
+use Rattle.jvm_model.specs.declared.stub.StubClass.{StubClass}
+use Rattle.jvm_model.specs.LinkedPrograms.{MembersDiffer}
+use Rattle.jvm_model.specs.Programs.{Program}
+use Rattle.command_words.specs.declared.fault.UsageFault.{UsageFault}
+use Rattle.command_words.specs.declared.fault.UsageFault.TheVariants.{Words, Range}
+use Rattle.command_words.specs.Requests.{Wanted, AsksFor}
+use Rattle.lowering_supply.specs.OneAnswer.{one_answer}
+use Rattle.lowering_supply.specs.Supplied.{IsSupplied}
+use Rattle.report_spec.proofs.SameFacts.{all_kept, report_into}
+use Rattle.run_spec.specs.declared.status.Status.{Status}
+use Rattle.run_spec.specs.declared.status.Status.TheVariants.{Refused, Usage}
+use Rattle.run_spec.specs.Inputs.{HaveDifferentNames, Input}
+use Rattle.run_spec.specs.Lines.{missing_line, no_file, refused_line, usage_line}
+use Rattle.run_spec.specs.Outcomes.{asked_of, AnalysisOutcome, ClassOutcome, EndsWith, EntryOutcome, FolderOutcome, LinkOutcome, Outcome, PropertyOutcome, StubOutcome, pair_limit, refused_method, reported, no_class, has_class, no_entry, other_shape, has_entry, unlinked, linked, refused_folder, has_classes, no_stub_file, stubs_no_document, broken_stubs, no_stubs, has_stubs, no_property, property_no_document, broken_property, has_property, unusable, usable}
+use Rattle.run_spec.proofs.Levels.{past_class, past_entry, past_link, past_folder, past_stubs, past_property, past_words}
+use Rattle.run_spec.proofs.OneAnalysis.{many_or_few, refused_or_solved, to_other, to_this}
+use Rattle.run_spec.proofs.OneFolder.{files_differ}
+use Rattle.run_spec.proofs.OneRequest.{AsksFor-same}
+use Rattle.run_soundness.specs.Truth.{SaysSafe}
+use Rattle.run_soundness.proofs.MoreStages.{AreKeptIn, kept_with, safe_lines_kept}
+use Rattle.run_soundness.proofs.SafeLines.{has_a, says_a}
+
+module _ (files : List File) (differ : HaveDifferentNames files) (s t : Status) (l m : List (List ℕ)) where
+  abbrev Kept : Type 0
+  Kept = AreKeptIn m l
+
+  -- a line of another kind says of no site that it is safe
+  none_safe : (is : Status) (line : List ℕ) → has_a line ≡ false → EndsWith s l is line → Kept
+  none_safe is line other ends =
+      subst (AreKeptIn m) (sym ends.lines_are)
+      (kept_with m [] line (λ says. let a = says_a line says in absurd (cc (a, other))) (All-nil (λ (k : List ℕ). SaysSafe k → Contains m k)))
+
+  of_usage : (fault : UsageFault) → EndsWith s l Usage (usage_line fault) → Kept
+  of_usage Words ends = none_safe Usage (usage_line Words) refl ends
+  of_usage (Range option) ends = none_safe Usage (usage_line (Range option)) refl ends
+
+  -- an input that is asked for more stages
+  module _ (i : Input) (more : ℕ) (le : i.wanted.stages ≤ more) where
+    abbrev asked_for_more : Input
+    asked_for_more = record i { wanted = record i.wanted { stages = more } }
+
+    abbrev limit : ℕ
+    limit = i.wanted.pair_limit
+
+    of_analysis : (p : Program) (entry : MethodNo) → AnalysisOutcome i p entry s l → AnalysisOutcome asked_for_more p entry t m → Kept
+    of_analysis p entry (pair_limit many ends) other = none_safe Refused (refused_line no_file 0 PairLimit) refl ends
+    of_analysis p entry (refused_method r is ends) other = none_safe Refused (refused_line r.file r.offset r.reason) refl ends
+    of_analysis p entry (reported facts b is report si) (pair_limit many ends) =
+        absurd (many_or_few p (IsSupplied p) (one_answer p) entry limit facts many.1 is.least)
+    of_analysis p entry (reported facts b is report si) (refused_method q is2 ends) =
+        absurd (refused_or_solved p (IsSupplied p) (one_answer p) entry limit q facts is2 is)
+    of_analysis p entry (reported facts b is report si) (reported others c is2 report2 ti) =
+        let to = to_other p (IsSupplied p) (one_answer p) entry limit facts others is.least is2.least in
+        let back = to_this p (IsSupplied p) (one_answer p) entry limit facts others is.least is2.least in
+        let here = report_into p (IsSupplied p) (Contains others) (Contains facts) (all_kept (Contains others) (Contains facts) back)
+        (all_kept (Contains facts) (Contains others) to) (asked_of asked_for_more) m c report2 in
+        safe_lines_kept p (IsSupplied p) (Contains facts) (asked_of i) more le l m b c report here
+
+    of_class : (p : Program) (entry : MethodNo) → ClassOutcome i p entry s l → ClassOutcome asked_for_more p entry t m → Kept
+    of_class p entry (no_class none ends) other = none_safe Refused (refused_line i.wanted.property 0 MissingClass) refl ends
+    of_class p entry (has_class class is next) other = of_analysis p entry next (past_class t m asked_for_more p entry class is other)
+
+    of_entry : (p : Program) → MembersDiffer p → EntryOutcome i p s l → EntryOutcome asked_for_more p t m → Kept
+    of_entry p members (no_entry none no_name ends) other = none_safe Refused (refused_line no_file 0 NoEntry) refl ends
+    of_entry p members (other_shape none named ends) other = none_safe Refused (refused_line no_file 0 EntryShape) refl ends
+    of_entry p members (has_entry entry is next) other = of_class p entry next (past_entry t m asked_for_more p members entry is other)
+
+    of_link : AllPairs (λ f g. f.file ≢ g.file) i.classes → LinkOutcome i s l → LinkOutcome asked_for_more t m → Kept
+    of_link apart (unlinked r links ends) other = none_safe Refused (refused_line r.file r.offset r.reason) refl ends
+    of_link apart (linked p links program next) other = of_entry p program.members next (past_link t m asked_for_more apart p links other).1
+
+  module _ (w : Wanted) (more : ℕ) (le : w.stages ≤ more) where
+    -- what the second run is asked for
+    abbrev pub asked_more : Wanted
+    asked_more = record w { stages = more }
+
+    of_folder : (a : Automaton) (stubs : List StubClass) → FolderOutcome files w a stubs s l → FolderOutcome files asked_more a stubs t m → Kept
+    of_folder a stubs (refused_folder r is ends) other = none_safe Refused (refused_line r.file r.offset r.reason) refl ends
+    of_folder a stubs (has_classes classes are next) other =
+        let i : Input = record { wanted = w; property = a; stubs = stubs; classes = classes } in
+        of_link i more le (files_differ files differ classes are) next (past_folder t m files differ (asked_for_more i more le) are other)
+
+    of_stubs : (a : Automaton) → StubOutcome files w a s l → StubOutcome files asked_more a t m → Kept
+    of_stubs a (no_stub_file name asked none ends) other = none_safe Usage (missing_line name) refl ends
+    of_stubs a (stubs_no_document name bytes asked held bad ends) other = none_safe Refused (refused_line name 0 BadToml) refl ends
+    of_stubs a (broken_stubs name bytes class asked held bad ends) other = none_safe Refused (refused_line name 0 BadStub) refl ends
+    of_stubs a (no_stubs unasked next) other = of_folder a [] next (past_stubs t m files asked_more a [] None unasked refl other)
+    of_stubs a (has_stubs name bytes stubs asked held are next) other =
+        of_folder a stubs next (past_stubs t m files asked_more a stubs (Some name) asked (bytes, held, are) other)
+
+    of_property : PropertyOutcome files w s l → PropertyOutcome files asked_more t m → Kept
+    of_property (no_property none ends) other = none_safe Usage (missing_line w.property) refl ends
+    of_property (property_no_document bytes held bad ends) other = none_safe Refused (refused_line w.property 0 BadToml) refl ends
+    of_property (broken_property bytes key held bad ends) other = none_safe Refused (refused_line w.property 0 BadProperty) refl ends
+    of_property (has_property bytes a held is next) other = of_stubs a next (past_property t m files asked_more bytes a held is other)
+
+    pub of_words : (words others : List (List ℕ)) → AsksFor words w → AsksFor others asked_more → Outcome words files s l → Outcome others files t m → Kept
+    of_words words others asks asks_more (unusable fault is ends) other = of_usage fault ends
+    of_words words others asks asks_more (usable u asked next) other =
+        of_property (subst (λ (k : Wanted). PropertyOutcome files k s l) (AsksFor-same words u w asked asks) next)
+        (past_words t m others files asked_more asks_more other)

@@ -1,0 +1,8 @@
+use Rattle.std.proofs.Common.{Contains}
+use Rattle.lowering_supply.specs.Supplied.{IsSupplied}
+use Rattle.run_soundness.proofs.MoreStages.{safe_lines_kept}
+use Rattle.run_soundness.proofs.report_laws.more_stages_keep_safe_lines.Goals as goal
+
+pub returns : goal.returns
+returns c = λ p facts w more lines others all_safe all_of_others le r q.
+    safe_lines_kept p (IsSupplied p) (Contains facts) w more le lines others all_safe all_of_others r q

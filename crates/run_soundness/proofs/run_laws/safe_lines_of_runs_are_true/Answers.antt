@@ -1,0 +1,5 @@
+use Rattle.run_soundness.proofs.Written.{reports_are_true}
+use Rattle.run_soundness.proofs.run_laws.safe_lines_of_runs_are_true.Goals as goal
+
+pub returns : goal.returns
+returns c = λ words files status lines outcome reports. reports_are_true words files status lines outcome reports

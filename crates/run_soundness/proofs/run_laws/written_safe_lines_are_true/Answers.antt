@@ -1,0 +1,5 @@
+use Rattle.run_soundness.proofs.Written.{written_true}
+use Rattle.run_soundness.proofs.run_laws.written_safe_lines_are_true.Goals as goal
+
+pub returns : goal.returns
+returns c = λ words files status lines outcome line stands says. written_true words files status lines outcome line stands says

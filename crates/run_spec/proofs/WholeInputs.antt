@@ -1,0 +1,52 @@
+-- Of an input in which nothing is missing and nothing is refused the outcome is a report: each level goes on to the next one, and the last one reports.
+use Rattle.std.proofs.Common.{◌≡◌, ◌⊎◌, inl, inr, ℕ, Bool, true, false, List, Some, refl, sym, subst}
+use Rattle.ts_outside.specs.Files.{File}
+use Rattle.jvm_model.specs.declared.automaton.Automaton.{Automaton}
+use Rattle.jvm_model.specs.declared.number.MethodNo.{MethodNo}
+use Rattle.jvm_model.specs.Programs.{Program}
+use Rattle.jvm_model.specs.Subtypes.{class_named}
+use Rattle.lowering_supply.specs.OneAnswer.{one_answer}
+use Rattle.lowering_supply.specs.Supplied.{IsSupplied}
+use Rattle.points_to_rules.specs.Solutions.{IsSolution}
+use Rattle.points_to_rules.specs.Facts.{Fact}
+use Rattle.run_spec.specs.declared.status.Status.{Status}
+use Rattle.run_spec.specs.declared.status.Status.TheVariants.{AllSafe, SomeUnproved}
+use Rattle.run_spec.specs.Inputs.{HaveDifferentNames, Input}
+use Rattle.run_spec.specs.Outcomes.{report_status, AnalysisOutcome, pair_limit, refused_method, reported, Outcome}
+use Rattle.run_spec.specs.WholeInputs.{IsWholeInput}
+use Rattle.run_spec.proofs.Levels.{past_class, past_entry, past_link, past_folder, past_stubs, past_property, past_words}
+use Rattle.run_spec.proofs.OneAnalysis.{many_or_few, refused_or_solved}
+use Rattle.run_spec.proofs.OneFolder.{files_differ}
+
+by_report : (s : Status) (all_safe : Bool) → s ≡ report_status all_safe → (s ≡ AllSafe) ⊎ (s ≡ SomeUnproved)
+by_report s true is = inl is
+by_report s false is = inr is
+
+solved : (i : Input) (p : Program) (entry : MethodNo) (s : Status) (l : List (List ℕ)) (facts : List Fact)
+    → IsSolution p (IsSupplied p) entry i.wanted.pair_limit facts → AnalysisOutcome i p entry s l → (s ≡ AllSafe) ⊎ (s ≡ SomeUnproved)
+solved i p entry s l facts solution (pair_limit many ends) =
+    absurd (many_or_few p (IsSupplied p) (one_answer p) entry i.wanted.pair_limit facts many.1 solution.least)
+solved i p entry s l facts solution (refused_method r is ends) =
+    absurd (refused_or_solved p (IsSupplied p) (one_answer p) entry i.wanted.pair_limit r facts is solution)
+solved i p entry s l facts solution (reported others all_safe is report status) = by_report s all_safe status
+
+-- the levels of a whole input lead to its analysis
+past_levels : (words : List (List ℕ)) (files : List File) (s : Status) (l : List (List ℕ)) → HaveDifferentNames files → (w : IsWholeInput words files)
+    → Outcome words files s l → AnalysisOutcome w.run.input w.x.program (record { 0 = w.x.entry }) s l
+past_levels words files s l differ w o =
+    let i = w.run.input in
+    let is = w.run.is_input in
+    let p = w.x.program in
+    let of_words = past_words s l words files i.wanted is.asks o in
+    let of_property = past_property s l files i.wanted is.property_bytes i.property is.property_held is.property of_words in
+    let of_stubs = past_stubs s l files i.wanted i.property i.stubs i.wanted.stubs refl is.stubs of_property in
+    let of_folder = past_folder s l files differ i is.classes of_stubs in
+    let of_link = past_link s l i (files_differ files differ i.classes is.classes) p w.run.links of_folder in
+    let of_entry = past_entry s l i p of_link.0.members (record { 0 = w.x.entry }) w.run.entry of_link.1 in
+    let there = subst (λ (a : Automaton). class_named p a.class_name ≡ Some w.class) (sym w.run.property) w.is_class in
+    past_class s l i p (record { 0 = w.x.entry }) w.class there of_entry
+
+pub whole_is_reported : (words : List (List ℕ)) (files : List File) (s : Status) (l : List (List ℕ)) → HaveDifferentNames files → IsWholeInput words files
+    → Outcome words files s l → (s ≡ AllSafe) ⊎ (s ≡ SomeUnproved)
+whole_is_reported words files s l differ w o =
+    solved w.run.input w.x.program (record { 0 = w.x.entry }) s l w.facts w.solution (past_levels words files s l differ w o)

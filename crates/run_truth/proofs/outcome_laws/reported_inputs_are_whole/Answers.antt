@@ -1,5 +1,0 @@
-use Rattle.run_truth.proofs.Reported.{is_whole}
-use Rattle.run_truth.proofs.outcome_laws.reported_inputs_are_whole.Goals as goal
-
-pub returns : goal.returns
-returns c = is_whole

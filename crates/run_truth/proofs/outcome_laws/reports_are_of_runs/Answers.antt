@@ -1,5 +1,0 @@
-use Rattle.run_truth.proofs.Reported.{is_reported}
-use Rattle.run_truth.proofs.outcome_laws.reports_are_of_runs.Goals as goal
-
-pub returns : goal.returns
-returns c = is_reported

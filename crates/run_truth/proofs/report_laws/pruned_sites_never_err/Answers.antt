@@ -1,5 +1,0 @@
-use Rattle.run_truth.proofs.Verdicts.{closed_never_errs}
-use Rattle.run_truth.proofs.report_laws.pruned_sites_never_err.Goals as goal
-
-pub returns : goal.returns
-returns c = closed_never_errs

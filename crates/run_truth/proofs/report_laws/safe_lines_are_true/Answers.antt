@@ -1,5 +1,0 @@
-use Rattle.run_truth.proofs.TrueReports.{lines_true}
-use Rattle.run_truth.proofs.report_laws.safe_lines_are_true.Goals as goal
-
-pub returns : goal.returns
-returns c = lines_true

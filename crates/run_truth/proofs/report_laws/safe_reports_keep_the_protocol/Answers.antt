@@ -1,5 +1,0 @@
-use Rattle.run_truth.proofs.OwnSites.{own_never_err}
-use Rattle.run_truth.proofs.report_laws.safe_reports_keep_the_protocol.Goals as goal
-
-pub returns : goal.returns
-returns c = own_never_err

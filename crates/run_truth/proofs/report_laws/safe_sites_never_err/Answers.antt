@@ -1,5 +1,0 @@
-use Rattle.run_truth.proofs.TrueReports.{safe_never_errs}
-use Rattle.run_truth.proofs.report_laws.safe_sites_never_err.Goals as goal
-
-pub returns : goal.returns
-returns c = safe_never_errs

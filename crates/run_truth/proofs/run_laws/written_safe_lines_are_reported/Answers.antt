@@ -1,5 +1,0 @@
-use Rattle.run_truth.proofs.Written.{written_reported}
-use Rattle.run_truth.proofs.run_laws.written_safe_lines_are_reported.Goals as goal
-
-pub returns : goal.returns
-returns c = λ words files status lines outcome line stands says. written_reported words files status lines outcome line stands says

@@ -1,2 +1,0 @@
-pub mod ClassNames
-pub mod FitSteps

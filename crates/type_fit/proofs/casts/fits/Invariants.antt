@@ -1,9 +1,0 @@
-use Rattle.std.proofs.Common.{length}
-use Rattle.type_fit.specs.Casts.{StandFor}
-use Rattle.type_fit.proofs.casts.fits.Given as goal
-
-abbrev pub invariant-loop-over : goal.invariant-loop-over
-invariant-loop-over l = StandFor l.program l.upper l.lower l.over l.under
-
-abbrev pub decreases-loop-over : goal.decreases-loop-over
-decreases-loop-over l = length l.under

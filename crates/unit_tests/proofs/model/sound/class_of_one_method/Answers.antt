@@ -1,0 +1,163 @@
+use Rattle.std.proofs.Common.{codes, ◌≡◌, inl, ℕ, true, false, IsTrue, List, [], ◌∷◌, Some, refl, ap, sym, ◌∙◌, subst, arith}
+use Rattle.std.proofs.lemmas.List.Elements.{All-nil, All-from_recursion}
+use Rattle.jvm_model.specs.declared.grammar.Grammar.TheVariants as grammars
+use Rattle.jvm_model.specs.declared.pool.EntryKind.TheVariants as kinds
+use Rattle.jvm_model.specs.declared.pool.PoolEntry.{PoolEntry}
+use Rattle.jvm_model.specs.declared.pool.PoolEntry.TheVariants as entries
+use Rattle.jvm_model.specs.declared.class_file.ClassFile.{ClassFile}
+use Rattle.jvm_model.specs.declared.class_file.Member.{Member}
+use Rattle.jvm_model.specs.declared.class_file.Attribute.{Attribute}
+use Rattle.jvm_model.specs.Descriptors.{IsFieldDescriptor, IsMethodDescriptor}
+use Rattle.jvm_model.specs.Lookups.{entry_at}
+use Rattle.jvm_model.specs.Names.{is_unqualified_name, IsClassName}
+use Rattle.jvm_model.specs.Soundness.{PlacedUse, UseHolds, IsIn, IsSoundClass, TextIsIn, is_array, leads_to, places_of}
+use Rattle.unit_tests.proofs.model.sound.class_of_one_method.Goals as goal
+
+abbrev entries_are : List PoolEntry
+entries_are =
+    entries.Utf8 (codes "Code") ∷ entries.Utf8 (codes "A") ∷ entries.Utf8 (codes "B") ∷ entries.Utf8 (codes "m") ∷ entries.Utf8 (codes "()V")
+    ∷ entries.Class 2 ∷ entries.Class 3 ∷ entries.NameAndType 4 5 ∷ entries.Methodref 6 8 ∷ []
+
+abbrev method_is : Member
+method_is = record { flags = 0; name = 4; descriptor = 5; attributes = record { name = 1; body = codes "abc" } ∷ [] }
+
+abbrev class_of : List PoolEntry → List ℕ → List Member → List Member → List Attribute → ClassFile
+class_of pool interfaces fields methods attributes =
+    record { minor = 0; major = 52; pool = pool; flags = 0; this_class = 6; super_class = 7; interfaces = interfaces; fields = fields; methods = methods; attributes = attributes }
+
+some_is : {X : Type 0} (P : X → Type 0) (x y : X) → Some x ≡ Some y → P x → P y
+some_is P x y e h =
+    let is : x ≡ y = cc in
+    subst P is h
+
+class_A : IsClassName (codes "A")
+class_A = record { parts = codes "A" ∷ []; some = omega arith; each = All-from_recursion (λ part. IsTrue (is_unqualified_name part)) (codes "A" ∷ []) (refl, tt); joined = refl }
+
+class_B : IsClassName (codes "B")
+class_B = record { parts = codes "B" ∷ []; some = omega arith; each = All-from_recursion (λ part. IsTrue (is_unqualified_name part)) (codes "B" ∷ []) (refl, tt); joined = refl }
+
+plain : IsMethodDescriptor (codes "()V")
+plain = record { parameters = []; outcome = codes "V"; spelled = refl; each = All-nil IsFieldDescriptor; units = omega arith; outcome_is = inl refl }
+
+name_in : TextIsIn entries_are grammars.MethodName 4
+name_in text e = some_is (IsIn grammars.MethodName) (codes "m") text e refl
+
+descriptor_in : TextIsIn entries_are grammars.MethodDescriptor 5
+descriptor_in text e = some_is (IsIn grammars.MethodDescriptor) (codes "()V") text e plain
+
+named : (name descriptor : ℕ) → entry_at entries_are 8 ≡ Some (entries.NameAndType name descriptor) → TextIsIn entries_are grammars.MethodName name × TextIsIn entries_are grammars.MethodDescriptor descriptor
+named name descriptor e =
+    let same : Some (entries.NameAndType 4 5) ≡ Some (entries.NameAndType name descriptor) = e in
+    let name_is : 4 ≡ name = cc in
+    let descriptor_is : 5 ≡ descriptor = cc in
+    (subst (TextIsIn entries_are grammars.MethodName) name_is name_in, subst (TextIsIn entries_are grammars.MethodDescriptor) descriptor_is descriptor_in)
+
+sound : IsSoundClass (class_of entries_are [] [] (method_is ∷ []) [])
+sound = All-from_recursion (λ (p : PlacedUse). UseHolds entries_are p.use_) (places_of (class_of entries_are [] [] (method_is ∷ []) [])) (
+  refl,
+  (
+    refl,
+    (
+      refl,
+      (
+        refl,
+        (
+          refl,
+          (
+            refl,
+            (
+              (λ text e. some_is (IsIn grammars.ClassOrArray) (codes "A") text e (inl class_A)),
+              (
+                refl,
+                (
+                  (λ text e. some_is (IsIn grammars.ClassOrArray) (codes "B") text e (inl class_B)),
+                  (
+                    refl,
+                    (
+                      refl,
+                      (
+                        inl (name_in, descriptor_in),
+                        (
+                          refl,
+                          (
+                            refl,
+                            (
+                              named,
+                              (
+                                refl,
+                                (
+                                  (λ name e. some_is (λ n. is_array n ≡ false) (codes "A") name e refl),
+                                  (
+                                    inl refl,
+                                    (
+                                      (λ name e. some_is (λ n. is_array n ≡ false) (codes "B") name e refl),
+                                      (
+                                        (λ _. refl),
+                                        (
+                                          refl,
+                                          (
+                                            name_in,
+                                            (
+                                              (λ name descriptor e f m there. omega (arith, there.1)),
+                                              (
+                                                refl,
+                                                (
+                                                  descriptor_in,
+                                                  (
+                                                    refl,
+                                                    (
+                                                      (λ _. (refl, refl)),
+                                                      tt,
+                                                    ),
+                                                  ),
+                                                ),
+                                              ),
+                                            ),
+                                          ),
+                                        ),
+                                      ),
+                                    ),
+                                  ),
+                                ),
+                              ),
+                            ),
+                          ),
+                        ),
+                      ),
+                    ),
+                  ),
+                ),
+              ),
+            ),
+          ),
+        ),
+      ),
+    ),
+  ),
+)
+
+sound_at : (pool : List PoolEntry) (interfaces : List ℕ) (fields methods : List Member) (attributes : List Attribute)
+    → pool ≡ entries_are → interfaces ≡ [] → fields ≡ [] → methods ≡ method_is ∷ [] → attributes ≡ [] → IsSoundClass (class_of pool interfaces fields methods attributes)
+sound_at pool interfaces fields methods attributes e f g h k =
+    let one = subst (λ (xs : List Attribute). IsSoundClass (class_of entries_are [] [] (method_is ∷ []) xs)) (sym k) sound in
+    let two = subst (λ (ms : List Member). IsSoundClass (class_of entries_are [] [] ms attributes)) (sym h) one in
+    let three = subst (λ (fs : List Member). IsSoundClass (class_of entries_are [] fs methods attributes)) (sym g) two in
+    let four = subst (λ (is : List ℕ). IsSoundClass (class_of entries_are is fields methods attributes)) (sym f) three in
+    subst (λ (p : List PoolEntry). IsSoundClass (class_of p interfaces fields methods attributes)) (sym e) four
+
+pub returns-clause-sound : goal.returns-clause-sound
+returns-clause-sound c =
+    let methods = c.from_vec-3.ensures ∙ c.in_ok-vec.ensures.items ∙ ap (λ (m : Member). m ∷ []) c.in_ok-method.ensures in
+    sound_at _ _ _ _ _ (c.pool-2.view_is ∙ c.in_ok-pool.ensures) (c.from_vec.ensures ∙ c.new.ensures.items) (c.from_vec-2.ensures ∙ c.new-2.ensures.items) methods (c.from_vec-4.ensures ∙ c.new-3.ensures.items)
+
+pub returns-clause-text : goal.returns-clause-text
+returns-clause-text c = subst (λ (pool : List PoolEntry). leads_to pool (kinds.Text ∷ []) 4 ≡ true) (sym (c.pool-2.view_is ∙ c.in_ok-pool.ensures)) refl
+
+pub returns-clause-class : goal.returns-clause-class
+returns-clause-class c = subst (λ (pool : List PoolEntry). leads_to pool (kinds.Class ∷ []) 7 ≡ true) (sym (c.pool-2.view_is ∙ c.in_ok-pool.ensures)) refl
+
+pub returns-clause-signature : goal.returns-clause-signature
+returns-clause-signature c = subst (λ (pool : List PoolEntry). leads_to pool (kinds.NameAndType ∷ []) 8 ≡ true) (sym (c.pool-2.view_is ∙ c.in_ok-pool.ensures)) refl
+
+pub returns-clause-method : goal.returns-clause-method
+returns-clause-method c = subst (λ (pool : List PoolEntry). leads_to pool (kinds.Method ∷ []) 9 ≡ true) (sym (c.pool-2.view_is ∙ c.in_ok-pool.ensures)) refl

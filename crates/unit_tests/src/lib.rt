@@ -1,0 +1,22 @@
+//! Tests of the data of class files and programs: each public call once on its happy path, and what no clause says. They stand
+//! apart from the crates that they test, since a crate with tests is proved twice.
+#![tactic(auto)]
+
+#[cfg(test)]
+mod documents;
+#[cfg(test)]
+mod folders;
+#[cfg(test)]
+mod index;
+#[cfg(test)]
+mod linked;
+#[cfg(test)]
+mod model;
+#[cfg(test)]
+mod one_method;
+#[cfg(test)]
+mod outside;
+#[cfg(test)]
+mod readers;
+#[cfg(test)]
+mod words;
