@@ -13,7 +13,7 @@ use Rattle.points_to_constraints.specs.Items.{Item as RuleItem, known}
 use Rattle.points_to_constraints.proofs.Holders.{zip_place}
 use Rattle.points_to_rules.specs.Facts.{Holder, Fact, may_hold, may_run, may_call, may_write}
 use Rattle.points_to_numbers.specs.declared.item.Item.{Item}
-use Rattle.points_to_numbers.specs.declared.item.Item.TheVariants.{Holds, Runs, Calls, Uses}
+use Rattle.points_to_numbers.specs.declared.item.Item.TheVariants.{Holds, Runs, Calls, Constrains}
 use Rattle.points_to_numbers.specs.Numbered.{Numbered}
 use Rattle.points_to_numbers.specs.Steps.{IsItemAt}
 use Rattle.ground.specs.declared.lists.Lists.{Lists}
@@ -33,7 +33,7 @@ no_writing : (n : Numbered) (i : Item) (m : MethodNo) (field : FieldNo) → IsIt
 no_writing n (Holds place site) m field (h, s, holder, there, e) = cc
 no_writing n (Runs k) m field e = cc
 no_writing n (Calls call target) m field (c, at, e) = cc
-no_writing n (Uses place user) m field (h, u, holder, there, e) = cc
+no_writing n (Constrains place constraint) m field (h, u, holder, there, e) = cc
 
 abbrev pub sets_in : Lists → Sets
 sets_in l = record { sites = l.held; running = l.running; calls = l.calls; targets = l.targets }

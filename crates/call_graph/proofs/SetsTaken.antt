@@ -11,10 +11,10 @@ use Rattle.grouped_lists.proofs.PutValues.{put_there, put_keeps, put_cases}
 use Rattle.least_sets.specs.Rules.{IsWithoutDoubles}
 use Rattle.points_to_constraints.specs.Items.{CallSite}
 use Rattle.points_to_numbers.specs.declared.item.Item.{Item}
-use Rattle.points_to_numbers.specs.declared.item.Item.TheVariants.{Holds, Runs, Calls, Uses}
+use Rattle.points_to_numbers.specs.declared.item.Item.TheVariants.{Holds, Runs, Calls, Constrains}
 use Rattle.points_to_numbers.specs.declared.keys.CallNo.{CallNo}
 use Rattle.points_to_rules.specs.declared.place.PlaceNo.{PlaceNo}
-use Rattle.points_to_numbers.specs.declared.keys.UserNo.{UserNo}
+use Rattle.points_to_numbers.specs.declared.keys.ConstraintNo.{ConstraintNo}
 use Rattle.points_to_numbers.specs.Numbered.{Numbered}
 use Rattle.points_to_numbers.proofs.AddedKeys.{IsAdded}
 use Rattle.op_model.specs.declared.node.NodeRef.{NodeRef}
@@ -189,12 +189,12 @@ call_taken n call target site key old new stands of_node adds = record {
 }
 
 -- a use changes nothing
-pub use_taken : (n : Numbered) (place : PlaceNo) (user : UserNo) (sets : Sets) → TakesItem n (Uses place user) sets sets
-use_taken n place user sets = record {
+pub use_taken : (n : Numbered) (place : PlaceNo) (constraint : ConstraintNo) (sets : Sets) → TakesItem n (Constrains place constraint) sets sets
+use_taken n place constraint sets = record {
   goes = λ items are. record {
-    holds = sites_stay n (Uses place user) sets sets items are (λ q site e. cc) refl;
-    runs = running_stays n (Uses place user) sets sets items are (λ m e. cc) refl;
-    targets = targets_stay n (Uses place user) sets sets items are (λ call m e. cc) refl refl;
+    holds = sites_stay n (Constrains place constraint) sets sets items are (λ q site e. cc) refl;
+    runs = running_stays n (Constrains place constraint) sets sets items are (λ m e. cc) refl;
+    targets = targets_stay n (Constrains place constraint) sets sets items are (λ call m e. cc) refl refl;
     listed = are.listed;
   };
 }

@@ -51,7 +51,7 @@ fn add_item(tables: &Tables, sets: &mut Sets, item: Item) -> Result<(), AllocErr
             Ok(())
         }
         Item::Calls(call, target) => add_target(sets, tables.call_of(call).at, target),
-        Item::Uses(_, _) => Ok(()),
+        Item::Constrains(_, _) => Ok(()),
     }
 }
 

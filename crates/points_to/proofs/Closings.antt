@@ -12,12 +12,12 @@ use Rattle.least_sets.specs.Rules.{IsWithoutDoubles}
 use Rattle.least_sets.proofs.Derivations.{derivation_in_closed}
 use Rattle.least_sets.proofs.Places.{contains_at}
 use Rattle.points_to_rules.specs.Facts.{Holder}
-use Rattle.points_to_constraints.specs.Items.{User as ItemUser, select, Item as RuleItem, used}
+use Rattle.points_to_constraints.specs.Items.{Constraint as ItemConstraint, dispatch, Item as RuleItem, constrained}
 use Rattle.points_to_constraints.specs.ItemRules.{ItemInstance}
 use Rattle.points_to_constraints.proofs.Holders.{zip_place}
 use Rattle.points_to_numbers.specs.declared.item.Item.{Item}
-use Rattle.points_to_numbers.specs.declared.item.Item.TheVariants.{Holds, Runs, Calls, Uses}
-use Rattle.points_to_numbers.specs.declared.keys.UserNo.{UserNo}
+use Rattle.points_to_numbers.specs.declared.item.Item.TheVariants.{Holds, Runs, Calls, Constrains}
+use Rattle.points_to_numbers.specs.declared.keys.ConstraintNo.{ConstraintNo}
 use Rattle.points_to_numbers.specs.Numbered.{Numbered, AreApart}
 use Rattle.points_to_numbers.specs.Steps.{IsItemAt, Adds}
 use Rattle.points_to_numbers.proofs.Adding.{adds_same}
@@ -27,16 +27,16 @@ use Rattle.points_to_rules.specs.declared.solve_fault.SolveFault.{SolveFault}
 use Rattle.points_to_rules.specs.declared.solve_fault.SolveFault.TheVariants.{PairLimit, Refused}
 use Rattle.points_to.specs.declared.closing.Working.{Working}
 use Rattle.points_to.specs.Closing.{IsClosingEnd}
-use Rattle.points_to.specs.Concluding.{SitesBy, UsersBy, IsKnownIndex, IsKnownItem, ResolvesIn, FollowsFrom, RefusedBy, AddsCallsBy, AddsMethodsBy}
+use Rattle.points_to.specs.Concluding.{SitesBy, ConstraintsBy, IsKnownIndex, IsKnownItem, ResolvesIn, FollowsFrom, RefusedBy, AddsCallsBy, AddsMethodsBy}
 use Rattle.grouped_lists.specs.Groups.{values_at}
-use Rattle.points_to.specs.Passing.{IsKnownUser, NotesMethods}
+use Rattle.points_to.specs.Passing.{IsKnownConstraint, NotesMethods}
 use Rattle.points_to.specs.Queues.{IsQueueEnd}
 use Rattle.points_to_rules.specs.Solutions.{IsSupplyOf}
 use Rattle.points_to.specs.Taking.{IsStarted, IsTakenIn, IsTakingEnd}
 use Rattle.points_to.proofs.ItemPlaces.{front_rule}
 use Rattle.points_to.proofs.Noting.{those_same}
 use Rattle.points_to.proofs.NumberedCalls.{resolved_in}
-use Rattle.points_to.proofs.NumberRanges.{IsInRange, IsUserInRange, in_range_is_closed}
+use Rattle.points_to.proofs.NumberRanges.{IsInRange, IsConstraintInRange, in_range_is_closed}
 use Rattle.points_to.proofs.PairedFacts.{many_derivable}
 use Rattle.points_to.proofs.SoFar.{IsSoFar, IsDerivedList, IsConcluded, in_whole, derived_start}
 
@@ -55,18 +55,18 @@ supply_same p old new same h = record {
   methods = λ number l g. h.methods number l ((same.entries number (Ok l)).0 g);
 }
 
-module _ (p : Program) (old new : GivenAs) (same : IsSameSupply old new) (n : Numbered) (sites : SitesBy) (users : UsersBy) where
-  follows_same : (item : Item) (x : RuleItem) → FollowsFrom p new n sites users item x ↔ FollowsFrom p old n sites users item x
+module _ (p : Program) (old new : GivenAs) (same : IsSameSupply old new) (n : Numbered) (sites : SitesBy) (constraints : ConstraintsBy) where
+  follows_same : (item : Item) (x : RuleItem) → FollowsFrom p new n sites constraints item x ↔ FollowsFrom p old n sites constraints item x
   follows_same (Holds place site) x = ((λ f. f), (λ f. f))
   follows_same (Runs m) x = (
     (λ f. record { method = f.method; given = (same.entries m.0 (Ok f.method)).0 f.given; item = f.item }),
     (λ f. record { method = f.method; given = (same.entries m.0 (Ok f.method)).1 f.given; item = f.item }),
   )
   follows_same (Calls call target) x = ((λ f. f), (λ f. f))
-  follows_same (Uses place user) x = ((λ f. f), (λ f. f))
+  follows_same (Constrains place constraint) x = ((λ f. f), (λ f. f))
 
-  adds_as_before : (item : Item) (m : Numbered) (a b : List Item) → Adds m (FollowsFrom p new n sites users item) a b → Adds m (FollowsFrom p old n sites users item) a b
-  adds_as_before item m a b h = adds_same m (FollowsFrom p new n sites users item) (FollowsFrom p old n sites users item) a b (follows_same item) h
+  adds_as_before : (item : Item) (m : Numbered) (a b : List Item) → Adds m (FollowsFrom p new n sites constraints item) a b → Adds m (FollowsFrom p old n sites constraints item) a b
+  adds_as_before item m a b h = adds_same m (FollowsFrom p new n sites constraints item) (FollowsFrom p old n sites constraints item) a b (follows_same item) h
 
 module _ (old new : GivenAs) (same : IsSameSupply old new) where
   refused_same : (item : Item) (r : RefusedMethod) → RefusedBy new item r ↔ RefusedBy old item r
@@ -76,7 +76,7 @@ module _ (old new : GivenAs) (same : IsSameSupply old new) where
     (λ f. record { is = f.is; refused = (same.entries m.0 (Err r.refusal)).1 f.refused }),
   )
   refused_same (Calls call target) r = ((λ f. f), (λ f. f))
-  refused_same (Uses place user) r = ((λ f. f), (λ f. f))
+  refused_same (Constrains place constraint) r = ((λ f. f), (λ f. f))
 
   refused_as_before : (item : Item) (a b : Option RefusedMethod) → NotesMethods (RefusedBy new item) a b → NotesMethods (RefusedBy old item) a b
   refused_as_before item a b h = record { noted = h.noted; those = those_same (RefusedBy new item) (RefusedBy old item) h.noted (refused_same item) h.those; first = h.first }
@@ -88,7 +88,7 @@ module _ (old new : GivenAs) (same : IsSameSupply old new) where
     | inr stay ↦ inr stay
   ]
   calls_as_before (Calls call target) a b h = h
-  calls_as_before (Uses place user) a b h = h
+  calls_as_before (Constrains place constraint) a b h = h
 
   methods_as_before : (item : Item) (a b : List RunningMethod) → AddsMethodsBy new item a b → AddsMethodsBy old item a b
   methods_as_before (Holds place site) a b h = h
@@ -97,17 +97,17 @@ module _ (old new : GivenAs) (same : IsSameSupply old new) where
     | inr (none, e) ↦ inr ((λ l given. none l ((same.entries k.0 (Ok l)).1 given)), e)
   ]
   methods_as_before (Calls call target) a b h = h
-  methods_as_before (Uses place user) a b h = h
+  methods_as_before (Constrains place constraint) a b h = h
 
 -- what is told of an item that was taken in, by what the supply gave at first
 pub concluded : (p : Program) (old now : GivenAs) → IsSameSupply old now → (item : Item) (v w : Working) → IsTakenIn p now item v w
-    → IsConcluded p old v.found.tables w.found.tables v.index.sites.groups.items w.index.sites.groups.items v.index.users.groups.items w.index.users.groups.items v.found.refusals.call w.found.refusals.call
+    → IsConcluded p old v.found.tables w.found.tables v.index.sites.groups.items w.index.sites.groups.items v.index.constraints.groups.items w.index.constraints.groups.items v.found.refusals.call w.found.refusals.call
     v.found.refusals.method w.found.refusals.method v.methods.items w.methods.items item w.steps.items
 concluded p old now same item v w made = record {
   grows = made.grows;
   apart = made.apart;
   indexed = made.indexed;
-  adds = adds_as_before p old now same v.found.tables (values_at w.index.sites.groups.items) (values_at w.index.users.groups.items) item w.found.tables [] w.steps.items made.adds;
+  adds = adds_as_before p old now same v.found.tables (values_at w.index.sites.groups.items) (values_at w.index.constraints.groups.items) item w.found.tables [] w.steps.items made.adds;
   calls = calls_as_before old now same item v.found.tables.calls w.found.tables.calls made.calls;
   lacks = made.lacks;
   refused = refused_as_before old now same item v.found.refusals.method w.found.refusals.method made.refused;
@@ -116,20 +116,20 @@ concluded p old now same item v w made = record {
 
 -- ---- what items name
 
-user_known : (p : Program) (n : Numbered) (user : UserNo) (h : Holder) (u : ItemUser) (x : RuleItem) → slice_get n.users user.0 ≡ Some u → x ≡ used h u → IsInRange p x → IsKnownUser p n user
-user_known p n user h u x there e range = record {
+constraint_known : (p : Program) (n : Numbered) (constraint : ConstraintNo) (h : Holder) (u : ItemConstraint) (x : RuleItem) → slice_get n.constraints constraint.0 ≡ Some u → x ≡ constrained h u → IsInRange p x → IsKnownConstraint p n constraint
+constraint_known p n constraint h u x there e range = record {
   numbered = (u, there);
-  resolved = λ call selects. subst (IsUserInRange p) (same_Some u (select call) (sym there ∙ selects)) (subst (IsInRange p) e range);
+  resolved = λ call selects. subst (IsConstraintInRange p) (same_Some u (dispatch call) (sym there ∙ selects)) (subst (IsInRange p) e range);
 }
 
 known_by : (p : Program) (n : Numbered) → ((number : ℕ) → ResolvesIn p n number) → (item : Item) (x : RuleItem) → IsItemAt n item x → IsInRange p x → IsKnownItem p n item
 known_by p n resolved (Holds place site) x (h, s, holder, there, e) range = (s, there)
 known_by p n resolved (Runs m) x e range = subst (IsInRange p) e range
 known_by p n resolved (Calls call target) x (c, at, e) range = record { numbered = (c, at); target_is = subst (IsInRange p) e range; resolved = resolved call.0 }
-known_by p n resolved (Uses place user) x (h, u, holder, there, e) range = user_known p n user h u x there e range
+known_by p n resolved (Constrains place constraint) x (h, u, holder, there, e) range = constraint_known p n constraint h u x there e range
 
-module _ {p : Program} {gives : GivenAs} {entry : MethodNo} {n : Numbered} {items : List Item} {sites : SitesBy} {users : UsersBy} {call : _} {method : _} {listed : List RunningMethod} {done : ℕ}
-    (h : IsSoFar p gives entry n items sites users call method listed done) (supply : IsSupplyOf p gives) (within : IsMethodNumber p entry.0) where
+module _ {p : Program} {gives : GivenAs} {entry : MethodNo} {n : Numbered} {items : List Item} {sites : SitesBy} {constraints : ConstraintsBy} {call : _} {method : _} {listed : List RunningMethod} {done : ℕ}
+    (h : IsSoFar p gives entry n items sites constraints call method listed done) (supply : IsSupplyOf p gives) (within : IsMethodNumber p entry.0) where
   in_range : (x : RuleItem) → Contains h.xs x → IsInRange p x
   in_range x c = derivation_in_closed (ItemInstance p gives entry) (IsInRange p) h.xs h.derived (in_range_is_closed p gives entry supply within) x c
 
@@ -138,12 +138,12 @@ module _ {p : Program} {gives : GivenAs} {entry : MethodNo} {n : Numbered} {item
       let (x, at, stands) = zip_place (IsItemAt n) items h.xs h.stand k item e in
       known_by p n (resolved_in p gives (Contains (take done h.xs)) n supply h.calls.each) item x stands (in_range x (contains_at h.xs k x at))
 
-  pub known_index : IsKnownIndex p n sites users
+  pub known_index : IsKnownIndex p n sites constraints
   known_index = record {
     sites_known = λ place site c. (let (x, there, (holder, s, held, at, e)) = front_rule n items h.xs h.stand done (Holds (record { 0 = place }) site) ((h.index.sites_are (record { 0 = place }) site).0 c) in (s, at));
-    users_known = λ place user c. (
-        let (x, there, (holder, u, held, at, e)) = front_rule n items h.xs h.stand done (Uses (record { 0 = place }) user) ((h.index.users_are (record { 0 = place }) user).0 c) in
-        user_known p n user holder u x at e (in_range x (in_whole h.xs done x there)));
+    constraints_known = λ place constraint c. (
+        let (x, there, (holder, u, held, at, e)) = front_rule n items h.xs h.stand done (Constrains (record { 0 = place }) constraint) ((h.index.constraints_are (record { 0 = place }) constraint).0 c) in
+        constraint_known p n constraint holder u x at e (in_range x (in_whole h.xs done x there)));
   }
 
 -- ---- the end

@@ -7,7 +7,7 @@ use Rattle.std.proofs.lemmas.Map.Keys.{apart_from_distinct}
 use Rattle.std.proofs.lemmas.Map.Views.{exact_unsigned_eq}
 use Rattle.least_sets.specs.Rules.{IsWithoutDoubles}
 use Rattle.points_to_numbers.specs.declared.item.Item.{Item}
-use Rattle.points_to_numbers.specs.declared.item.Item.TheVariants.{Holds, Runs, Calls, Uses}
+use Rattle.points_to_numbers.specs.declared.item.Item.TheVariants.{Holds, Runs, Calls, Constrains}
 use Rattle.points_to_numbers.specs.contracts.item.ItemPartialEq.TheImpl as item_block
 use Rattle.points_to_numbers.specs.contracts.item.ItemEq.TheImpl.Laws as item_laws
 
@@ -29,11 +29,11 @@ exact_items (Calls a c) (Calls b d) h =
     let calls = exact_unsigned_eq a.0 b.0 parts.0 in
     let targets = exact_unsigned_eq c.0 d.0 parts.1 in
     (λ i. Calls (record { 0 = calls i }) (record { 0 = targets i }))
-exact_items (Uses a c) (Uses b d) h =
+exact_items (Constrains a c) (Constrains b d) h =
     let parts = and_parts (eqb a.0 b.0) (eqb c.0 d.0) h in
     let places = exact_unsigned_eq a.0 b.0 parts.0 in
-    let users = exact_unsigned_eq c.0 d.0 parts.1 in
-    (λ i. Uses (record { 0 = places i }) (record { 0 = users i }))
+    let constraints = exact_unsigned_eq c.0 d.0 parts.1 in
+    (λ i. Constrains (record { 0 = places i }) (record { 0 = constraints i }))
 exact_items _ _ h = cc
 
 -- the first of two places of one item cannot come before the other

@@ -1,4 +1,4 @@
--- The sites and the users of each place, when one more item is done.
+-- The sites and the constraints of each place, when one more item is done.
 use Rattle.std.proofs.Common.{◌≡◌, ◌↔◌, ℕ, ◌+◌, inl, inr, Bool, true, cond, eqb, List, [], ◌∷◌, ◌++◌, Some, take, refl, sym, ◌∙◌, ap, subst}
 use Rattle.std.specs.List.{slice_get, Contains}
 use Rattle.std.proofs.lemmas.Bool.{cases_Bool}
@@ -8,12 +8,12 @@ use Rattle.std.proofs.lemmas.List.Elements.{Contains-append_left, Contains-push,
 use Rattle.jvm_model.specs.declared.number.SiteNo.{SiteNo}
 use Rattle.least_sets.proofs.Places.{nothing_in}
 use Rattle.points_to_numbers.specs.declared.item.Item.{Item}
-use Rattle.points_to_numbers.specs.declared.item.Item.TheVariants.{Holds, Runs, Calls, Uses}
+use Rattle.points_to_numbers.specs.declared.item.Item.TheVariants.{Holds, Runs, Calls, Constrains}
 use Rattle.points_to_rules.specs.declared.place.PlaceNo.{PlaceNo}
-use Rattle.points_to_numbers.specs.declared.keys.UserNo.{UserNo}
+use Rattle.points_to_numbers.specs.declared.keys.ConstraintNo.{ConstraintNo}
 use Rattle.grouped_lists.specs.Groups.{values_at}
 use Rattle.points_to.specs.Concluding.{IsIndex}
-use Rattle.points_to.specs.Indexed.{SiteGroups, UserGroups, IsIndexed}
+use Rattle.points_to.specs.Indexed.{SiteGroups, ConstraintGroups, IsIndexed}
 use Rattle.points_to.proofs.ItemPlaces.{one_more}
 
 -- The values at each place are those of the items.
@@ -67,31 +67,31 @@ module _ {V : Type 0} (at : PlaceNo → V → Item) where
   ]
 
 -- nothing is done
-pub index_none : (sites : ℕ → List SiteNo) (users : ℕ → List UserNo) → ((place : ℕ) → sites place ≡ []) → ((place : ℕ) → users place ≡ []) → IsIndex sites users []
-index_none sites users no_site no_user = record { sites_are = at_none Holds sites no_site; users_are = at_none Uses users no_user }
+pub index_none : (sites : ℕ → List SiteNo) (constraints : ℕ → List ConstraintNo) → ((place : ℕ) → sites place ≡ []) → ((place : ℕ) → constraints place ≡ []) → IsIndex sites constraints []
+index_none sites constraints no_site no_constraint = record { sites_are = at_none Holds sites no_site; constraints_are = at_none Constrains constraints no_constraint }
 
-module _ (old_sites new_sites : SiteGroups) (old_users new_users : UserGroups) (items : List Item) where
-  index_push : (item : Item) → IsIndex (values_at old_sites) (values_at old_users) items → IsIndexed old_sites new_sites old_users new_users item
-      → IsIndex (values_at new_sites) (values_at new_users) (items ++ item ∷ [])
+module _ (old_sites new_sites : SiteGroups) (old_constraints new_constraints : ConstraintGroups) (items : List Item) where
+  index_push : (item : Item) → IsIndex (values_at old_sites) (values_at old_constraints) items → IsIndexed old_sites new_sites old_constraints new_constraints item
+      → IsIndex (values_at new_sites) (values_at new_constraints) (items ++ item ∷ [])
   index_push (Holds place site) h put = record {
     sites_are = at_put Holds (values_at old_sites) (values_at new_sites) items place site (λ p v e. (cc, cc)) put.0 h.sites_are;
-    users_are = at_same Uses (values_at old_users) (values_at new_users) items (Holds place site) (λ p v e. cc) put.1 h.users_are;
+    constraints_are = at_same Constrains (values_at old_constraints) (values_at new_constraints) items (Holds place site) (λ p v e. cc) put.1 h.constraints_are;
   }
   index_push (Runs m) h put = record {
     sites_are = at_same Holds (values_at old_sites) (values_at new_sites) items (Runs m) (λ p v e. cc) put.0 h.sites_are;
-    users_are = at_same Uses (values_at old_users) (values_at new_users) items (Runs m) (λ p v e. cc) put.1 h.users_are;
+    constraints_are = at_same Constrains (values_at old_constraints) (values_at new_constraints) items (Runs m) (λ p v e. cc) put.1 h.constraints_are;
   }
   index_push (Calls call target) h put = record {
     sites_are = at_same Holds (values_at old_sites) (values_at new_sites) items (Calls call target) (λ p v e. cc) put.0 h.sites_are;
-    users_are = at_same Uses (values_at old_users) (values_at new_users) items (Calls call target) (λ p v e. cc) put.1 h.users_are;
+    constraints_are = at_same Constrains (values_at old_constraints) (values_at new_constraints) items (Calls call target) (λ p v e. cc) put.1 h.constraints_are;
   }
-  index_push (Uses place user) h put = record {
-    sites_are = at_same Holds (values_at old_sites) (values_at new_sites) items (Uses place user) (λ p v e. cc) put.0 h.sites_are;
-    users_are = at_put Uses (values_at old_users) (values_at new_users) items place user (λ p v e. (cc, cc)) put.1 h.users_are;
+  index_push (Constrains place constraint) h put = record {
+    sites_are = at_same Holds (values_at old_sites) (values_at new_sites) items (Constrains place constraint) (λ p v e. cc) put.0 h.sites_are;
+    constraints_are = at_put Constrains (values_at old_constraints) (values_at new_constraints) items place constraint (λ p v e. (cc, cc)) put.1 h.constraints_are;
   }
 
 -- one more item is done
-pub index_more : (old_sites new_sites : SiteGroups) (old_users new_users : UserGroups) (items : List Item) (done : ℕ) (item : Item) → slice_get items done ≡ Some item
-    → IsIndex (values_at old_sites) (values_at old_users) (take done items) → IsIndexed old_sites new_sites old_users new_users item → IsIndex (values_at new_sites) (values_at new_users) (take (done + 1) items)
-index_more old_sites new_sites old_users new_users items done item e h put =
-    subst (λ (xs : List Item). IsIndex (values_at new_sites) (values_at new_users) xs) (sym (one_more items done item e)) (index_push old_sites new_sites old_users new_users (take done items) item h put)
+pub index_more : (old_sites new_sites : SiteGroups) (old_constraints new_constraints : ConstraintGroups) (items : List Item) (done : ℕ) (item : Item) → slice_get items done ≡ Some item
+    → IsIndex (values_at old_sites) (values_at old_constraints) (take done items) → IsIndexed old_sites new_sites old_constraints new_constraints item → IsIndex (values_at new_sites) (values_at new_constraints) (take (done + 1) items)
+index_more old_sites new_sites old_constraints new_constraints items done item e h put =
+    subst (λ (xs : List Item). IsIndex (values_at new_sites) (values_at new_constraints) xs) (sym (one_more items done item e)) (index_push old_sites new_sites old_constraints new_constraints (take done items) item h put)

@@ -1,4 +1,4 @@
--- Items by numbers, and what they stand for: which item stands for a fact or a user, and where it stands.
+-- Items by numbers, and what they stand for: which item stands for a fact or a constraint, and where it stands.
 use Rattle.std.proofs.Common.{◌≡◌, ℕ, zero, suc, ◌+◌, ◌⊎◌, List, [], ◌∷◌, ◌++◌, Some, length, take, refl, sym, ◌∙◌, ap, subst, add-one}
 use Rattle.std.specs.List.{slice_get, All, AllZip, Contains}
 use Rattle.std.proofs.lemmas.Option.{none-some, same_Some}
@@ -9,13 +9,13 @@ use Rattle.jvm_model.specs.declared.site.Site.{Site}
 use Rattle.op_model.specs.declared.node.NodeRef.{NodeRef}
 use Rattle.least_sets.proofs.Places.{place_of, contains_at, in_front, to_front, front_push}
 use Rattle.points_to_rules.specs.Facts.{Holder, may_hold, may_run, may_call}
-use Rattle.points_to_constraints.specs.Items.{CallSite, User as ItemUser, Item as RuleItem, known, used}
+use Rattle.points_to_constraints.specs.Items.{CallSite, Constraint as ItemConstraint, Item as RuleItem, known, constrained}
 use Rattle.points_to_constraints.proofs.Holders.{zip_place}
 use Rattle.points_to_numbers.specs.declared.item.Item.{Item}
-use Rattle.points_to_numbers.specs.declared.item.Item.TheVariants.{Holds, Runs, Calls, Uses}
+use Rattle.points_to_numbers.specs.declared.item.Item.TheVariants.{Holds, Runs, Calls, Constrains}
 use Rattle.points_to_numbers.specs.declared.keys.CallNo.{CallNo}
 use Rattle.points_to_rules.specs.declared.place.PlaceNo.{PlaceNo}
-use Rattle.points_to_numbers.specs.declared.keys.UserNo.{UserNo}
+use Rattle.points_to_numbers.specs.declared.keys.ConstraintNo.{ConstraintNo}
 use Rattle.points_to_numbers.specs.Numbered.{Numbered, Grows}
 use Rattle.points_to_numbers.specs.Steps.{IsItemAt}
 use Rattle.points_to_numbers.proofs.Growing.{grown_item}
@@ -29,12 +29,12 @@ pub record IsHolding (n : Numbered) (i : Item) (h : Holder) (s : Site) : Type 0 
   pub holder : slice_get n.holders place.0 ≡ Some h
   pub of_site : slice_get n.sites site.0 ≡ Some s
 
-pub record IsUsing (n : Numbered) (i : Item) (h : Holder) (u : ItemUser) : Type 0 where
+pub record IsUsing (n : Numbered) (i : Item) (h : Holder) (u : ItemConstraint) : Type 0 where
   pub place : PlaceNo
-  pub user : UserNo
-  pub is : i ≡ Uses place user
+  pub constraint : ConstraintNo
+  pub is : i ≡ Constrains place constraint
   pub holder : slice_get n.holders place.0 ≡ Some h
-  pub of_user : slice_get n.users user.0 ≡ Some u
+  pub of_constraint : slice_get n.constraints constraint.0 ≡ Some u
 
 pub record IsCalling (n : Numbered) (i : Item) (at : NodeRef) (target : MethodNo) : Type 0 where
   pub number : CallNo
@@ -51,22 +51,22 @@ module _ (n : Numbered) where
       record { place = place; site = site; is = refl; holder = held ∙ ap Some holders; of_site = there ∙ ap Some sites }
   holding (Runs m) h s e = absurd cc
   holding (Calls call target) h s (c, at, e) = absurd cc
-  holding (Uses place user) h s (g, u, held, there, e) = absurd cc
+  holding (Constrains place constraint) h s (g, u, held, there, e) = absurd cc
 
-  pub using : (i : Item) (h : Holder) (u : ItemUser) → IsItemAt n i (used h u) → IsUsing n i h u
+  pub using : (i : Item) (h : Holder) (u : ItemConstraint) → IsItemAt n i (constrained h u) → IsUsing n i h u
   using (Holds place site) h u (g, t, held, there, e) = absurd cc
   using (Runs m) h u e = absurd cc
   using (Calls call target) h u (c, at, e) = absurd cc
-  using (Uses place user) h u (g, v, held, there, e) =
+  using (Constrains place constraint) h u (g, v, held, there, e) =
       let holders : g ≡ h = cc in
-      let users : v ≡ u = cc in
-      record { place = place; user = user; is = refl; holder = held ∙ ap Some holders; of_user = there ∙ ap Some users }
+      let constraints : v ≡ u = cc in
+      record { place = place; constraint = constraint; is = refl; holder = held ∙ ap Some holders; of_constraint = there ∙ ap Some constraints }
 
   pub running : (i : Item) (m : MethodNo) → IsItemAt n i (known (may_run m)) → i ≡ Runs m
   running (Holds place site) m (g, t, held, there, e) = absurd cc
   running (Runs k) m e = cc
   running (Calls call target) m (c, at, e) = absurd cc
-  running (Uses place user) m (g, v, held, there, e) = absurd cc
+  running (Constrains place constraint) m (g, v, held, there, e) = absurd cc
 
   pub calling : (i : Item) (at : NodeRef) (target : MethodNo) → IsItemAt n i (known (may_call at target)) → IsCalling n i at target
   calling (Holds place site) at target (g, t, held, there, e) = absurd cc
@@ -75,7 +75,7 @@ module _ (n : Numbered) where
       let nodes : c.at ≡ at = cc in
       let targets : k ≡ target = cc in
       record { number = call; call = c; is = ap (λ (t : MethodNo). Calls call t) targets; stands = stands; of_node = nodes }
-  calling (Uses place user) at target (g, v, held, there, e) = absurd cc
+  calling (Constrains place constraint) at target (g, v, held, there, e) = absurd cc
 
   -- an item stands for one thing
   one_meaning : (i : Item) (x y : RuleItem) → IsItemAt n i x → IsItemAt n i y → x ≡ y
@@ -85,10 +85,10 @@ module _ (n : Numbered) where
       e ∙ ap (λ (k : Holder). known (may_hold k t)) holders ∙ ap (λ (r : Site). known (may_hold h r)) sites ∙ sym f
   one_meaning (Runs m) x y e f = e ∙ sym f
   one_meaning (Calls call target) x y (c, at, e) (d, at2, f) = e ∙ ap (λ (s : CallSite). known (may_call s.at target)) (same_Some c d (sym at ∙ at2)) ∙ sym f
-  one_meaning (Uses place user) x y (g, v, held, there, e) (h, u, held2, there2, f) =
+  one_meaning (Constrains place constraint) x y (g, v, held, there, e) (h, u, held2, there2, f) =
       let holders = same_Some g h (sym held ∙ held2) in
-      let users = same_Some v u (sym there ∙ there2) in
-      e ∙ ap (λ (k : Holder). used k v) holders ∙ ap (λ (r : ItemUser). used h r) users ∙ sym f
+      let constraints = same_Some v u (sym there ∙ there2) in
+      e ∙ ap (λ (k : Holder). constrained k v) holders ∙ ap (λ (r : ItemConstraint). constrained h r) constraints ∙ sym f
 
 -- ---- lists side by side
 

@@ -1,4 +1,4 @@
--- Which call lacks a target when an object is passed to a user: it is one, since a call gives one answer for an object.
+-- Which call lacks a target when an object is passed to a constraint: it is one, since a call gives one answer for an object.
 use Rattle.std.proofs.Common.{◌≡◌, ◌↔◌, ℕ, Option, Some, None, Result, Ok, Err, true, false, refl, sym, ◌∙◌, ap, subst}
 use Rattle.std.specs.List.{slice_get}
 use Rattle.std.proofs.lemmas.Option.{same_Some, none-some}
@@ -15,36 +15,36 @@ use Rattle.op_model.specs.declared.op.CallKind.{CallKind}
 use Rattle.op_model.specs.declared.op.CallKind.TheVariants.{Virtual, Special, Static, Interface}
 use Rattle.points_to_rules.specs.Calls.{SelectsFor}
 use Rattle.points_to_rules.specs.Refusals.{LacksTarget, not_selected, not_described}
-use Rattle.points_to_calls.specs.Lacks.{UserLacks}
-use Rattle.points_to_constraints.specs.Items.{CallSite, User as ItemUser, select}
+use Rattle.points_to_calls.specs.Lacks.{ConstraintLacks}
+use Rattle.points_to_constraints.specs.Items.{CallSite, Constraint as ItemConstraint, dispatch}
 use Rattle.points_to_numbers.specs.declared.entries.CallSite.{CallSite as Entry}
 use Rattle.points_to_numbers.specs.declared.keys.CallNo.{CallNo}
-use Rattle.points_to_numbers.specs.declared.keys.User.{User}
-use Rattle.points_to_numbers.specs.declared.keys.User.TheVariants as users
-use Rattle.points_to_numbers.specs.declared.keys.UserNo.{UserNo}
-use Rattle.points_to_numbers.specs.Numbered.{Numbered, IsNumbered, IsUserAt, IsCallAt}
+use Rattle.points_to_numbers.specs.declared.keys.Constraint.{Constraint}
+use Rattle.points_to_numbers.specs.declared.keys.Constraint.TheVariants as constraints
+use Rattle.points_to_numbers.specs.declared.keys.ConstraintNo.{ConstraintNo}
+use Rattle.points_to_numbers.specs.Numbered.{Numbered, IsNumbered, IsConstraintAt, IsCallAt}
 use Rattle.points_to.specs.declared.refusals.RefusedCall.{RefusedCall}
 use Rattle.points_to.specs.Passing.{SelectsAt, IsLackOf, NotesReason}
 
--- ---- users that select
+-- ---- constraints that select
 
--- a user that selects is kept as one
-pub selecting : (n : Numbered) (user : User) (call : CallSite) → IsUserAt n user (select call) → (k : CallNo) × (user ≡ users.Select k) × (slice_get n.calls k.0 ≡ Some call)
-selecting n (users.PassTo to) call (h, at, is) = absurd cc
-selecting n (users.PassFitting class to) call (name, h, named, at, is) = absurd cc
-selecting n (users.ReadField field to) call (h, at, is) = absurd cc
-selecting n (users.WriteField field from) call (h, at, is) = absurd cc
-selecting n (users.ReadElements to) call (h, at, is) = absurd cc
-selecting n (users.WriteElements from) call (h, at, is) = absurd cc
-selecting n (users.ThrowAt landing) call (l, at, is) = absurd cc
-selecting n (users.LandAt landing) call (l, at, is) = absurd cc
-selecting n (users.Select k) call (c, at, is) = let same : c ≡ call = cc in (k, refl, at ∙ ap Some same)
+-- a constraint that selects is kept as one
+pub selecting : (n : Numbered) (constraint : Constraint) (call : CallSite) → IsConstraintAt n constraint (dispatch call) → (k : CallNo) × (constraint ≡ constraints.Dispatch k) × (slice_get n.calls k.0 ≡ Some call)
+selecting n (constraints.CopyTo to) call (h, at, is) = absurd cc
+selecting n (constraints.FilterTo class to) call (name, h, named, at, is) = absurd cc
+selecting n (constraints.LoadField field to) call (h, at, is) = absurd cc
+selecting n (constraints.StoreField field from) call (h, at, is) = absurd cc
+selecting n (constraints.LoadElements to) call (h, at, is) = absurd cc
+selecting n (constraints.StoreElements from) call (h, at, is) = absurd cc
+selecting n (constraints.ThrowTo catch_chain) call (l, at, is) = absurd cc
+selecting n (constraints.RethrowTo catch_chain) call (l, at, is) = absurd cc
+selecting n (constraints.Dispatch k) call (c, at, is) = let same : c ≡ call = cc in (k, refl, at ∙ ap Some same)
 
--- the call that a user selects at is that of its number
-pub selected_call : (n : Numbered) (user : UserNo) (kept : User) (k : CallNo) (c : RefusedCall) (call : CallSite) → SelectsAt n user c call
-    → ((u : ItemUser) → slice_get n.users user.0 ≡ Some u → IsUserAt n kept u) → kept ≡ users.Select k → slice_get n.calls k.0 ≡ Some call
-selected_call n user kept k c call selects shows is =
-    let s = selecting n kept call (shows (select call) selects.selects) in
+-- the call that a constraint selects at is that of its number
+pub selected_call : (n : Numbered) (constraint : ConstraintNo) (kept : Constraint) (k : CallNo) (c : RefusedCall) (call : CallSite) → SelectsAt n constraint c call
+    → ((u : ItemConstraint) → slice_get n.constraints constraint.0 ≡ Some u → IsConstraintAt n kept u) → kept ≡ constraints.Dispatch k → slice_get n.calls k.0 ≡ Some call
+selected_call n constraint kept k c call selects shows is =
+    let s = selecting n kept call (shows (dispatch call) selects.selects) in
     let same : s.0 ≡ k = (let both = sym s.1 ∙ is in cc) in
     subst (λ (j : CallNo). slice_get n.calls j.0 ≡ Some call) same s.2
 
@@ -54,8 +54,8 @@ selected_call n user kept k c call selects shows is =
 abbrev refused_at : RefusedCall → NodeRef
 refused_at c = record { method = Some c.method; offset = c.offset }
 
--- a user that selects a call lacks a target as the call does
-lacks_for : (p : Program) (call : CallSite) (s : Site) (lacks : Option Reason) (reason : Reason) → UserLacks p (select call) s lacks → lacks ≡ Some reason
+-- a constraint that selects a call lacks a target as the call does
+lacks_for : (p : Program) (call : CallSite) (s : Site) (lacks : Option Reason) (reason : Reason) → ConstraintLacks p (dispatch call) s lacks → lacks ≡ Some reason
     → LacksTarget p call.kind call.resolved s reason
 lacks_for p call s None reason h e = absurd (none-some reason e)
 lacks_for p call s (Some told) reason h e = subst (λ (r : Reason). LacksTarget p call.kind call.resolved s r) (same_Some told reason e) h
@@ -75,28 +75,28 @@ module _ (p : Program) (program : IsProgram p) where
   one_lack kind resolved s a b (not_described target first undescribed is) (not_described other second also as_well) = is ∙ sym as_well
 
   -- what is noted where the reason is told is what lacks a target
-  pub lacks_are : (n : Numbered) (user : UserNo) (site : SiteNo) (u : ItemUser) (s : Site) (lacks : Option Reason) → slice_get n.users user.0 ≡ Some u → slice_get n.sites site.0 ≡ Some s
-      → UserLacks p u s lacks → (c : RefusedCall) → NotesReason n user lacks c ↔ IsLackOf p n user site c
-  lacks_are n user site u s lacks at there h c = (
+  pub lacks_are : (n : Numbered) (constraint : ConstraintNo) (site : SiteNo) (u : ItemConstraint) (s : Site) (lacks : Option Reason) → slice_get n.constraints constraint.0 ≡ Some u → slice_get n.sites site.0 ≡ Some s
+      → ConstraintLacks p u s lacks → (c : RefusedCall) → NotesReason n constraint lacks c ↔ IsLackOf p n constraint site c
+  lacks_are n constraint site u s lacks at there h c = (
     (λ noted.
-        let same : u ≡ select noted.call = same_Some u (select noted.call) (sym at ∙ noted.selects.selects) in
-        let h_call = subst (λ (x : ItemUser). UserLacks p x s lacks) same h in
+        let same : u ≡ dispatch noted.call = same_Some u (dispatch noted.call) (sym at ∙ noted.selects.selects) in
+        let h_call = subst (λ (x : ItemConstraint). ConstraintLacks p x s lacks) same h in
         record { call = noted.call; selects = noted.selects; s = s; is_site = there; lacks = lacks_for p noted.call s lacks c.reason h_call noted.reason }),
     (λ lack.
-        let same : u ≡ select lack.call = same_Some u (select lack.call) (sym at ∙ lack.selects.selects) in
+        let same : u ≡ dispatch lack.call = same_Some u (dispatch lack.call) (sym at ∙ lack.selects.selects) in
         let here : lack.s ≡ s = same_Some lack.s s (sym lack.is_site ∙ there) in
         let lack_here = subst (λ (x : Site). LacksTarget p lack.call.kind lack.call.resolved x c.reason) here lack.lacks in
-        record { call = lack.call; selects = lack.selects; reason = told lack.call s lacks c.reason (subst (λ (x : ItemUser). UserLacks p x s lacks) same h) lack_here }),
+        record { call = lack.call; selects = lack.selects; reason = told lack.call s lacks c.reason (subst (λ (x : ItemConstraint). ConstraintLacks p x s lacks) same h) lack_here }),
   )
     where
-      told : (call : CallSite) (s : Site) (lacks : Option Reason) (reason : Reason) → UserLacks p (select call) s lacks → LacksTarget p call.kind call.resolved s reason → lacks ≡ Some reason
+      told : (call : CallSite) (s : Site) (lacks : Option Reason) (reason : Reason) → ConstraintLacks p (dispatch call) s lacks → LacksTarget p call.kind call.resolved s reason → lacks ≡ Some reason
       told call s None reason none lack = absurd (none reason lack)
       told call s (Some first) reason is lack = ap Some (one_lack call.kind call.resolved s first reason is lack)
 
 -- one call is noted for one reason
-pub one_noted : (n : Numbered) (user : UserNo) (lacks : Option Reason) (a b : RefusedCall) → NotesReason n user lacks a → NotesReason n user lacks b → a ≡ b
-one_noted n user lacks a b first second =
-    let users : select first.call ≡ select second.call = same_Some (select first.call) (select second.call) (sym first.selects.selects ∙ second.selects.selects) in
+pub one_noted : (n : Numbered) (constraint : ConstraintNo) (lacks : Option Reason) (a b : RefusedCall) → NotesReason n constraint lacks a → NotesReason n constraint lacks b → a ≡ b
+one_noted n constraint lacks a b first second =
+    let constraints : dispatch first.call ≡ dispatch second.call = same_Some (dispatch first.call) (dispatch second.call) (sym first.selects.selects ∙ second.selects.selects) in
     let calls : first.call ≡ second.call = cc in
     let ats : refused_at a ≡ refused_at b = sym first.selects.at ∙ ap (λ (c : CallSite). c.at) calls ∙ second.selects.at in
     let method : a.method ≡ b.method = same_Some a.method b.method (ap (λ (at : NodeRef). at.method) ats) in
@@ -106,19 +106,19 @@ one_noted n user lacks a b first second =
 
 -- ---- the call that is noted
 
-module _ (n : Numbered) (user : UserNo) (kept : User) (k : CallNo) (known : IsNumbered n.users user.0) (shows : (u : ItemUser) → slice_get n.users user.0 ≡ Some u → IsUserAt n kept u)
-    (is : kept ≡ users.Select k) where
-  -- the call of a user that is kept as one that selects
-  call_there : (call : CallSite) × (slice_get n.calls k.0 ≡ Some call) × (slice_get n.users user.0 ≡ Some (select call))
+module _ (n : Numbered) (constraint : ConstraintNo) (kept : Constraint) (k : CallNo) (known : IsNumbered n.constraints constraint.0) (shows : (u : ItemConstraint) → slice_get n.constraints constraint.0 ≡ Some u → IsConstraintAt n kept u)
+    (is : kept ≡ constraints.Dispatch k) where
+  -- the call of a constraint that is kept as one that selects
+  call_there : (call : CallSite) × (slice_get n.calls k.0 ≡ Some call) × (slice_get n.constraints constraint.0 ≡ Some (dispatch call))
   call_there =
-      let at : IsUserAt n (users.Select k) known.0 = subst (λ (x : User). IsUserAt n x known.0) is (shows known.0 known.1) in
+      let at : IsConstraintAt n (constraints.Dispatch k) known.0 = subst (λ (x : Constraint). IsConstraintAt n x known.0) is (shows known.0 known.1) in
       (at.0, at.1, known.1 ∙ ap Some at.2)
 
   pub kept_call : IsNumbered n.calls k.0
   kept_call = (call_there.0, call_there.1)
 
   pub noted_now : (lacks : Option Reason) (reason : Reason) (entry : Entry) (method : MethodNo) → lacks ≡ Some reason → ((call : CallSite) → slice_get n.calls k.0 ≡ Some call → IsCallAt n entry call)
-      → entry.at.method ≡ Some method → NotesReason n user lacks (record { method = method; offset = entry.at.offset; reason = reason })
+      → entry.at.method ≡ Some method → NotesReason n constraint lacks (record { method = method; offset = entry.at.offset; reason = reason })
   noted_now lacks reason entry method told stands of =
       let at = stands call_there.0 call_there.1 in
       record {

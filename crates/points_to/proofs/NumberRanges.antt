@@ -23,25 +23,25 @@ use Rattle.points_to_rules.specs.Calls.{SelectsFor}
 use Rattle.points_to_rules.specs.Facts.{Holder, may_hold, may_run, may_call, may_write}
 use Rattle.points_to_constraints.specs.CallItems.{CallItem, GivesUnit, SelectItem}
 use Rattle.points_to_constraints.specs.CallItems as call_items
-use Rattle.points_to_constraints.specs.Items.{CallSite, User, pass_to, pass_fitting, read_field, write_field, read_elements, write_elements, throw_at, land_at, select, Item as RuleItem, known, used}
-use Rattle.points_to_constraints.specs.ItemRules.{StartItem, Passed, ItemInstance, of_start, of_node, of_call, of_user}
+use Rattle.points_to_constraints.specs.Items.{CallSite, Constraint, copy_to, filter_to, load_field, store_field, load_elements, store_elements, throw_to, rethrow_to, dispatch, Item as RuleItem, known, constrained}
+use Rattle.points_to_constraints.specs.ItemRules.{StartItem, Passed, ItemInstance, of_start, of_node, of_call, of_constraint}
 use Rattle.points_to_constraints.specs.ItemRules as item_rules
 use Rattle.points_to_rules.specs.WholeMethods.{NamesNumbers}
 use Rattle.points_to_constraints.specs.NodeItems.{NodeItem, FlowItem, OpItem, LoadStaticItem, NewArrayItem, CallNodeItem, TriggerItem}
 use Rattle.points_to_constraints.specs.NodeItems as node_items
 use Rattle.points_to_rules.specs.Solutions.{IsSupplyOf}
 
--- The call whose target the user selects, if it selects one, is resolved to a method of the program.
-abbrev pub IsUserInRange : Program → User → Type 0
-IsUserInRange p (pass_to to) = Unit {0}
-IsUserInRange p (pass_fitting class to) = Unit {0}
-IsUserInRange p (read_field field to) = Unit {0}
-IsUserInRange p (write_field field from) = Unit {0}
-IsUserInRange p (read_elements to) = Unit {0}
-IsUserInRange p (write_elements from) = Unit {0}
-IsUserInRange p (throw_at landing) = Unit {0}
-IsUserInRange p (land_at landing) = Unit {0}
-IsUserInRange p (select site) = IsMethodNumber p site.resolved.0
+-- The call whose target the constraint selects, if it selects one, is resolved to a method of the program.
+abbrev pub IsConstraintInRange : Program → Constraint → Type 0
+IsConstraintInRange p (copy_to to) = Unit {0}
+IsConstraintInRange p (filter_to class to) = Unit {0}
+IsConstraintInRange p (load_field field to) = Unit {0}
+IsConstraintInRange p (store_field field from) = Unit {0}
+IsConstraintInRange p (load_elements to) = Unit {0}
+IsConstraintInRange p (store_elements from) = Unit {0}
+IsConstraintInRange p (throw_to catch_chain) = Unit {0}
+IsConstraintInRange p (rethrow_to catch_chain) = Unit {0}
+IsConstraintInRange p (dispatch site) = IsMethodNumber p site.resolved.0
 
 -- The method of the item, if it has one, is one of the program.
 abbrev pub IsInRange : Program → RuleItem → Type 0
@@ -49,14 +49,14 @@ IsInRange p (known (may_hold h s)) = Unit {0}
 IsInRange p (known (may_run m)) = IsMethodNumber p m.0
 IsInRange p (known (may_call at target)) = IsMethodNumber p target.0
 IsInRange p (known (may_write m field)) = Unit {0}
-IsInRange p (used h u) = IsUserInRange p u
+IsInRange p (constrained h u) = IsConstraintInRange p u
 
 module _ (p : Program) where
   in_range_as : (x y : RuleItem) → x ≡ y → IsInRange p y → IsInRange p x
   in_range_as x y e r = subst (IsInRange p) (sym e) r
 
-  user_as : (u v : User) → u ≡ v → IsUserInRange p v → IsUserInRange p u
-  user_as u v e r = subst (IsUserInRange p) (sym e) r
+  constraint_as : (u v : Constraint) → u ≡ v → IsConstraintInRange p v → IsConstraintInRange p u
+  constraint_as u v e r = subst (IsConstraintInRange p) (sym e) r
 
   initialiser_in : (class : List ℕ) (i : ℕ) → IsCodedInitialiser p class i → IsMethodNumber p i
   initialiser_in class i is = slice_get_within p.methods i is.method is.stands
@@ -124,7 +124,7 @@ module _ (p : Program) where
   trigger_in : (m : MethodNo) (l : LoweredMethod) (n : Node) (x : RuleItem) → TriggerItem p m l n x → IsInRange p x
   trigger_in m l n x (node_items.runs i starts e) = in_range_as x _ e (initialiser_in starts.class i.0 starts.initialiser)
   trigger_in m l n x (node_items.keeps_thrown i starts e) = in_range_as x _ e tt
-  trigger_in m l n x (node_items.throws i landing starts is e) = in_range_as x _ e tt
+  trigger_in m l n x (node_items.throws i catch_chain starts is e) = in_range_as x _ e tt
 
   node_in : (m : MethodNo) (l : LoweredMethod) (n : Node) (x : RuleItem) → NamesNumbers p n → NodeItem p m l n x → IsInRange p x
   node_in m l n x names (node_items.flows made) = flow_in l n x made
@@ -134,11 +134,11 @@ module _ (p : Program) where
   node_in m l n x names (node_items.raises made) = in_range_as x _ made.is tt
   node_in m l n x names (node_items.triggers made) = trigger_in m l n x made
 
-  unit_in : (kind : CallKind) (resolved : MethodNo) (unit : ℕ) (to : Holder) (u : User) → GivesUnit kind p resolved unit to u → IsUserInRange p u
-  unit_in kind resolved (suc unit) to u e = user_as u _ e tt
+  unit_in : (kind : CallKind) (resolved : MethodNo) (unit : ℕ) (to : Holder) (u : Constraint) → GivesUnit kind p resolved unit to u → IsConstraintInRange p u
+  unit_in kind resolved (suc unit) to u e = constraint_as u _ e tt
   unit_in Virtual resolved zero to u none = absurd none
-  unit_in Special resolved zero to u (m, stands, e) = user_as u _ e tt
-  unit_in Static resolved zero to u e = user_as u _ e tt
+  unit_in Special resolved zero to u (m, stands, e) = constraint_as u _ e tt
+  unit_in Static resolved zero to u e = constraint_as u _ e tt
   unit_in Interface resolved zero to u none = absurd none
 
   call_in : (site : CallSite) (target : MethodNo) (x : RuleItem) → IsMethodNumber p target.0 → CallItem p site target x → IsInRange p x
@@ -146,10 +146,10 @@ module _ (p : Program) where
   call_in site target x within (call_items.pass unit from at passed e) = in_range_as x _ e tt
   call_in site target x within (call_items.receive to of_file there e) = in_range_as x _ e tt
   call_in site target x within (call_items.target_throws of_file e) = in_range_as x _ e tt
-  call_in site target x within (call_items.keep_argument stub argument unit from user described there is gives_unit e) =
-      in_range_as x _ e (unit_in site.kind site.resolved unit _ user gives_unit)
-  call_in site target x within (call_items.give_argument stub argument unit from to user described there is result gives_unit e) =
-      in_range_as x _ e (unit_in site.kind site.resolved unit to user gives_unit)
+  call_in site target x within (call_items.keep_argument stub argument unit from constraint described there is gives_unit e) =
+      in_range_as x _ e (unit_in site.kind site.resolved unit _ constraint gives_unit)
+  call_in site target x within (call_items.give_argument stub argument unit from to constraint described there is result gives_unit e) =
+      in_range_as x _ e (unit_in site.kind site.resolved unit to constraint gives_unit)
   call_in site target x within (call_items.give_new stub class to described there result e) = in_range_as x _ e tt
   call_in site target x within (call_items.give_kept stub class to described there is_class result e) = in_range_as x _ e tt
   call_in site target x within (call_items.described_throws stub class to described there lands e) = in_range_as x _ e tt
@@ -160,16 +160,16 @@ module _ (p : Program) where
   select_in site s x (call_items.kept target stub argument selects described there is e) = in_range_as x _ e tt
   select_in site s x (call_items.given target stub argument to selects described there is result e) = in_range_as x _ e tt
 
-  passed_in : (user : User) (s : Site) (x : RuleItem) → Passed p user s x → IsInRange p x
-  passed_in (pass_to to) s x e = in_range_as x _ e tt
-  passed_in (pass_fitting class to) s x made = in_range_as x _ made.1 tt
-  passed_in (read_field field to) s x e = in_range_as x _ e tt
-  passed_in (write_field field from) s x e = in_range_as x _ e tt
-  passed_in (read_elements to) s x e = in_range_as x _ e tt
-  passed_in (write_elements from) s x e = in_range_as x _ e tt
-  passed_in (throw_at landing) s x made = in_range_as x _ made.1.2 tt
-  passed_in (land_at landing) s x made = in_range_as x _ made.2 tt
-  passed_in (select site) s x made = select_in site s x made
+  passed_in : (constraint : Constraint) (s : Site) (x : RuleItem) → Passed p constraint s x → IsInRange p x
+  passed_in (copy_to to) s x e = in_range_as x _ e tt
+  passed_in (filter_to class to) s x made = in_range_as x _ made.1 tt
+  passed_in (load_field field to) s x e = in_range_as x _ e tt
+  passed_in (store_field field from) s x e = in_range_as x _ e tt
+  passed_in (load_elements to) s x e = in_range_as x _ e tt
+  passed_in (store_elements from) s x e = in_range_as x _ e tt
+  passed_in (throw_to catch_chain) s x made = in_range_as x _ made.1.2 tt
+  passed_in (rethrow_to catch_chain) s x made = in_range_as x _ made.2 tt
+  passed_in (dispatch site) s x made = select_in site s x made
 
 -- ---- the whole
 
@@ -179,4 +179,4 @@ in_range_is_closed p gives entry supply within premises x (of_node m l n are sta
     node_in p m l n x (All-contains (NamesNumbers p) l.nodes n (supply.methods m.0 l stands.given).numbers stands.stands) i
 in_range_is_closed p gives entry supply within premises x (of_call m l n c site target are stands op is_site i) hold =
     call_in p site target x (subst (λ (items : List RuleItem). Hold (IsInRange p) items) are hold).0 i
-in_range_is_closed p gives entry supply within premises x (of_user from user s are i) hold = passed_in p user s x i
+in_range_is_closed p gives entry supply within premises x (of_constraint from constraint s are i) hold = passed_in p constraint s x i

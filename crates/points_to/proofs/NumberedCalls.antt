@@ -19,7 +19,7 @@ use Rattle.points_to_constraints.specs.Items.{CallSite, Item as RuleItem, known}
 use Rattle.points_to_constraints.specs.NodeItems.{IsCallOf}
 use Rattle.points_to_methods.specs.NewCalls.{AddsCalls}
 use Rattle.points_to_numbers.specs.declared.item.Item.{Item}
-use Rattle.points_to_numbers.specs.declared.item.Item.TheVariants.{Holds, Runs, Calls, Uses}
+use Rattle.points_to_numbers.specs.declared.item.Item.TheVariants.{Holds, Runs, Calls, Constrains}
 use Rattle.points_to_numbers.specs.Numbered.{Numbered, Extends}
 use Rattle.points_to.specs.Concluding.{AddsCallsBy, ResolvesIn}
 use Rattle.points_to_rules.specs.Solutions.{IsSupplyOf}
@@ -93,7 +93,7 @@ module _ {p : Program} (gives : GivenAs) (methods : AreWholeMethods p gives) (on
     | inr same ↦ calls_stay old new grown same h
   ]
   calls_by (Calls call target) old new grown fresh same h = calls_stay old new grown same h
-  calls_by (Uses place user) old new grown fresh same h = calls_stay old new grown same h
+  calls_by (Constrains place constraint) old new grown fresh same h = calls_stay old new grown same h
 
 -- ---- what they are resolved to
 

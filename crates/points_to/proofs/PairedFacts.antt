@@ -14,11 +14,11 @@ use Rattle.least_sets.proofs.Derivations.{All-derivable}
 use Rattle.least_sets.proofs.Places.{place_of, contains_at, All-from_contains}
 use Rattle.points_to_rules.specs.Facts.{Holder, Fact, may_hold, may_run, may_call, may_write}
 use Rattle.points_to_rules.specs.Rules.{Instance}
-use Rattle.points_to_constraints.specs.Items.{CallSite, Item as RuleItem, known, used, facts_of}
+use Rattle.points_to_constraints.specs.Items.{CallSite, Item as RuleItem, known, constrained, facts_of}
 use Rattle.points_to_constraints.specs.ItemRules.{ItemInstance}
 use Rattle.points_to_constraints.proofs.MeantItems.{derivable_fact}
 use Rattle.points_to_numbers.specs.declared.item.Item.{Item}
-use Rattle.points_to_numbers.specs.declared.item.Item.TheVariants.{Holds, Runs, Calls, Uses}
+use Rattle.points_to_numbers.specs.declared.item.Item.TheVariants.{Holds, Runs, Calls, Constrains}
 use Rattle.points_to_numbers.specs.Numbered.{Numbered, AreApart}
 use Rattle.points_to_numbers.specs.Steps.{IsItemAt}
 use Rattle.points_to.specs.Queues.{weight_of, pairs_among}
@@ -33,7 +33,7 @@ known_place : (xs : List RuleItem) (k : ℕ) (fact : Fact) → slice_get (facts_
 known_place [] k fact e = absurd (none-some fact e)
 known_place (known f ∷ xs) zero fact e = (0, ap (λ (g : Fact). Some (known g)) (same_Some f fact e))
 known_place (known f ∷ xs) (suc k) fact e = let h = known_place xs k fact e in (suc h.0, h.1)
-known_place (used h u ∷ xs) k fact e = let there = known_place xs k fact e in (suc there.0, there.1)
+known_place (constrained h u ∷ xs) k fact e = let there = known_place xs k fact e in (suc there.0, there.1)
 
 pub known_there : (xs : List RuleItem) (fact : Fact) → Contains (facts_of xs) fact → Contains xs (known fact)
 known_there xs fact c = let at = place_of (facts_of xs) fact c in let h = known_place xs at.0 fact at.1 in contains_at xs h.0 (known fact) h.1
@@ -43,8 +43,8 @@ fact_place : (xs : List RuleItem) (k : ℕ) (fact : Fact) → slice_get xs k ≡
 fact_place [] k fact e = absurd (none-some (known fact) e)
 fact_place (known f ∷ xs) zero fact e = let same : f ≡ fact = (let items = same_Some (known f) (known fact) e in cc) in (0, ap Some same)
 fact_place (known f ∷ xs) (suc k) fact e = let h = fact_place xs k fact e in (suc h.0, h.1)
-fact_place (used h u ∷ xs) zero fact e = absurd (let items = same_Some (used h u) (known fact) e in cc)
-fact_place (used h u ∷ xs) (suc k) fact e = fact_place xs k fact e
+fact_place (constrained h u ∷ xs) zero fact e = absurd (let items = same_Some (constrained h u) (known fact) e in cc)
+fact_place (constrained h u ∷ xs) (suc k) fact e = fact_place xs k fact e
 
 pub fact_there : (xs : List RuleItem) (fact : Fact) → Contains xs (known fact) → Contains (facts_of xs) fact
 fact_there xs fact c = let at = place_of xs (known fact) c in let h = fact_place xs at.0 fact at.1 in contains_at (facts_of xs) h.0 fact h.1
@@ -60,7 +60,7 @@ apart_tail x xs apart fact i j p q = let same = apart fact (suc i) (suc j) p q i
 
 apart_facts : (xs : List RuleItem) → AreFactsApart xs → IsWithoutDoubles (facts_of xs)
 apart_facts [] apart fact i j p q = absurd (none-some fact p)
-apart_facts (used h u ∷ xs) apart fact i j p q = apart_facts xs (apart_tail (used h u) xs apart) fact i j p q
+apart_facts (constrained h u ∷ xs) apart fact i j p q = apart_facts xs (apart_tail (constrained h u) xs apart) fact i j p q
 apart_facts (known f ∷ xs) apart fact zero zero p q = refl
 apart_facts (known f ∷ xs) apart fact zero (suc j) p q =
     let there = known_place xs j fact q in
@@ -75,7 +75,7 @@ no_writing : (n : Numbered) (i : Item) (m : MethodNo) (field : _) → IsItemAt n
 no_writing n (Holds place site) m field (h, s, holder, there, e) = cc
 no_writing n (Runs k) m field e = cc
 no_writing n (Calls call target) m field (c, at, e) = cc
-no_writing n (Uses place user) m field (h, u, holder, there, e) = cc
+no_writing n (Constrains place constraint) m field (h, u, holder, there, e) = cc
 
 -- Two numbers of calls of one node are one.
 abbrev pub AreCallsApart : List CallSite → Type 0
@@ -145,14 +145,14 @@ weight (known (may_hold h s)) = 1
 weight (known (may_run m)) = 0
 weight (known (may_call at m)) = 0
 weight (known (may_write m field)) = 0
-weight (used h u) = 0
+weight (constrained h u) = 0
 
 weight_is : (n : Numbered) (i : Item) (x : RuleItem) → IsItemAt n i x → weight_of i ≡ weight x
 unfolding weight
 weight_is n (Holds place site) x (h, s, holder, there, e) = sym (ap weight e)
 weight_is n (Runs m) x e = sym (ap weight e)
 weight_is n (Calls call target) x (c, at, e) = sym (ap weight e)
-weight_is n (Uses place user) x (h, u, holder, there, e) = sym (ap weight e)
+weight_is n (Constrains place constraint) x (h, u, holder, there, e) = sym (ap weight e)
 
 weigh : (x : RuleItem) (xs : List RuleItem) → pairs_in (facts_of (x ∷ xs)) ≡ weight x + pairs_in (facts_of xs)
 unfolding weight
@@ -160,7 +160,7 @@ weigh (known (may_hold h s)) xs = omega arith
 weigh (known (may_run m)) xs = sym (zero-add (pairs_in (facts_of xs)))
 weigh (known (may_call at m)) xs = sym (zero-add (pairs_in (facts_of xs)))
 weigh (known (may_write m field)) xs = sym (zero-add (pairs_in (facts_of xs)))
-weigh (used h u) xs = sym (zero-add (pairs_in (facts_of xs)))
+weigh (constrained h u) xs = sym (zero-add (pairs_in (facts_of xs)))
 
 pub pairs_counted : (n : Numbered) (items : List Item) (xs : List RuleItem) → AllZip (IsItemAt n) items xs → pairs_in (facts_of xs) ≡ pairs_among items
 pairs_counted n [] [] stand = refl

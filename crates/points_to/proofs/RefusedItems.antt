@@ -8,19 +8,19 @@ use Rattle.jvm_model.specs.declared.site.Site.{Site}
 use Rattle.jvm_model.specs.Programs.{Program}
 use Rattle.op_model.specs.Supplies.{GivenAs}
 use Rattle.points_to_rules.specs.Facts.{may_hold, may_run}
-use Rattle.points_to_constraints.specs.Items.{User as ItemUser, select, Item as RuleItem, known, used}
+use Rattle.points_to_constraints.specs.Items.{Constraint as ItemConstraint, dispatch, Item as RuleItem, known, constrained}
 use Rattle.points_to_numbers.specs.declared.item.Item.{Item}
-use Rattle.points_to_numbers.specs.declared.item.Item.TheVariants.{Holds, Runs, Calls, Uses}
+use Rattle.points_to_numbers.specs.declared.item.Item.TheVariants.{Holds, Runs, Calls, Constrains}
 use Rattle.points_to_rules.specs.declared.place.PlaceNo.{PlaceNo}
-use Rattle.points_to_numbers.specs.declared.keys.UserNo.{UserNo}
+use Rattle.points_to_numbers.specs.declared.keys.ConstraintNo.{ConstraintNo}
 use Rattle.points_to_numbers.specs.Numbered.{Numbered}
 use Rattle.points_to_numbers.specs.Steps.{IsItemAt}
 use Rattle.points_to.specs.declared.refusals.RefusedCall.{RefusedCall}
 use Rattle.points_to.specs.declared.refusals.RefusedMethod.{RefusedMethod}
 use Rattle.points_to.specs.Closing.{IsLackIn, IsRefusedAmong, HasFirstCall, HasFirstMethod}
-use Rattle.points_to.specs.Concluding.{SitesBy, UsersBy, LacksBy, RefusedBy, IsRefusedAs}
+use Rattle.points_to.specs.Concluding.{SitesBy, ConstraintsBy, LacksBy, RefusedBy, IsRefusedAs}
 use Rattle.points_to.specs.Passing.{NotesCalls, NotesMethods, LacksForSome, LacksSome}
-use Rattle.points_to.proofs.Following.{IsPoppedAt, user_there, site_there, user_of_place, site_of_place, popped_there}
+use Rattle.points_to.proofs.Following.{IsPoppedAt, constraint_there, site_there, constraint_of_place, site_of_place, popped_there}
 use Rattle.points_to.proofs.ItemPlaces.{holding, using, running, last_or_before, before_there}
 use Rattle.points_to.proofs.Noting.{those_both, those_same}
 
@@ -42,8 +42,8 @@ first_method_more R L S old new same h notes = record {
 
 -- ---- by an item
 
-module _ {p : Program} {gives : GivenAs} {n : Numbered} {sites : SitesBy} {users : UsersBy} {items : List Item} {xs : List RuleItem} {done : ℕ} {item : Item} {popped : RuleItem}
-    (h : IsPoppedAt p gives n sites users items xs done item popped) (entry : MethodNo) where
+module _ {p : Program} {gives : GivenAs} {n : Numbered} {sites : SitesBy} {constraints : ConstraintsBy} {items : List Item} {xs : List RuleItem} {done : ℕ} {item : Item} {popped : RuleItem}
+    (h : IsPoppedAt p gives n sites constraints items xs done item popped) (entry : MethodNo) where
   abbrev Before : RuleItem → Type 0
   Before = Contains (take done xs)
 
@@ -55,81 +55,81 @@ module _ {p : Program} {gives : GivenAs} {n : Numbered} {sites : SitesBy} {users
 
   -- ---- calls
 
-  lack_of_pair : (place : PlaceNo) (site : SiteNo) → item ≡ Holds place site → (c : RefusedCall) → LacksForSome p n (users place.0) site c → IsLackIn p Now c
-  lack_of_pair place site is c (user, there, lack) =
+  lack_of_pair : (place : PlaceNo) (site : SiteNo) → item ≡ Holds place site → (c : RefusedCall) → LacksForSome p n (constraints place.0) site c → IsLackIn p Now c
+  lack_of_pair place site is c (constraint, there, lack) =
       let (from, s, holder, at, e) = subst (λ (i : Item). IsItemAt n i popped) is h.stands in
       let same : s ≡ lack.s = same_Some s lack.s (sym at ∙ lack.is_site) in
       record {
         from = from;
         call = lack.call;
         s = lack.s;
-        uses = user_there h entry place user from (select lack.call) there holder lack.selects.selects;
+        constrains = constraint_there h entry place constraint from (dispatch lack.call) there holder lack.selects.selects;
         holds = subst Now (e ∙ ap (λ (r : Site). known (may_hold from r)) same) (popped_there h entry);
         at = lack.selects.at;
         lacks = lack.lacks;
       }
 
-  lack_of_user : (place : PlaceNo) (user : UserNo) → item ≡ Uses place user → (c : RefusedCall) → LacksSome p n user (sites place.0) c → IsLackIn p Now c
-  lack_of_user place user is c (site, there, lack) =
+  lack_of_constraint : (place : PlaceNo) (constraint : ConstraintNo) → item ≡ Constrains place constraint → (c : RefusedCall) → LacksSome p n constraint (sites place.0) c → IsLackIn p Now c
+  lack_of_constraint place constraint is c (site, there, lack) =
       let (from, u, holder, at, e) = subst (λ (i : Item). IsItemAt n i popped) is h.stands in
-      let same : u ≡ select lack.call = same_Some u (select lack.call) (sym at ∙ lack.selects.selects) in
+      let same : u ≡ dispatch lack.call = same_Some u (dispatch lack.call) (sym at ∙ lack.selects.selects) in
       record {
         from = from;
         call = lack.call;
         s = lack.s;
-        uses = subst Now (e ∙ ap (λ (v : ItemUser). used from v) same) (popped_there h entry);
+        constrains = subst Now (e ∙ ap (λ (v : ItemConstraint). constrained from v) same) (popped_there h entry);
         holds = site_there h entry place site from lack.s there holder lack.is_site;
         at = lack.selects.at;
         lacks = lack.lacks;
       }
 
-  lack_by : (c : RefusedCall) → LacksBy p n sites users item c → IsLackIn p Now c
+  lack_by : (c : RefusedCall) → LacksBy p n sites constraints item c → IsLackIn p Now c
   lack_by c l = by item refl l
     where
-      by : (i : Item) → item ≡ i → LacksBy p n sites users i c → IsLackIn p Now c
+      by : (i : Item) → item ≡ i → LacksBy p n sites constraints i c → IsLackIn p Now c
       by (Holds place site) is g = lack_of_pair place site is c g
       by (Runs m) is g = absurd g
       by (Calls number target) is g = absurd g
-      by (Uses place user) is g = lack_of_user place user is c g
+      by (Constrains place constraint) is g = lack_of_constraint place constraint is c g
 
   lack_still : (c : RefusedCall) → IsLackIn p Before c → IsLackIn p Now c
   lack_still c l = record {
     from = l.from;
     call = l.call;
     s = l.s;
-    uses = still (used l.from (select l.call)) l.uses;
+    constrains = still (constrained l.from (dispatch l.call)) l.constrains;
     holds = still (known (may_hold l.from l.s)) l.holds;
     at = l.at;
     lacks = l.lacks;
   }
 
-  -- by the user that is popped
-  lack_by_user : (c : RefusedCall) (l : IsLackIn p Now c) → popped ≡ used l.from (select l.call) → LacksBy p n sites users item c
-  lack_by_user c l e =
-      let is = using n item l.from (select l.call) (subst (λ (y : RuleItem). IsItemAt n item y) e h.stands) in
+  -- by the constraint that is popped
+  lack_by_constraint : (c : RefusedCall) (l : IsLackIn p Now c) → popped ≡ constrained l.from (dispatch l.call) → LacksBy p n sites constraints item c
+  lack_by_constraint c l e =
+      let is = using n item l.from (dispatch l.call) (subst (λ (y : RuleItem). IsItemAt n item y) e h.stands) in
       let (site, there, of_site) = site_of_place h entry is.place l.from l.s is.holder l.holds in
-      subst (λ (i : Item). LacksBy p n sites users i c) (sym is.is)
-      (site, there, record { call = l.call; selects = record { selects = is.of_user; at = l.at }; s = l.s; is_site = of_site; lacks = l.lacks })
+      subst (λ (i : Item). LacksBy p n sites constraints i c) (sym is.is)
+      (site, there, record { call = l.call; selects = record { selects = is.of_constraint; at = l.at }; s = l.s; is_site = of_site; lacks = l.lacks })
 
   -- by the object that is popped
-  lack_by_pair : (c : RefusedCall) (l : IsLackIn p Now c) → popped ≡ known (may_hold l.from l.s) → LacksBy p n sites users item c
+  lack_by_pair : (c : RefusedCall) (l : IsLackIn p Now c) → popped ≡ known (may_hold l.from l.s) → LacksBy p n sites constraints item c
   lack_by_pair c l e =
       let is = holding n item l.from l.s (subst (λ (y : RuleItem). IsItemAt n item y) e h.stands) in
-      let (user, there, stands) = user_of_place h entry is.place l.from (select l.call) is.holder l.uses in
-      subst (λ (i : Item). LacksBy p n sites users i c) (sym is.is)
-      (user, there, record { call = l.call; selects = record { selects = stands; at = l.at }; s = l.s; is_site = is.of_site; lacks = l.lacks })
+      let (constraint, there, stands) = constraint_of_place h entry is.place l.from (dispatch l.call) is.holder l.constrains in
+      subst (λ (i : Item). LacksBy p n sites constraints i c) (sym is.is)
+      (constraint, there, record { call = l.call; selects = record { selects = stands; at = l.at }; s = l.s; is_site = is.of_site; lacks = l.lacks })
 
-  lack_split : (c : RefusedCall) → IsLackIn p Now c → IsLackIn p Before c ⊎ LacksBy p n sites users item c
-  lack_split c l = elim (last_or_before xs done popped h.popped_at (used l.from (select l.call)) l.uses) [
-    | inr last ↦ inr (lack_by_user c l last)
-    | inl user ↦ elim (last_or_before xs done popped h.popped_at (known (may_hold l.from l.s)) l.holds) [
+  lack_split : (c : RefusedCall) → IsLackIn p Now c → IsLackIn p Before c ⊎ LacksBy p n sites constraints item c
+  lack_split c l = elim (last_or_before xs done popped h.popped_at (constrained l.from (dispatch l.call)) l.constrains) [
+    | inr last ↦ inr (lack_by_constraint c l last)
+    | inl constraint ↦ elim (last_or_before xs done popped h.popped_at (known (may_hold l.from l.s)) l.holds) [
       | inr last ↦ inr (lack_by_pair c l last)
-      | inl pair ↦ inl (record { from = l.from; call = l.call; s = l.s; uses = user; holds = pair; at = l.at; lacks = l.lacks })
+      | inl pair ↦ inl (record { from = l.from; call = l.call; s = l.s; constrains = constraint; holds = pair; at = l.at; lacks = l.lacks })
     ]
   ]
 
-  pub lacks_more : (old new : Option RefusedCall) → HasFirstCall (IsLackIn p Before) old → NotesCalls (LacksBy p n sites users item) old new → HasFirstCall (IsLackIn p Now) new
-  lacks_more old new = first_call_more (IsLackIn p Before) (LacksBy p n sites users item) (IsLackIn p Now) old new (λ c. (
+  pub lacks_more : (old new : Option RefusedCall) → HasFirstCall (IsLackIn p Before) old → NotesCalls (LacksBy p n sites constraints item) old new → HasFirstCall (IsLackIn p Now) new
+  lacks_more old new = first_call_more (IsLackIn p Before) (LacksBy p n sites constraints item) (IsLackIn p Now) old new (λ c. (
     (λ e. elim e [ inl before ↦ lack_still c before | inr now ↦ lack_by c now ]),
     (λ l. lack_split c l),
   ))
@@ -148,7 +148,7 @@ module _ {p : Program} {gives : GivenAs} {n : Numbered} {sites : SitesBy} {users
             refused = subst (λ (k : MethodNo). gives k.0 (Err r.refusal)) (sym g.is) g.refused;
           }
       by (Calls number target) is g = absurd g
-      by (Uses place user) is g = absurd g
+      by (Constrains place constraint) is g = absurd g
 
   refused_split : (r : RefusedMethod) → IsRefusedAmong gives Now r → IsRefusedAmong gives Before r ⊎ RefusedBy gives item r
   refused_split r l = elim (last_or_before xs done popped h.popped_at (known (may_run r.method)) l.runs) [

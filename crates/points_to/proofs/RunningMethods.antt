@@ -15,7 +15,7 @@ use Rattle.least_sets.proofs.Places.{contains_at, in_longer, nothing_in}
 use Rattle.points_to_rules.specs.Facts.{Fact, may_run}
 use Rattle.points_to_rules.specs.WholeMethods.{AreWholeMethods}
 use Rattle.points_to_numbers.specs.declared.item.Item.{Item}
-use Rattle.points_to_numbers.specs.declared.item.Item.TheVariants.{Holds, Runs, Calls, Uses}
+use Rattle.points_to_numbers.specs.declared.item.Item.TheVariants.{Holds, Runs, Calls, Constrains}
 use Rattle.points_to_rules.specs.declared.running_method.RunningMethod.{RunningMethod}
 use Rattle.points_to.specs.Concluding.{AddsMethodsBy, IsRunningAs}
 use Rattle.points_to_rules.specs.Solutions.{AreRunning}
@@ -121,7 +121,7 @@ module _ {p : Program} (gives : GivenAs) (methods : AreWholeMethods p gives) (on
       running_stays old new same (λ number l runs given. elim (split number runs) [ inl before ↦ before | inr other ↦ absurd cc ]) h
   running_by (Calls call target) old new split fresh same h =
       running_stays old new same (λ number l runs given. elim (split number runs) [ inl before ↦ before | inr other ↦ absurd cc ]) h
-  running_by (Uses place user) old new split fresh same h =
+  running_by (Constrains place constraint) old new split fresh same h =
       running_stays old new same (λ number l runs given. elim (split number runs) [ inl before ↦ before | inr other ↦ absurd cc ]) h
   running_by (Runs k) old new split fresh adds h = elim adds [
     | inl (m, is, e) ↦

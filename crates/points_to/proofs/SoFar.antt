@@ -14,7 +14,7 @@ use Rattle.least_sets.proofs.Joined.{IsDerivation-append}
 use Rattle.least_sets.proofs.Places.{place_of, contains_at, in_front, nothing_in}
 use Rattle.points_to_rules.specs.Facts.{may_run}
 use Rattle.points_to_constraints.specs.Items.{Item as RuleItem, known}
-use Rattle.points_to_constraints.specs.ItemRules.{StartItem, ItemInstance, of_start, of_node, of_call, of_user}
+use Rattle.points_to_constraints.specs.ItemRules.{StartItem, ItemInstance, of_start, of_node, of_call, of_constraint}
 use Rattle.points_to_constraints.proofs.Holders.{zip_place}
 use Rattle.points_to_numbers.specs.declared.item.Item.{Item}
 use Rattle.points_to_numbers.specs.declared.item.Item.TheVariants.{Runs}
@@ -24,9 +24,9 @@ use Rattle.points_to.specs.declared.refusals.RefusedCall.{RefusedCall}
 use Rattle.points_to.specs.declared.refusals.RefusedMethod.{RefusedMethod}
 use Rattle.points_to_rules.specs.declared.running_method.RunningMethod.{RunningMethod}
 use Rattle.points_to.specs.Closing.{IsLackIn, IsRefusedAmong, HasFirstCall, HasFirstMethod, KnownIn, IsClosed}
-use Rattle.points_to.specs.Concluding.{SitesBy, UsersBy, IsIndex, FollowsFrom, LacksBy, RefusedBy, AddsCallsBy, AddsMethodsBy}
+use Rattle.points_to.specs.Concluding.{SitesBy, ConstraintsBy, IsIndex, FollowsFrom, LacksBy, RefusedBy, AddsCallsBy, AddsMethodsBy}
 use Rattle.grouped_lists.specs.Groups.{values_at}
-use Rattle.points_to.specs.Indexed.{SiteGroups, UserGroups, IsIndexed}
+use Rattle.points_to.specs.Indexed.{SiteGroups, ConstraintGroups, IsIndexed}
 use Rattle.points_to.specs.Passing.{NotesCalls, NotesMethods}
 use Rattle.points_to.specs.Queues.{Takes, pairs_among}
 use Rattle.points_to_rules.specs.Solutions.{AreRunning, IsSupplyOf}
@@ -44,14 +44,14 @@ use Rattle.points_to.proofs.StepItems.{added_stand, HasTaken, taken_stand, held_
 
 -- The work list stands for a derivation, which has what follows from the items that are done; the index, the numbered calls, the first refusals
 -- and the listed methods are those of these items.
-pub record IsSoFar (p : Program) (gives : GivenAs) (entry : MethodNo) (n : Numbered) (items : List Item) (sites : SitesBy) (users : UsersBy)
+pub record IsSoFar (p : Program) (gives : GivenAs) (entry : MethodNo) (n : Numbered) (items : List Item) (sites : SitesBy) (constraints : ConstraintsBy)
     (call : Option RefusedCall) (method : Option RefusedMethod) (listed : List RunningMethod) (done : ℕ) : Type 0 where
   pub xs : List RuleItem
   pub stand : AllZip (IsItemAt n) items xs
   pub derived : IsDerivation (ItemInstance p gives entry) xs
   pub front : IsClosedFront (ItemInstance p gives entry) xs done
   pub within : done ≤ length items
-  pub index : IsIndex sites users (take done items)
+  pub index : IsIndex sites constraints (take done items)
   pub calls : AreNumberedCalls gives (Contains (take done xs)) n.calls
   pub lacks : HasFirstCall (IsLackIn p (Contains (take done xs))) call
   pub refused : HasFirstMethod (IsRefusedAmong gives (Contains (take done xs))) method
@@ -110,17 +110,17 @@ module _ (p : Program) (gives : GivenAs) (entry : MethodNo) (n : Numbered) (step
   pub derived_start : IsDerivedList p gives entry n new
   derived_start = record { xs = start_taken.more; stand = start_taken.stand; derived = start_derived; calls = start_calls_apart }
 
-  pub so_far_start : (sites : SitesBy) (users : UsersBy) → ((place : ℕ) → sites place ≡ []) → ((place : ℕ) → users place ≡ []) → All (Contains new) steps
-      → IsSoFar p gives entry n new sites users None None [] 0
-  so_far_start sites users no_site no_user held = record {
+  pub so_far_start : (sites : SitesBy) (constraints : ConstraintsBy) → ((place : ℕ) → sites place ≡ []) → ((place : ℕ) → constraints place ≡ []) → All (Contains new) steps
+      → IsSoFar p gives entry n new sites constraints None None [] 0
+  so_far_start sites constraints no_site no_constraint held = record {
     xs = start_taken.more;
     stand = start_taken.stand;
     derived = start_derived;
     front = IsClosedFront-none (ItemInstance p gives entry) start_taken.more kept;
     within = omega arith;
-    index = index_none sites users no_site no_user;
+    index = index_none sites constraints no_site no_constraint;
     calls = record { each = λ number site e. of_start_call (calls.at number site e); apart = start_calls_apart };
-    lacks = record { noted = []; those = those_none (IsLackIn p (Contains [])) (λ c l. nothing_in _ l.uses); is_first = refl };
+    lacks = record { noted = []; those = those_none (IsLackIn p (Contains [])) (λ c l. nothing_in _ l.constrains); is_first = refl };
     refused = record { noted = []; those = those_none (IsRefusedAmong gives (Contains [])) (λ r l. nothing_in _ l.runs); is_first = refl };
     running = running_none gives (KnownIn []) (λ m c. nothing_in _ c);
   }
@@ -132,26 +132,26 @@ module _ (p : Program) (gives : GivenAs) (entry : MethodNo) (n : Numbered) (step
       kept x (of_start none i) = All-contains (Contains start_taken.more) start_steps.ys x all_there (start_steps.complete x i)
       kept x (of_node m l node are stands i) = absurd cc
       kept x (of_call m l node c site target are stands op is_site i) = absurd cc
-      kept x (of_user from user s are i) = absurd cc
+      kept x (of_constraint from constraint s are i) = absurd cc
 
 -- ---- one more
 
 -- What is told of an item that was popped, and of what was made of it.
-pub record IsConcluded (p : Program) (gives : GivenAs) (n m : Numbered) (old_sites new_sites : SiteGroups) (old_users new_users : UserGroups) (old_call new_call : Option RefusedCall)
+pub record IsConcluded (p : Program) (gives : GivenAs) (n m : Numbered) (old_sites new_sites : SiteGroups) (old_constraints new_constraints : ConstraintGroups) (old_call new_call : Option RefusedCall)
     (old_method new_method : Option RefusedMethod) (old_listed new_listed : List RunningMethod) (item : Item) (steps : List Item) : Type 0 where
   pub grows : Grows n m
   pub apart : AreApart m
-  pub indexed : IsIndexed old_sites new_sites old_users new_users item
-  pub adds : Adds m (FollowsFrom p gives n (values_at new_sites) (values_at new_users) item) [] steps
+  pub indexed : IsIndexed old_sites new_sites old_constraints new_constraints item
+  pub adds : Adds m (FollowsFrom p gives n (values_at new_sites) (values_at new_constraints) item) [] steps
   pub calls : AddsCallsBy gives item n.calls m.calls
-  pub lacks : NotesCalls (LacksBy p n (values_at new_sites) (values_at new_users) item) old_call new_call
+  pub lacks : NotesCalls (LacksBy p n (values_at new_sites) (values_at new_constraints) item) old_call new_call
   pub refused : NotesMethods (RefusedBy gives item) old_method new_method
   pub methods : AddsMethodsBy gives item old_listed new_listed
 
-module _ {p : Program} {gives : GivenAs} (supply : IsSupplyOf p gives) (one : GivesOne gives) (entry : MethodNo) {n m : Numbered} {old_sites new_sites : SiteGroups} {old_users new_users : UserGroups}
+module _ {p : Program} {gives : GivenAs} (supply : IsSupplyOf p gives) (one : GivesOne gives) (entry : MethodNo) {n m : Numbered} {old_sites new_sites : SiteGroups} {old_constraints new_constraints : ConstraintGroups}
     {old_call new_call : Option RefusedCall} {old_method new_method : Option RefusedMethod} {old_listed new_listed : List RunningMethod} {item : Item} {steps items new : List Item} {done : ℕ}
-    (before : IsSoFar p gives entry n items (values_at old_sites) (values_at old_users) old_call old_method old_listed done) (apart : IsWithoutDoubles items) (at : slice_get items done ≡ Some item)
-    (told : IsConcluded p gives n m old_sites new_sites old_users new_users old_call new_call old_method new_method old_listed new_listed item steps) (takes : Takes items steps new) where
+    (before : IsSoFar p gives entry n items (values_at old_sites) (values_at old_constraints) old_call old_method old_listed done) (apart : IsWithoutDoubles items) (at : slice_get items done ≡ Some item)
+    (told : IsConcluded p gives n m old_sites new_sites old_constraints new_constraints old_call new_call old_method new_method old_listed new_listed item steps) (takes : Takes items steps new) where
   abbrev Rule : List RuleItem → RuleItem → Type 0
   Rule = ItemInstance p gives entry
 
@@ -161,7 +161,7 @@ module _ {p : Program} {gives : GivenAs} (supply : IsSupplyOf p gives) (one : Gi
   popped_place : (x : RuleItem) × (slice_get before.xs done ≡ Some x) × IsItemAt n item x
   popped_place = zip_place (IsItemAt n) items before.xs before.stand done item at
 
-  popped : IsPoppedAt p gives n (values_at new_sites) (values_at new_users) items before.xs done item popped_place.0
+  popped : IsPoppedAt p gives n (values_at new_sites) (values_at new_constraints) items before.xs done item popped_place.0
   popped = record {
     methods = supply.methods;
     one = one;
@@ -170,12 +170,12 @@ module _ {p : Program} {gives : GivenAs} (supply : IsSupplyOf p gives) (one : Gi
     item_at = at;
     popped_at = popped_place.1;
     stands = popped_place.2;
-    index = index_more old_sites new_sites old_users new_users items done item at before.index told.indexed;
+    index = index_more old_sites new_sites old_constraints new_constraints items done item at before.index told.indexed;
     calls = before.calls.each;
   }
 
   abbrev Made : RuleItem → Type 0
-  Made = FollowsFrom p gives n (values_at new_sites) (values_at new_users) item
+  Made = FollowsFrom p gives n (values_at new_sites) (values_at new_constraints) item
 
   made : StandFor m Made steps
   made = added_stand m Made steps told.adds
@@ -243,7 +243,7 @@ module _ {p : Program} {gives : GivenAs} (supply : IsSupplyOf p gives) (one : Gi
   items_front : take (done + 1) new ≡ take (done + 1) items
   items_front = ap (λ (all : List Item). take (done + 1) all) takes.is ∙ take_extends items (items ++ takes.more) (longer_extends items takes.more) (done + 1) (let l = inside in omega arith)
 
-  pub so_far_more : All (Contains new) steps → IsSoFar p gives entry m new (values_at new_sites) (values_at new_users) new_call new_method new_listed (done + 1)
+  pub so_far_more : All (Contains new) steps → IsSoFar p gives entry m new (values_at new_sites) (values_at new_constraints) new_call new_method new_listed (done + 1)
   so_far_more held =
       let longer = longer_extends before.xs taken.more in
       let all = before.xs ++ taken.more in
@@ -256,7 +256,7 @@ module _ {p : Program} {gives : GivenAs} (supply : IsSupplyOf p gives) (one : Gi
             (IsClosedFront-extends Rule before.xs all done (let l = rules_inside in omega arith) longer before.front) conclusions
             (held_stand m steps new made.ys all made.stand taken.stand held);
         within = (let l = inside in let is = ap (λ (xs : List Item). length xs) takes.is in omega (arith, length-append items takes.more));
-        index = subst (λ (front : List Item). IsIndex (values_at new_sites) (values_at new_users) front) (sym items_front) popped.index;
+        index = subst (λ (front : List Item). IsIndex (values_at new_sites) (values_at new_constraints) front) (sym items_front) popped.index;
         calls = subst (λ (front : List RuleItem). AreNumberedCalls gives (Contains front) m.calls) back numbered;
         lacks = subst (λ (front : List RuleItem). HasFirstCall (IsLackIn p (Contains front)) new_call) back (lacks_more popped entry old_call new_call before.lacks told.lacks);
         refused = subst (λ (front : List RuleItem). HasFirstMethod (IsRefusedAmong gives (Contains front)) new_method) back (refused_more popped entry old_method new_method before.refused told.refused);
@@ -265,9 +265,9 @@ module _ {p : Program} {gives : GivenAs} (supply : IsSupplyOf p gives) (one : Gi
 
 -- ---- all is done
 
-pub closed_when_done : (p : Program) (gives : GivenAs) (entry : MethodNo) (limit : ℕ) (n : Numbered) (items : List Item) (sites : SitesBy) (users : UsersBy) (call : Option RefusedCall) (method : Option RefusedMethod) (listed : List RunningMethod) (done : ℕ)
-    → IsSoFar p gives entry n items sites users call method listed done → length items ≤ done → IsWithoutDoubles items → AreApart n → pairs_among items < limit → IsClosed p gives entry limit n items call method listed
-closed_when_done p gives entry limit n items sites users call method listed done h past items_apart apart room =
+pub closed_when_done : (p : Program) (gives : GivenAs) (entry : MethodNo) (limit : ℕ) (n : Numbered) (items : List Item) (sites : SitesBy) (constraints : ConstraintsBy) (call : Option RefusedCall) (method : Option RefusedMethod) (listed : List RunningMethod) (done : ℕ)
+    → IsSoFar p gives entry n items sites constraints call method listed done → length items ≤ done → IsWithoutDoubles items → AreApart n → pairs_among items < limit → IsClosed p gives entry limit n items call method listed
+closed_when_done p gives entry limit n items sites constraints call method listed done h past items_apart apart room =
     let same = zip_length (IsItemAt n) items h.xs h.stand in
     let short : length h.xs ≤ done = omega arith in
     let whole = take_all done h.xs short in

@@ -12,18 +12,18 @@ use Rattle.op_model.specs.declared.op.CallKind.TheVariants.{Static}
 use Rattle.least_sets.proofs.Growing.{back_to}
 use Rattle.points_to_rules.specs.Facts.{Holder, kept_objects, may_hold, may_run, may_call}
 use Rattle.points_to_rules.specs.Rules.{start_call}
-use Rattle.points_to_constraints.specs.Items.{Landing, CallSite, Item as RuleItem, known}
+use Rattle.points_to_constraints.specs.Items.{CatchChain, CallSite, Item as RuleItem, known}
 use Rattle.points_to_constraints.specs.ItemRules.{StartItem}
 use Rattle.points_to_constraints.specs.ItemRules as item_rules
 use Rattle.points_to_methods.specs.Initiated.{IsInitiated}
 use Rattle.points_to_numbers.specs.declared.item.Item.{Item}
 use Rattle.points_to_numbers.specs.declared.item.Item.TheVariants.{Runs, Calls}
-use Rattle.points_to_numbers.specs.declared.entries.Arm.{Arm}
+use Rattle.points_to_numbers.specs.declared.entries.CatchClause.{CatchClause}
 use Rattle.points_to_numbers.specs.declared.keys.CallNo.{CallNo}
-use Rattle.points_to_numbers.specs.declared.keys.LandingNo.{LandingNo}
+use Rattle.points_to_numbers.specs.declared.keys.CatchChainNo.{CatchChainNo}
 use Rattle.points_to_rules.specs.declared.place.Place.{Place}
 use Rattle.points_to_rules.specs.declared.place.PlaceNo.{PlaceNo}
-use Rattle.points_to_numbers.specs.Numbered.{Numbered, Extends, Grows, IsHolderAt, IsArmAt, IsLandingAt, IsUnitAt, IsCallAt}
+use Rattle.points_to_numbers.specs.Numbered.{Numbered, Extends, Grows, IsHolderAt, IsCatchClauseAt, IsCatchChainAt, IsUnitAt, IsCallAt}
 use Rattle.points_to_numbers.specs.Steps.{Adds, IsHoldingOf}
 use Rattle.points_to_numbers.proofs.Adding.{OfOne, adds_both, adds_only, adds_same}
 use Rattle.points_to_numbers.proofs.Growing.{grows_same}
@@ -47,28 +47,28 @@ only_start_call calls number one first c stands at = record {
       ap (λ (s : CallSite). s.at) same ∙ at;
 }
 
--- its landing and its site, with nothing but what must be there
-abbrev pub start_landing : Landing
-start_landing = record { arms = []; outside = kept_objects }
+-- its catch chain and its site, with nothing but what must be there
+abbrev pub start_catch_chain : CatchChain
+start_catch_chain = record { catch_clauses = []; outside = kept_objects }
 
 abbrev pub start_site : MethodNo → CallSite
-start_site entry = record { at = start_call; kind = Static; resolved = entry; arguments = []; results = []; landing = start_landing }
+start_site entry = record { at = start_call; kind = Static; resolved = entry; arguments = []; results = []; catch_chain = start_catch_chain }
 
 none_beside : {X Y : Type 0} (R : X → Y → Type 0) (xs : List X) → xs ≡ [] → AllZip R xs []
 none_beside {X} R xs none = subst (λ (ys : List X). AllZip R ys []) (sym none) tt
 
-pub start_landing_at : (n : Numbered) (arms : List Arm) (outside : PlaceNo) → arms ≡ [] → slice_get n.holders outside.0 ≡ Some kept_objects → IsLandingAt n (record { arms = arms; outside = outside }) start_landing
-start_landing_at n arms outside none kept = record { arms = none_beside (IsArmAt n) arms none; outside = kept }
+pub start_catch_chain_at : (n : Numbered) (catch_clauses : List CatchClause) (outside : PlaceNo) → catch_clauses ≡ [] → slice_get n.holders outside.0 ≡ Some kept_objects → IsCatchChainAt n (record { catch_clauses = catch_clauses; outside = outside }) start_catch_chain
+start_catch_chain_at n catch_clauses outside none kept = record { catch_clauses = none_beside (IsCatchClauseAt n) catch_clauses none; outside = kept }
 
-pub start_site_at : (n : Numbered) (entry : MethodNo) (arguments : List (Option PlaceNo)) (results : List PlaceNo) (landing : LandingNo) → arguments ≡ [] → results ≡ [] → slice_get n.landings landing.0 ≡ Some start_landing
-    → IsCallAt n (record { at = start_call; kind = Static; resolved = entry; arguments = arguments; results = results; landing = landing }) (start_site entry)
-start_site_at n entry arguments results landing no_argument no_result stands = record {
+pub start_site_at : (n : Numbered) (entry : MethodNo) (arguments : List (Option PlaceNo)) (results : List PlaceNo) (catch_chain : CatchChainNo) → arguments ≡ [] → results ≡ [] → slice_get n.catch_chains catch_chain.0 ≡ Some start_catch_chain
+    → IsCallAt n (record { at = start_call; kind = Static; resolved = entry; arguments = arguments; results = results; catch_chain = catch_chain }) (start_site entry)
+start_site_at n entry arguments results catch_chain no_argument no_result stands = record {
   at = refl;
   kind = refl;
   resolved = refl;
   arguments = none_beside (IsUnitAt n) arguments no_argument;
   results = none_beside (λ (place : PlaceNo) (h : Holder). slice_get n.holders place.0 ≡ Some h) results no_result;
-  landing = stands;
+  catch_chain = stands;
 }
 
 -- ---- items

@@ -14,7 +14,7 @@ use Rattle.points_to_rules.specs.Facts.{Holder, Fact, may_hold, may_run}
 use Rattle.points_to_rules.specs.Refusals.{LacksTarget}
 use Rattle.points_to_rules.specs.Rules.{Instance}
 use Rattle.points_to_constraints.specs.ItemRules.{ItemInstance}
-use Rattle.points_to_constraints.specs.Items.{CallSite, select, Item as RuleItem, known, used, facts_of}
+use Rattle.points_to_constraints.specs.Items.{CallSite, dispatch, Item as RuleItem, known, constrained, facts_of}
 use Rattle.points_to_numbers.specs.declared.item.Item.{Item}
 use Rattle.points_to_numbers.specs.Numbered.{Numbered}
 use Rattle.points_to_numbers.specs.Steps.{IsItemAt}
@@ -35,7 +35,7 @@ pub record IsLackIn (p : Program) (T : RuleItem → Type 0) (c : RefusedCall) : 
   pub from : Holder
   pub call : CallSite
   pub s : Site
-  pub uses : T (used from (select call))
+  pub constrains : T (constrained from (dispatch call))
   pub holds : T (known (may_hold from s))
   pub at : call.at ≡ record { method = Some c.method; offset = c.offset }
   pub lacks : LacksTarget p call.kind call.resolved s c.reason

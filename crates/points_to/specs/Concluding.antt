@@ -12,35 +12,35 @@ use Rattle.points_to_constraints.specs.Items.{CallSite, Item as RuleItem}
 use Rattle.points_to_constraints.specs.ItemRules.{MethodItem}
 use Rattle.points_to_methods.specs.NewCalls.{AddsCalls}
 use Rattle.points_to_numbers.specs.declared.item.Item.{Item}
-use Rattle.points_to_numbers.specs.declared.item.Item.TheVariants.{Holds, Runs, Calls, Uses}
+use Rattle.points_to_numbers.specs.declared.item.Item.TheVariants.{Holds, Runs, Calls, Constrains}
 use Rattle.points_to_rules.specs.declared.place.PlaceNo.{PlaceNo}
-use Rattle.points_to_numbers.specs.declared.keys.UserNo.{UserNo}
+use Rattle.points_to_numbers.specs.declared.keys.ConstraintNo.{ConstraintNo}
 use Rattle.points_to_numbers.specs.Numbered.{Numbered, IsNumbered}
 use Rattle.slot_names.specs.KeptNames.{name_table}
 use Rattle.slot_names.specs.Tables.{AreNames}
 use Rattle.points_to.specs.declared.refusals.RefusedCall.{RefusedCall}
 use Rattle.points_to.specs.declared.refusals.RefusedMethod.{RefusedMethod}
 use Rattle.points_to_rules.specs.declared.running_method.RunningMethod.{RunningMethod}
-use Rattle.points_to.specs.Passing.{IsKnownUser, PassesToSome, PassesSome, LacksForSome, LacksSome}
+use Rattle.points_to.specs.Passing.{IsKnownConstraint, PassesToSome, PassesSome, LacksForSome, LacksSome}
 
--- ---- the sites and the users of each place
+-- ---- the sites and the constraints of each place
 
--- The sites, or the users, of each place by its number.
+-- The sites, or the constraints, of each place by its number.
 abbrev pub SitesBy : Type 0
 SitesBy = ℕ → List SiteNo
 
-abbrev pub UsersBy : Type 0
-UsersBy = ℕ → List UserNo
+abbrev pub ConstraintsBy : Type 0
+ConstraintsBy = ℕ → List ConstraintNo
 
 -- They are those of the items.
-pub record IsIndex (sites : SitesBy) (users : UsersBy) (items : List Item) : Type 0 where
+pub record IsIndex (sites : SitesBy) (constraints : ConstraintsBy) (items : List Item) : Type 0 where
   pub sites_are : (place : PlaceNo) (site : SiteNo) → Contains (sites place.0) site ↔ Contains items (Holds place site)
-  pub users_are : (place : PlaceNo) (user : UserNo) → Contains (users place.0) user ↔ Contains items (Uses place user)
+  pub constraints_are : (place : PlaceNo) (constraint : ConstraintNo) → Contains (constraints place.0) constraint ↔ Contains items (Constrains place constraint)
 
--- What is in the index is numbered, and calls that its users select at are resolved to methods of the program.
-pub record IsKnownIndex (p : Program) (n : Numbered) (sites : SitesBy) (users : UsersBy) : Type 0 where
+-- What is in the index is numbered, and calls that its constraints select at are resolved to methods of the program.
+pub record IsKnownIndex (p : Program) (n : Numbered) (sites : SitesBy) (constraints : ConstraintsBy) : Type 0 where
   pub sites_known : (place : ℕ) (site : SiteNo) → Contains (sites place) site → IsNumbered n.sites site.0
-  pub users_known : (place : ℕ) (user : UserNo) → Contains (users place) user → IsKnownUser p n user
+  pub constraints_known : (place : ℕ) (constraint : ConstraintNo) → Contains (constraints place) constraint → IsKnownConstraint p n constraint
 
 -- The call is that of a node of a method, and not the one of the start.
 abbrev pub HasCaller : CallSite → Type 0
@@ -61,7 +61,7 @@ abbrev pub IsKnownItem : Program → Numbered → Item → Type 0
 IsKnownItem p n (Holds place site) = IsNumbered n.sites site.0
 IsKnownItem p n (Runs method) = IsMethodNumber p method.0
 IsKnownItem p n (Calls call target) = IsKnownCall p n call.0 target
-IsKnownItem p n (Uses place user) = IsKnownUser p n user
+IsKnownItem p n (Constrains place constraint) = IsKnownConstraint p n constraint
 
 -- ---- what follows
 
@@ -78,19 +78,19 @@ pub record IsGivenItem (p : Program) (gives : GivenAs) (number : ℕ) (x : RuleI
   pub given : gives number (Ok method)
   pub item : MethodItem p method x
 
--- What follows from an item, with the sites and the users of its place.
-abbrev pub FollowsFrom : Program → GivenAs → Numbered → SitesBy → UsersBy → Item → RuleItem → Type 0
-FollowsFrom p gives n sites users (Holds place site) x = PassesToSome p n (users place.0) site x
-FollowsFrom p gives n sites users (Runs method) x = IsGivenItem p gives method.0 x
-FollowsFrom p gives n sites users (Calls call target) x = IsCallItem p n call.0 target x
-FollowsFrom p gives n sites users (Uses place user) x = PassesSome p n user (sites place.0) x
+-- What follows from an item, with the sites and the constraints of its place.
+abbrev pub FollowsFrom : Program → GivenAs → Numbered → SitesBy → ConstraintsBy → Item → RuleItem → Type 0
+FollowsFrom p gives n sites constraints (Holds place site) x = PassesToSome p n (constraints place.0) site x
+FollowsFrom p gives n sites constraints (Runs method) x = IsGivenItem p gives method.0 x
+FollowsFrom p gives n sites constraints (Calls call target) x = IsCallItem p n call.0 target x
+FollowsFrom p gives n sites constraints (Constrains place constraint) x = PassesSome p n constraint (sites place.0) x
 
 -- The calls that lack a target by it.
-abbrev pub LacksBy : Program → Numbered → SitesBy → UsersBy → Item → RefusedCall → Type 0
-LacksBy p n sites users (Holds place site) c = LacksForSome p n (users place.0) site c
-LacksBy p n sites users (Runs method) c = ⊥
-LacksBy p n sites users (Calls call target) c = ⊥
-LacksBy p n sites users (Uses place user) c = LacksSome p n user (sites place.0) c
+abbrev pub LacksBy : Program → Numbered → SitesBy → ConstraintsBy → Item → RefusedCall → Type 0
+LacksBy p n sites constraints (Holds place site) c = LacksForSome p n (constraints place.0) site c
+LacksBy p n sites constraints (Runs method) c = ⊥
+LacksBy p n sites constraints (Calls call target) c = ⊥
+LacksBy p n sites constraints (Constrains place constraint) c = LacksSome p n constraint (sites place.0) c
 
 -- The method that is refused by it.
 pub record IsRefusedAs (gives : GivenAs) (method : MethodNo) (r : RefusedMethod) : Type 0 where
@@ -101,7 +101,7 @@ abbrev pub RefusedBy : GivenAs → Item → RefusedMethod → Type 0
 RefusedBy gives (Holds place site) r = ⊥
 RefusedBy gives (Runs method) r = IsRefusedAs gives method r
 RefusedBy gives (Calls call target) r = ⊥
-RefusedBy gives (Uses place user) r = ⊥
+RefusedBy gives (Constrains place constraint) r = ⊥
 
 -- The calls that are numbered by it: those of the method that is given, or none.
 pub record AddsGivenCalls (gives : GivenAs) (number : ℕ) (old new : List CallSite) : Type 0 where
@@ -113,7 +113,7 @@ abbrev pub AddsCallsBy : GivenAs → Item → List CallSite → List CallSite �
 AddsCallsBy gives (Holds place site) old new = length new ≡ length old
 AddsCallsBy gives (Runs method) old new = AddsGivenCalls gives method.0 old new ⊎ (length new ≡ length old)
 AddsCallsBy gives (Calls call target) old new = length new ≡ length old
-AddsCallsBy gives (Uses place user) old new = length new ≡ length old
+AddsCallsBy gives (Constrains place constraint) old new = length new ≡ length old
 
 -- ---- the methods that may run
 
@@ -131,4 +131,4 @@ abbrev pub AddsMethodsBy : GivenAs → Item → List RunningMethod → List Runn
 AddsMethodsBy gives (Holds place site) old new = new ≡ old
 AddsMethodsBy gives (Runs method) old new = AddsMethod gives method.0 old new
 AddsMethodsBy gives (Calls call target) old new = new ≡ old
-AddsMethodsBy gives (Uses place user) old new = new ≡ old
+AddsMethodsBy gives (Constrains place constraint) old new = new ≡ old

@@ -1,5 +1,5 @@
 -- This crate's own proofs alone rest on this module.
--- What users make of objects, and which calls lack a target then, by the numbers of users and sites.
+-- What constraints make of objects, and which calls lack a target then, by the numbers of constraints and sites.
 use Rattle.std.specs.Prelude.{◌≡◌, ◌++◌, List, Option, Some, All, Contains, slice_get}
 use Rattle.failure.specs.declared.Failure.{Failure}
 use Rattle.failure.specs.declared.Failure.TheVariants.{OutOfMemory}
@@ -9,9 +9,9 @@ use Rattle.jvm_model.specs.declared.site.Site.{Site}
 use Rattle.jvm_model.specs.Programs.{Program}
 use Rattle.program_model.specs.Numbers.{IsMethodNumber}
 use Rattle.points_to_rules.specs.Refusals.{LacksTarget}
-use Rattle.points_to_constraints.specs.Items.{CallSite, User as ItemUser, select, Item as RuleItem}
+use Rattle.points_to_constraints.specs.Items.{CallSite, Constraint as ItemConstraint, dispatch, Item as RuleItem}
 use Rattle.points_to_constraints.specs.ItemRules.{Passed}
-use Rattle.points_to_numbers.specs.declared.keys.UserNo.{UserNo}
+use Rattle.points_to_numbers.specs.declared.keys.ConstraintNo.{ConstraintNo}
 use Rattle.points_to_numbers.specs.Numbered.{Numbered, IsNumbered}
 use Rattle.points_to.specs.declared.refusals.RefusedCall.{RefusedCall}
 use Rattle.points_to.specs.declared.refusals.RefusedMethod.{RefusedMethod}
@@ -22,55 +22,55 @@ use Rattle.points_to.specs.Firsts.{IsFirstCall, IsFirstMethod}
 abbrev pub IsOutOfMemory : Failure SolveFault → Type 0
 IsOutOfMemory failure = failure ≡ OutOfMemory
 
--- ---- one user and one site
+-- ---- one constraint and one site
 
--- The user is numbered; and where it selects the target of a call, that is resolved to a method of the program.
-pub record IsKnownUser (p : Program) (n : Numbered) (user : UserNo) : Type 0 where
-  pub numbered : IsNumbered n.users user.0
-  pub resolved : (call : CallSite) → slice_get n.users user.0 ≡ Some (select call) → IsMethodNumber p call.resolved.0
+-- The constraint is numbered; and where it selects the target of a call, that is resolved to a method of the program.
+pub record IsKnownConstraint (p : Program) (n : Numbered) (constraint : ConstraintNo) : Type 0 where
+  pub numbered : IsNumbered n.constraints constraint.0
+  pub resolved : (call : CallSite) → slice_get n.constraints constraint.0 ≡ Some (dispatch call) → IsMethodNumber p call.resolved.0
 
--- The user of the one number makes this of an object of the site of the other.
-pub record IsPassed (p : Program) (n : Numbered) (user : UserNo) (site : SiteNo) (x : RuleItem) : Type 0 where
-  pub u : ItemUser
-  pub stands : slice_get n.users user.0 ≡ Some u
+-- The constraint of the one number makes this of an object of the site of the other.
+pub record IsPassed (p : Program) (n : Numbered) (constraint : ConstraintNo) (site : SiteNo) (x : RuleItem) : Type 0 where
+  pub u : ItemConstraint
+  pub stands : slice_get n.constraints constraint.0 ≡ Some u
   pub s : Site
   pub is_site : slice_get n.sites site.0 ≡ Some s
   pub passed : Passed p u s x
 
--- The user selects the target of this call.
-pub record SelectsAt (n : Numbered) (user : UserNo) (c : RefusedCall) (call : CallSite) : Type 0 where
-  pub selects : slice_get n.users user.0 ≡ Some (select call)
+-- The constraint selects the target of this call.
+pub record SelectsAt (n : Numbered) (constraint : ConstraintNo) (c : RefusedCall) (call : CallSite) : Type 0 where
+  pub selects : slice_get n.constraints constraint.0 ≡ Some (dispatch call)
   pub at : call.at ≡ record { method = Some c.method; offset = c.offset }
 
--- The user selects the target of this call, and has none for an object of the site.
-pub record IsLackOf (p : Program) (n : Numbered) (user : UserNo) (site : SiteNo) (c : RefusedCall) : Type 0 where
+-- The constraint selects the target of this call, and has none for an object of the site.
+pub record IsLackOf (p : Program) (n : Numbered) (constraint : ConstraintNo) (site : SiteNo) (c : RefusedCall) : Type 0 where
   pub call : CallSite
-  pub selects : SelectsAt n user c call
+  pub selects : SelectsAt n constraint c call
   pub s : Site
   pub is_site : slice_get n.sites site.0 ≡ Some s
   pub lacks : LacksTarget p call.kind call.resolved s c.reason
 
--- The user selects the target of this call, which lacks it for this reason.
-pub record NotesReason (n : Numbered) (user : UserNo) (lacks : Option Reason) (c : RefusedCall) : Type 0 where
+-- The constraint selects the target of this call, which lacks it for this reason.
+pub record NotesReason (n : Numbered) (constraint : ConstraintNo) (lacks : Option Reason) (c : RefusedCall) : Type 0 where
   pub call : CallSite
-  pub selects : SelectsAt n user c call
+  pub selects : SelectsAt n constraint c call
   pub reason : lacks ≡ Some c.reason
 
 -- ---- several of them
 
--- One of the users makes this of an object of the site.
-abbrev pub PassesToSome : Program → Numbered → List UserNo → SiteNo → RuleItem → Type 0
-PassesToSome p n users site x = (user : UserNo) × Contains users user × IsPassed p n user site x
+-- One of the constraints makes this of an object of the site.
+abbrev pub PassesToSome : Program → Numbered → List ConstraintNo → SiteNo → RuleItem → Type 0
+PassesToSome p n constraints site x = (constraint : ConstraintNo) × Contains constraints constraint × IsPassed p n constraint site x
 
--- The user makes this of an object of one of the sites.
-abbrev pub PassesSome : Program → Numbered → UserNo → List SiteNo → RuleItem → Type 0
-PassesSome p n user sites x = (site : SiteNo) × Contains sites site × IsPassed p n user site x
+-- The constraint makes this of an object of one of the sites.
+abbrev pub PassesSome : Program → Numbered → ConstraintNo → List SiteNo → RuleItem → Type 0
+PassesSome p n constraint sites x = (site : SiteNo) × Contains sites site × IsPassed p n constraint site x
 
-abbrev pub LacksForSome : Program → Numbered → List UserNo → SiteNo → RefusedCall → Type 0
-LacksForSome p n users site c = (user : UserNo) × Contains users user × IsLackOf p n user site c
+abbrev pub LacksForSome : Program → Numbered → List ConstraintNo → SiteNo → RefusedCall → Type 0
+LacksForSome p n constraints site c = (constraint : ConstraintNo) × Contains constraints constraint × IsLackOf p n constraint site c
 
-abbrev pub LacksSome : Program → Numbered → UserNo → List SiteNo → RefusedCall → Type 0
-LacksSome p n user sites c = (site : SiteNo) × Contains sites site × IsLackOf p n user site c
+abbrev pub LacksSome : Program → Numbered → ConstraintNo → List SiteNo → RefusedCall → Type 0
+LacksSome p n constraint sites c = (site : SiteNo) × Contains sites site × IsLackOf p n constraint site c
 
 -- ---- notes
 

@@ -4,7 +4,7 @@ use Rattle.std.specs.Prelude.{◌≡◌, ℕ, List, ◌++◌, sum_by, All, Conta
 use Rattle.failure.specs.declared.Failure.{Failure}
 use Rattle.failure.specs.declared.Failure.TheVariants.{Cause, OutOfMemory}
 use Rattle.points_to_numbers.specs.declared.item.Item.{Item}
-use Rattle.points_to_numbers.specs.declared.item.Item.TheVariants.{Holds, Runs, Calls, Uses}
+use Rattle.points_to_numbers.specs.declared.item.Item.TheVariants.{Holds, Runs, Calls, Constrains}
 use Rattle.points_to_rules.specs.declared.solve_fault.SolveFault.{SolveFault}
 use Rattle.points_to_rules.specs.declared.solve_fault.SolveFault.TheVariants.{PairLimit, Refused}
 
@@ -13,7 +13,7 @@ abbrev pub weight_of : Item → ℕ
 weight_of (Holds place site) = 1
 weight_of (Runs method) = 0
 weight_of (Calls call target) = 0
-weight_of (Uses place user) = 0
+weight_of (Constrains place constraint) = 0
 
 -- How many pairs are among the items.
 abbrev pub pairs_among : List Item → ℕ

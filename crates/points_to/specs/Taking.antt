@@ -32,10 +32,10 @@ pub record IsStarted (p : Program) (entry : MethodNo) (n : Numbered) (steps item
 pub record IsTakenIn (p : Program) (gives : GivenAs) (item : Item) (old new : Working) : Type 0 where
   pub grows : Grows old.found.tables new.found.tables
   pub apart : AreApart new.found.tables
-  pub indexed : IsIndexed old.index.sites.groups.items new.index.sites.groups.items old.index.users.groups.items new.index.users.groups.items item
-  pub adds : Adds new.found.tables (FollowsFrom p gives old.found.tables (values_at new.index.sites.groups.items) (values_at new.index.users.groups.items) item) [] new.steps.items
+  pub indexed : IsIndexed old.index.sites.groups.items new.index.sites.groups.items old.index.constraints.groups.items new.index.constraints.groups.items item
+  pub adds : Adds new.found.tables (FollowsFrom p gives old.found.tables (values_at new.index.sites.groups.items) (values_at new.index.constraints.groups.items) item) [] new.steps.items
   pub calls : AddsCallsBy gives item old.found.tables.calls new.found.tables.calls
-  pub lacks : NotesCalls (LacksBy p old.found.tables (values_at new.index.sites.groups.items) (values_at new.index.users.groups.items) item) old.found.refusals.call new.found.refusals.call
+  pub lacks : NotesCalls (LacksBy p old.found.tables (values_at new.index.sites.groups.items) (values_at new.index.constraints.groups.items) item) old.found.refusals.call new.found.refusals.call
   pub refused : NotesMethods (RefusedBy gives item) old.found.refusals.method new.found.refusals.method
   pub methods : AddsMethodsBy gives item old.methods.items new.methods.items
   pub takes : Takes old.queue.items.keys new.steps.items new.queue.items.keys

@@ -16,6 +16,6 @@ pub record IsFresh (w : Working) : Type 0 where
   pub call : w.found.refusals.call ≡ None
   pub method : w.found.refusals.method ≡ None
   pub sites : (place : ℕ) → values_at w.index.sites.groups.items place ≡ []
-  pub users : (place : ℕ) → values_at w.index.users.groups.items place ≡ []
+  pub constraints : (place : ℕ) → values_at w.index.constraints.groups.items place ≡ []
   pub methods : w.methods.items ≡ []
   pub steps : w.steps.items ≡ []

@@ -34,7 +34,7 @@ pub(crate) struct Closing {
     pub(crate) refusals: Refusals,
 }
 
-/// What the loop works on: the items, what was found besides, the sites and the users of what is done, the methods, and what follows from one
+/// What the loop works on: the items, what was found besides, the sites and the constraints of what is done, the methods, and what follows from one
 /// item. It is one value, so that a failure has one value to drop.
 #[derive(Drop)]
 pub(crate) struct Working {
@@ -176,7 +176,7 @@ fn take_in<S: Supply>(
 ) -> Result<(), SolveFailure>
     requires supply { IsSupplyOf program.now (S.gives supply.old) }
     requires item { IsKnownItem program.now working.old.found.tables item }
-    requires index { IsKnownIndex program.now working.old.found.tables (values_at working.old.index.sites.groups.items) (values_at working.old.index.users.groups.items) }
+    requires index { IsKnownIndex program.now working.old.found.tables (values_at working.old.index.sites.groups.items) (values_at working.old.index.constraints.groups.items) }
     requires answers { AreRight program.now working.old.found.tables working.old.found.answers }
     requires apart { IsWithoutDoubles working.old.queue.items.keys }
     requires counted { working.old.queue.pairs ≡ pairs_among working.old.queue.items.keys }

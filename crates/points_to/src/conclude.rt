@@ -41,14 +41,14 @@ pub(crate) fn conclude<S: Supply>(
 ) -> Result<(), SolveFailure>
     requires supply { IsSupplyOf program.now (S.gives supply.old) }
     requires item { IsKnownItem program.now found.old.tables item }
-    requires index { IsKnownIndex program.now found.old.tables (values_at index.old.sites.groups.items) (values_at index.old.users.groups.items) }
+    requires index { IsKnownIndex program.now found.old.tables (values_at index.old.sites.groups.items) (values_at index.old.constraints.groups.items) }
     requires answers { AreRight program.now found.old.tables found.old.answers }
-    ensures indexed { OnOk result (IsIndexed index.old.sites.groups.items index.new.sites.groups.items index.old.users.groups.items index.new.users.groups.items item) }
+    ensures indexed { OnOk result (IsIndexed index.old.sites.groups.items index.new.sites.groups.items index.old.constraints.groups.items index.new.constraints.groups.items item) }
     ensures grows { OnOk result (Grows found.old.tables found.new.tables) }
     ensures answers { OnOk result (AreRight program.now found.new.tables found.new.answers) }
-    ensures adds { OnOk result (Adds found.new.tables (FollowsFrom program.now (S.gives supply.old) found.old.tables (values_at index.new.sites.groups.items) (values_at index.new.users.groups.items) item) [] steps.new.items) }
+    ensures adds { OnOk result (Adds found.new.tables (FollowsFrom program.now (S.gives supply.old) found.old.tables (values_at index.new.sites.groups.items) (values_at index.new.constraints.groups.items) item) [] steps.new.items) }
     ensures calls { OnOk result (AddsCallsBy (S.gives supply.old) item found.old.tables.calls found.new.tables.calls) }
-    ensures lacks { OnOk result (NotesCalls (LacksBy program.now found.old.tables (values_at index.new.sites.groups.items) (values_at index.new.users.groups.items) item) found.old.refusals.call found.new.refusals.call) }
+    ensures lacks { OnOk result (NotesCalls (LacksBy program.now found.old.tables (values_at index.new.sites.groups.items) (values_at index.new.constraints.groups.items) item) found.old.refusals.call found.new.refusals.call) }
     ensures refused { OnOk result (NotesMethods (RefusedBy (S.gives supply.old) item) found.old.refusals.method found.new.refusals.method) }
     ensures methods { OnOk result (AddsMethodsBy (S.gives supply.old) item methods.old.items methods.new.items) }
     ensures same { IsSameSupply (S.gives supply.old) (S.gives supply.new) }
@@ -58,13 +58,13 @@ pub(crate) fn conclude<S: Supply>(
     match item {
         Item::Holds(place, site) => {
             index.sites.add(place.0, site)?;
-            found.pass_to_each(alloc, program, index.users.get(place.0), site, steps)
+            found.pass_to_each(alloc, program, index.constraints.get(place.0), site, steps)
         }
         Item::Runs(method) => run(alloc, program, supply, found, methods, method, steps),
         Item::Calls(call, target) => call_target(alloc, program, found, call, target, steps),
-        Item::Uses(place, user) => {
-            index.users.add(place.0, user)?;
-            found.pass_each(alloc, program, user, index.sites.get(place.0), steps)
+        Item::Constrains(place, constraint) => {
+            index.constraints.add(place.0, constraint)?;
+            found.pass_each(alloc, program, constraint, index.sites.get(place.0), steps)
         }
     }
 }

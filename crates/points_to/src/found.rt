@@ -1,17 +1,17 @@
-//! What was found besides the items: the numbers, and the first refusals; and how objects are passed to users.
+//! What was found besides the items: the numbers, and the first refusals; and how objects are passed to constraints.
 
 ghost use Rattle.std.specs.Prelude.{◌≡◌, length, Some, None, All, OnOk, IfErr};
 ghost use Rattle.jvm_model.specs.Programs.{Program as LinkedProgram};
 ghost use Rattle.points_to_calls.specs.KeptAnswers.{AreRight};
 ghost use Rattle.points_to_numbers.specs.Numbered.{Numbered, Grows, IsNumbered, none_numbered};
 ghost use Rattle.points_to_numbers.specs.Steps.{Adds};
-ghost use Rattle.points_to.specs.Passing.{IsKnownUser, IsOutOfMemory, IsPassed, IsLackOf, NotesCalls, NotesReason, PassesToSome, PassesSome, LacksForSome, LacksSome};
+ghost use Rattle.points_to.specs.Passing.{IsKnownConstraint, IsOutOfMemory, IsPassed, IsLackOf, NotesCalls, NotesReason, PassesToSome, PassesSome, LacksForSome, LacksSome};
 
 use crate::refusals::{Refusals, RefusedCall};
 use crate::solve_failure::no_room;
 use jvm_model::{Reason, SiteNo};
 use points_to_calls::{Answers, pass};
-use points_to_numbers::{Item, Tables, User, UserNo};
+use points_to_numbers::{Constraint, ConstraintNo, Item, Tables};
 use points_to_rules::SolveFailure;
 use program_model::program::Program;
 use std::alloc::Global;
@@ -39,75 +39,75 @@ impl Found {
         }
     }
 
-    /// Passes an object of a site to each of some users.
+    /// Passes an object of a site to each of some constraints.
     pub(crate) fn pass_to_each(
         &mut self,
         alloc: Global,
         program: &Program,
-        users: &[UserNo],
+        constraints: &[ConstraintNo],
         site: SiteNo,
         steps: &mut Vec<Item>,
     ) -> Result<(), SolveFailure>
-        requires users { All (λ (user : UserNo). IsKnownUser program.now self.old.tables user) users.now }
+        requires constraints { All (λ (constraint : ConstraintNo). IsKnownConstraint program.now self.old.tables constraint) constraints.now }
         requires site { IsNumbered self.old.tables.sites site.0 }
         requires answers { AreRight program.now self.old.tables self.old.answers }
         ensures grows { OnOk result (Grows self.old.tables self.new.tables) }
         ensures calls { OnOk result (length self.new.tables.calls ≡ length self.old.tables.calls) }
         ensures answers { OnOk result (AreRight program.now self.new.tables self.new.answers) }
-        ensures adds { OnOk result (Adds self.new.tables (PassesToSome program.now self.old.tables users.now site) steps.old.items steps.new.items) }
-        ensures lacks { OnOk result (NotesCalls (LacksForSome program.now self.old.tables users.now site) self.old.refusals.call self.new.refusals.call) }
+        ensures adds { OnOk result (Adds self.new.tables (PassesToSome program.now self.old.tables constraints.now site) steps.old.items steps.new.items) }
+        ensures lacks { OnOk result (NotesCalls (LacksForSome program.now self.old.tables constraints.now site) self.old.refusals.call self.new.refusals.call) }
         ensures method { self.new.refusals.method ≡ self.old.refusals.method }
         ensures end { IfErr result IsOutOfMemory }
     {
-        for user in users {
-            self.pass(alloc, program, *user, site, steps)?;
+        for constraint in constraints {
+            self.pass(alloc, program, *constraint, site, steps)?;
         }
         Ok(())
     }
 
-    /// Passes an object of each of some sites to a user.
+    /// Passes an object of each of some sites to a constraint.
     pub(crate) fn pass_each(
         &mut self,
         alloc: Global,
         program: &Program,
-        user: UserNo,
+        constraint: ConstraintNo,
         sites: &[SiteNo],
         steps: &mut Vec<Item>,
     ) -> Result<(), SolveFailure>
-        requires user { IsKnownUser program.now self.old.tables user }
+        requires constraint { IsKnownConstraint program.now self.old.tables constraint }
         requires sites { All (λ (site : SiteNo). IsNumbered self.old.tables.sites site.0) sites.now }
         requires answers { AreRight program.now self.old.tables self.old.answers }
         ensures grows { OnOk result (Grows self.old.tables self.new.tables) }
         ensures calls { OnOk result (length self.new.tables.calls ≡ length self.old.tables.calls) }
         ensures answers { OnOk result (AreRight program.now self.new.tables self.new.answers) }
-        ensures adds { OnOk result (Adds self.new.tables (PassesSome program.now self.old.tables user sites.now) steps.old.items steps.new.items) }
-        ensures lacks { OnOk result (NotesCalls (LacksSome program.now self.old.tables user sites.now) self.old.refusals.call self.new.refusals.call) }
+        ensures adds { OnOk result (Adds self.new.tables (PassesSome program.now self.old.tables constraint sites.now) steps.old.items steps.new.items) }
+        ensures lacks { OnOk result (NotesCalls (LacksSome program.now self.old.tables constraint sites.now) self.old.refusals.call self.new.refusals.call) }
         ensures method { self.new.refusals.method ≡ self.old.refusals.method }
         ensures end { IfErr result IsOutOfMemory }
     {
         for site in sites {
-            self.pass(alloc, program, user, *site, steps)?;
+            self.pass(alloc, program, constraint, *site, steps)?;
         }
         Ok(())
     }
 
-    /// Passes an object of a site to a user: adds what the user makes of it, and notes the call that lacks a target for it.
+    /// Passes an object of a site to a constraint: adds what the constraint makes of it, and notes the call that lacks a target for it.
     fn pass(
         &mut self,
         alloc: Global,
         program: &Program,
-        user: UserNo,
+        constraint: ConstraintNo,
         site: SiteNo,
         steps: &mut Vec<Item>,
     ) -> Result<(), SolveFailure>
-        requires user { IsKnownUser program.now self.old.tables user }
+        requires constraint { IsKnownConstraint program.now self.old.tables constraint }
         requires site { IsNumbered self.old.tables.sites site.0 }
         requires answers { AreRight program.now self.old.tables self.old.answers }
         ensures grows { OnOk result (Grows self.old.tables self.new.tables) }
         ensures calls { OnOk result (length self.new.tables.calls ≡ length self.old.tables.calls) }
         ensures answers { OnOk result (AreRight program.now self.new.tables self.new.answers) }
-        ensures adds { OnOk result (Adds self.new.tables (IsPassed program.now self.old.tables user site) steps.old.items steps.new.items) }
-        ensures lacks { OnOk result (NotesCalls (IsLackOf program.now self.old.tables user site) self.old.refusals.call self.new.refusals.call) }
+        ensures adds { OnOk result (Adds self.new.tables (IsPassed program.now self.old.tables constraint site) steps.old.items steps.new.items) }
+        ensures lacks { OnOk result (NotesCalls (IsLackOf program.now self.old.tables constraint site) self.old.refusals.call self.new.refusals.call) }
         ensures method { self.new.refusals.method ≡ self.old.refusals.method }
         ensures end { IfErr result IsOutOfMemory }
     {
@@ -117,26 +117,31 @@ impl Found {
             program,
             &mut self.tables,
             &mut self.answers,
-            user,
+            constraint,
             site,
             steps,
         )
         .map_err(no_room)?;
-        note_lack(&self.tables, &mut self.refusals, user, lacks);
+        note_lack(&self.tables, &mut self.refusals, constraint, lacks);
         Ok(())
     }
 }
 
-/// Notes the call whose target a user selects, where it lacks one for a reason. The call of the start lacks none.
-fn note_lack(tables: &Tables, refusals: &mut Refusals, user: UserNo, lacks: Option<Reason>)
-    requires { IsNumbered tables.now.users user.0 }
-    ensures call { NotesCalls (NotesReason tables.now user lacks) refusals.old.call refusals.new.call }
+/// Notes the call whose target a constraint selects, where it lacks one for a reason. The call of the start lacks none.
+fn note_lack(
+    tables: &Tables,
+    refusals: &mut Refusals,
+    constraint: ConstraintNo,
+    lacks: Option<Reason>,
+)
+    requires { IsNumbered tables.now.constraints constraint.0 }
+    ensures call { NotesCalls (NotesReason tables.now constraint lacks) refusals.old.call refusals.new.call }
     ensures method { refusals.new.method ≡ refusals.old.method }
 {
     let Some(reason) = lacks else {
         return;
     };
-    let User::Select(call) = tables.user_of(user) else {
+    let Constraint::Dispatch(call) = tables.constraint_of(constraint) else {
         return;
     };
     let at = tables.call_of(call).at;

@@ -97,6 +97,6 @@ fn weight(item: Item) -> u64
 {
     match item {
         Item::Holds(_, _) => 1,
-        Item::Runs(_) | Item::Calls(_, _) | Item::Uses(_, _) => 0,
+        Item::Runs(_) | Item::Calls(_, _) | Item::Constrains(_, _) => 0,
     }
 }

@@ -12,7 +12,7 @@ use crate::initialisers::initialiser_items;
 use crate::solve_failure::no_room;
 use jvm_model::{MethodNo, Sequence};
 use op_model::{CallKind, NodeRef};
-use points_to_numbers::{CallNo, CallSite, Item, Landing, Tables, add_holding, boot_site};
+use points_to_numbers::{CallNo, CallSite, CatchChain, Item, Tables, add_holding, boot_site};
 use points_to_rules::{Place, SolveFailure};
 use program_index::index_failure::IndexFailure;
 use program_model::program::Program;
@@ -80,8 +80,8 @@ fn start_call(alloc: Global, tables: &mut Tables, entry: MethodNo) -> Result<Cal
     ensures call { OnOk result (IsStartCall tables.new.calls) }
 {
     let outside = tables.place(Place::Kept)?;
-    let landing = tables.landing(Landing {
-        arms: Sequence::from_vec(Vec::new(alloc)),
+    let catch_chain = tables.catch_chain(CatchChain {
+        catch_clauses: Sequence::from_vec(Vec::new(alloc)),
         outside,
     })?;
     let call = tables.call(CallSite {
@@ -93,7 +93,7 @@ fn start_call(alloc: Global, tables: &mut Tables, entry: MethodNo) -> Result<Cal
         resolved: entry,
         arguments: Sequence::from_vec(Vec::new(alloc)),
         results: Sequence::from_vec(Vec::new(alloc)),
-        landing,
+        catch_chain,
     })?;
     Ok(call)
 }

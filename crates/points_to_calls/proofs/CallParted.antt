@@ -14,7 +14,7 @@ use Rattle.points_to_rules.proofs.TargetBodies.{not_both}
 use Rattle.points_to_constraints.specs.CallItems.{call_allocates, CallItem, runs, pass, receive, target_throws, keep_argument, give_argument, give_new, give_kept, described_throws}
 use Rattle.points_to_constraints.specs.Items.{CallSite, Item as RuleItem, known}
 use Rattle.points_to_calls.specs.Describing.{StubPart, StubItem, BodyItem}
-use Rattle.points_to_calls.specs.Parts.{RuleGift, unit, made, fitting, Gets, ResultsGet, ResultGives, FileItem, UnitPassed}
+use Rattle.points_to_calls.specs.Parts.{RuleOrigin, unit, made, fitting, Gets, ResultsGet, ResultGives, FileItem, UnitPassed}
 
 -- ---- the body of a target
 
@@ -50,25 +50,25 @@ abbrev pub PartedItem : Program → CallSite → MethodNo → RuleItem → Type 
 PartedItem p site target x = ((x ≡ known (may_run target)) ⊎ UnitPassed site target x) ⊎ BodyItem p site target x
 
 module _ (p : Program) (site : CallSite) (target : MethodNo) (x : RuleItem) where
-  of_result : (stub : StubMethod) (result : StubResult) (g : RuleGift) → IsDescribedBy p target stub → Contains stub.returns result → ResultGives result stub site None g → ResultsGet p site g x
+  of_result : (stub : StubMethod) (result : StubResult) (g : RuleOrigin) → IsDescribedBy p target stub → Contains stub.returns result → ResultGives result stub site None g → ResultsGet p site g x
       → CallItem p site target x
   of_result stub Primitive g by there gives gets = absurd gives
   of_result stub Void g by there gives gets = absurd gives
   of_result stub Null g by there gives gets = absurd gives
   of_result stub (Given argument) g by there (u, is, e) gets =
-      let (to, among, got) = subst (λ (k : RuleGift). ResultsGet p site k x) e gets in
-      give_argument stub argument u got.from to got.user by there (record { is_unit = is; passed = got.stands }) among got.gives got.is
+      let (to, among, got) = subst (λ (k : RuleOrigin). ResultsGet p site k x) e gets in
+      give_argument stub argument u got.from to got.constraint by there (record { is_unit = is; passed = got.stands }) among got.gives got.is
   of_result stub (New class) g by there (alone, e) gets =
-      let (to, among, got) = subst (λ (k : RuleGift). ResultsGet p site k x) e gets in give_new stub class to by there among got
+      let (to, among, got) = subst (λ (k : RuleOrigin). ResultsGet p site k x) e gets in give_new stub class to by there among got
   of_result stub Kept g by there (class, alone, is, e) gets =
-      let (to, among, got) = subst (λ (k : RuleGift). ResultsGet p site k x) e gets in give_kept stub class to by there is among got
+      let (to, among, got) = subst (λ (k : RuleOrigin). ResultsGet p site k x) e gets in give_kept stub class to by there is among got
 
   of_body : BodyItem p site target x → CallItem p site target x
   of_body (inl (of, inl (to, among, e))) = receive to of among e
   of_body (inl (of, inr e)) = target_throws of e
   of_body (inr (stub, by, inl (inl (argument, there, (g, (u, is, e), gets))))) =
-      let got = subst (λ (k : RuleGift). Gets p site k kept_objects x) e gets in
-      keep_argument stub argument u got.from got.user by there (record { is_unit = is; passed = got.stands }) got.gives got.is
+      let got = subst (λ (k : RuleOrigin). Gets p site k kept_objects x) e gets in
+      keep_argument stub argument u got.from got.constraint by there (record { is_unit = is; passed = got.stands }) got.gives got.is
   of_body (inr (stub, by, inl (inr (result, there, (g, gives, gets))))) = of_result stub result g by there gives gets
   of_body (inr (stub, by, inr (class, there, thrown))) = described_throws stub class thrown.to by there thrown.lands thrown.is
 
@@ -82,10 +82,10 @@ module _ (p : Program) (site : CallSite) (target : MethodNo) (x : RuleItem) wher
   in_parts (pass u from stands passed e) = inl (inr (u, record { from = from; stands = stands; passed = passed; is = e }))
   in_parts (receive to of among e) = inr (inl (of, inl (to, among, e)))
   in_parts (target_throws of e) = inr (inl (of, inr e))
-  in_parts (keep_argument stub argument u from user by there is gives e) =
-      inr (inr (stub, by, inl (inl (argument, there, (unit u, (u, is.is_unit, refl), record { from = from; user = user; stands = is.passed; gives = gives; is = e })))))
-  in_parts (give_argument stub argument u from to user by there is among gives e) =
-      inr (inr (stub, by, inl (inr (Given argument, there, (unit u, (u, is.is_unit, refl), (to, among, record { from = from; user = user; stands = is.passed; gives = gives; is = e }))))))
+  in_parts (keep_argument stub argument u from constraint by there is gives e) =
+      inr (inr (stub, by, inl (inl (argument, there, (unit u, (u, is.is_unit, refl), record { from = from; constraint = constraint; stands = is.passed; gives = gives; is = e })))))
+  in_parts (give_argument stub argument u from to constraint by there is among gives e) =
+      inr (inr (stub, by, inl (inr (Given argument, there, (unit u, (u, is.is_unit, refl), (to, among, record { from = from; constraint = constraint; stands = is.passed; gives = gives; is = e }))))))
   in_parts (give_new stub class to by there among e) = inr (inr (stub, by, inl (inr (New class, there, (made (call_allocates kinds.Result site class), (refl, refl), (to, among, e))))))
   in_parts (give_kept stub class to by there is among e) = inr (inr (stub, by, inl (inr (Kept, there, (fitting class, (class, refl, is, refl), (to, among, e))))))
   in_parts (described_throws stub class to by there lands e) = inr (inr (stub, by, inr (class, there, record { to = to; lands = lands; is = e })))

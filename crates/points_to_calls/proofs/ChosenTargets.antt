@@ -26,7 +26,7 @@ use Rattle.points_to_constraints.specs.CallItems.{SelectItem, called, received, 
 use Rattle.points_to_constraints.specs.Items.{CallSite, Item as RuleItem}
 use Rattle.points_to_calls.specs.Describing.{ReceiverItem}
 use Rattle.points_to_calls.specs.Lacks.{CallLacks}
-use Rattle.points_to_calls.specs.Parts.{RuleGift, made, Gets, ResultsGet, ResultGives, KeptItem, GotItem}
+use Rattle.points_to_calls.specs.Parts.{RuleOrigin, made, Gets, ResultsGet, ResultGives, KeptItem, GotItem}
 use Rattle.points_to_calls.specs.Selecting.{DescribedItem, IsOnlyAnswer, TargetItem}
 use Rattle.std.proofs.lemmas.Option.{slice_get_within}
 
@@ -85,20 +85,20 @@ receiver_described p site s target stub m stands body x = (
 
 module _ (p : Program) (site : CallSite) (s : Site) (target : MethodNo) (selects : SelectsFor site.kind p site.resolved s (Ok target.0))
     (only : (outcome : Result ℕ Reason) → SelectsFor site.kind p site.resolved s outcome → outcome ≡ Ok target.0) where
-  of_result : (x : RuleItem) (stub : StubMethod) (result : StubResult) (g : RuleGift) → IsDescribedBy p target stub → Contains stub.returns result → ResultGives result stub site (Some s) g
+  of_result : (x : RuleItem) (stub : StubMethod) (result : StubResult) (g : RuleOrigin) → IsDescribedBy p target stub → Contains stub.returns result → ResultGives result stub site (Some s) g
       → ResultsGet p site g x → SelectItem p site s x
   of_result x stub Primitive g by there gives gets = absurd gives
   of_result x stub Void g by there gives gets = absurd gives
   of_result x stub Null g by there gives gets = absurd gives
   of_result x stub (Given argument) g by there (is, e) gets =
-      let (to, among, got) = subst (λ (k : RuleGift). ResultsGet p site k x) e gets in given target stub argument to selects by there is among got
+      let (to, among, got) = subst (λ (k : RuleOrigin). ResultsGet p site k x) e gets in given target stub argument to selects by there is among got
   of_result x stub (New class) g by there (alone, e) gets = cc alone
   of_result x stub Kept g by there (class, alone, is, e) gets = cc alone
 
   of_target : (x : RuleItem) → TargetItem p site s target x → SelectItem p site s x
   of_target x (inl (inl e)) = called target selects e
   of_target x (inl (inr e)) = received target selects e
-  of_target x (inr (stub, by, inl (argument, there, (g, (is, e), gets)))) = kept target stub argument selects by there is (subst (λ (k : RuleGift). Gets p site k kept_objects x) e gets)
+  of_target x (inr (stub, by, inl (argument, there, (g, (is, e), gets)))) = kept target stub argument selects by there is (subst (λ (k : RuleOrigin). Gets p site k kept_objects x) e gets)
   of_target x (inr (stub, by, inr (result, there, (g, gives, gets)))) = of_result x stub result g by there gives gets
 
   same_target : (t : MethodNo) → SelectsFor site.kind p site.resolved s (Ok t.0) → t ≡ target

@@ -1,10 +1,10 @@
 pub mod CallParts
-pub mod Landing
-pub mod Gifts
+pub mod CatchChain
+pub mod Origins
 pub mod ArgumentUnits
 pub mod PassedUnits
 pub mod Stubs
 pub mod CallParted
 pub mod ChosenTargets
-pub mod PlainUsers
+pub mod PlainConstraints
 pub mod RightAnswers

@@ -6,7 +6,7 @@ use Rattle.jvm_model.specs.declared.number.MethodNo.{MethodNo}
 use Rattle.slot_names.specs.declared.variable.Variable.TheVariants.{Parameter}
 use Rattle.points_to_rules.specs.Facts.{Holder, variable}
 use Rattle.points_to_constraints.specs.CallItems.{is_passed}
-use Rattle.points_to_constraints.specs.Items.{CallSite, pass_to, used}
+use Rattle.points_to_constraints.specs.Items.{CallSite, copy_to, constrained}
 use Rattle.points_to_numbers.specs.declared.item.Item.{Item}
 use Rattle.points_to_numbers.specs.Numbered.{Numbered}
 use Rattle.points_to_numbers.proofs.Adding.{OfOneBelow}
@@ -24,12 +24,12 @@ pub no_reference : (n : Numbered) (site : CallSite) (target : MethodNo) (u : ℕ
 no_reference n site target u a none = makes_none n (PassesUnit site target u) a (λ x passes. none-some passes.from (sym none ∙ unit_there site.arguments u (Some passes.from) passes.stands))
 
 pub unit_passed : (n m : Numbered) (site : CallSite) (target : MethodNo) (u : ℕ) (from : Holder) (a b : List Item) → unit_in site.arguments u ≡ Some from → is_passed site.kind u ≡ true
-    → Makes n m (λ x. x ≡ used from (pass_to (variable (Parameter target u)))) a b → Makes n m (PassesUnit site target u) a b
+    → Makes n m (λ x. x ≡ constrained from (copy_to (variable (Parameter target u)))) a b → Makes n m (PassesUnit site target u) a b
 unit_passed n m site target u from a b stands passed makes =
-    makes_same n m (λ x. x ≡ used from (pass_to (variable (Parameter target u)))) (PassesUnit site target u) a b
+    makes_same n m (λ x. x ≡ constrained from (copy_to (variable (Parameter target u)))) (PassesUnit site target u) a b
     (λ x. (
       λ e. record { from = from; stands = there_from_unit site.arguments u from stands; passed = passed; is = e },
-      λ passes. passes.is ∙ ap (λ (h : Holder). used h (pass_to (variable (Parameter target u))))
+      λ passes. passes.is ∙ ap (λ (h : Holder). constrained h (copy_to (variable (Parameter target u))))
           (same_Some passes.from from (sym (unit_there site.arguments u (Some passes.from) passes.stands) ∙ stands)),
     ))
     makes

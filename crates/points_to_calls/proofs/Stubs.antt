@@ -17,10 +17,10 @@ use Rattle.points_to_constraints.specs.Items.{CallSite, Item as RuleItem}
 use Rattle.points_to_numbers.specs.declared.item.Item.{Item}
 use Rattle.points_to_numbers.specs.declared.keys.ClassNameNo.{ClassNameNo}
 use Rattle.points_to_numbers.specs.Numbered.{Numbered, Grows}
-use Rattle.points_to_calls.specs.declared.gift.Gift.{Gift}
-use Rattle.points_to_calls.specs.declared.gift.Gift.TheVariants as gifts
-use Rattle.points_to_calls.specs.Describing.{gift_of_unit, IsReceiverAt, IsGiftFor}
-use Rattle.points_to_calls.specs.Parts.{RuleGift, unit, made, fitting, ArgumentGives, ResultGives}
+use Rattle.points_to_calls.specs.declared.origin.Origin.{Origin}
+use Rattle.points_to_calls.specs.declared.origin.Origin.TheVariants as origins
+use Rattle.points_to_calls.specs.Describing.{origin_of_unit, IsReceiverAt, IsOriginFor}
+use Rattle.points_to_calls.specs.Parts.{RuleOrigin, unit, made, fitting, ArgumentGives, ResultGives}
 use Rattle.points_to_numbers.specs.Steps.{Makes}
 use Rattle.points_to_calls.specs.Units.{IsArgumentUnit}
 use Rattle.points_to_numbers.proofs.Making.{makes_none, makes_same}
@@ -40,43 +40,43 @@ receiver_on n m (Some site) (Some s) grows is = grows.sites site.0 s is
 
 -- ---- what an argument gives
 
-pub no_unit_gift : (n : Numbered) (stub : StubMethod) (argument : StubArgument) (r : Option Site) → ((u : ℕ) → IsUnitOf stub argument u → ⊥) → IsGiftFor n (ArgumentGives stub r argument) None
-no_unit_gift n stub argument None none = λ g (u, is, e). none u is
-no_unit_gift n stub argument (Some s) none = λ g (is, e). none 0 is
+pub no_unit_origin : (n : Numbered) (stub : StubMethod) (argument : StubArgument) (r : Option Site) → ((u : ℕ) → IsUnitOf stub argument u → ⊥) → IsOriginFor n (ArgumentGives stub r argument) None
+no_unit_origin n stub argument None none = λ g (u, is, e). none u is
+no_unit_origin n stub argument (Some s) none = λ g (is, e). none 0 is
 
-pub unit_gift : (n : Numbered) (stub : StubMethod) (argument : StubArgument) (receiver : Option SiteNo) (r : Option Site) (u : ℕ) → IsReceiverAt n receiver r → IsArgumentUnit stub argument (Some u)
-    → IsGiftFor n (ArgumentGives stub r argument) (gift_of_unit receiver u)
-unit_gift n stub argument None None u at is = (unit u, refl, (u, is.0, refl), λ k (v, of, e). e ∙ ap unit (is.1 v of))
-unit_gift n stub argument None (Some s) u at is = absurd at
-unit_gift n stub argument (Some site) None u at is = absurd at
-unit_gift n stub argument (Some site) (Some s) zero at is = (made s, (s, at, refl), (is.0, refl), λ k (of, e). e)
-unit_gift n stub argument (Some site) (Some s) (suc u) at is = λ g (of, e). let same = is.1 0 of in absurd (omega (arith, same))
+pub unit_origin : (n : Numbered) (stub : StubMethod) (argument : StubArgument) (receiver : Option SiteNo) (r : Option Site) (u : ℕ) → IsReceiverAt n receiver r → IsArgumentUnit stub argument (Some u)
+    → IsOriginFor n (ArgumentGives stub r argument) (origin_of_unit receiver u)
+unit_origin n stub argument None None u at is = (unit u, refl, (u, is.0, refl), λ k (v, of, e). e ∙ ap unit (is.1 v of))
+unit_origin n stub argument None (Some s) u at is = absurd at
+unit_origin n stub argument (Some site) None u at is = absurd at
+unit_origin n stub argument (Some site) (Some s) zero at is = (made s, (s, at, refl), (is.0, refl), λ k (of, e). e)
+unit_origin n stub argument (Some site) (Some s) (suc u) at is = λ g (of, e). let same = is.1 0 of in absurd (omega (arith, same))
 
-pub later_unit : (site : SiteNo) (u : ℕ) → u ≢ 0 → gift_of_unit (Some site) u ≡ None
+pub later_unit : (site : SiteNo) (u : ℕ) → u ≢ 0 → origin_of_unit (Some site) u ≡ None
 later_unit site zero positive = absurd (positive refl)
 later_unit site (suc u) positive = refl
 
 -- what was kept
 pub kept_given : (n m : Numbered) (receiver : Option SiteNo) (r : Option Site) (stub : StubMethod) (site : CallSite) (class : ClassNameNo) (name : List ℕ) → is_some receiver ≡ false
-    → IsReceiverAt n receiver r → result_class stub.descriptor ≡ Some name → slice_get m.classes class.0 ≡ Some name → IsGiftFor m (ResultGives Kept stub site r) (Some (gifts.Fitting class))
+    → IsReceiverAt n receiver r → result_class stub.descriptor ≡ Some name → slice_get m.classes class.0 ≡ Some name → IsOriginFor m (ResultGives Kept stub site r) (Some (origins.Fitting class))
 kept_given n m None None stub site class name none at is named = (fitting name, (name, named, refl), (name, refl, is, refl), λ k (other, alone, e, of). of ∙ ap fitting (same_Some other name (sym e ∙ is)))
 kept_given n m None (Some s) stub site class name none at is named = absurd at
 kept_given n m (Some receiver) r stub site class name none at is named = absurd (false≢true (sym none))
 
--- ---- what is made of gifts
+-- ---- what is made of origins
 
-module _ (p : Program) (n m o : Numbered) (site : CallSite) (Q : RuleGift → Type 0) (a b : List Item) where
-  -- the only gift of which a fact holds
-  pub only_gift : (P : RuleGift → RuleItem → Type 0) (g : RuleGift) → Q g → ((k : RuleGift) → Q k → k ≡ g) → Makes m o (P g) a b → Makes m o (λ x. (k : RuleGift) × Q k × P k x) a b
-  only_gift P g gives only makes =
-      makes_same m o (P g) (λ x. (k : RuleGift) × Q k × P k x) a b
-      (λ x. (λ gets. (g, gives, gets), λ (k, given, gets). subst (λ (h : RuleGift). P h x) (only k given) gets))
+module _ (p : Program) (n m o : Numbered) (site : CallSite) (Q : RuleOrigin → Type 0) (a b : List Item) where
+  -- the only origin of which a fact holds
+  pub only_origin : (P : RuleOrigin → RuleItem → Type 0) (g : RuleOrigin) → Q g → ((k : RuleOrigin) → Q k → k ≡ g) → Makes m o (P g) a b → Makes m o (λ x. (k : RuleOrigin) × Q k × P k x) a b
+  only_origin P g gives only makes =
+      makes_same m o (P g) (λ x. (k : RuleOrigin) × Q k × P k x) a b
+      (λ x. (λ gets. (g, gives, gets), λ (k, given, gets). subst (λ (h : RuleOrigin). P h x) (only k given) gets))
       makes
 
-  pub no_gift : (P : RuleGift → RuleItem → Type 0) → ((g : RuleGift) → Q g → ⊥) → Makes n n (λ x. (k : RuleGift) × Q k × P k x) a a
-  no_gift P none = makes_none n (λ x. (k : RuleGift) × Q k × P k x) a (λ x (k, given, gets). none k given)
+  pub no_origin : (P : RuleOrigin → RuleItem → Type 0) → ((g : RuleOrigin) → Q g → ⊥) → Makes n n (λ x. (k : RuleOrigin) × Q k × P k x) a a
+  no_origin P none = makes_none n (λ x. (k : RuleOrigin) × Q k × P k x) a (λ x (k, given, gets). none k given)
 
--- no gift was found
-pub none_gift : (n : Numbered) (Q : RuleGift → Type 0) (gift : Option Gift) → ((x : Gift) → gift ≡ Some x → ⊥) → IsGiftFor n Q gift → (g : RuleGift) → Q g → ⊥
-none_gift n Q None none is = is
-none_gift n Q (Some x) none is = absurd (none x refl)
+-- no origin was found
+pub none_origin : (n : Numbered) (Q : RuleOrigin → Type 0) (origin : Option Origin) → ((x : Origin) → origin ≡ Some x → ⊥) → IsOriginFor n Q origin → (g : RuleOrigin) → Q g → ⊥
+none_origin n Q None none is = is
+none_origin n Q (Some x) none is = absurd (none x refl)

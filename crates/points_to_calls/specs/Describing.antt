@@ -1,5 +1,5 @@
 -- This crate's own proofs alone rest on this module.
--- The gifts of described methods, by the tables.
+-- The origins of described methods, by the tables.
 use Rattle.std.specs.Prelude.{◌≡◌, ◌⊎◌, zero, suc, length, false, ℕ, Option, Some, None, slice_get}
 use Rattle.jvm_model.specs.declared.number.SiteNo.{SiteNo}
 use Rattle.jvm_model.specs.declared.site.Site.{Site}
@@ -9,9 +9,9 @@ use Rattle.jvm_model.specs.declared.number.MethodNo.{MethodNo}
 use Rattle.points_to_rules.specs.Calls.{IsOfFile, IsDescribedBy}
 use Rattle.points_to_constraints.specs.Items.{CallSite, Item as RuleItem}
 use Rattle.points_to_numbers.specs.Numbered.{Numbered, Grows}
-use Rattle.points_to_calls.specs.declared.gift.Gift.{Gift}
-use Rattle.points_to_calls.specs.declared.gift.Gift.TheVariants.{Unit as OfUnit, Made}
-use Rattle.points_to_calls.specs.Parts.{RuleGift, IsGiftAt, FileItem, KeptItem, GotItem, ThrownItem}
+use Rattle.points_to_calls.specs.declared.origin.Origin.{Origin}
+use Rattle.points_to_calls.specs.declared.origin.Origin.TheVariants.{Unit as OfUnit, Made}
+use Rattle.points_to_calls.specs.Parts.{RuleOrigin, IsOriginAt, FileItem, KeptItem, GotItem, ThrownItem}
 
 -- The object that selects the target, if it is looked at alone.
 abbrev pub IsReceiverAt : Numbered → Option SiteNo → Option Site → Type 0
@@ -21,21 +21,21 @@ IsReceiverAt n (Some site) None = ⊥
 IsReceiverAt n (Some site) (Some s) = slice_get n.sites site.0 ≡ Some s
 
 -- What a unit of the arguments gives; of an object that is looked at alone, only the first one is it.
-abbrev pub gift_of_unit : Option SiteNo → ℕ → Option Gift
-gift_of_unit None unit = Some (OfUnit unit)
-gift_of_unit (Some site) zero = Some (Made site)
-gift_of_unit (Some site) (suc unit) = None
+abbrev pub origin_of_unit : Option SiteNo → ℕ → Option Origin
+origin_of_unit None unit = Some (OfUnit unit)
+origin_of_unit (Some site) zero = Some (Made site)
+origin_of_unit (Some site) (suc unit) = None
 
--- The gift stands for the only one of which the fact holds; or it holds of none.
-abbrev pub IsGiftFor : Numbered → (RuleGift → Type 0) → Option Gift → Type 0
-IsGiftFor n Q None = (g : RuleGift) → Q g → ⊥
-IsGiftFor n Q (Some gift) = (g : RuleGift) × IsGiftAt n gift g × Q g × ((k : RuleGift) → Q k → k ≡ g)
+-- The origin stands for the only one of which the fact holds; or it holds of none.
+abbrev pub IsOriginFor : Numbered → (RuleOrigin → Type 0) → Option Origin → Type 0
+IsOriginFor n Q None = (g : RuleOrigin) → Q g → ⊥
+IsOriginFor n Q (Some origin) = (g : RuleOrigin) × IsOriginAt n origin g × Q g × ((k : RuleOrigin) → Q k → k ≡ g)
 
--- The tables grow by no call, and the gift is found.
-pub record MakesGift (n m : Numbered) (Q : RuleGift → Type 0) (gift : Option Gift) : Type 0 where
+-- The tables grow by no call, and the origin is found.
+pub record MakesOrigin (n m : Numbered) (Q : RuleOrigin → Type 0) (origin : Option Origin) : Type 0 where
   pub grows : Grows n m
   pub calls : length m.calls ≡ length n.calls
-  pub is : IsGiftFor m Q gift
+  pub is : IsOriginFor m Q origin
 
 -- The tables grow by no call, and the site is numbered.
 pub record MakesSite (n m : Numbered) (s : Site) (site : SiteNo) : Type 0 where

@@ -3,6 +3,6 @@ pub mod Parts
 pub mod Giving
 pub mod Units
 pub mod Describing
-pub mod Users
+pub mod Constraints
 pub mod Selecting
 pub mod KeptAnswers

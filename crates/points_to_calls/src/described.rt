@@ -2,7 +2,7 @@
 
 ghost use Rattle.std.specs.Prelude.{◌≡◌, List, ℕ, Option, Some, slice_get, IfOk, OnOk};
 ghost use Rattle.jvm_model.specs.declared.site.Site.{Site};
-ghost use Rattle.points_to_calls.specs.Describing.{gift_of_unit, IsGiftFor, IsReceiverAt, MakesGift, MakesSite, ReceiverItem, StubItem};
+ghost use Rattle.points_to_calls.specs.Describing.{origin_of_unit, IsOriginFor, IsReceiverAt, MakesOrigin, MakesSite, ReceiverItem, StubItem};
 ghost use Rattle.points_to_calls.specs.Giving.{ResolvesIn};
 ghost use Rattle.points_to_calls.specs.Parts.{ArgumentGives, ArgumentKept, ClassThrown, GotItem, KeptItem, ResultGives, ResultGot, ThrownItem};
 ghost use Rattle.points_to_numbers.specs.Steps.{Makes};
@@ -11,10 +11,10 @@ ghost use Rattle.points_to_constraints.specs.CallItems.{call_allocates};
 ghost use Rattle.points_to_constraints.specs.Items.{CallSite};
 ghost use Rattle.points_to_numbers.specs.Numbered.{IsNumbered, Numbered};
 
+use crate::catch_chains::lands;
 use crate::descriptors::{read_descriptor, unit_of};
-use crate::gift::Gift;
 use crate::giving::{give, give_results};
-use crate::landings::lands;
+use crate::origin::Origin;
 use jvm_model::result_class::result_class;
 use jvm_model::{Descriptor, SiteKind, SiteNo, StubArgument, StubMethod, StubResult};
 use points_to_numbers::{CallNo, Item, SiteKey, Tables};
@@ -32,28 +32,28 @@ struct Description<'a> {
 }
 
 /// What a unit of the arguments gives; of an object that is looked at alone, only the first one is it.
-fn gift_of_unit(receiver: Option<SiteNo>, unit: usize) -> Option<Gift>
-    ensures { result ≡ gift_of_unit receiver unit }
+fn origin_of_unit(receiver: Option<SiteNo>, unit: usize) -> Option<Origin>
+    ensures { result ≡ origin_of_unit receiver unit }
 {
     let Some(site) = receiver else {
-        return Some(Gift::Unit(unit));
+        return Some(Origin::Unit(unit));
     };
     if unit == 0 {
-        return Some(Gift::Made(site));
+        return Some(Origin::Made(site));
     }
     None
 }
 
 /// What an argument gives that the stub names.
-fn argument_gift(description: &Description<'_>, argument: StubArgument) -> Option<Gift>
+fn argument_origin(description: &Description<'_>, argument: StubArgument) -> Option<Origin>
     requires { IsReadOf description.now.stub.now.descriptor description.now.descriptor.now }
     ensures { (n : Numbered) (r : Option Site) → IsReceiverAt n description.now.receiver r
-        → IsGiftFor n (ArgumentGives description.now.stub.now r argument) result }
+        → IsOriginFor n (ArgumentGives description.now.stub.now r argument) result }
 {
     let Some(unit) = unit_of(description.stub, description.descriptor, argument) else {
         return None;
     };
-    gift_of_unit(description.receiver, unit)
+    origin_of_unit(description.receiver, unit)
 }
 
 /// Adds what the library keeps of an argument.
@@ -72,11 +72,11 @@ fn keep_argument(
     ensures { OnOk result ((site : CallSite) (r : Option Site) → slice_get tables.old.calls call.0 ≡ Some site → IsReceiverAt tables.old description.now.receiver r
         → Makes tables.old tables.new (ArgumentKept program.now site description.now.stub.now r argument) steps.old.items steps.new.items) }
 {
-    let Some(gift) = argument_gift(description, argument) else {
+    let Some(origin) = argument_origin(description, argument) else {
         return Ok(());
     };
     let kept = tables.place(Place::Kept)?;
-    give(program, tables, call, gift, kept, steps)
+    give(program, tables, call, origin, kept, steps)
 }
 
 /// Adds what the library keeps of all arguments.
@@ -123,30 +123,30 @@ fn allocated(
 }
 
 /// What a listed result gives that is a new object.
-fn new_gift(
+fn new_origin(
     tables: &mut Tables,
     call: CallNo,
     description: &Description<'_>,
     class: &[u8],
-) -> Result<Option<Gift>, IndexFailure>
+) -> Result<Option<Origin>, IndexFailure>
     requires { IsNumbered tables.old.calls call.0 }
-    ensures { IfOk result (λ gift. (site : CallSite) (r : Option Site) → slice_get tables.old.calls call.0 ≡ Some site → IsReceiverAt tables.old description.now.receiver r
-        → MakesGift tables.old tables.new (ResultGives (StubResult.New class.now) description.now.stub.now site r) gift) }
+    ensures { IfOk result (λ origin. (site : CallSite) (r : Option Site) → slice_get tables.old.calls call.0 ≡ Some site → IsReceiverAt tables.old description.now.receiver r
+        → MakesOrigin tables.old tables.new (ResultGives (StubResult.New class.now) description.now.stub.now site r) origin) }
 {
     if description.receiver.is_some() {
         return Ok(None);
     }
     let site = allocated(tables, call, SiteKind::Result, class)?;
-    Ok(Some(Gift::Made(site)))
+    Ok(Some(Origin::Made(site)))
 }
 
 /// What a listed result gives that was kept.
-fn kept_gift(
+fn kept_origin(
     tables: &mut Tables,
     description: &Description<'_>,
-) -> Result<Option<Gift>, IndexFailure>
-    ensures { IfOk result (λ gift. (site : CallSite) (r : Option Site) → IsReceiverAt tables.old description.now.receiver r
-        → MakesGift tables.old tables.new (ResultGives StubResult.Kept description.now.stub.now site r) gift) }
+) -> Result<Option<Origin>, IndexFailure>
+    ensures { IfOk result (λ origin. (site : CallSite) (r : Option Site) → IsReceiverAt tables.old description.now.receiver r
+        → MakesOrigin tables.old tables.new (ResultGives StubResult.Kept description.now.stub.now site r) origin) }
 {
     if description.receiver.is_some() {
         return Ok(None);
@@ -155,28 +155,28 @@ fn kept_gift(
         return Ok(None);
     };
     let class = tables.class_name(class)?;
-    Ok(Some(Gift::Fitting(class)))
+    Ok(Some(Origin::Fitting(class)))
 }
 
 /// What a listed result gives.
-fn result_gift(
+fn result_origin(
     tables: &mut Tables,
     call: CallNo,
     description: &Description<'_>,
     outcome: &StubResult,
-) -> Result<Option<Gift>, IndexFailure>
+) -> Result<Option<Origin>, IndexFailure>
     requires call { IsNumbered tables.old.calls call.0 }
     requires read { IsReadOf description.now.stub.now.descriptor description.now.descriptor.now }
-    ensures { IfOk result (λ gift. (site : CallSite) (r : Option Site) → slice_get tables.old.calls call.0 ≡ Some site → IsReceiverAt tables.old description.now.receiver r
-        → MakesGift tables.old tables.new (ResultGives outcome.now description.now.stub.now site r) gift) }
+    ensures { IfOk result (λ origin. (site : CallSite) (r : Option Site) → slice_get tables.old.calls call.0 ≡ Some site → IsReceiverAt tables.old description.now.receiver r
+        → MakesOrigin tables.old tables.new (ResultGives outcome.now description.now.stub.now site r) origin) }
 {
     match outcome {
         StubResult::Primitive => Ok(None),
         StubResult::Void => Ok(None),
         StubResult::Null => Ok(None),
-        StubResult::Given(argument) => Ok(argument_gift(description, *argument)),
-        StubResult::New(class) => new_gift(tables, call, description, class.as_slice()),
-        StubResult::Kept => kept_gift(tables, description),
+        StubResult::Given(argument) => Ok(argument_origin(description, *argument)),
+        StubResult::New(class) => new_origin(tables, call, description, class.as_slice()),
+        StubResult::Kept => kept_origin(tables, description),
     }
 }
 
@@ -196,10 +196,10 @@ fn give_result(
     ensures { OnOk result ((site : CallSite) (r : Option Site) → slice_get tables.old.calls call.0 ≡ Some site → IsReceiverAt tables.old description.now.receiver r
         → Makes tables.old tables.new (ResultGot program.now site description.now.stub.now r outcome.now) steps.old.items steps.new.items) }
 {
-    let Some(gift) = result_gift(tables, call, description, outcome)? else {
+    let Some(origin) = result_origin(tables, call, description, outcome)? else {
         return Ok(());
     };
-    give_results(program, tables, call, gift, steps)
+    give_results(program, tables, call, origin, steps)
 }
 
 /// Adds what the places of the result get by all listed results.
@@ -235,8 +235,8 @@ fn throw_class(
     ensures { OnOk result ((site : CallSite) → slice_get tables.old.calls call.0 ≡ Some site
         → Makes tables.old tables.new (ClassThrown program.now site class.now) steps.old.items steps.new.items) }
 {
-    let landing = tables.call_of(call).landing;
-    let to = lands(program, tables, landing, class);
+    let catch_chain = tables.call_of(call).catch_chain;
+    let to = lands(program, tables, catch_chain, class);
     let site = allocated(tables, call, SiteKind::Thrown, class)?;
     steps.push(Item::Holds(to, site))?;
     Ok(())

@@ -1,14 +1,14 @@
-//! The items of the points-to solver to which calls and users lead: what a call passes to a target and gets from it, and what each user makes of an
+//! The items of the points-to solver to which calls and constraints lead: what a call passes to a target and gets from it, and what each constraint makes of an
 //! object of its place. What is asked of classes again and again is kept.
 #![tactic(auto)]
 
 mod answer_keys;
+mod catch_chains;
 mod described;
 mod descriptors;
-mod gift;
 mod giving;
 mod kept;
-mod landings;
+mod origin;
 mod passing;
 mod plain;
 mod reading;

@@ -1,21 +1,21 @@
-//! What users make of an object that select no target.
+//! What constraints make of an object that select no target.
 
 ghost use Rattle.std.specs.Prelude.{◌≡◌, ℕ, List, Some, slice_get, codes, OnOk};
 ghost use Rattle.jvm_model.specs.declared.site.Site.{Site};
 ghost use Rattle.points_to_numbers.specs.Steps.{Makes};
 ghost use Rattle.points_to_calls.specs.KeptAnswers.{AreRight};
-ghost use Rattle.points_to_calls.specs.Users.{FittingPassed, PlainPassed};
+ghost use Rattle.points_to_calls.specs.Constraints.{FittingPassed, PlainPassed};
 ghost use Rattle.points_to_constraints.specs.ItemRules.{LandsAs};
-ghost use Rattle.points_to_constraints.specs.Items.{Landing as ItemLanding, User as ItemUser};
+ghost use Rattle.points_to_constraints.specs.Items.{CatchChain as ItemCatchChain, Constraint as ItemConstraint};
 ghost use Rattle.points_to_rules.specs.Facts.{Holder};
-ghost use Rattle.points_to_numbers.specs.Numbered.{IsNumbered, IsUserAt};
+ghost use Rattle.points_to_numbers.specs.Numbered.{IsNumbered, IsConstraintAt};
 
-use crate::giving::add_use_at;
+use crate::catch_chains::lands;
+use crate::giving::add_constraint_at;
 use crate::kept::{Answers, fits_kept};
-use crate::landings::lands;
 use hierarchy::fits;
 use jvm_model::SiteNo;
-use points_to_numbers::{ClassNameNo, Item, LandingNo, Tables, User, add_use};
+use points_to_numbers::{CatchChainNo, ClassNameNo, Constraint, Item, Tables, add_constraint};
 use points_to_rules::{Place, PlaceNo};
 use program_index::index_failure::IndexFailure;
 use program_model::program::Program;
@@ -32,16 +32,16 @@ pub(crate) fn class_of(tables: &Tables, site: SiteNo) -> &[u8]
 fn land(
     program: &Program,
     tables: &Tables,
-    landing: LandingNo,
+    catch_chain: CatchChainNo,
     site: SiteNo,
     steps: &mut Vec<Item>,
 ) -> Result<(), IndexFailure>
-    requires landing { IsNumbered tables.now.landings landing.0 }
+    requires catch_chain { IsNumbered tables.now.catch_chains catch_chain.0 }
     requires site { IsNumbered tables.now.sites site.0 }
-    ensures { OnOk result ((l : ItemLanding) (s : Site) → slice_get tables.now.landings landing.0 ≡ Some l → slice_get tables.now.sites site.0 ≡ Some s
+    ensures { OnOk result ((l : ItemCatchChain) (s : Site) → slice_get tables.now.catch_chains catch_chain.0 ≡ Some l → slice_get tables.now.sites site.0 ≡ Some s
         → Makes tables.now tables.now (LandsAs program.now l s) steps.old.items steps.new.items) }
 {
-    let to = lands(program, tables, landing, class_of(tables, site));
+    let to = lands(program, tables, catch_chain, class_of(tables, site));
     steps.push(Item::Holds(to, site))?;
     Ok(())
 }
@@ -72,51 +72,56 @@ fn pass_if_fits(
     Ok(())
 }
 
-/// Adds what a user makes of an object of its place that does not select a target by it.
+/// Adds what a constraint makes of an object of its place that does not select a target by it.
 pub(crate) fn pass_plain(
     program: &Program,
     tables: &mut Tables,
     answers: &mut Answers,
-    user: User,
+    constraint: Constraint,
     site: SiteNo,
     steps: &mut Vec<Item>,
 ) -> Result<(), IndexFailure>
-    requires user { (u : ItemUser) × IsUserAt tables.old user u }
+    requires constraint { (u : ItemConstraint) × IsConstraintAt tables.old constraint u }
     requires site { IsNumbered tables.old.sites site.0 }
     requires answers { AreRight program.now tables.old answers.old }
-    ensures made { OnOk result ((u : ItemUser) (s : Site) → IsUserAt tables.old user u → slice_get tables.old.sites site.0 ≡ Some s
+    ensures made { OnOk result ((u : ItemConstraint) (s : Site) → IsConstraintAt tables.old constraint u → slice_get tables.old.sites site.0 ≡ Some s
         → Makes tables.old tables.new (PlainPassed program.now u s) steps.old.items steps.new.items) }
     ensures answers { AreRight program.now tables.old answers.new }
 {
-    match user {
-        User::PassTo(to) => {
+    match constraint {
+        Constraint::CopyTo(to) => {
             steps.push(Item::Holds(to, site))?;
             Ok(())
         }
-        User::PassFitting(class, to) => {
+        Constraint::FilterTo(class, to) => {
             pass_if_fits(program, tables, answers, class, to, site, steps)
         }
-        User::ReadField(field, to) => {
-            add_use(tables, steps, Place::Field(site, field), User::PassTo(to))
+        Constraint::LoadField(field, to) => {
+            add_constraint(
+                tables,
+                steps,
+                Place::Field(site, field),
+                Constraint::CopyTo(to),
+            )
         }
-        User::WriteField(field, from) => {
+        Constraint::StoreField(field, from) => {
             let to = tables.place(Place::Field(site, field))?;
-            add_use_at(tables, from, User::PassTo(to), steps)
+            add_constraint_at(tables, from, Constraint::CopyTo(to), steps)
         }
-        User::ReadElements(to) => {
-            add_use(tables, steps, Place::Elements(site), User::PassTo(to))
+        Constraint::LoadElements(to) => {
+            add_constraint(tables, steps, Place::Elements(site), Constraint::CopyTo(to))
         }
-        User::WriteElements(from) => {
+        Constraint::StoreElements(from) => {
             let to = tables.place(Place::Elements(site))?;
-            add_use_at(tables, from, User::PassTo(to), steps)
+            add_constraint_at(tables, from, Constraint::CopyTo(to), steps)
         }
-        User::ThrowAt(landing) => {
+        Constraint::ThrowTo(catch_chain) => {
             if fits(program, b"java/lang/Throwable", class_of(tables, site)) {
-                return land(program, tables, landing, site, steps);
+                return land(program, tables, catch_chain, site, steps);
             }
             Ok(())
         }
-        User::LandAt(landing) => land(program, tables, landing, site, steps),
-        User::Select(_) => Ok(()),
+        Constraint::RethrowTo(catch_chain) => land(program, tables, catch_chain, site, steps),
+        Constraint::Dispatch(_) => Ok(()),
     }
 }

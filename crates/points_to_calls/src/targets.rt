@@ -11,12 +11,12 @@ ghost use Rattle.points_to_numbers.specs.Numbered.{Grows, IsNumbered};
 ghost use Rattle.points_to_numbers.specs.Steps.{Adds, Makes};
 
 use crate::described::stub_items;
-use crate::gift::Gift;
-use crate::giving::{add_use_at, give_results};
+use crate::giving::{add_constraint_at, give_results};
+use crate::origin::Origin;
 use crate::reading::{argument_count, argument_of};
 use jvm_model::MethodNo;
 use op_model::CallKind;
-use points_to_numbers::{CallNo, Item, Tables, User, add_use};
+use points_to_numbers::{CallNo, Constraint, Item, Tables, add_constraint};
 use points_to_rules::Place;
 use program_index::index_failure::IndexFailure;
 use program_index::text_index::next_number;
@@ -63,7 +63,7 @@ fn pass_unit(
         slot: next_number(unit)?,
     };
     let to = tables.place(Place::Variable(variable))?;
-    add_use_at(tables, from, User::PassTo(to), steps)
+    add_constraint_at(tables, from, Constraint::CopyTo(to), steps)
 }
 
 /// Adds that the parameters of a target get what the arguments hold, but for the object by which a call selects.
@@ -96,9 +96,14 @@ fn file_items(
     ensures { OnOk result ((site : CallSite) → slice_get tables.old.calls call.0 ≡ Some site
         → Makes tables.old tables.new (FileItem site target) steps.old.items steps.new.items) }
 {
-    give_results(program, tables, call, Gift::Returned(target), steps)?;
-    let landing = tables.call_of(call).landing;
-    add_use(tables, steps, Place::Thrown(target), User::LandAt(landing))
+    give_results(program, tables, call, Origin::Returned(target), steps)?;
+    let catch_chain = tables.call_of(call).catch_chain;
+    add_constraint(
+        tables,
+        steps,
+        Place::Thrown(target),
+        Constraint::RethrowTo(catch_chain),
+    )
 }
 
 /// Adds what a call leads to that goes to a target: that the target runs; what its parameters, the results of the call and the handlers hold by it; and

@@ -24,11 +24,11 @@ use Rattle.points_to_rules.specs.Facts.{Holder, variable, kept_objects, returned
 use Rattle.points_to_rules.specs.Rules.{node_of, site_of, IsSlot, IsSlotAfter, Lands, IsArgument}
 use Rattle.points_to_constraints.specs.CallItems.{is_passed, GivesUnit, IsStubUnit, runs, pass, receive, target_throws, keep_argument, give_argument, give_new, give_kept, described_throws, SelectItem, called, received, kept, given}
 use Rattle.points_to_constraints.specs.ItemRules.{Passed, entry_runs}
-use Rattle.points_to_constraints.specs.Items.{CallSite, User, pass_to, pass_fitting, land_at, select, Item, known, used}
+use Rattle.points_to_constraints.specs.Items.{CallSite, Constraint, copy_to, filter_to, rethrow_to, dispatch, Item, known, constrained}
 use Rattle.points_to_constraints.specs.NodeItems.{chosen, selecting}
 use Rattle.points_to_constraints.proofs.CalledNodes.{IsCallOf, from_start, from_call}
 use Rattle.points_to_constraints.proofs.CallSites.{site_at, is_site_at, argument_there, result_holder, lands_there}
-use Rattle.points_to_constraints.proofs.Closing.{IsClosing, IsRunning, by_start, by_user, passes, all_reached, parts_at, by_call, by_operation}
+use Rattle.points_to_constraints.proofs.Closing.{IsClosing, IsRunning, by_start, by_constraint, passes, all_reached, parts_at, by_call, by_operation}
 
 -- ---- units of arguments
 
@@ -46,19 +46,19 @@ passed_as Special p resolved s target zero may = inl refl
 passed_as Static p resolved s target zero may = inl refl
 passed_as Interface p resolved s target zero may = inr (record { first = refl; selects = may })
 
--- a user hands the object of a unit on to a holder
+-- a constraint hands the object of a unit on to a holder
 record IsHandedTo (kind : CallKind) (p : Program) (resolved : MethodNo) (unit : ℕ) (to : Holder) (s : Site) : Type 0 where
-  user : User
-  gives_unit : GivesUnit kind p resolved unit to user
-  passed : Passed p user s (known (may_hold to s))
+  constraint : Constraint
+  gives_unit : GivesUnit kind p resolved unit to constraint
+  passed : Passed p constraint s (known (may_hold to s))
 
 handed_as : (kind : CallKind) (p : Program) (resolved : MethodNo) (s : Site) (target : MethodNo) (unit : ℕ) (to : Holder) → MayBeGiven kind p resolved s target unit
     → IsHandedTo kind p resolved unit to s ⊎ IsSelecting kind p resolved s target unit
-handed_as kind p resolved s target (suc unit) to may = inl (record { user = pass_to to; gives_unit = refl; passed = refl })
+handed_as kind p resolved s target (suc unit) to may = inl (record { constraint = copy_to to; gives_unit = refl; passed = refl })
 handed_as Virtual p resolved s target zero to may = inr (record { first = refl; selects = may })
 handed_as Special p resolved s target zero to may =
-    inl (record { user = pass_fitting may.method.class to; gives_unit = (may.method, may.stands, refl); passed = (may.fits, refl) })
-handed_as Static p resolved s target zero to may = inl (record { user = pass_to to; gives_unit = refl; passed = refl })
+    inl (record { constraint = filter_to may.method.class to; gives_unit = (may.method, may.stands, refl); passed = (may.fits, refl) })
+handed_as Static p resolved s target zero to may = inl (record { constraint = copy_to to; gives_unit = refl; passed = refl })
 handed_as Interface p resolved s target zero to may = inr (record { first = refl; selects = may })
 
 selecting_kind : (kind : CallKind) (p : Program) (resolved : MethodNo) (s : Site) (target : MethodNo) → SelectsFor kind p resolved s (Ok target.0) → is_selecting_kind kind ≡ true
@@ -81,8 +81,8 @@ module _ {p : Program} {gives : GivenAs} {entry : MethodNo} {T : Item → Type 0
         let has = parts_at h here.is_node c in
         let there = argument_there m l (all_reached h here.is_node) n here.is_node.stands c has 0 z from e slot in
         let kind = selecting_kind c.kind p c.resolved s target selects in
-        let uses = by_operation h here (Call c) is (used from (select site)) (selecting site from kind (is_site_at m l n c has) there refl) in
-        by_user h from (select site) s x uses holds item
+        let constrains = by_operation h here (Call c) is (constrained from (dispatch site)) (selecting site from kind (is_site_at m l n c has) there refl) in
+        by_constraint h from (dispatch site) s x constrains holds item
 
     -- ---- targets
 
@@ -125,8 +125,8 @@ module _ {p : Program} {gives : GivenAs} {entry : MethodNo} {T : Item → Type 0
         → T (known (may_hold to s))
     give_kept_closed target stub class s z to described listed is_class fits e after calls holds =
         let there = result_holder m l (all_reached h here.is_node) n c (parts_at h here.is_node c) z to e after in
-        let uses = by_call h here.is_node c is target calls (used kept_objects (pass_fitting class to)) (give_kept stub class to described listed is_class there refl) in
-        by_user h kept_objects (pass_fitting class to) s _ uses holds (fits, refl)
+        let constrains = by_call h here.is_node c is target calls (constrained kept_objects (filter_to class to)) (give_kept stub class to described listed is_class there refl) in
+        by_constraint h kept_objects (filter_to class to) s _ constrains holds (fits, refl)
 
     -- ---- arguments of described methods
 
@@ -148,8 +148,8 @@ module _ {p : Program} {gives : GivenAs} {entry : MethodNo} {T : Item → Type 0
         where
           by : IsHandedTo c.kind p c.resolved of.unit kept_objects s ⊎ IsSelecting c.kind p c.resolved s target of.unit → T (known (may_hold kept_objects s))
           by (inl handed) =
-              let uses = by_call h here.is_node c is target calls (used from handed.user) (keep_argument stub argument of.unit from handed.user described listed stub_unit handed.gives_unit refl) in
-              by_user h from handed.user s _ uses holds handed.passed
+              let constrains = by_call h here.is_node c is target calls (constrained from handed.constraint) (keep_argument stub argument of.unit from handed.constraint described listed stub_unit handed.gives_unit refl) in
+              by_constraint h from handed.constraint s _ constrains holds handed.passed
           by (inr selects) = first_selects selects holds _ (λ is_unit. kept target stub argument selects.selects described listed is_unit refl)
 
       pub give_argument_closed : (z : ℕ) (to : Holder) → Contains stub.returns (stub_results.Given argument) → c.result ≡ Some z → IsSlotAfter l n z to → T (known (may_call (node_of m n) target))
@@ -161,8 +161,8 @@ module _ {p : Program} {gives : GivenAs} {entry : MethodNo} {T : Item → Type 0
 
           by : IsHandedTo c.kind p c.resolved of.unit to s ⊎ IsSelecting c.kind p c.resolved s target of.unit → T (known (may_hold to s))
           by (inl handed) =
-              let uses = by_call h here.is_node c is target calls (used from handed.user) (give_argument stub argument of.unit from to handed.user described listed stub_unit there handed.gives_unit refl) in
-              by_user h from handed.user s _ uses holds handed.passed
+              let constrains = by_call h here.is_node c is target calls (constrained from handed.constraint) (give_argument stub argument of.unit from to handed.constraint described listed stub_unit there handed.gives_unit refl) in
+              by_constraint h from handed.constraint s _ constrains holds handed.passed
           by (inr selects) = first_selects selects holds _ (λ is_unit. given target stub argument to selects.selects described listed is_unit there refl)
 
     -- ---- exceptions
@@ -171,14 +171,14 @@ module _ {p : Program} {gives : GivenAs} {entry : MethodNo} {T : Item → Type 0
         → T (known (may_hold to s))
     target_throws_closed target to s of_file lands calls holds =
         let has = parts_at h here.is_node c in
-        let uses = by_call h here.is_node c is target calls (used (thrown_by target) (land_at has.landing)) (target_throws of_file refl) in
-        by_user h (thrown_by target) (land_at has.landing) s _ uses holds (to, lands_there p m l n (all_reached h here.is_node) s.class to has.landing has.is_landing lands, refl)
+        let constrains = by_call h here.is_node c is target calls (constrained (thrown_by target) (rethrow_to has.catch_chain)) (target_throws of_file refl) in
+        by_constraint h (thrown_by target) (rethrow_to has.catch_chain) s _ constrains holds (to, lands_there p m l n (all_reached h here.is_node) s.class to has.catch_chain has.is_catch_chain lands, refl)
 
     pub described_throws_closed : (target : MethodNo) (stub : StubMethod) (class : List ℕ) (to : Holder) → IsDescribedBy p target stub → Contains stub.throws class → Lands p m l n class to
         → T (known (may_call (node_of m n) target)) → T (known (may_hold to (site_of kinds.Thrown m n class)))
     described_throws_closed target stub class to described listed lands calls =
         let has = parts_at h here.is_node c in
-        by_call h here.is_node c is target calls _ (described_throws stub class to described listed (lands_there p m l n (all_reached h here.is_node) class to has.landing has.is_landing lands) refl)
+        by_call h here.is_node c is target calls _ (described_throws stub class to described listed (lands_there p m l n (all_reached h here.is_node) class to has.catch_chain has.is_catch_chain lands) refl)
 
   -- ---- what a call runs
 

@@ -14,7 +14,7 @@ use Rattle.points_to_rules.specs.Facts.{Fact, may_run, may_call}
 use Rattle.points_to_rules.specs.Rules.{IsNodeOf, Instance, entry_runs, entry_called, entry_argument, entry_strings, keep, move, enter, handle, load, load_element, load_static, make, make_array, get_constant, cast, store, store_element, store_static, nest, begin_static, call_chosen, call_selected, target_runs, pass, return, receive, keep_argument, give_argument, give_new, give_kept, throw, raise, target_throws, described_throws, initialiser_throws, initialiser_runs, keep_thrown}
 use Rattle.points_to_constraints.specs.ItemRules.{StartItem, ItemInstance}
 use Rattle.points_to_rules.specs.WholeMethods.{AreWholeMethods}
-use Rattle.points_to_constraints.specs.Items.{Item, known, used, facts_of}
+use Rattle.points_to_constraints.specs.Items.{Item, known, constrained, facts_of}
 use Rattle.points_to_constraints.proofs.CalledNodes.{IsCallOf, call_comes_from}
 use Rattle.points_to_constraints.proofs.ClosedCalls.{call_chosen_closed, call_selected_closed, pass_closed, receive_closed, give_new_closed, give_kept_closed, keep_argument_closed, give_argument_closed, target_throws_closed, described_throws_closed, target_runs_closed}
 use Rattle.points_to_constraints.proofs.ClosedNodes.{keep_closed, move_closed, enter_closed, handle_closed, load_closed, load_element_closed, load_static_closed, make_closed, make_array_closed, get_constant_closed, cast_closed, store_closed, store_element_closed, store_static_closed, nest_closed, begin_static_closed, return_closed, throw_closed, raise_closed, initialiser_throws_closed, initialiser_runs_closed, keep_thrown_closed}
@@ -88,7 +88,7 @@ known_from_fact (known own ∷ items) fact there = elim (contains_cases own fact
   | inl e ↦ subst (λ (f : Fact). Contains (known own ∷ items) (known f)) e (contains_first (known own) items)
   | inr more ↦ contains_later (known own) (known fact) items (known_from_fact items fact more)
 ]
-known_from_fact (used holder user ∷ items) fact there = contains_later (used holder user) (known fact) items (known_from_fact items fact there)
+known_from_fact (constrained holder constraint ∷ items) fact there = contains_later (constrained holder constraint) (known fact) items (known_from_fact items fact there)
 
 fact_from_known : (items : List Item) (fact : Fact) → Contains items (known fact) → Contains (facts_of items) fact
 fact_from_known [] fact there = absurd (contains_none (known fact) there)
@@ -96,7 +96,7 @@ fact_from_known (known own ∷ items) fact there = elim (contains_cases (known o
   | inl e ↦ (let same : own ≡ fact = cc in subst (λ (f : Fact). Contains (own ∷ facts_of items) f) same (contains_first own (facts_of items)))
   | inr more ↦ contains_later own fact (facts_of items) (fact_from_known items fact more)
 ]
-fact_from_known (used holder user ∷ items) fact there = elim (contains_cases (used holder user) (known fact) items there) [
+fact_from_known (constrained holder constraint ∷ items) fact there = elim (contains_cases (constrained holder constraint) (known fact) items there) [
   | inl e ↦ absurd cc
   | inr more ↦ fact_from_known items fact more
 ]

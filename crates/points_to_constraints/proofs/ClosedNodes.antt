@@ -21,10 +21,10 @@ use Rattle.least_sets.specs.Rules.{Hold}
 use Rattle.points_to_rules.specs.Facts.{Holder, variable, field_of, elements_of, static_field, kept_objects, returned_by, thrown_by, Fact, may_hold, may_run}
 use Rattle.points_to_rules.specs.Rules.{site_of, IsSlot, IsSlotAfter, IsSlotAt, Lands, StartsAt, MayStart, before_entry, at_node, BeginsWith}
 use Rattle.points_to_constraints.specs.ItemRules.{initialiser_runs, keep_thrown}
-use Rattle.points_to_constraints.specs.Items.{pass_to, pass_fitting, read_field, write_field, read_elements, write_elements, throw_at, land_at, Item, known, used}
+use Rattle.points_to_constraints.specs.Items.{copy_to, filter_to, load_field, store_field, load_elements, store_elements, throw_to, rethrow_to, Item, known, constrained}
 use Rattle.points_to_constraints.specs.NodeItems.{IsSlotMerged, keep, move, read, begin, first, nest, runs, keeps_thrown, throws, flows, enters, handles, raises, triggers}
 use Rattle.points_to_constraints.proofs.CallSites.{lands_there}
-use Rattle.points_to_constraints.proofs.Closing.{IsClosing, IsRunning, by_start, by_user, passes, all_reached, own_number, by_node, by_operation, landing_at}
+use Rattle.points_to_constraints.proofs.Closing.{IsClosing, IsRunning, by_start, by_constraint, passes, all_reached, own_number, by_node, by_operation, catch_chain_at}
 use Rattle.points_to_constraints.proofs.Holders.{kept_holder, moved_holder, entered_holder}
 
 -- a fact of one holder is that of the same one
@@ -76,14 +76,14 @@ module _ {p : Program} {gives : GivenAs} {entry : MethodNo} {T : Item → Type 0
     pub load_closed : (object target : ℕ) (field : FieldNo) (from to : Holder) (base s : Site) → n.op ≡ Load object field target → IsSlot l n object from → IsSlotAfter l n target to
         → T (known (may_hold from base)) → T (known (may_hold (field_of base field) s)) → T (known (may_hold to s))
     load_closed object target field from to base s is slot after holds there =
-        let reads = by_operation h here (Load object field target) is (used from (read_field field to)) (from, to, slot, after, refl) in
-        passes h (field_of base field) to s (by_user h from (read_field field to) base _ reads holds refl) there
+        let reads = by_operation h here (Load object field target) is (constrained from (load_field field to)) (from, to, slot, after, refl) in
+        passes h (field_of base field) to s (by_constraint h from (load_field field to) base _ reads holds refl) there
 
     pub load_element_closed : (array target : ℕ) (from to : Holder) (base s : Site) → n.op ≡ LoadElement array target → IsSlot l n array from → IsSlotAfter l n target to
         → T (known (may_hold from base)) → T (known (may_hold (elements_of base) s)) → T (known (may_hold to s))
     load_element_closed array target from to base s is slot after holds there =
-        let reads = by_operation h here (LoadElement array target) is (used from (read_elements to)) (from, to, slot, after, refl) in
-        passes h (elements_of base) to s (by_user h from (read_elements to) base _ reads holds refl) there
+        let reads = by_operation h here (LoadElement array target) is (constrained from (load_elements to)) (from, to, slot, after, refl) in
+        passes h (elements_of base) to s (by_constraint h from (load_elements to) base _ reads holds refl) there
 
     pub load_static_closed : (target : ℕ) (field : FieldNo) (to : Holder) (s : Site) → n.op ≡ LoadStatic field target → IsSlotAfter l n target to
         → T (known (may_hold (static_field field) s)) → T (known (may_hold to s))
@@ -101,22 +101,22 @@ module _ {p : Program} {gives : GivenAs} {entry : MethodNo} {T : Item → Type 0
     pub cast_closed : (class : List ℕ) (slot : ℕ) (from to : Holder) (s : Site) → n.op ≡ Cast class slot → IsSlot l n slot from → IsSlotAfter l n slot to → Fits p class s.class
         → T (known (may_hold from s)) → T (known (may_hold to s))
     cast_closed class slot from to s is before after fits holds =
-        let reads = by_operation h here (Cast class slot) is (used from (pass_fitting class to)) (from, to, before, after, refl) in
-        by_user h from (pass_fitting class to) s _ reads holds (fits, refl)
+        let reads = by_operation h here (Cast class slot) is (constrained from (filter_to class to)) (from, to, before, after, refl) in
+        by_constraint h from (filter_to class to) s _ reads holds (fits, refl)
 
     -- ---- what is stored, and with what places begin
 
     pub store_closed : (object value : ℕ) (field : FieldNo) (into from : Holder) (base s : Site) → n.op ≡ Store object field value → IsSlot l n object into → IsSlot l n value from
         → T (known (may_hold into base)) → T (known (may_hold from s)) → T (known (may_hold (field_of base field) s))
     store_closed object value field into from base s is slot stored holds there =
-        let writes = by_operation h here (Store object field value) is (used into (write_field field from)) (into, from, slot, stored, refl) in
-        passes h from (field_of base field) s (by_user h into (write_field field from) base _ writes holds refl) there
+        let writes = by_operation h here (Store object field value) is (constrained into (store_field field from)) (into, from, slot, stored, refl) in
+        passes h from (field_of base field) s (by_constraint h into (store_field field from) base _ writes holds refl) there
 
     pub store_element_closed : (array value : ℕ) (into from : Holder) (base s : Site) → n.op ≡ StoreElement array value → IsSlot l n array into → IsSlot l n value from
         → T (known (may_hold into base)) → T (known (may_hold from s)) → T (known (may_hold (elements_of base) s))
     store_element_closed array value into from base s is slot stored holds there =
-        let writes = by_operation h here (StoreElement array value) is (used into (write_elements from)) (into, from, slot, stored, refl) in
-        passes h from (elements_of base) s (by_user h into (write_elements from) base _ writes holds refl) there
+        let writes = by_operation h here (StoreElement array value) is (constrained into (store_elements from)) (into, from, slot, stored, refl) in
+        passes h from (elements_of base) s (by_constraint h into (store_elements from) base _ writes holds refl) there
 
     pub store_static_closed : (value : ℕ) (field : FieldNo) (from : Holder) (s : Site) → n.op ≡ StoreStatic field value → IsSlot l n value from
         → T (known (may_hold from s)) → T (known (may_hold (static_field field) s))
@@ -137,9 +137,9 @@ module _ {p : Program} {gives : GivenAs} {entry : MethodNo} {T : Item → Type 0
     pub throw_closed : (value : ℕ) (from to : Holder) (s : Site) → n.op ≡ Throw value → IsSlot l n value from → Fits p (codes "java/lang/Throwable") s.class → Lands p m l n s.class to
         → T (known (may_hold from s)) → T (known (may_hold to s))
     throw_closed value from to s is slot fits lands holds =
-        let landing = landing_at h here.is_node in
-        let throws = by_operation h here (Throw value) is (used from (throw_at landing.0)) (landing.0, from, landing.1, slot, refl) in
-        by_user h from (throw_at landing.0) s _ throws holds (fits, (to, lands_there p m l n (all_reached h here.is_node) s.class to landing.0 landing.1 lands, refl))
+        let catch_chain = catch_chain_at h here.is_node in
+        let throws = by_operation h here (Throw value) is (constrained from (throw_to catch_chain.0)) (catch_chain.0, from, catch_chain.1, slot, refl) in
+        by_constraint h from (throw_to catch_chain.0) s _ throws holds (fits, (to, lands_there p m l n (all_reached h here.is_node) s.class to catch_chain.0 catch_chain.1 lands, refl))
 
     pub raise_closed : (number : ClassNo) (class : List ℕ) (to : Holder) → Contains n.throws number → IsClassNumber p number class → Lands p m l n class to
         → T (known (may_hold to (site_of kinds.Thrown m n class)))
@@ -147,9 +147,9 @@ module _ {p : Program} {gives : GivenAs} {entry : MethodNo} {T : Item → Type 0
 
     pub initialiser_throws_closed : (i : MethodNo) (to : Holder) (s : Site) → StartsAt p n i → Lands p m l n s.class to → T (known (may_hold (thrown_by i) s)) → T (known (may_hold to s))
     initialiser_throws_closed i to s starts lands holds =
-        let landing = landing_at h here.is_node in
-        let thrown = by_node h here (used (thrown_by i) (land_at landing.0)) (triggers (throws i landing.0 starts landing.1 refl)) in
-        by_user h (thrown_by i) (land_at landing.0) s _ thrown holds (to, lands_there p m l n (all_reached h here.is_node) s.class to landing.0 landing.1 lands, refl)
+        let catch_chain = catch_chain_at h here.is_node in
+        let thrown = by_node h here (constrained (thrown_by i) (rethrow_to catch_chain.0)) (triggers (throws i catch_chain.0 starts catch_chain.1 refl)) in
+        by_constraint h (thrown_by i) (rethrow_to catch_chain.0) s _ thrown holds (to, lands_there p m l n (all_reached h here.is_node) s.class to catch_chain.0 catch_chain.1 lands, refl)
 
   -- ---- initialisers that may be started
 
@@ -159,7 +159,7 @@ module _ {p : Program} {gives : GivenAs} {entry : MethodNo} {T : Item → Type 0
       let held = subst (λ (fs : List Fact). Hold (λ (f : Fact). T (known f)) fs) e hold in
       by_node h (record { is_node = is_node; runs = held.0 }) _ (triggers (runs i starts refl))
 
-  thrown_kept : (premises : List Fact) (i : MethodNo) → MayStart p gives entry premises i → Hold (λ (f : Fact). T (known f)) premises → T (used (thrown_by i) (pass_to kept_objects))
+  thrown_kept : (premises : List Fact) (i : MethodNo) → MayStart p gives entry premises i → Hold (λ (f : Fact). T (known f)) premises → T (constrained (thrown_by i) (copy_to kept_objects))
   thrown_kept premises i (before_entry method stands is e) hold = by_start h _ (keep_thrown method i stands is refl)
   thrown_kept premises i (at_node m l n is_node starts e) hold =
       let held = subst (λ (fs : List Fact). Hold (λ (f : Fact). T (known f)) fs) e hold in

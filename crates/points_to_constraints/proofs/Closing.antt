@@ -1,5 +1,5 @@
 -- How a set of items goes on that is closed by the rules of items: from a node of a method that may run, from a call of a target, and from a
--- user and an object of its holder.
+-- constraint and an object of its holder.
 use Rattle.std.proofs.Common.{◌≡◌, [], ◌∷◌, refl, sym, subst}
 use Rattle.jvm_model.specs.declared.number.MethodNo.{MethodNo}
 use Rattle.jvm_model.specs.declared.site.Site.{Site}
@@ -15,11 +15,11 @@ use Rattle.least_sets.specs.Rules.{IsClosedSet}
 use Rattle.points_to_rules.specs.Facts.{Holder, may_hold, may_run, may_call}
 use Rattle.points_to_rules.specs.Rules.{IsNodeOf, node_of}
 use Rattle.points_to_constraints.specs.CallItems.{CallItem}
-use Rattle.points_to_constraints.specs.ItemRules.{StartItem, Passed, ItemInstance, of_start, of_node, of_call, of_user}
+use Rattle.points_to_constraints.specs.ItemRules.{StartItem, Passed, ItemInstance, of_start, of_node, of_call, of_constraint}
 use Rattle.points_to_rules.specs.WholeMethods.{IsWholeMethod, AreWholeMethods}
-use Rattle.points_to_constraints.specs.Items.{Landing, User, pass_to, Item, known, used}
-use Rattle.points_to_constraints.specs.NodeItems.{NodeItem, OpItem, operates, IsLanding}
-use Rattle.points_to_constraints.proofs.CallSites.{HasSite, site_at, is_site_at, landing_of, site_of_call}
+use Rattle.points_to_constraints.specs.Items.{CatchChain, Constraint, copy_to, Item, known, constrained}
+use Rattle.points_to_constraints.specs.NodeItems.{NodeItem, OpItem, operates, IsCatchChain}
+use Rattle.points_to_constraints.proofs.CallSites.{HasSite, site_at, is_site_at, catch_chain_of, site_of_call}
 
 -- The items are closed, and the methods are whole.
 pub record IsClosing (p : Program) (gives : GivenAs) (entry : MethodNo) (T : Item → Type 0) : Type 0 where
@@ -35,11 +35,11 @@ module _ {p : Program} {gives : GivenAs} {entry : MethodNo} {T : Item → Type 0
   pub by_start : (x : Item) → StartItem p entry x → T x
   by_start x item = h.closed [] x (of_start refl item) tt
 
-  pub by_user : (from : Holder) (user : User) (s : Site) (x : Item) → T (used from user) → T (known (may_hold from s)) → Passed p user s x → T x
-  by_user from user s x uses holds passed = h.closed (used from user ∷ known (may_hold from s) ∷ []) x (of_user from user s refl passed) (uses, (holds, tt))
+  pub by_constraint : (from : Holder) (constraint : Constraint) (s : Site) (x : Item) → T (constrained from constraint) → T (known (may_hold from s)) → Passed p constraint s x → T x
+  by_constraint from constraint s x constrains holds passed = h.closed (constrained from constraint ∷ known (may_hold from s) ∷ []) x (of_constraint from constraint s refl passed) (constrains, (holds, tt))
 
-  pub passes : (from to : Holder) (s : Site) → T (used from (pass_to to)) → T (known (may_hold from s)) → T (known (may_hold to s))
-  passes from to s uses holds = by_user from (pass_to to) s (known (may_hold to s)) uses holds refl
+  pub passes : (from to : Holder) (s : Site) → T (constrained from (copy_to to)) → T (known (may_hold from s)) → T (known (may_hold to s))
+  passes from to s constrains holds = by_constraint from (copy_to to) s (known (may_hold to s)) constrains holds refl
 
   -- at a node of a method that is given
   module _ {m : MethodNo} {l : LoweredMethod} {n : Node} (is_node : IsNodeOf gives m l n) where
@@ -52,8 +52,8 @@ module _ {p : Program} {gives : GivenAs} {entry : MethodNo} {T : Item → Type 0
     pub own_number : l.method ≡ m
     own_number = is_method.number_is
 
-    pub landing_at : (landing : Landing) × IsLanding m l n landing
-    landing_at = landing_of m.0 m l is_method n is_node.stands
+    pub catch_chain_at : (catch_chain : CatchChain) × IsCatchChain m l n catch_chain
+    catch_chain_at = catch_chain_of m.0 m l is_method n is_node.stands
 
     pub parts_at : (c : NodeCall) → HasSite m l n c
     parts_at c = site_of_call m.0 m l is_method n is_node.stands c

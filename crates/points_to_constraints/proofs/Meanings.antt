@@ -1,4 +1,4 @@
--- What an item means in a set of facts: a fact, that the set has it; a user, that the set has what is made of each object of its holder.
+-- What an item means in a set of facts: a fact, that the set has it; a constraint, that the set has what is made of each object of its holder.
 use Rattle.std.proofs.Common.{codes, ◌≡◌, Some, Ok, Contains, sym, subst}
 use Rattle.jvm_model.specs.declared.number.MethodNo.{MethodNo}
 use Rattle.jvm_model.specs.declared.site.Site.{Site}
@@ -11,7 +11,7 @@ use Rattle.slot_names.specs.declared.variable.Variable.TheVariants.{Parameter}
 use Rattle.points_to_rules.specs.Calls.{SelectsFor, IsDescribedBy, IsUnitOf}
 use Rattle.points_to_rules.specs.Facts.{Holder, variable, field_of, elements_of, kept_objects, Fact, may_hold, may_run, may_call, may_write}
 use Rattle.points_to_constraints.specs.CallItems.{LandsIn}
-use Rattle.points_to_constraints.specs.Items.{Landing, CallSite, User, pass_to, pass_fitting, read_field, write_field, read_elements, write_elements, throw_at, land_at, select, Item, known, used}
+use Rattle.points_to_constraints.specs.Items.{CatchChain, CallSite, Constraint, copy_to, filter_to, load_field, store_field, load_elements, store_elements, throw_to, rethrow_to, dispatch, Item, known, constrained}
 
 -- ---- facts
 
@@ -29,15 +29,15 @@ has_fact D (may_run method) h = h
 has_fact D (may_call call target) h = h.0
 has_fact D (may_write method field) h = h
 
--- ---- users
+-- ---- constraints
 
 -- Each object of the one holder is one of the other.
 abbrev pub Passes : (Fact → Type 0) → (from to : Holder) → Type 0
 Passes D from to = (s : Site) → D (may_hold from s) → D (may_hold to s)
 
 -- The object is held where it lands.
-abbrev pub HoldsLanded : Program → (Fact → Type 0) → Landing → Site → Type 0
-HoldsLanded p D landing s = (to : Holder) → LandsIn p s.class landing.arms landing.outside to → D (may_hold to s)
+abbrev pub HoldsLanded : Program → (Fact → Type 0) → CatchChain → Site → Type 0
+HoldsLanded p D catch_chain s = (to : Holder) → LandsIn p s.class catch_chain.catch_clauses catch_chain.outside to → D (may_hold to s)
 
 -- The call goes to the target, which gets the object, and keeps and gives it as its stub says.
 pub record IsSelected (p : Program) (D : Fact → Type 0) (site : CallSite) (s : Site) (target : MethodNo) : Type 0 where
@@ -48,24 +48,24 @@ pub record IsSelected (p : Program) (D : Fact → Type 0) (site : CallSite) (s :
   pub given : (stub : StubMethod) (argument : StubArgument) (to : Holder) → IsDescribedBy p target stub → Contains stub.returns (stub_results.Given argument)
       → IsUnitOf stub argument 0 → Contains site.results to → D (may_hold to s)
 
--- What the user makes of an object is so in the set.
-abbrev pub IsUsed : Program → (Fact → Type 0) → User → Site → Type 0
-IsUsed p D (pass_to to) s = D (may_hold to s)
-IsUsed p D (pass_fitting class to) s = Fits p class s.class → D (may_hold to s)
-IsUsed p D (read_field field to) s = Passes D (field_of s field) to
-IsUsed p D (write_field field from) s = Passes D from (field_of s field)
-IsUsed p D (read_elements to) s = Passes D (elements_of s) to
-IsUsed p D (write_elements from) s = Passes D from (elements_of s)
-IsUsed p D (throw_at landing) s = Fits p (codes "java/lang/Throwable") s.class → HoldsLanded p D landing s
-IsUsed p D (land_at landing) s = HoldsLanded p D landing s
-IsUsed p D (select site) s = (target : MethodNo) → SelectsFor site.kind p site.resolved s (Ok target.0) → IsSelected p D site s target
+-- What the constraint makes of an object is so in the set.
+abbrev pub IsConstrained : Program → (Fact → Type 0) → Constraint → Site → Type 0
+IsConstrained p D (copy_to to) s = D (may_hold to s)
+IsConstrained p D (filter_to class to) s = Fits p class s.class → D (may_hold to s)
+IsConstrained p D (load_field field to) s = Passes D (field_of s field) to
+IsConstrained p D (store_field field from) s = Passes D from (field_of s field)
+IsConstrained p D (load_elements to) s = Passes D (elements_of s) to
+IsConstrained p D (store_elements from) s = Passes D from (elements_of s)
+IsConstrained p D (throw_to catch_chain) s = Fits p (codes "java/lang/Throwable") s.class → HoldsLanded p D catch_chain s
+IsConstrained p D (rethrow_to catch_chain) s = HoldsLanded p D catch_chain s
+IsConstrained p D (dispatch site) s = (target : MethodNo) → SelectsFor site.kind p site.resolved s (Ok target.0) → IsSelected p D site s target
 
 -- ---- items
 
--- The fact is in the set; or what the user makes of each object of its holder is.
+-- The fact is in the set; or what the constraint makes of each object of its holder is.
 abbrev pub IsMeant : Program → (Fact → Type 0) → Item → Type 0
 IsMeant p D (known fact) = IsFact D fact
-IsMeant p D (used from user) = (s : Site) → D (may_hold from s) → IsUsed p D user s
+IsMeant p D (constrained from constraint) = (s : Site) → D (may_hold from s) → IsConstrained p D constraint s
 
 -- an item that is another one means the same
 pub meant_as : (p : Program) (D : Fact → Type 0) (x y : Item) → x ≡ y → IsMeant p D y → IsMeant p D x

@@ -21,10 +21,10 @@ use Rattle.points_to_rules.specs.Rules.{node_of, site_of, IsArgument}
 use Rattle.points_to_rules.specs.Rules as rules
 use Rattle.points_to_constraints.specs.CallItems.{call_allocates, is_passed, GivesUnit, CallItem}
 use Rattle.points_to_constraints.specs.CallItems as call_items
-use Rattle.points_to_constraints.specs.Items.{CallSite, User, pass_to, pass_fitting, land_at, select, Item, known, used}
+use Rattle.points_to_constraints.specs.Items.{CallSite, Constraint, copy_to, filter_to, rethrow_to, dispatch, Item, known, constrained}
 use Rattle.points_to_constraints.specs.NodeItems.{IsCallSite, CallNodeItem}
 use Rattle.points_to_constraints.specs.NodeItems as node_items
-use Rattle.points_to_constraints.proofs.Meanings.{IsFact, IsSelected, IsUsed, IsMeant, meant_as}
+use Rattle.points_to_constraints.proofs.Meanings.{IsFact, IsSelected, IsConstrained, IsMeant, meant_as}
 use Rattle.points_to_constraints.proofs.RunningNodes.{Running, of_node, of_one, of_two, argument_slot, HasArgumentSlot, result_slot, HasResultSlot, lands}
 
 -- ---- the call of a site
@@ -85,13 +85,13 @@ selected_given Static p resolved s target h = absurd h
 selected_given Interface p resolved s target h = h
 
 -- what is done with a unit that a stub names, where the holder has each object that may be given
-used_unit : (kind : CallKind) (p : Program) (resolved : MethodNo) (unit : ℕ) (to : Holder) (user : User) (D : Fact → Type 0) (s : Site) (target : MethodNo)
-    → GivesUnit kind p resolved unit to user → (MayBeGiven kind p resolved s target unit → D (may_hold to s)) → IsUsed p D user s
-used_unit kind p resolved (suc unit) to user D s target h f = subst (λ (u : User). IsUsed p D u s) (sym h) (f tt)
-used_unit Virtual p resolved zero to user D s target h f = absurd h
-used_unit Special p resolved zero to user D s target h f = subst (λ (u : User). IsUsed p D u s) (sym h.2) (λ fits. f (record { method = h.0; stands = h.1; fits = fits }))
-used_unit Static p resolved zero to user D s target h f = subst (λ (u : User). IsUsed p D u s) (sym h) (f tt)
-used_unit Interface p resolved zero to user D s target h f = absurd h
+used_unit : (kind : CallKind) (p : Program) (resolved : MethodNo) (unit : ℕ) (to : Holder) (constraint : Constraint) (D : Fact → Type 0) (s : Site) (target : MethodNo)
+    → GivesUnit kind p resolved unit to constraint → (MayBeGiven kind p resolved s target unit → D (may_hold to s)) → IsConstrained p D constraint s
+used_unit kind p resolved (suc unit) to constraint D s target h f = subst (λ (u : Constraint). IsConstrained p D u s) (sym h) (f tt)
+used_unit Virtual p resolved zero to constraint D s target h f = absurd h
+used_unit Special p resolved zero to constraint D s target h f = subst (λ (u : Constraint). IsConstrained p D u s) (sym h.2) (λ fits. f (record { method = h.0; stands = h.1; fits = fits }))
+used_unit Static p resolved zero to constraint D s target h f = subst (λ (u : Constraint). IsConstrained p D u s) (sym h) (f tt)
+used_unit Interface p resolved zero to constraint D s target h f = absurd h
 
 -- ---- what a call leads to by an object
 
@@ -133,7 +133,7 @@ meant_call_node r c op x (node_items.chosen target chosen is) =
     let call : Fact = may_call (node_of r.method r.node) target in
     meant_as r.program r.set x (known call) is
     (is_called r (node_of r.method r.node) target refl (of_node r call (rules.call_chosen r.method r.lowered r.node c target r.stands op chosen)))
-meant_call_node r c op x (node_items.selecting site from selecting is_site passed is) = meant_as r.program r.set x (used from (select site)) is
+meant_call_node r c op x (node_items.selecting site from selecting is_site passed is) = meant_as r.program r.set x (constrained from (dispatch site)) is
     (meant_selection r c site (record { is_call = op; is_site = is_site }) from passed)
 
 -- ---- what a call of a target leads to
@@ -162,28 +162,28 @@ meant_call r c site calling target called x (call_items.runs is) = meant_as r.pr
     (r.closed (call_of r target ∷ []) (may_run target) (rules.target_runs (node_of r.method r.node) target) (called, tt))
 meant_call r c site calling target called x (call_items.pass unit from passed plain is) =
     let there = argument_of r c site calling unit from passed in
-    meant_as r.program r.set x (used from (pass_to (variable (Parameter target unit)))) is
+    meant_as r.program r.set x (constrained from (copy_to (variable (Parameter target unit)))) is
     (λ s. of_two r (call_of r target) (may_hold from s) (may_hold (variable (Parameter target unit)) s)
     (rules.pass r.method r.lowered r.node c target unit there.z from s r.stands calling.is_call there.passed there.slot
     (of_call r c site calling (λ (k : CallKind) (m : MethodNo). MayPass k r.program m s target unit) (passed_as site.kind r.program site.resolved s target unit plain))) called)
 meant_call r c site calling target called x (call_items.receive to of_file there is) =
     let result = result_of r c site calling to there in
-    meant_as r.program r.set x (used (returned_by target) (pass_to to)) is
+    meant_as r.program r.set x (constrained (returned_by target) (copy_to to)) is
     (λ s. of_two r (call_of r target) (may_hold (returned_by target) s) (may_hold to s)
     (rules.receive r.method r.lowered r.node c target result.z to s r.stands calling.is_call result.is of_file result.slot) called)
-meant_call r c site calling target called x (call_items.target_throws of_file is) = meant_as r.program r.set x (used (thrown_by target) (land_at site.landing)) is
+meant_call r c site calling target called x (call_items.target_throws of_file is) = meant_as r.program r.set x (constrained (thrown_by target) (rethrow_to site.catch_chain)) is
     (λ s held to there. of_two r (call_of r target) (may_hold (thrown_by target) s) (may_hold to s)
     (rules.target_throws r.method r.lowered r.node c target to s r.stands calling.is_call of_file
-    (lands r.program r.method r.lowered r.node site.landing s.class to calling.is_site.landing there)) called held)
-meant_call r c site calling target called x (call_items.keep_argument stub argument unit from user described keeps named gives is) = meant_as r.program r.set x (used from user) is
-    (λ s held. used_unit site.kind r.program site.resolved unit kept_objects user r.set s target gives (λ suits.
+    (lands r.program r.method r.lowered r.node site.catch_chain s.class to calling.is_site.catch_chain there)) called held)
+meant_call r c site calling target called x (call_items.keep_argument stub argument unit from constraint described keeps named gives is) = meant_as r.program r.set x (constrained from constraint) is
+    (λ s held. used_unit site.kind r.program site.resolved unit kept_objects constraint r.set s target gives (λ suits.
     of_two r (call_of r target) (may_hold from s) (may_hold kept_objects s)
     (rules.keep_argument r.method r.lowered r.node c target stub argument from s r.stands calling.is_call described keeps
     (stub_argument r c site calling target stub argument unit from s named.is_unit named.passed suits)) called held))
-meant_call r c site calling target called x (call_items.give_argument stub argument unit from to user described returns named there gives is) =
+meant_call r c site calling target called x (call_items.give_argument stub argument unit from to constraint described returns named there gives is) =
     let result = result_of r c site calling to there in
-    meant_as r.program r.set x (used from user) is
-    (λ s held. used_unit site.kind r.program site.resolved unit to user r.set s target gives (λ suits.
+    meant_as r.program r.set x (constrained from constraint) is
+    (λ s held. used_unit site.kind r.program site.resolved unit to constraint r.set s target gives (λ suits.
     of_two r (call_of r target) (may_hold from s) (may_hold to s)
     (rules.give_argument r.method r.lowered r.node c target stub argument from s result.z to r.stands calling.is_call described returns
     (stub_argument r c site calling target stub argument unit from s named.is_unit named.passed suits) result.is result.slot) called held))
@@ -194,11 +194,11 @@ meant_call r c site calling target called x (call_items.give_new stub class to d
     (rules.give_new r.method r.lowered r.node c target stub class result.z to r.stands calling.is_call described returns result.is result.slot) called))
 meant_call r c site calling target called x (call_items.give_kept stub class to described returns class_is there is) =
     let result = result_of r c site calling to there in
-    meant_as r.program r.set x (used kept_objects (pass_fitting class to)) is
+    meant_as r.program r.set x (constrained kept_objects (filter_to class to)) is
     (λ s held fits. of_two r (call_of r target) (may_hold kept_objects s) (may_hold to s)
     (rules.give_kept r.method r.lowered r.node c target stub class s result.z to r.stands calling.is_call described returns class_is fits result.is result.slot) called held)
 meant_call r c site calling target called x (call_items.described_throws stub class to described throws there is) =
     meant_as r.program r.set x (known (may_hold to (call_allocates kinds.Thrown site class))) is
     (holds_own r c site calling kinds.Thrown class to (of_one r (call_of r target) (may_hold to (site_of kinds.Thrown r.method r.node class))
     (rules.described_throws r.method r.lowered r.node c target stub class to r.stands calling.is_call described throws
-    (lands r.program r.method r.lowered r.node site.landing class to calling.is_site.landing there)) called))
+    (lands r.program r.method r.lowered r.node site.catch_chain class to calling.is_site.catch_chain there)) called))

@@ -9,22 +9,22 @@ use Rattle.op_model.specs.declared.op.Call.{Call as NodeCall}
 use Rattle.slot_names.specs.Variables.{AreReachedNodes}
 use Rattle.points_to_rules.specs.Facts.{Holder}
 use Rattle.points_to_rules.specs.Rules.{IsSlotAt}
-use Rattle.points_to_constraints.specs.Items.{Arm, Landing, CallSite}
-use Rattle.points_to_constraints.specs.NodeItems.{IsArm, IsLanding, IsUnitHolder, AreResults, IsCallSite}
+use Rattle.points_to_constraints.specs.Items.{CatchClause, CatchChain, CallSite}
+use Rattle.points_to_constraints.specs.NodeItems.{IsCatchClause, IsCatchChain, IsUnitHolder, AreResults, IsCallSite}
 use Rattle.points_to_constraints.proofs.Holders.{same_holder, same_holder_at}
 
 module _ (l : LoweredMethod) (reached : AreReachedNodes l) where
-  one_arm : (handler : NodeHandler) (a b : Arm) → IsArm l handler a → IsArm l handler b → a ≡ b
-  one_arm handler a b first second =
+  one_catch_clause : (handler : NodeHandler) (a b : CatchClause) → IsCatchClause l handler a → IsCatchClause l handler b → a ≡ b
+  one_catch_clause handler a b first second =
       let handlers = first.handler_is ∙ sym second.handler_is in
       let places = same_holder_at l reached handler.target l.slots a.to b.to first.slot second.slot in
       (λ i. record { handler = handlers i; to = places i })
 
-  pub one_landing : (m : MethodNo) (n : Node) (a b : Landing) → IsLanding m l n a → IsLanding m l n b → a ≡ b
-  one_landing m n a b first second =
-      let arms = zip_unique (IsArm l) one_arm n.handlers a.arms b.arms first.arms second.arms in
+  pub one_catch_chain : (m : MethodNo) (n : Node) (a b : CatchChain) → IsCatchChain m l n a → IsCatchChain m l n b → a ≡ b
+  one_catch_chain m n a b first second =
+      let catch_clauses = zip_unique (IsCatchClause l) one_catch_clause n.handlers a.catch_clauses b.catch_clauses first.catch_clauses second.catch_clauses in
       let outside = first.outside ∙ sym second.outside in
-      (λ i. record { arms = arms i; outside = outside i })
+      (λ i. record { catch_clauses = catch_clauses i; outside = outside i })
 
   module _ (n : Node) (here : Contains l.nodes n) where
     one_unit : (unit : Option ℕ) (a b : Option Holder) → IsUnitHolder l n unit a → IsUnitHolder l n unit b → a ≡ b
@@ -47,5 +47,5 @@ module _ (l : LoweredMethod) (reached : AreReachedNodes l) where
         let methods = first.resolved ∙ sym second.resolved in
         let arguments = zip_unique (IsUnitHolder l n) one_unit c.arguments a.arguments b.arguments first.arguments second.arguments in
         let results = one_result c.result a.results b.results first.results second.results in
-        let landings = one_landing m n a.landing b.landing first.landing second.landing in
-        (λ i. record { at = ats i; kind = kinds i; resolved = methods i; arguments = arguments i; results = results i; landing = landings i })
+        let catch_chains = one_catch_chain m n a.catch_chain b.catch_chain first.catch_chain second.catch_chain in
+        (λ i. record { at = ats i; kind = kinds i; resolved = methods i; arguments = arguments i; results = results i; catch_chain = catch_chains i })

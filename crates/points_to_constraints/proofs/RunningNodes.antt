@@ -14,8 +14,8 @@ use Rattle.least_sets.specs.Rules.{IsClosedSet}
 use Rattle.points_to_rules.specs.Facts.{Holder, Fact, may_run}
 use Rattle.points_to_rules.specs.Rules.{IsNodeOf, IsSlot, IsSlotAfter, IsSlotAt, Lands, caught, uncaught, Instance}
 use Rattle.points_to_constraints.specs.CallItems.{LandsIn}
-use Rattle.points_to_constraints.specs.Items.{Arm, Landing}
-use Rattle.points_to_constraints.specs.NodeItems.{IsSlotMerged, IsArm, IsLanding, IsUnitHolder, AreResults}
+use Rattle.points_to_constraints.specs.Items.{CatchClause, CatchChain}
+use Rattle.points_to_constraints.specs.NodeItems.{IsSlotMerged, IsCatchClause, IsCatchChain, IsUnitHolder, AreResults}
 
 -- A set that is closed under the rules, and a node of a method that runs in it.
 pub record Running : Type 1 where
@@ -110,7 +110,7 @@ pub result_slot : (l : LoweredMethod) (n : Node) (result : Option ℕ) (holders 
 result_slot l n None holders to stands are there = absurd (contains_none to (subst (λ (hs : List Holder). Contains hs to) are there))
 result_slot l n (Some z) holders to stands are there = record { z = z; is = refl; slot = successor_slot l n z n.successors holders to stands (λ o c. c) are there }
 
--- ---- landings
+-- ---- catch chains
 
 -- Where an object lands among handlers: at the first that takes it, or outside, where none does.
 data LandsAmong (p : Program) (l : LoweredMethod) (class : List ℕ) (handlers : List NodeHandler) (outside to : Holder) : Type 0 where
@@ -126,24 +126,24 @@ lands_further p l class handler handlers outside to free (beyond none is) = beyo
   | inr more ↦ none h more takes
 ]) is
 
-lands_among : (p : Program) (l : LoweredMethod) (class : List ℕ) (handlers : List NodeHandler) (arms : List Arm) (outside to : Holder) → AllZip (IsArm l) handlers arms
-    → LandsIn p class arms outside to → LandsAmong p l class handlers outside to
+lands_among : (p : Program) (l : LoweredMethod) (class : List ℕ) (handlers : List NodeHandler) (catch_clauses : List CatchClause) (outside to : Holder) → AllZip (IsCatchClause l) handlers catch_clauses
+    → LandsIn p class catch_clauses outside to → LandsAmong p l class handlers outside to
 lands_among p l class [] [] outside to all is = beyond (λ h there takes. contains_none h there) is
-lands_among p l class [] (arm ∷ arms) outside to all is = absurd all
+lands_among p l class [] (catch_clause ∷ catch_clauses) outside to all is = absurd all
 lands_among p l class (handler ∷ handlers) [] outside to all is = absurd all
-lands_among p l class (handler ∷ handlers) (arm ∷ arms) outside to all (inl here) =
-    let arm_of = all.0 in
-    inside handler (inl (subst (λ (h : NodeHandler). Takes p h class) arm_of.handler_is here.0, refl)) (subst (λ (h : Holder). IsSlotAt l handler.target l.slots h) (sym here.1) arm_of.slot)
-lands_among p l class (handler ∷ handlers) (arm ∷ arms) outside to all (inr more) =
-    let arm_of = all.0 in
-    lands_further p l class handler handlers outside to (λ takes. more.0 (subst (λ (h : NodeHandler). Takes p h class) (sym arm_of.handler_is) takes))
-    (lands_among p l class handlers arms outside to all.1 more.1)
+lands_among p l class (handler ∷ handlers) (catch_clause ∷ catch_clauses) outside to all (inl here) =
+    let catch_clause_of = all.0 in
+    inside handler (inl (subst (λ (h : NodeHandler). Takes p h class) catch_clause_of.handler_is here.0, refl)) (subst (λ (h : Holder). IsSlotAt l handler.target l.slots h) (sym here.1) catch_clause_of.slot)
+lands_among p l class (handler ∷ handlers) (catch_clause ∷ catch_clauses) outside to all (inr more) =
+    let catch_clause_of = all.0 in
+    lands_further p l class handler handlers outside to (λ takes. more.0 (subst (λ (h : NodeHandler). Takes p h class) (sym catch_clause_of.handler_is) takes))
+    (lands_among p l class handlers catch_clauses outside to all.1 more.1)
 
--- where it lands by the arms, it lands by the handlers
-pub lands : (p : Program) (m : MethodNo) (l : LoweredMethod) (n : Node) (landing : Landing) (class : List ℕ) (to : Holder) → IsLanding m l n landing
-    → LandsIn p class landing.arms landing.outside to → Lands p m l n class to
-lands p m l n landing class to is there = by (lands_among p l class n.handlers landing.arms landing.outside to is.arms there)
+-- where it lands by the catch clauses, it lands by the handlers
+pub lands : (p : Program) (m : MethodNo) (l : LoweredMethod) (n : Node) (catch_chain : CatchChain) (class : List ℕ) (to : Holder) → IsCatchChain m l n catch_chain
+    → LandsIn p class catch_chain.catch_clauses catch_chain.outside to → Lands p m l n class to
+lands p m l n catch_chain class to is there = by (lands_among p l class n.handlers catch_chain.catch_clauses catch_chain.outside to is.catch_clauses there)
   where
-    by : LandsAmong p l class n.handlers landing.outside to → Lands p m l n class to
+    by : LandsAmong p l class n.handlers catch_chain.outside to → Lands p m l n class to
     by (inside handler is_first slot) = caught handler is_first slot
     by (beyond none same) = uncaught none (same ∙ is.outside)

@@ -16,12 +16,12 @@ use Rattle.machine_nodes.specs.NodeSteps.{is_selecting_kind, Takes}
 use Rattle.slot_names.specs.declared.variable.Variable.TheVariants.{Parameter}
 use Rattle.points_to_rules.specs.Calls.{SelectsFor, IsOfFile, IsDescribedBy, IsUnitOf}
 use Rattle.points_to_rules.specs.Facts.{Holder, variable, kept_objects, returned_by, thrown_by, may_hold, may_run, may_call}
-use Rattle.points_to_constraints.specs.Items.{Arm, CallSite, User, pass_to, pass_fitting, land_at, Item, known, used}
+use Rattle.points_to_constraints.specs.Items.{CatchClause, CallSite, Constraint, copy_to, filter_to, rethrow_to, Item, known, constrained}
 
--- Where an exception of a class goes: to the first arm that takes it, or else outside.
-abbrev pub LandsIn : Program → List ℕ → List Arm → (outside to : Holder) → Type 0
+-- Where an exception of a class goes: to the first catch clause that takes it, or else outside.
+abbrev pub LandsIn : Program → List ℕ → List CatchClause → (outside to : Holder) → Type 0
 LandsIn p class [] outside to = to ≡ outside
-LandsIn p class (a ∷ arms) outside to = (Takes p a.handler class × (to ≡ a.to)) ⊎ ((Takes p a.handler class → ⊥) × LandsIn p class arms outside to)
+LandsIn p class (a ∷ catch_clauses) outside to = (Takes p a.handler class × (to ≡ a.to)) ⊎ ((Takes p a.handler class → ⊥) × LandsIn p class catch_clauses outside to)
 
 -- What a call allocates of a class.
 abbrev pub call_allocates : SiteKind → CallSite → List ℕ → Site
@@ -34,12 +34,12 @@ is_passed kind zero = not (is_selecting_kind kind)
 
 -- What is done with the objects of a unit that goes to a holder by the description of a stub: at a special call the first unit has to fit the
 -- class of the resolved method.
-abbrev pub GivesUnit : CallKind → Program → MethodNo → (unit : ℕ) → Holder → User → Type 0
-GivesUnit kind p resolved (suc unit) to user = user ≡ pass_to to
-GivesUnit Virtual p resolved zero to user = ⊥
-GivesUnit Special p resolved zero to user = (m : Method) × (slice_get p.methods resolved.0 ≡ Some m) × (user ≡ pass_fitting m.class to)
-GivesUnit Static p resolved zero to user = user ≡ pass_to to
-GivesUnit Interface p resolved zero to user = ⊥
+abbrev pub GivesUnit : CallKind → Program → MethodNo → (unit : ℕ) → Holder → Constraint → Type 0
+GivesUnit kind p resolved (suc unit) to constraint = constraint ≡ copy_to to
+GivesUnit Virtual p resolved zero to constraint = ⊥
+GivesUnit Special p resolved zero to constraint = (m : Method) × (slice_get p.methods resolved.0 ≡ Some m) × (constraint ≡ filter_to m.class to)
+GivesUnit Static p resolved zero to constraint = constraint ≡ copy_to to
+GivesUnit Interface p resolved zero to constraint = ⊥
 
 -- The holder of what a stub names as an argument.
 pub record IsStubUnit (site : CallSite) (stub : StubMethod) (argument : StubArgument) (unit : ℕ) (from : Holder) : Type 0 where
@@ -50,20 +50,20 @@ pub record IsStubUnit (site : CallSite) (stub : StubMethod) (argument : StubArgu
 pub data CallItem (p : Program) (site : CallSite) (target : MethodNo) (x : Item) : Type 0 where
   runs : x ≡ known (may_run target) → CallItem p site target x
   pass : (unit : ℕ) (from : Holder) → slice_get site.arguments unit ≡ Some (Some from) → IsTrue (is_passed site.kind unit)
-      → x ≡ used from (pass_to (variable (Parameter target unit))) → CallItem p site target x
-  receive : (to : Holder) → IsOfFile p target → Contains site.results to → x ≡ used (returned_by target) (pass_to to) → CallItem p site target x
-  target_throws : IsOfFile p target → x ≡ used (thrown_by target) (land_at site.landing) → CallItem p site target x
-  keep_argument : (stub : StubMethod) (argument : StubArgument) (unit : ℕ) (from : Holder) (user : User) → IsDescribedBy p target stub → Contains stub.keeps argument
-      → IsStubUnit site stub argument unit from → GivesUnit site.kind p site.resolved unit kept_objects user → x ≡ used from user → CallItem p site target x
-  give_argument : (stub : StubMethod) (argument : StubArgument) (unit : ℕ) (from to : Holder) (user : User) → IsDescribedBy p target stub
+      → x ≡ constrained from (copy_to (variable (Parameter target unit))) → CallItem p site target x
+  receive : (to : Holder) → IsOfFile p target → Contains site.results to → x ≡ constrained (returned_by target) (copy_to to) → CallItem p site target x
+  target_throws : IsOfFile p target → x ≡ constrained (thrown_by target) (rethrow_to site.catch_chain) → CallItem p site target x
+  keep_argument : (stub : StubMethod) (argument : StubArgument) (unit : ℕ) (from : Holder) (constraint : Constraint) → IsDescribedBy p target stub → Contains stub.keeps argument
+      → IsStubUnit site stub argument unit from → GivesUnit site.kind p site.resolved unit kept_objects constraint → x ≡ constrained from constraint → CallItem p site target x
+  give_argument : (stub : StubMethod) (argument : StubArgument) (unit : ℕ) (from to : Holder) (constraint : Constraint) → IsDescribedBy p target stub
       → Contains stub.returns (stub_results.Given argument) → IsStubUnit site stub argument unit from → Contains site.results to
-      → GivesUnit site.kind p site.resolved unit to user → x ≡ used from user → CallItem p site target x
+      → GivesUnit site.kind p site.resolved unit to constraint → x ≡ constrained from constraint → CallItem p site target x
   give_new : (stub : StubMethod) (class : List ℕ) (to : Holder) → IsDescribedBy p target stub → Contains stub.returns (stub_results.New class)
       → Contains site.results to → x ≡ known (may_hold to (call_allocates kinds.Result site class)) → CallItem p site target x
   give_kept : (stub : StubMethod) (class : List ℕ) (to : Holder) → IsDescribedBy p target stub → Contains stub.returns stub_results.Kept
-      → result_class stub.descriptor ≡ Some class → Contains site.results to → x ≡ used kept_objects (pass_fitting class to) → CallItem p site target x
+      → result_class stub.descriptor ≡ Some class → Contains site.results to → x ≡ constrained kept_objects (filter_to class to) → CallItem p site target x
   described_throws : (stub : StubMethod) (class : List ℕ) (to : Holder) → IsDescribedBy p target stub → Contains stub.throws class
-      → LandsIn p class site.landing.arms site.landing.outside to → x ≡ known (may_hold to (call_allocates kinds.Thrown site class)) → CallItem p site target x
+      → LandsIn p class site.catch_chain.catch_clauses site.catch_chain.outside to → x ≡ known (may_hold to (call_allocates kinds.Thrown site class)) → CallItem p site target x
 
 -- What an object leads to that selects the target of a call.
 pub data SelectItem (p : Program) (site : CallSite) (s : Site) (x : Item) : Type 0 where

@@ -1,5 +1,5 @@
 -- Public contracts rest on this module.
--- The rules by items: no instance has more than two premises, and the only ones of two have a user and an object of one holder.
+-- The rules by items: no instance has more than two premises, and the only ones of two have a constraint and an object of one holder.
 use Rattle.std.specs.Prelude.{codes, ◌≡◌, List, [], ◌∷◌, Some, slice_get, Contains}
 use Rattle.jvm_model.specs.declared.number.MethodNo.{MethodNo}
 use Rattle.jvm_model.specs.declared.site.Site.{Site}
@@ -17,7 +17,7 @@ use Rattle.slot_names.specs.declared.variable.Variable.TheVariants.{Parameter}
 use Rattle.points_to_rules.specs.Facts.{Holder, variable, field_of, elements_of, kept_objects, thrown_by, may_hold, may_run, may_call}
 use Rattle.points_to_rules.specs.Rules.{IsNodeOf, HasArguments, argument_site, start_call}
 use Rattle.points_to_constraints.specs.CallItems.{LandsIn, CallItem, SelectItem}
-use Rattle.points_to_constraints.specs.Items.{Landing, CallSite, User, pass_to, pass_fitting, read_field, write_field, read_elements, write_elements, throw_at, land_at, select, Item, known, used}
+use Rattle.points_to_constraints.specs.Items.{CatchChain, CallSite, Constraint, copy_to, filter_to, load_field, store_field, load_elements, store_elements, throw_to, rethrow_to, dispatch, Item, known, constrained}
 use Rattle.points_to_constraints.specs.NodeItems.{NodeItem, IsCallSite}
 
 -- What the start leads to.
@@ -28,23 +28,23 @@ pub data StartItem (p : Program) (entry : MethodNo) (x : Item) : Type 0 where
   entry_strings : HasArguments p entry → x ≡ known (may_hold (elements_of argument_site) (boot_site string_name)) → StartItem p entry x
   initialiser_runs : (m : Method) (i : MethodNo) → slice_get p.methods entry.0 ≡ Some m → IsCodedInitialiser p m.class i.0 → x ≡ known (may_run i) → StartItem p entry x
   keep_thrown : (m : Method) (i : MethodNo) → slice_get p.methods entry.0 ≡ Some m → IsCodedInitialiser p m.class i.0
-      → x ≡ used (thrown_by i) (pass_to kept_objects) → StartItem p entry x
+      → x ≡ constrained (thrown_by i) (copy_to kept_objects) → StartItem p entry x
 
--- What a landing does with an object.
-abbrev pub LandsAs : Program → Landing → Site → Item → Type 0
-LandsAs p landing s x = (to : Holder) × LandsIn p s.class landing.arms landing.outside to × (x ≡ known (may_hold to s))
+-- What a catch chain does with an object.
+abbrev pub LandsAs : Program → CatchChain → Site → Item → Type 0
+LandsAs p catch_chain s x = (to : Holder) × LandsIn p s.class catch_chain.catch_clauses catch_chain.outside to × (x ≡ known (may_hold to s))
 
--- What a user makes of an object of its holder.
-abbrev pub Passed : Program → User → Site → Item → Type 0
-Passed p (pass_to to) s x = x ≡ known (may_hold to s)
-Passed p (pass_fitting class to) s x = Fits p class s.class × (x ≡ known (may_hold to s))
-Passed p (read_field field to) s x = x ≡ used (field_of s field) (pass_to to)
-Passed p (write_field field from) s x = x ≡ used from (pass_to (field_of s field))
-Passed p (read_elements to) s x = x ≡ used (elements_of s) (pass_to to)
-Passed p (write_elements from) s x = x ≡ used from (pass_to (elements_of s))
-Passed p (throw_at landing) s x = Fits p (codes "java/lang/Throwable") s.class × LandsAs p landing s x
-Passed p (land_at landing) s x = LandsAs p landing s x
-Passed p (select site) s x = SelectItem p site s x
+-- What a constraint makes of an object of its holder.
+abbrev pub Passed : Program → Constraint → Site → Item → Type 0
+Passed p (copy_to to) s x = x ≡ known (may_hold to s)
+Passed p (filter_to class to) s x = Fits p class s.class × (x ≡ known (may_hold to s))
+Passed p (load_field field to) s x = x ≡ constrained (field_of s field) (copy_to to)
+Passed p (store_field field from) s x = x ≡ constrained from (copy_to (field_of s field))
+Passed p (load_elements to) s x = x ≡ constrained (elements_of s) (copy_to to)
+Passed p (store_elements from) s x = x ≡ constrained from (copy_to (elements_of s))
+Passed p (throw_to catch_chain) s x = Fits p (codes "java/lang/Throwable") s.class × LandsAs p catch_chain s x
+Passed p (rethrow_to catch_chain) s x = LandsAs p catch_chain s x
+Passed p (dispatch site) s x = SelectItem p site s x
 
 pub data ItemInstance (p : Program) (gives : GivenAs) (entry : MethodNo) (premises : List Item) (x : Item) : Type 0 where
   of_start : premises ≡ [] → StartItem p entry x → ItemInstance p gives entry premises x
@@ -52,7 +52,7 @@ pub data ItemInstance (p : Program) (gives : GivenAs) (entry : MethodNo) (premis
       → ItemInstance p gives entry premises x
   of_call : (m : MethodNo) (l : LoweredMethod) (n : Node) (c : NodeCall) (site : CallSite) (target : MethodNo) → premises ≡ known (may_call site.at target) ∷ []
       → IsNodeOf gives m l n → n.op ≡ Call c → IsCallSite m l n c site → CallItem p site target x → ItemInstance p gives entry premises x
-  of_user : (from : Holder) (user : User) (s : Site) → premises ≡ used from user ∷ known (may_hold from s) ∷ [] → Passed p user s x
+  of_constraint : (from : Holder) (constraint : Constraint) (s : Site) → premises ≡ constrained from constraint ∷ known (may_hold from s) ∷ [] → Passed p constraint s x
       → ItemInstance p gives entry premises x
 
 -- What the nodes of a method lead to.

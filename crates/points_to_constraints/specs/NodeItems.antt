@@ -1,5 +1,5 @@
 -- Public contracts rest on this module.
--- What a node of a method that may run leads to: the facts, and the users of the holders that it reads.
+-- What a node of a method that may run leads to: the facts, and the constraints of the holders that it reads.
 use Rattle.std.specs.Prelude.{◌≡◌, ℕ, ◌+◌, ◌<◌, true, List, [], Option, Some, None, slice_get, Contains}
 use Rattle.std.specs.List.{AllZip}
 use Rattle.jvm_model.specs.declared.number.ClassNo.{ClassNo}
@@ -21,7 +21,7 @@ use Rattle.slot_names.specs.declared.variable.Variable.TheVariants.{Parameter}
 use Rattle.slot_names.specs.Variables.{keeps, moves, effect_on, IsFirstNode, IsMerge, IsPredecessor}
 use Rattle.points_to_rules.specs.Facts.{Holder, variable, elements_of, static_field, kept_objects, returned_by, thrown_by, may_hold, may_run, may_call}
 use Rattle.points_to_rules.specs.Rules.{node_of, site_of, IsSlot, IsSlotAfter, IsSlotAt, Lands, StartsAt, BeginsWith}
-use Rattle.points_to_constraints.specs.Items.{Arm, Landing, CallSite, User, pass_to, pass_fitting, read_field, write_field, read_elements, write_elements, throw_at, land_at, select, Item, known, used}
+use Rattle.points_to_constraints.specs.Items.{CatchClause, CatchChain, CallSite, Constraint, copy_to, filter_to, load_field, store_field, load_elements, store_elements, throw_to, rethrow_to, dispatch, Item, known, constrained}
 
 -- The holder of a slot at a merge point to which the node leads.
 pub record IsSlotMerged (l : LoweredMethod) (n : Node) (z : ℕ) (h : Holder) : Type 0 where
@@ -31,14 +31,14 @@ pub record IsSlotMerged (l : LoweredMethod) (n : Node) (z : ℕ) (h : Holder) : 
   pub merge : IsMerge l next
   pub slot : IsSlot l next z h
 
--- The arm of a handler: what it takes goes to the first unit of the stack where it begins.
-pub record IsArm (l : LoweredMethod) (handler : NodeHandler) (a : Arm) : Type 0 where
+-- The catch clause of a handler: what it takes goes to the first unit of the stack where it begins.
+pub record IsCatchClause (l : LoweredMethod) (handler : NodeHandler) (a : CatchClause) : Type 0 where
   pub handler_is : a.handler ≡ handler
   pub slot : IsSlotAt l handler.target l.slots a.to
 
-pub record IsLanding (m : MethodNo) (l : LoweredMethod) (n : Node) (landing : Landing) : Type 0 where
-  pub arms : AllZip (IsArm l) n.handlers landing.arms
-  pub outside : landing.outside ≡ thrown_by m
+pub record IsCatchChain (m : MethodNo) (l : LoweredMethod) (n : Node) (catch_chain : CatchChain) : Type 0 where
+  pub catch_clauses : AllZip (IsCatchClause l) n.handlers catch_chain.catch_clauses
+  pub outside : catch_chain.outside ≡ thrown_by m
 
 -- The holder of a unit of the arguments of a call.
 abbrev pub IsUnitHolder : LoweredMethod → Node → Option ℕ → Option Holder → Type 0
@@ -58,7 +58,7 @@ pub record IsCallSite (m : MethodNo) (l : LoweredMethod) (n : Node) (c : NodeCal
   pub resolved : site.resolved ≡ c.resolved
   pub arguments : AllZip (IsUnitHolder l n) c.arguments site.arguments
   pub results : AreResults l n c.result site.results
-  pub landing : IsLanding m l n site.landing
+  pub catch_chain : IsCatchChain m l n site.catch_chain
 
 -- It is the call site of a node of the method.
 pub record IsCallOf (l : LoweredMethod) (site : CallSite) : Type 0 where
@@ -73,9 +73,9 @@ pub record IsCallOf (l : LoweredMethod) (site : CallSite) : Type 0 where
 -- What a slot holds that the node leaves or moves, it holds at each merge point to which the node leads.
 pub data FlowItem (l : LoweredMethod) (n : Node) (x : Item) : Type 0 where
   keep : (z : ℕ) (from to : Holder) → z < l.slots + l.stack → effect_on z n.op ≡ keeps → IsSlot l n z from → IsSlotMerged l n z to
-      → x ≡ used from (pass_to to) → FlowItem l n x
+      → x ≡ constrained from (copy_to to) → FlowItem l n x
   move : (y z : ℕ) (from to : Holder) → z < l.slots + l.stack → effect_on z n.op ≡ moves y → IsSlot l n y from → IsSlotMerged l n z to
-      → x ≡ used from (pass_to to) → FlowItem l n x
+      → x ≡ constrained from (copy_to to) → FlowItem l n x
 
 -- What a parameter holds, its slot holds at the first node.
 pub record EnterItem (m : MethodNo) (l : LoweredMethod) (n : Node) (x : Item) : Type 0 where
@@ -85,7 +85,7 @@ pub record EnterItem (m : MethodNo) (l : LoweredMethod) (n : Node) (x : Item) : 
   pub merge : IsMerge l n
   pub to : Holder
   pub slot : IsSlot l n z to
-  pub is : x ≡ used (variable (Parameter m z)) (pass_to to)
+  pub is : x ≡ constrained (variable (Parameter m z)) (copy_to to)
 
 -- What a local variable holds at the node, it holds at each handler that covers the node.
 pub record HandleItem (l : LoweredMethod) (n : Node) (x : Item) : Type 0 where
@@ -97,7 +97,7 @@ pub record HandleItem (l : LoweredMethod) (n : Node) (x : Item) : Type 0 where
   pub slot : IsSlot l n z from
   pub to : Holder
   pub slot_there : IsSlotAt l handler.target z to
-  pub is : x ≡ used from (pass_to to)
+  pub is : x ≡ constrained from (copy_to to)
 
 -- ---- operations
 
@@ -105,17 +105,17 @@ pub record HandleItem (l : LoweredMethod) (n : Node) (x : Item) : Type 0 where
 abbrev pub MakesItem : LoweredMethod → Node → (target : ℕ) → Site → Item → Type 0
 MakesItem l n target s x = (to : Holder) × IsSlotAfter l n target to × (x ≡ known (may_hold to s))
 
--- A user of what one slot holds, for the target at each of the node's successors.
-abbrev pub ReadsItem : LoweredMethod → Node → (slot target : ℕ) → (Holder → User) → Item → Type 0
-ReadsItem l n slot target user x = (from to : Holder) × IsSlot l n slot from × IsSlotAfter l n target to × (x ≡ used from (user to))
+-- A constraint of what one slot holds, for the target at each of the node's successors.
+abbrev pub ReadsItem : LoweredMethod → Node → (slot target : ℕ) → (Holder → Constraint) → Item → Type 0
+ReadsItem l n slot target constraint x = (from to : Holder) × IsSlot l n slot from × IsSlotAfter l n target to × (x ≡ constrained from (constraint to))
 
--- A user of what one slot holds, for what another one holds.
-abbrev pub WritesItem : LoweredMethod → Node → (slot value : ℕ) → (Holder → User) → Item → Type 0
-WritesItem l n slot value user x = (into from : Holder) × IsSlot l n slot into × IsSlot l n value from × (x ≡ used into (user from))
+-- A constraint of what one slot holds, for what another one holds.
+abbrev pub WritesItem : LoweredMethod → Node → (slot value : ℕ) → (Holder → Constraint) → Item → Type 0
+WritesItem l n slot value constraint x = (into from : Holder) × IsSlot l n slot into × IsSlot l n value from × (x ≡ constrained into (constraint from))
 
 -- A static field that is loaded: what it holds, and what it begins with.
 pub data LoadStaticItem (p : Program) (l : LoweredMethod) (n : Node) (field : FieldNo) (target : ℕ) (x : Item) : Type 0 where
-  read : (to : Holder) → IsSlotAfter l n target to → x ≡ used (static_field field) (pass_to to) → LoadStaticItem p l n field target x
+  read : (to : Holder) → IsSlotAfter l n target to → x ≡ constrained (static_field field) (copy_to to) → LoadStaticItem p l n field target x
   begin : (class : List ℕ) → BeginsWith p field class → x ≡ known (may_hold (static_field field) (boot_site class)) → LoadStaticItem p l n field target x
 
 -- New arrays: the target holds the first one, and each holds the next.
@@ -128,25 +128,25 @@ pub data NewArrayItem (l : LoweredMethod) (n : Node) (sites : List Site) (target
 pub data CallNodeItem (m : MethodNo) (l : LoweredMethod) (n : Node) (c : NodeCall) (x : Item) : Type 0 where
   chosen : (target : MethodNo) → c.chosen ≡ Some target → x ≡ known (may_call (node_of m n) target) → CallNodeItem m l n c x
   selecting : (site : CallSite) (from : Holder) → is_selecting_kind c.kind ≡ true → IsCallSite m l n c site
-      → slice_get site.arguments 0 ≡ Some (Some from) → x ≡ used from (select site) → CallNodeItem m l n c x
+      → slice_get site.arguments 0 ≡ Some (Some from) → x ≡ constrained from (dispatch site) → CallNodeItem m l n c x
 
 -- What the operation leads to.
 abbrev pub OpItem : Op → Program → MethodNo → LoweredMethod → Node → Item → Type 0
 OpItem (Assign changes) p m l n x = ⊥
-OpItem (Load object field target) p m l n x = ReadsItem l n object target (read_field field) x
-OpItem (Store object field value) p m l n x = WritesItem l n object value (write_field field) x
-OpItem (LoadElement array target) p m l n x = ReadsItem l n array target read_elements x
-OpItem (StoreElement array value) p m l n x = WritesItem l n array value write_elements x
+OpItem (Load object field target) p m l n x = ReadsItem l n object target (load_field field) x
+OpItem (Store object field value) p m l n x = WritesItem l n object value (store_field field) x
+OpItem (LoadElement array target) p m l n x = ReadsItem l n array target load_elements x
+OpItem (StoreElement array value) p m l n x = WritesItem l n array value store_elements x
 OpItem (LoadStatic field target) p m l n x = LoadStaticItem p l n field target x
-OpItem (StoreStatic field value) p m l n x = (from : Holder) × IsSlot l n value from × (x ≡ used from (pass_to (static_field field)))
+OpItem (StoreStatic field value) p m l n x = (from : Holder) × IsSlot l n value from × (x ≡ constrained from (copy_to (static_field field)))
 OpItem (New s target) p m l n x = MakesItem l n target s x
 OpItem (NewArray sites target) p m l n x = NewArrayItem l n sites target x
 OpItem (Constant s target) p m l n x = MakesItem l n target s x
 OpItem (Call c) p m l n x = CallNodeItem m l n c x
 OpItem (Return None) p m l n x = ⊥
-OpItem (Return (Some value)) p m l n x = (from : Holder) × IsSlot l n value from × (x ≡ used from (pass_to (returned_by m)))
-OpItem (Throw value) p m l n x = (landing : Landing) × (from : Holder) × IsLanding m l n landing × IsSlot l n value from × (x ≡ used from (throw_at landing))
-OpItem (Cast class slot) p m l n x = ReadsItem l n slot slot (pass_fitting class) x
+OpItem (Return (Some value)) p m l n x = (from : Holder) × IsSlot l n value from × (x ≡ constrained from (copy_to (returned_by m)))
+OpItem (Throw value) p m l n x = (catch_chain : CatchChain) × (from : Holder) × IsCatchChain m l n catch_chain × IsSlot l n value from × (x ≡ constrained from (throw_to catch_chain))
+OpItem (Cast class slot) p m l n x = ReadsItem l n slot slot (filter_to class) x
 OpItem (Probe slot) p m l n x = ⊥
 
 -- ---- exceptions and initialisers
@@ -164,8 +164,8 @@ pub record RaiseItem (p : Program) (m : MethodNo) (l : LoweredMethod) (n : Node)
 -- It may start an initialiser, which runs; and what that throws is kept, and is thrown on.
 pub data TriggerItem (p : Program) (m : MethodNo) (l : LoweredMethod) (n : Node) (x : Item) : Type 0 where
   runs : (i : MethodNo) → StartsAt p n i → x ≡ known (may_run i) → TriggerItem p m l n x
-  keeps_thrown : (i : MethodNo) → StartsAt p n i → x ≡ used (thrown_by i) (pass_to kept_objects) → TriggerItem p m l n x
-  throws : (i : MethodNo) (landing : Landing) → StartsAt p n i → IsLanding m l n landing → x ≡ used (thrown_by i) (land_at landing) → TriggerItem p m l n x
+  keeps_thrown : (i : MethodNo) → StartsAt p n i → x ≡ constrained (thrown_by i) (copy_to kept_objects) → TriggerItem p m l n x
+  throws : (i : MethodNo) (catch_chain : CatchChain) → StartsAt p n i → IsCatchChain m l n catch_chain → x ≡ constrained (thrown_by i) (rethrow_to catch_chain) → TriggerItem p m l n x
 
 -- ---- the whole
 

@@ -4,7 +4,7 @@ use Rattle.std.specs.List.{slice_get, Contains}
 use Rattle.jvm_model.specs.Programs.{Program}
 use Rattle.op_model.specs.declared.lowered.LoweredMethod.{LoweredMethod}
 use Rattle.op_model.specs.declared.node.Node.{Node}
-use Rattle.points_to_constraints.specs.Items.{Item, User, used}
+use Rattle.points_to_constraints.specs.Items.{Item, Constraint, constrained}
 use Rattle.points_to_constraints.specs.NodeItems.{ReadsItem}
 use Rattle.points_to_methods.specs.Known.{IsNamedMethod}
 use Rattle.points_to_methods.specs.Slots.{slot_holder, MadeAt}
@@ -66,9 +66,9 @@ module _ (p : Program) (l : LoweredMethod) (names : NameTable) (known : IsNamedM
     )
 
     -- of one slot of the node, for another one at the successors
-    pub read_after : (user : Holder → User) (y z : ℕ) (h : Holder) → h ≡ slot_holder names node y → (x : Item)
-        → ((to : Holder) × IsSlotAfter l n z to × (x ≡ used h (user to))) ↔ ReadsItem l n y z user x
-    read_after user y z h is x = (
-      (λ (to, after, e). (slot_holder names node y, to, slot_has p l names known node n at y, after, e ∙ ap (λ (k : Holder). used k (user to)) is)),
-      (λ (from, to, slot, after, e). (to, after, e ∙ ap (λ (k : Holder). used k (user to)) (slot_is p l names known node n at y from slot ∙ sym is))),
+    pub read_after : (constraint : Holder → Constraint) (y z : ℕ) (h : Holder) → h ≡ slot_holder names node y → (x : Item)
+        → ((to : Holder) × IsSlotAfter l n z to × (x ≡ constrained h (constraint to))) ↔ ReadsItem l n y z constraint x
+    read_after constraint y z h is x = (
+      (λ (to, after, e). (slot_holder names node y, to, slot_has p l names known node n at y, after, e ∙ ap (λ (k : Holder). constrained k (constraint to)) is)),
+      (λ (from, to, slot, after, e). (to, after, e ∙ ap (λ (k : Holder). constrained k (constraint to)) (slot_is p l names known node n at y from slot ∙ sym is))),
     )

@@ -13,7 +13,7 @@ use Rattle.program_model.specs.Whole.{IsFieldView}
 use Rattle.program_model.specs.declared.member_view.MemberView.{MemberView}
 use Rattle.op_model.specs.declared.lowered.LoweredMethod.{LoweredMethod}
 use Rattle.op_model.specs.declared.node.Node.{Node}
-use Rattle.points_to_constraints.specs.Items.{Item, known, pass_to, used}
+use Rattle.points_to_constraints.specs.Items.{Item, known, copy_to, constrained}
 use Rattle.points_to_constraints.specs.NodeItems.{LoadStaticItem, begin, read}
 use Rattle.points_to_rules.specs.Facts.{Holder, may_hold, static_field}
 use Rattle.points_to_rules.specs.Rules.{BeginsWith, IsSlotAfter, constant, holding}
@@ -40,7 +40,7 @@ begins_nothing p number f stands bare c named outside class (constant g d at non
 
 module _ (p : Program) (l : LoweredMethod) (n : Node) (field : FieldNo) (target : ℕ) where
   abbrev Reads : Item → Type 0
-  Reads x = (to : Holder) × IsSlotAfter l n target to × (x ≡ used (static_field field) (pass_to to))
+  Reads x = (to : Holder) × IsSlotAfter l n target to × (x ≡ constrained (static_field field) (copy_to to))
 
   -- of a field that begins with nothing
   pub loaded_alone : ((class : List ℕ) → BeginsWith p field class → ⊥) → (x : Item) → Reads x ↔ LoadStaticItem p l n field target x

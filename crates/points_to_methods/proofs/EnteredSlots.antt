@@ -7,7 +7,7 @@ use Rattle.op_model.specs.declared.lowered.LoweredMethod.{LoweredMethod}
 use Rattle.op_model.specs.declared.node.Node.{Node}
 use Rattle.op_model.specs.declared.node.NodeHandler.{NodeHandler}
 use Rattle.op_model.specs.declared.op.Op.{Op}
-use Rattle.points_to_constraints.specs.Items.{Item, pass_to, used}
+use Rattle.points_to_constraints.specs.Items.{Item, copy_to, constrained}
 use Rattle.points_to_constraints.specs.NodeItems.{EnterItem, HandleItem, FlowItem, keep, move, IsSlotMerged}
 use Rattle.points_to_methods.specs.Known.{IsNamedMethod}
 use Rattle.points_to_methods.specs.Slots.{slot_holder, HandsTo, EntersSlot, FlowsTo, PassesBy, PassesSlot}
@@ -35,7 +35,7 @@ module _ (p : Program) (l : LoweredMethod) (names : NameTable) (known : IsNamedM
       slot = slot_has p l names known 0 n at z;
       is = is;
     }),
-    (λ e. (e.z, e.inside, e.is ∙ ap (λ (h : Holder). used (variable (Parameter m e.z)) (pass_to h)) (slot_is p l names known 0 n at e.z e.to e.slot))),
+    (λ e. (e.z, e.inside, e.is ∙ ap (λ (h : Holder). constrained (variable (Parameter m e.z)) (copy_to h)) (slot_is p l names known 0 n at e.z e.to e.slot))),
   )
 
   pub not_first : (m : MethodNo) (node : ℕ) (n : Node) (x : Item) → slice_get l.nodes node ≡ Some n → (node ≡ 0 → ⊥) → EnterItem m l n x → ⊥
@@ -87,7 +87,7 @@ module _ (p : Program) (l : LoweredMethod) (names : NameTable) (known : IsNamedM
           (h.handler, h.covers, (next, stands, (h.z, h.is_local, passed h.from (slot_holder names node h.z) h.to (slot_holder names next h.z) x own same h.is)))),
     )
       where
-        passed : (h i g k : Holder) (x : Item) → h ≡ i → g ≡ k → x ≡ used h (pass_to g) → x ≡ used i (pass_to k)
+        passed : (h i g k : Holder) (x : Item) → h ≡ i → g ≡ k → x ≡ constrained h (copy_to g) → x ≡ constrained i (copy_to k)
         passed h i g k x same other is = cc
 
     -- ---- what flows
@@ -133,12 +133,12 @@ module _ (p : Program) (l : LoweredMethod) (names : NameTable) (known : IsNamedM
     abbrev pub Flows : Item → Type 0
     Flows x = (offset : ℕ) × Contains n.successors offset × FlowsTo l names n.op node offset x
 
-    flown : (y z : ℕ) (from to : Holder) (x : Item) (e : Effect) → z < l.slots + l.stack → effect_on z n.op ≡ e → ((next : ℕ) → x ≡ used (slot_holder names node y) (pass_to (slot_holder names next z)) → PassesBy names node next z e x)
-        → from ≡ slot_holder names node y → IsSlotMerged l n z to → x ≡ used from (pass_to to) → Flows x
+    flown : (y z : ℕ) (from to : Holder) (x : Item) (e : Effect) → z < l.slots + l.stack → effect_on z n.op ≡ e → ((next : ℕ) → x ≡ constrained (slot_holder names node y) (copy_to (slot_holder names next z)) → PassesBy names node next z e x)
+        → from ≡ slot_holder names node y → IsSlotMerged l n z to → x ≡ constrained from (copy_to to) → Flows x
     flown y z from to x e inside is passes same merged item =
         let m = meets z to merged in
         let there = m.same in
-        let now : x ≡ used (slot_holder names node y) (pass_to (slot_holder names m.next z)) = cc in
+        let now : x ≡ constrained (slot_holder names node y) (copy_to (slot_holder names m.next z)) = cc in
         (m.offset, m.goes, (m.next, m.stands, m.merges, (z, inside, subst (λ (d : Effect). PassesBy names node m.next z d x) (sym is) (passes m.next now))))
 
     flows_back : (x : Item) → FlowItem l n x → Flows x

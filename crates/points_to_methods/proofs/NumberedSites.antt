@@ -15,11 +15,11 @@ use Rattle.points_to_constraints.specs.Items.{CallSite as ItemCallSite}
 use Rattle.points_to_rules.specs.WholeMethods.{HasNodeAt, IsWholeMethod}
 use Rattle.points_to_constraints.specs.NodeItems.{AreResults, IsCallSite, IsUnitHolder}
 use Rattle.points_to_numbers.specs.declared.entries.CallSite.{CallSite}
-use Rattle.points_to_numbers.specs.declared.keys.LandingNo.{LandingNo}
+use Rattle.points_to_numbers.specs.declared.keys.CatchChainNo.{CatchChainNo}
 use Rattle.points_to_rules.specs.declared.place.PlaceNo.{PlaceNo}
 use Rattle.points_to_numbers.specs.Numbered.{Extends, Grows, IsCallAt, IsUnitAt, Numbered}
 use Rattle.points_to_numbers.proofs.Growing.{grows_on}
-use Rattle.points_to_methods.specs.Landings.{StandsForLanding}
+use Rattle.points_to_methods.specs.CatchChains.{StandsForCatchChain}
 use Rattle.points_to_methods.specs.CallEntries.{GrowsTo, StandsForUnit, StandsForResult, StandForResults}
 use Rattle.points_to_methods.specs.NodeCalls.{AddsCallOf}
 use Rattle.points_to_methods.proofs.EntryLists.{grows_to_same, longer_list, stood}
@@ -86,9 +86,9 @@ are_results l n tables (Some z) places stand =
     (all.things, all.belong, all.stand)
 
 -- The entry of a call at an offset.
-abbrev pub entry_of : LoweredMethod → NodeCall → (offset : ℕ) → List (Option PlaceNo) → List PlaceNo → LandingNo → CallSite
-entry_of l c offset arguments results landing =
-    record { at = record { method = Some l.method; offset = offset }; kind = c.kind; resolved = c.resolved; arguments = arguments; results = results; landing = landing }
+abbrev pub entry_of : LoweredMethod → NodeCall → (offset : ℕ) → List (Option PlaceNo) → List PlaceNo → CatchChainNo → CallSite
+entry_of l c offset arguments results catch_chain =
+    record { at = record { method = Some l.method; offset = offset }; kind = c.kind; resolved = c.resolved; arguments = arguments; results = results; catch_chain = catch_chain }
 
 -- The site of the call, for which the entry stands.
 pub record Sited (l : LoweredMethod) (n : Node) (c : NodeCall) (tables : Numbered) (entry : CallSite) : Type 0 where
@@ -96,9 +96,9 @@ pub record Sited (l : LoweredMethod) (n : Node) (c : NodeCall) (tables : Numbere
   pub is_site : IsCallSite l.method l n c site
   pub stands : IsCallAt tables entry site
 
-pub sited : (l : LoweredMethod) (n : Node) (c : NodeCall) (tables : Numbered) (offset : ℕ) (arguments : List (Option PlaceNo)) (results : List PlaceNo) (landing : LandingNo) → n.offset ≡ offset
-    → AllZip (StandsForUnit l n tables) c.arguments arguments → StandForResults l n tables c.result results → StandsForLanding l n tables landing.0 → Sited l n c tables (entry_of l c offset arguments results landing)
-sited l n c tables offset arguments results landing is units stand (lands, is_landing, there) =
+pub sited : (l : LoweredMethod) (n : Node) (c : NodeCall) (tables : Numbered) (offset : ℕ) (arguments : List (Option PlaceNo)) (results : List PlaceNo) (catch_chain : CatchChainNo) → n.offset ≡ offset
+    → AllZip (StandsForUnit l n tables) c.arguments arguments → StandForResults l n tables c.result results → StandsForCatchChain l n tables catch_chain.0 → Sited l n c tables (entry_of l c offset arguments results catch_chain)
+sited l n c tables offset arguments results catch_chain is units stand (lands, is_catch_chain, there) =
     let passed = stood (IsUnitHolder l n) (IsUnitAt tables) c.arguments arguments units in
     let (holders, are, stand_for) = are_results l n tables c.result results stand in
     record {
@@ -108,19 +108,19 @@ sited l n c tables offset arguments results landing is units stand (lands, is_la
         resolved = c.resolved;
         arguments = passed.things;
         results = holders;
-        landing = lands;
+        catch_chain = lands;
       };
-      is_site = record { at = refl; kind = refl; resolved = refl; arguments = passed.belong; results = are; landing = is_landing };
-      stands = record { at = (λ i. record { method = Some l.method; offset = is i }); kind = refl; resolved = refl; arguments = passed.stand; results = stand_for; landing = there };
+      is_site = record { at = refl; kind = refl; resolved = refl; arguments = passed.belong; results = are; catch_chain = is_catch_chain };
+      stands = record { at = (λ i. record { method = Some l.method; offset = is i }); kind = refl; resolved = refl; arguments = passed.stand; results = stand_for; catch_chain = there };
     }
 
 -- the same where the tables grow from part to part
-pub sited_then : (l : LoweredMethod) (n : Node) (c : NodeCall) (units : List (Option ℕ)) (offset : ℕ) (arguments : List (Option PlaceNo)) (results : List PlaceNo) (landing : LandingNo) (old mid new last : Numbered)
+pub sited_then : (l : LoweredMethod) (n : Node) (c : NodeCall) (units : List (Option ℕ)) (offset : ℕ) (arguments : List (Option PlaceNo)) (results : List PlaceNo) (catch_chain : CatchChainNo) (old mid new last : Numbered)
     → units ≡ c.arguments → n.offset ≡ offset → GrowsTo (λ numbered. AllZip (StandsForUnit l n numbered) units arguments) old mid → GrowsTo (λ numbered. StandForResults l n numbered c.result results) mid new
-    → Grows new last → StandsForLanding l n last landing.0 → Sited l n c last (entry_of l c offset arguments results landing)
-sited_then l n c units offset arguments results landing old mid new last same is first second grows lands =
+    → Grows new last → StandsForCatchChain l n last catch_chain.0 → Sited l n c last (entry_of l c offset arguments results catch_chain)
+sited_then l n c units offset arguments results catch_chain old mid new last same is first second grows lands =
     let passed = longer_list (StandsForUnit l n) (longer_unit l n) mid last (grows_on mid new last second.grows grows) units arguments first.holds in
-    sited l n c last offset arguments results landing is (subst (λ (us : List (Option ℕ)). AllZip (StandsForUnit l n last) us arguments) same passed)
+    sited l n c last offset arguments results catch_chain is (subst (λ (us : List (Option ℕ)). AllZip (StandsForUnit l n last) us arguments) same passed)
     (longer_results l n new last grows c.result results second.holds) lands
 
 -- ---- the calls that a node adds

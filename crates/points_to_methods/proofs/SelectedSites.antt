@@ -14,7 +14,7 @@ use Rattle.slot_names.specs.Tables.{NameTable}
 use Rattle.slot_names.proofs.ListPlaces.{contains_at}
 use Rattle.points_to_rules.specs.Facts.{Holder, may_call}
 use Rattle.points_to_rules.specs.Rules.{IsSlot}
-use Rattle.points_to_constraints.specs.Items.{CallSite, Item, known, select, used}
+use Rattle.points_to_constraints.specs.Items.{CallSite, Item, known, dispatch, constrained}
 use Rattle.points_to_constraints.specs.NodeItems.{CallNodeItem, IsCallSite, IsUnitHolder}
 use Rattle.points_to_constraints.specs.NodeItems as node_items
 use Rattle.points_to_methods.specs.Known.{IsNamedMethod}
@@ -58,14 +58,14 @@ without_first m l n c site is_site none x (from, kind, first, e) =
 
 module _ (p : Program) (l : LoweredMethod) (names : NameTable) (known_method : IsNamedMethod p l names) (node : ℕ) (n : Node) (at : slice_get l.nodes node ≡ Some n) where
   pub selects : (c : NodeCall) (site : CallSite) → IsCallSite l.method l n c site → is_selecting_kind c.kind ≡ true → (z : ℕ) → option_flatten (slice_get c.arguments 0) ≡ Some z
-      → (h : Holder) → h ≡ slot_holder names node z → (x : Item) → (x ≡ used h (select site)) ↔ SelectingItem c.kind site x
+      → (h : Holder) → h ≡ slot_holder names node z → (x : Item) → (x ≡ constrained h (dispatch site)) ↔ SelectingItem c.kind site x
   selects c site is_site kind z is h here x =
       let (from, first, slot) = first_holder l n c.arguments site.arguments is_site.arguments z is in
       let same : from ≡ h = slot_is p l names known_method node n at z from slot ∙ sym here in (
         (λ e. (h, kind, first ∙ ap (λ (g : Holder). Some (Some g)) same, e)),
         (λ (other, selecting, there, e).
             let others : Some other ≡ Some from = same_Some (Some other) (Some from) (sym there ∙ first) in
-            e ∙ ap (λ (g : Holder). used g (select site)) (same_Some other from others ∙ same)),
+            e ∙ ap (λ (g : Holder). constrained g (dispatch site)) (same_Some other from others ∙ same)),
       )
 
   -- ---- the two parts of what a call leads to
@@ -84,7 +84,7 @@ module _ (p : Program) (l : LoweredMethod) (names : NameTable) (known_method : I
             from,
             kind,
             subst (λ (s : CallSite). slice_get s.arguments 0 ≡ Some (Some from)) same first,
-            e ∙ ap (λ (s : CallSite). used from (select s)) same,
+            e ∙ ap (λ (s : CallSite). constrained from (dispatch s)) same,
           )
     ]),
   )

@@ -11,16 +11,16 @@ use Rattle.program_model.specs.Numbers.{name_at}
 use Rattle.machine_nodes.specs.Nodes.{IsCodedInitialiser}
 use Rattle.op_model.specs.declared.lowered.LoweredMethod.{LoweredMethod}
 use Rattle.op_model.specs.declared.node.Node.{Node}
-use Rattle.points_to_constraints.specs.Items.{Item, Landing, land_at, used}
+use Rattle.points_to_constraints.specs.Items.{Item, CatchChain, rethrow_to, constrained}
 use Rattle.points_to_rules.specs.WholeMethods.{IsWholeMethod, NamesNumbers}
-use Rattle.points_to_constraints.specs.NodeItems.{IsLanding, TriggerItem, keeps_thrown, runs, throws}
+use Rattle.points_to_constraints.specs.NodeItems.{IsCatchChain, TriggerItem, keeps_thrown, runs, throws}
 use Rattle.points_to_rules.specs.Facts.{thrown_by}
 use Rattle.points_to_rules.specs.Rules.{StartsAt}
 use Rattle.points_to_numbers.proofs.Adding.{OfOne}
 use Rattle.slot_names.specs.Tables.{NameTable}
 use Rattle.slot_names.proofs.ListPlaces.{contains_at}
 use Rattle.points_to_methods.specs.Known.{IsNamedMethod}
-use Rattle.points_to_constraints.proofs.OneSite.{one_landing}
+use Rattle.points_to_constraints.proofs.OneSite.{one_catch_chain}
 use Rattle.points_to_methods.proofs.NamedSlots.{reached}
 use Rattle.points_to_methods.proofs.RaisedObjects.{class_numbered}
 use Rattle.points_to_methods.specs.Started.{IsStarted}
@@ -41,7 +41,7 @@ trigger_numbered p l is_method node n at trigger is =
 pub none_started : (p : Program) (l : LoweredMethod) (n : Node) → ((i : MethodNo) → StartsAt p n i → ⊥) → (x : Item) → TriggerItem p l.method l n x → ⊥
 none_started p l n none x (runs i starts is) = none i starts
 none_started p l n none x (keeps_thrown i starts is) = none i starts
-none_started p l n none x (throws i landing starts is_landing is) = none i starts
+none_started p l n none x (throws i catch_chain starts is_catch_chain is) = none i starts
 
 -- a node without a trigger is one
 pub untriggered : (p : Program) (n : Node) → n.trigger ≡ None → (i : MethodNo) → StartsAt p n i → ⊥
@@ -63,18 +63,18 @@ module _ (p : Program) (n : Node) (trigger : ClassNo) (is_trigger : n.trigger �
     pub none_found : length found ≡ 0 → (i : MethodNo) → StartsAt p n i → ⊥
     none_found empty i starts = let (k, below, at) = (are i).1 ((started i).0 starts) in absurd (omega (arith, below, empty))
 
-    module _ (l : LoweredMethod) (names : NameTable) (known : IsNamedMethod p l names) (landing : Landing) (is_landing : IsLanding l.method l n landing) where
-      started_as : (x : Item) → TriggerItem p l.method l n x → OfOne (λ (i : MethodNo). IsStarted i landing) found x
+    module _ (l : LoweredMethod) (names : NameTable) (known : IsNamedMethod p l names) (catch_chain : CatchChain) (is_catch_chain : IsCatchChain l.method l n catch_chain) where
+      started_as : (x : Item) → TriggerItem p l.method l n x → OfOne (λ (i : MethodNo). IsStarted i catch_chain) found x
       started_as x (runs i starts is) = (i, (are i).1 ((started i).0 starts), inl (inl is))
       started_as x (keeps_thrown i starts is) = (i, (are i).1 ((started i).0 starts), inl (inr is))
       started_as x (throws i there starts is_there is) =
-          (i, (are i).1 ((started i).0 starts), inr (is ∙ ap (λ (t : Landing). used (thrown_by i) (land_at t)) (one_landing l (reached p l names known) l.method n there landing is_there is_landing)))
+          (i, (are i).1 ((started i).0 starts), inr (is ∙ ap (λ (t : CatchChain). constrained (thrown_by i) (rethrow_to t)) (one_catch_chain l (reached p l names known) l.method n there catch_chain is_there is_catch_chain)))
 
-      leads_to : (i : MethodNo) → StartsAt p n i → (x : Item) → IsStarted i landing x → TriggerItem p l.method l n x
+      leads_to : (i : MethodNo) → StartsAt p n i → (x : Item) → IsStarted i catch_chain x → TriggerItem p l.method l n x
       leads_to i starts x (inl (inl is)) = runs i starts is
       leads_to i starts x (inl (inr is)) = keeps_thrown i starts is
-      leads_to i starts x (inr is) = throws i landing starts is_landing is
+      leads_to i starts x (inr is) = throws i catch_chain starts is_catch_chain is
 
       -- what it leads to, by what was found
-      pub all_started : (x : Item) → OfOne (λ (i : MethodNo). IsStarted i landing) found x ↔ TriggerItem p l.method l n x
+      pub all_started : (x : Item) → OfOne (λ (i : MethodNo). IsStarted i catch_chain) found x ↔ TriggerItem p l.method l n x
       all_started x = ((λ (i, there, leads). leads_to i ((started i).1 ((are i).0 there)) x leads), started_as x)

@@ -1,6 +1,6 @@
 -- Public contracts rest on this module.
 -- Places that stand for one thing whatever is numbered, and what is done with their objects.
-use Rattle.points_to_constraints.specs.Items.{User, pass_fitting, pass_to, read_elements, read_field, write_elements, write_field}
+use Rattle.points_to_constraints.specs.Items.{Constraint, filter_to, copy_to, load_elements, load_field, store_elements, store_field}
 use Rattle.points_to_methods.specs.declared.adding.FixedPlace.{FixedPlace}
 use Rattle.points_to_methods.specs.declared.adding.FixedPlace.TheVariants as fixed_places
 use Rattle.points_to_methods.specs.declared.adding.Passing.{Passing}
@@ -16,10 +16,10 @@ holder_of (fixed_places.Returned method) = returned_by method
 holder_of (fixed_places.Thrown method) = thrown_by method
 
 -- What is done for a holder.
-abbrev pub user_by : Passing → Holder → User
-user_by passings.To to = pass_to to
-user_by (passings.Fitting class) to = pass_fitting class.now to
-user_by (passings.ReadField field) to = read_field field to
-user_by (passings.WriteField field) from = write_field field from
-user_by passings.ReadElements to = read_elements to
-user_by passings.WriteElements from = write_elements from
+abbrev pub constraint_by : Passing → Holder → Constraint
+constraint_by passings.To to = copy_to to
+constraint_by (passings.Fitting class) to = filter_to class.now to
+constraint_by (passings.LoadField field) to = load_field field to
+constraint_by (passings.StoreField field) from = store_field field from
+constraint_by passings.LoadElements to = load_elements to
+constraint_by passings.StoreElements from = store_elements from

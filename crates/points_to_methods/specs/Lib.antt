@@ -3,7 +3,7 @@ pub mod Fixed
 pub mod Slots
 pub mod Arrays
 pub mod Operations
-pub mod Landings
+pub mod CatchChains
 pub mod Raises
 pub mod NewCalls
 pub mod Initiated

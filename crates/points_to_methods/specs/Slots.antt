@@ -5,7 +5,7 @@ use Rattle.std.specs.List.{list_any}
 use Rattle.jvm_model.specs.declared.number.MethodNo.{MethodNo}
 use Rattle.op_model.specs.declared.lowered.LoweredMethod.{LoweredMethod}
 use Rattle.op_model.specs.declared.op.Op.{Op}
-use Rattle.points_to_constraints.specs.Items.{Item, pass_to, used}
+use Rattle.points_to_constraints.specs.Items.{Item, copy_to, constrained}
 use Rattle.points_to_methods.specs.declared.effects.Effect.{Effect as OfSlot}
 use Rattle.points_to_methods.specs.declared.effects.Effect.TheVariants as of_slots
 use Rattle.points_to_rules.specs.Facts.{Holder, variable}
@@ -30,11 +30,11 @@ slot_holder names node z = variable (names.variable node z)
 
 -- What one slot holds at a node, another one holds at the next node.
 abbrev pub PassesSlot : NameTable → (node y next z : ℕ) → Item → Type 0
-PassesSlot names node y next z x = x ≡ used (slot_holder names node y) (pass_to (slot_holder names next z))
+PassesSlot names node y next z x = x ≡ constrained (slot_holder names node y) (copy_to (slot_holder names next z))
 
 -- What a parameter holds, its slot holds at the first node.
 abbrev pub EntersSlot : NameTable → MethodNo → ℕ → Item → Type 0
-EntersSlot names m z x = x ≡ used (variable (Parameter m z)) (pass_to (slot_holder names 0 z))
+EntersSlot names m z x = x ≡ constrained (variable (Parameter m z)) (copy_to (slot_holder names 0 z))
 
 -- What a slot is left by the effect on it.
 abbrev pub PassesBy : NameTable → (node next z : ℕ) → Effect → Item → Type 0

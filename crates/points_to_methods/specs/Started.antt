@@ -3,9 +3,9 @@
 use Rattle.std.specs.Prelude.{◌≡◌, ◌⊎◌}
 use Rattle.jvm_model.specs.declared.number.MethodNo.{MethodNo}
 use Rattle.points_to_rules.specs.Facts.{thrown_by}
-use Rattle.points_to_constraints.specs.Items.{Landing, land_at, Item as RuleItem, used}
+use Rattle.points_to_constraints.specs.Items.{CatchChain, rethrow_to, Item as RuleItem, constrained}
 use Rattle.points_to_methods.specs.Initiated.{IsInitiated}
 
--- It runs, and what it throws is kept, and goes to the landing.
-abbrev pub IsStarted : MethodNo → Landing → RuleItem → Type 0
-IsStarted i landing x = IsInitiated i x ⊎ (x ≡ used (thrown_by i) (land_at landing))
+-- It runs, and what it throws is kept, and goes to the catch chain.
+abbrev pub IsStarted : MethodNo → CatchChain → RuleItem → Type 0
+IsStarted i catch_chain x = IsInitiated i x ⊎ (x ≡ constrained (thrown_by i) (rethrow_to catch_chain))

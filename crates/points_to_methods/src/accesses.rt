@@ -3,10 +3,10 @@
 ghost use Rattle.std.specs.Prelude.{◌≡◌, Some, slice_get, OnOk};
 ghost use Rattle.jvm_model.specs.declared.site.Site.{Site};
 ghost use Rattle.op_model.specs.declared.node.Node.{Node};
-ghost use Rattle.points_to_constraints.specs.Items.{known, pass_to, used};
+ghost use Rattle.points_to_constraints.specs.Items.{known, copy_to, constrained};
 ghost use Rattle.points_to_constraints.specs.NodeItems.{MakesItem, ReadsItem, WritesItem};
 ghost use Rattle.points_to_numbers.specs.Steps.{Makes};
-ghost use Rattle.points_to_methods.specs.Fixed.{holder_of, user_by};
+ghost use Rattle.points_to_methods.specs.Fixed.{holder_of, constraint_by};
 ghost use Rattle.points_to_methods.specs.Known.{HasNode, IsNamed, names_at};
 ghost use Rattle.points_to_methods.specs.Slots.{MadeAt};
 ghost use Rattle.points_to_rules.specs.Facts.{Holder, may_hold};
@@ -33,7 +33,7 @@ pub fn pass_after(
     requires there { HasNode at.now node }
     ensures { (n : Node) → slice_get at.now.method.now.nodes node ≡ Some n
         → OnOk result (Makes tables.old tables.new
-        (λ x. (to : Holder) × IsSlotAfter at.now.method.now n target to × (x ≡ used (holder_of from) (user_by passing.entry to))) steps.old.items steps.new.items) }
+        (λ x. (to : Holder) × IsSlotAfter at.now.method.now n target to × (x ≡ constrained (holder_of from) (constraint_by passing.entry to))) steps.old.items steps.new.items) }
 {
     let successors = &at.method.nodes.as_slice()[node].successors;
     for offset in successors.as_slice() {
@@ -54,7 +54,7 @@ fn pass_at(
 ) -> Result<(), IndexFailure>
     requires { IsNamed at.now }
     ensures { OnOk result (Makes tables.old tables.new
-        (MadeAt at.now.method.now (names_at at.now) (λ to. used (holder_of from) (user_by passing.entry to)) target offset) steps.old.items steps.new.items) }
+        (MadeAt at.now.method.now (names_at at.now) (λ to. constrained (holder_of from) (constraint_by passing.entry to)) target offset) steps.old.items steps.new.items) }
 {
     let Some(next) = node_at(at, offset) else {
         return Ok(());
@@ -121,7 +121,7 @@ pub(crate) fn read_slot(
     requires known { IsNamed at.now }
     requires there { HasNode at.now node }
     ensures { (n : Node) → slice_get at.now.method.now.nodes node ≡ Some n
-        → OnOk result (Makes tables.old tables.new (ReadsItem at.now.method.now n slot target (user_by passing.entry)) steps.old.items steps.new.items) }
+        → OnOk result (Makes tables.old tables.new (ReadsItem at.now.method.now n slot target (constraint_by passing.entry)) steps.old.items steps.new.items) }
 {
     let from = slot_place(at, node, slot);
     pass_after(at, node, from, passing, target, tables, steps)?;
@@ -141,7 +141,7 @@ pub(crate) fn write_slot(
     requires known { IsNamed at.now }
     requires there { HasNode at.now node }
     ensures { (n : Node) → slice_get at.now.method.now.nodes node ≡ Some n
-        → OnOk result (Makes tables.old tables.new (WritesItem at.now.method.now n slot value (user_by passing.entry)) steps.old.items steps.new.items) }
+        → OnOk result (Makes tables.old tables.new (WritesItem at.now.method.now n slot value (constraint_by passing.entry)) steps.old.items steps.new.items) }
 {
     let into = slot_place(at, node, slot);
     let from = slot_place(at, node, value);
@@ -162,7 +162,7 @@ pub(crate) fn leave_slot(
     requires there { HasNode at.now node }
     ensures { (n : Node) → slice_get at.now.method.now.nodes node ≡ Some n
         → OnOk result (Makes tables.old tables.new
-        (λ x. (from : Holder) × IsSlot at.now.method.now n slot from × (x ≡ used from (pass_to (holder_of to)))) steps.old.items steps.new.items) }
+        (λ x. (from : Holder) × IsSlot at.now.method.now n slot from × (x ≡ constrained from (copy_to (holder_of to)))) steps.old.items steps.new.items) }
 {
     let from = slot_place(at, node, slot);
     pass(tables, steps, from, Passing::To, to)?;

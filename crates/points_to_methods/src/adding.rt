@@ -2,14 +2,14 @@
 
 ghost use Rattle.std.specs.Prelude.{◌≡◌, length, Some, slice_get, IfOk, OnOk};
 ghost use Rattle.jvm_model.specs.declared.site.Site.{Site};
-ghost use Rattle.points_to_constraints.specs.Items.{known, used};
+ghost use Rattle.points_to_constraints.specs.Items.{known, constrained};
 ghost use Rattle.points_to_numbers.specs.Steps.{Makes};
-ghost use Rattle.points_to_methods.specs.Fixed.{holder_of, user_by};
+ghost use Rattle.points_to_methods.specs.Fixed.{holder_of, constraint_by};
 ghost use Rattle.points_to_rules.specs.Facts.{Holder, may_hold};
-ghost use Rattle.points_to_numbers.specs.Numbered.{Grows, IsHolderAt, IsNumbered, IsUserAt, Numbered};
+ghost use Rattle.points_to_numbers.specs.Numbered.{Grows, IsHolderAt, IsNumbered, IsConstraintAt, Numbered};
 
 use jvm_model::{FieldNo, MethodNo, SiteNo};
-use points_to_numbers::{Item, Tables, User, add_holding, add_use};
+use points_to_numbers::{Constraint, Item, Tables, add_constraint, add_holding};
 use points_to_rules::{Place, PlaceNo};
 use program_index::index_failure::IndexFailure;
 use slot_names::Variable;
@@ -32,13 +32,13 @@ pub enum Passing<'a> {
     /// The other place holds them too, where they fit the class.
     Fitting(&'a [u8]),
     /// What their field holds, the other place holds.
-    ReadField(FieldNo),
+    LoadField(FieldNo),
     /// What the other place holds, their field holds.
-    WriteField(FieldNo),
+    StoreField(FieldNo),
     /// What their elements hold, the other place holds.
-    ReadElements,
+    LoadElements,
     /// What the other place holds, their elements hold.
-    WriteElements,
+    StoreElements,
 }
 
 /// The key of a place.
@@ -55,19 +55,23 @@ pub fn key_of(place: FixedPlace) -> Place
 }
 
 /// The key of what is done for a place.
-fn user_of(tables: &mut Tables, passing: Passing<'_>, to: PlaceNo) -> Result<User, IndexFailure>
+fn constraint_of(
+    tables: &mut Tables,
+    passing: Passing<'_>,
+    to: PlaceNo,
+) -> Result<Constraint, IndexFailure>
     requires { IsNumbered tables.old.holders to.0 }
     ensures grows { OnOk result (Grows tables.old tables.new) }
     ensures calls { OnOk result (length tables.new.calls ≡ length tables.old.calls) }
-    ensures stands { IfOk result (λ user. (h : Holder) → slice_get tables.old.holders to.0 ≡ Some h → IsUserAt tables.new user (user_by passing.entry h)) }
+    ensures stands { IfOk result (λ constraint. (h : Holder) → slice_get tables.old.holders to.0 ≡ Some h → IsConstraintAt tables.new constraint (constraint_by passing.entry h)) }
 {
     Ok(match passing {
-        Passing::To => User::PassTo(to),
-        Passing::Fitting(class) => User::PassFitting(tables.class_name(class)?, to),
-        Passing::ReadField(field) => User::ReadField(field, to),
-        Passing::WriteField(field) => User::WriteField(field, to),
-        Passing::ReadElements => User::ReadElements(to),
-        Passing::WriteElements => User::WriteElements(to),
+        Passing::To => Constraint::CopyTo(to),
+        Passing::Fitting(class) => Constraint::FilterTo(tables.class_name(class)?, to),
+        Passing::LoadField(field) => Constraint::LoadField(field, to),
+        Passing::StoreField(field) => Constraint::StoreField(field, to),
+        Passing::LoadElements => Constraint::LoadElements(to),
+        Passing::StoreElements => Constraint::StoreElements(to),
     })
 }
 
@@ -79,11 +83,11 @@ pub fn pass(
     passing: Passing<'_>,
     to: FixedPlace,
 ) -> Result<(), IndexFailure>
-    ensures { OnOk result (Makes tables.old tables.new (λ x. x ≡ used (holder_of from) (user_by passing.entry (holder_of to))) steps.old.items steps.new.items) }
+    ensures { OnOk result (Makes tables.old tables.new (λ x. x ≡ constrained (holder_of from) (constraint_by passing.entry (holder_of to))) steps.old.items steps.new.items) }
 {
     let to = tables.place(key_of(to))?;
-    let user = user_of(tables, passing, to)?;
-    add_use(tables, steps, key_of(from), user)?;
+    let constraint = constraint_of(tables, passing, to)?;
+    add_constraint(tables, steps, key_of(from), constraint)?;
     Ok(())
 }
 

@@ -10,7 +10,7 @@ ghost use Rattle.points_to_methods.specs.CallEntries.{GrowsTo, StandsForUnit, St
 ghost use Rattle.points_to_methods.specs.Known.{HasNode, IsNamed};
 ghost use Rattle.points_to_numbers.specs.Numbered.{Grows};
 
-use crate::{NamedMethod, key_of, landing_of, node_at, slot_place};
+use crate::{NamedMethod, catch_chain_of, key_of, node_at, slot_place};
 use jvm_model::Sequence;
 use op_model::{Call, NodeRef};
 use points_to_numbers::{CallNo, CallSite, Tables};
@@ -36,7 +36,7 @@ pub(crate) fn call_site(
 {
     let arguments = argument_places(alloc, at, node, call.arguments.as_slice(), tables)?;
     let results = result_places(alloc, at, node, call.result, tables)?;
-    let landing = landing_of(alloc, at, node, tables)?;
+    let catch_chain = catch_chain_of(alloc, at, node, tables)?;
     let offset = at.method.nodes.as_slice()[node].offset;
     let number = tables.call(CallSite {
         at: NodeRef {
@@ -47,7 +47,7 @@ pub(crate) fn call_site(
         resolved: call.resolved,
         arguments,
         results,
-        landing,
+        catch_chain,
     })?;
     Ok(number)
 }

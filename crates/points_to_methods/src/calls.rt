@@ -17,7 +17,7 @@ use crate::call_sites::call_site;
 use crate::{NamedMethod, key_of, slot_place};
 use jvm_model::MethodNo;
 use op_model::{Call, CallKind};
-use points_to_numbers::{CallNo, Item, Tables, User, add_use};
+use points_to_numbers::{CallNo, Constraint, Item, Tables, add_constraint};
 use program_index::index_failure::IndexFailure;
 use std::alloc::Global;
 
@@ -80,7 +80,7 @@ fn select_items(
         return Ok(());
     };
     let place = key_of(slot_place(at, node, slot));
-    add_use(tables, steps, place, User::Select(number))?;
+    add_constraint(tables, steps, place, Constraint::Dispatch(number))?;
     Ok(())
 }
 

@@ -16,12 +16,12 @@ ghost use Rattle.points_to_rules.specs.Rules.{Lands, site_of};
 ghost use Rattle.points_to_numbers.specs.Numbered.{Grows};
 
 use crate::adding::{FixedPlace, hold, key_of};
-use crate::landings::{handler_place, landing_of};
+use crate::catch_chains::{catch_chain_of, handler_place};
 use crate::named::{NamedMethod, slot_place};
 use hierarchy::fits;
 use jvm_model::{ClassNo, SiteKind, SiteNo};
 use op_model::NodeHandler;
-use points_to_numbers::{Item, SiteKey, Tables, User, add_use};
+use points_to_numbers::{Constraint, Item, SiteKey, Tables, add_constraint};
 use program_index::index_failure::IndexFailure;
 use program_model::program::Program;
 use std::alloc::Global;
@@ -40,9 +40,14 @@ pub(crate) fn throw_slot(
     ensures { (n : Node) → slice_get at.now.method.now.nodes node ≡ Some n
         → OnOk result (Makes tables.old tables.new (OpItem (operations.Throw value) at.now.program.now at.now.method.now.method at.now.method.now n) steps.old.items steps.new.items) }
 {
-    let landing = landing_of(alloc, at, node, tables)?;
+    let catch_chain = catch_chain_of(alloc, at, node, tables)?;
     let from = slot_place(at, node, value);
-    add_use(tables, steps, key_of(from), User::ThrowAt(landing))?;
+    add_constraint(
+        tables,
+        steps,
+        key_of(from),
+        Constraint::ThrowTo(catch_chain),
+    )?;
     Ok(())
 }
 

@@ -2,7 +2,7 @@
 
 ghost use Rattle.std.specs.Prelude.{◌≡◌, Some, slice_get, OnOk};
 ghost use Rattle.op_model.specs.declared.node.Node.{Node};
-ghost use Rattle.points_to_constraints.specs.Items.{Landing};
+ghost use Rattle.points_to_constraints.specs.Items.{CatchChain};
 ghost use Rattle.points_to_constraints.specs.NodeItems.{TriggerItem};
 ghost use Rattle.points_to_methods.specs.Known.{HasNode, IsNamed};
 ghost use Rattle.points_to_numbers.specs.Numbered.{IsNumbered};
@@ -10,10 +10,10 @@ ghost use Rattle.points_to_numbers.specs.Steps.{Makes};
 ghost use Rattle.points_to_methods.specs.Initiated.{IsInitiated};
 ghost use Rattle.points_to_methods.specs.Started.{IsStarted};
 
-use crate::{NamedMethod, landing_of};
+use crate::{NamedMethod, catch_chain_of};
 use entry_points::coded_initialisers;
 use jvm_model::MethodNo;
-use points_to_numbers::{Item, LandingNo, Tables, User, add_use};
+use points_to_numbers::{CatchChainNo, Constraint, Item, Tables, add_constraint};
 use points_to_rules::Place;
 use program_index::index_failure::IndexFailure;
 use std::alloc::Global;
@@ -38,30 +38,30 @@ pub(crate) fn trigger_items(
     if initialisers.is_empty() {
         return Ok(());
     }
-    let landing = landing_of(alloc, at, node, tables)?;
+    let catch_chain = catch_chain_of(alloc, at, node, tables)?;
     for initialiser in &initialisers {
-        started_items(tables, *initialiser, landing, steps)?;
+        started_items(tables, *initialiser, catch_chain, steps)?;
     }
     Ok(())
 }
 
-/// Adds that an initialiser runs; what it throws is kept, and goes to a landing.
+/// Adds that an initialiser runs; what it throws is kept, and goes to a catch chain.
 fn started_items(
     tables: &mut Tables,
     initialiser: MethodNo,
-    landing: LandingNo,
+    catch_chain: CatchChainNo,
     steps: &mut Vec<Item>,
 ) -> Result<(), IndexFailure>
-    requires { IsNumbered tables.old.landings landing.0 }
-    ensures { (l : Landing) → slice_get tables.old.landings landing.0 ≡ Some l
+    requires { IsNumbered tables.old.catch_chains catch_chain.0 }
+    ensures { (l : CatchChain) → slice_get tables.old.catch_chains catch_chain.0 ≡ Some l
         → OnOk result (Makes tables.old tables.new (IsStarted initialiser l) steps.old.items steps.new.items) }
 {
     initiated_items(tables, initialiser, steps)?;
-    add_use(
+    add_constraint(
         tables,
         steps,
         Place::Thrown(initialiser),
-        User::LandAt(landing),
+        Constraint::RethrowTo(catch_chain),
     )?;
     Ok(())
 }
@@ -76,11 +76,11 @@ pub fn initiated_items(
 {
     let kept = tables.place(Place::Kept)?;
     steps.push(Item::Runs(initialiser))?;
-    add_use(
+    add_constraint(
         tables,
         steps,
         Place::Thrown(initialiser),
-        User::PassTo(kept),
+        Constraint::CopyTo(kept),
     )?;
     Ok(())
 }

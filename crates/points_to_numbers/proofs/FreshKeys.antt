@@ -10,21 +10,21 @@ use Rattle.program_index.specs.FirstPlaces.{StandsNowhere}
 use Rattle.program_index.specs.Limits.{AreTooMany, too_many}
 use Rattle.jvm_model.specs.declared.site.Site.{Site}
 use Rattle.points_to_rules.specs.Facts.{Holder}
-use Rattle.points_to_constraints.specs.Items.{User as ItemUser}
+use Rattle.points_to_constraints.specs.Items.{Constraint as ItemConstraint}
 use Rattle.points_to_numbers.specs.declared.keys.SiteKey.{SiteKey}
 use Rattle.points_to_rules.specs.declared.place.Place.{Place}
-use Rattle.points_to_numbers.specs.declared.keys.User.{User}
-use Rattle.points_to_numbers.specs.Numbered.{Numbered, IsSiteAt, IsHolderAt, IsUserAt, AreApart, AreSingle}
-use Rattle.points_to_numbers.specs.Kept.{Kept, StandForEach, IsSound, numbered, site_from, landing_from, user_from, sites_of, holders_of, landings_of, calls_of}
+use Rattle.points_to_numbers.specs.declared.keys.Constraint.{Constraint}
+use Rattle.points_to_numbers.specs.Numbered.{Numbered, IsSiteAt, IsHolderAt, IsConstraintAt, AreApart, AreSingle}
+use Rattle.points_to_numbers.specs.Kept.{Kept, StandForEach, IsSound, numbered, site_from, catch_chain_from, constraint_from, sites_of, holders_of, catch_chains_of, calls_of}
 use Rattle.points_to_rules.specs.Places.{holder_from}
 use Rattle.points_to_numbers.proofs.AddedKeys.{found, stands_somewhere}
 use Rattle.points_to_numbers.proofs.Apart.{one_key, one_place}
-use Rattle.points_to_numbers.proofs.ExactKeys.{same_sites, same_users, site_itself, user_itself, exact_sites, exact_users}
+use Rattle.points_to_numbers.proofs.ExactKeys.{same_sites, same_constraints, site_itself, constraint_itself, exact_sites, exact_constraints}
 use Rattle.points_to_rules.proofs.ExactPlaces.{same_places, place_itself, exact_places}
 use Rattle.points_to_numbers.proofs.KeptKeys.{at_number, key_at}
 use Rattle.points_to_numbers.proofs.KnownPlaces.{sites_are, holders_are}
-use Rattle.points_to_numbers.proofs.OneUser.{one_user_key}
-use Rattle.points_to_numbers.proofs.Standing.{site_stands, holder_stands, user_stands}
+use Rattle.points_to_numbers.proofs.OneConstraint.{one_constraint_key}
+use Rattle.points_to_numbers.proofs.Standing.{site_stands, holder_stands, constraint_stands}
 
 -- ---- keys and what they stand for
 
@@ -60,13 +60,13 @@ full_both keys xs long same = (
 
 module _ (k : Kept) (n : Numbered) (is : numbered k ≡ n) (sound : IsSound k) where
   -- how many there are
-  pub landings_are : length k.landings ≡ length n.landings
+  pub catch_chains_are : length k.catch_chains ≡ length n.catch_chains
   unfolding numbered
-  landings_are = sym (length-map k.landings (landing_from (holders_of k))) ∙ ap (λ (o : Numbered). length o.landings) is
+  catch_chains_are = sym (length-map k.catch_chains (catch_chain_from (holders_of k))) ∙ ap (λ (o : Numbered). length o.catch_chains) is
 
-  pub users_are : length k.users ≡ length n.users
+  pub constraints_are : length k.constraints ≡ length n.constraints
   unfolding numbered
-  users_are = sym (length-map k.users (user_from k.classes (holders_of k) (landings_of k) (calls_of k))) ∙ ap (λ (o : Numbered). length o.users) is
+  constraints_are = sym (length-map k.constraints (constraint_from k.classes (holders_of k) (catch_chains_of k) (calls_of k))) ∙ ap (λ (o : Numbered). length o.constraints) is
 
   -- a name
   pub name_full : (name : List ℕ) → (StandsNowhere k.classes name × AreTooMany k.classes) ↔ (StandsNowhere n.classes name × AreTooMany n.classes)
@@ -109,34 +109,34 @@ module _ (k : Kept) (n : Numbered) (is : numbered k ≡ n) (sound : IsSound k) w
       (subst (λ (o : Numbered). AreApart o → IsHolderAt o place h → (list_any (same_places place) k.places ≡ false) ↔ StandsNowhere o.holders h) is
       (λ a there. place_new a place h there) apart at)
 
-  -- a user
-  user_new : (user : User) (u : ItemUser) → IsUserAt (numbered k) user u → StandsNowhere (numbered k).users u → list_any (same_users user) k.users ≡ false
+  -- a constraint
+  constraint_new : (constraint : Constraint) (u : ItemConstraint) → IsConstraintAt (numbered k) constraint u → StandsNowhere (numbered k).constraints u → list_any (same_constraints constraint) k.constraints ≡ false
   unfolding numbered
-  user_new user u at =
-      nowhere_new same_users exact_users user_itself (IsUserAt (numbered k)) (user_from k.classes (holders_of k) (landings_of k) (calls_of k))
-      (user_stands (numbered k)) k.users user u at
+  constraint_new constraint u at =
+      nowhere_new same_constraints exact_constraints constraint_itself (IsConstraintAt (numbered k)) (constraint_from k.classes (holders_of k) (catch_chains_of k) (calls_of k))
+      (constraint_stands (numbered k)) k.constraints constraint u at
 
-  pub user_full : (user : User) (u : ItemUser) → IsUserAt n user u → StandsNowhere n.users u × AreTooMany n.users
-      → (list_any (same_users user) k.users ≡ false) × AreTooMany k.users
-  user_full user u at (none, many) =
-      let long = users_are in (
-        subst (λ (o : Numbered). IsUserAt o user u → StandsNowhere o.users u → list_any (same_users user) k.users ≡ false) is (user_new user u) at none,
+  pub constraint_full : (constraint : Constraint) (u : ItemConstraint) → IsConstraintAt n constraint u → StandsNowhere n.constraints u × AreTooMany n.constraints
+      → (list_any (same_constraints constraint) k.constraints ≡ false) × AreTooMany k.constraints
+  constraint_full constraint u at (none, many) =
+      let long = constraints_are in (
+        subst (λ (o : Numbered). IsConstraintAt o constraint u → StandsNowhere o.constraints u → list_any (same_constraints constraint) k.constraints ≡ false) is (constraint_new constraint u) at none,
         omega (arith, long, many),
       )
 
-  user_nowhere : AreApart (numbered k) → AreSingle (numbered k) → (user : User) (u : ItemUser) → IsUserAt (numbered k) user u
-      → list_any (same_users user) k.users ≡ false → StandsNowhere (numbered k).users u
+  constraint_nowhere : AreApart (numbered k) → AreSingle (numbered k) → (constraint : Constraint) (u : ItemConstraint) → IsConstraintAt (numbered k) constraint u
+      → list_any (same_constraints constraint) k.constraints ≡ false → StandsNowhere (numbered k).constraints u
   unfolding numbered
-  user_nowhere apart single user u at =
-      new_nowhere same_users exact_users user_itself (IsUserAt (numbered k)) (user_from k.classes (holders_of k) (landings_of k) (calls_of k))
-      (user_stands (numbered k))
-      (one_user_key (numbered k) apart single) k.users sound.users user u at
+  constraint_nowhere apart single constraint u at =
+      new_nowhere same_constraints exact_constraints constraint_itself (IsConstraintAt (numbered k)) (constraint_from k.classes (holders_of k) (catch_chains_of k) (calls_of k))
+      (constraint_stands (numbered k))
+      (one_constraint_key (numbered k) apart single) k.constraints sound.constraints constraint u at
 
-  pub user_only_new : AreApart n → AreSingle n → (user : User) (u : ItemUser) → IsUserAt n user u
-      → list_any (same_users user) k.users ≡ false → StandsNowhere n.users u
-  user_only_new apart single user u at new =
-      subst (λ (o : Numbered). AreApart o → AreSingle o → IsUserAt o user u → StandsNowhere o.users u) is
-      (λ a b there. user_nowhere a b user u there new) apart single at
+  pub constraint_only_new : AreApart n → AreSingle n → (constraint : Constraint) (u : ItemConstraint) → IsConstraintAt n constraint u
+      → list_any (same_constraints constraint) k.constraints ≡ false → StandsNowhere n.constraints u
+  constraint_only_new apart single constraint u at new =
+      subst (λ (o : Numbered). AreApart o → AreSingle o → IsConstraintAt o constraint u → StandsNowhere o.constraints u) is
+      (λ a b there. constraint_nowhere a b constraint u there new) apart single at
 
 -- ---- the failures of the calls of the tables
 

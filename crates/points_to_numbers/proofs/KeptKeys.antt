@@ -4,11 +4,11 @@ use Rattle.std.specs.List.{slice_get}
 use Rattle.std.proofs.lemmas.Option.{same_Some, slice_get_within}
 use Rattle.list_laws.proofs.Places.{at_map, map_at, push_cases}
 use Rattle.least_sets.specs.Rules.{IsWithoutDoubles}
-use Rattle.points_to_numbers.specs.Numbered.{Extends, Grows, IsNumbered, IsSiteAt, IsHolderAt, IsLandingAt, IsCallAt, IsUserAt}
-use Rattle.points_to_numbers.specs.Kept.{Kept, StandForEach, AreFew, IsSound, numbered, site_from, landing_from, call_from, user_from, sites_of, holders_of, landings_of, calls_of}
+use Rattle.points_to_numbers.specs.Numbered.{Extends, Grows, IsNumbered, IsSiteAt, IsHolderAt, IsCatchChainAt, IsCallAt, IsConstraintAt}
+use Rattle.points_to_numbers.specs.Kept.{Kept, StandForEach, AreFew, IsSound, numbered, site_from, catch_chain_from, call_from, constraint_from, sites_of, holders_of, catch_chains_of, calls_of}
 use Rattle.points_to_rules.specs.Places.{holder_from}
-use Rattle.points_to_numbers.proofs.Standing.{site_stands, holder_stands, landing_stands, call_stands, user_stands}
-use Rattle.points_to_numbers.proofs.Growing.{longer_site, longer_holder, longer_landing, longer_call, longer_user, grown_site, grown_holder, grown_landing, grown_call, grown_user}
+use Rattle.points_to_numbers.proofs.Standing.{site_stands, holder_stands, catch_chain_stands, call_stands, constraint_stands}
+use Rattle.points_to_numbers.proofs.Growing.{longer_site, longer_holder, longer_catch_chain, longer_call, longer_constraint, grown_site, grown_holder, grown_catch_chain, grown_call, grown_constraint}
 use Rattle.points_to_numbers.proofs.AddedKeys.{IsAdded, extends_same, pushed_longer}
 
 -- There are the old keys and more, and something stands for each.
@@ -90,9 +90,9 @@ pub record IsMore (k m : Kept) : Type 0 where
   pub classes : Extends k.classes m.classes
   pub sites : AreMore (IsSiteAt (numbered k)) k.sites m.sites
   pub places : AreMore (IsHolderAt (numbered k)) k.places m.places
-  pub landings : AreMore (IsLandingAt (numbered k)) k.landings m.landings
+  pub catch_chains : AreMore (IsCatchChainAt (numbered k)) k.catch_chains m.catch_chains
   pub calls : AreMore (IsCallAt (numbered k)) k.calls m.calls
-  pub users : AreMore (IsUserAt (numbered k)) k.users m.users
+  pub constraints : AreMore (IsConstraintAt (numbered k)) k.constraints m.constraints
 
 pub more_grows : (k m : Kept) → IsMore k m → Grows (numbered k) (numbered m)
 unfolding numbered
@@ -102,13 +102,13 @@ more_grows k m more =
     (λ key s is. site_stands o key s (longer_site n o more.classes key s is)) k.sites m.sites more.sites in
     let holders = grown (IsHolderAt n) (holder_from (sites_of k)) (holder_from (sites_of m)) (holder_stands n)
     (λ place h is. holder_stands o place h (longer_holder n o sites place h is)) k.places m.places more.places in
-    let landings = grown (IsLandingAt n) (landing_from (holders_of k)) (landing_from (holders_of m)) (landing_stands n)
-    (λ entry l is. landing_stands o entry l (longer_landing n o holders entry l is)) k.landings m.landings more.landings in
-    let calls = grown (IsCallAt n) (call_from (holders_of k) (landings_of k)) (call_from (holders_of m) (landings_of m)) (call_stands n)
-    (λ entry c is. call_stands o entry c (longer_call n o holders landings entry c is)) k.calls m.calls more.calls in
-    let users = grown (IsUserAt n) (user_from k.classes (holders_of k) (landings_of k) (calls_of k)) (user_from m.classes (holders_of m) (landings_of m) (calls_of m)) (user_stands n)
-    (λ user u is. user_stands o user u (longer_user n o more.classes holders landings calls user u is)) k.users m.users more.users in
-    record { classes = more.classes; sites = sites; holders = holders; landings = landings; calls = calls; users = users }
+    let catch_chains = grown (IsCatchChainAt n) (catch_chain_from (holders_of k)) (catch_chain_from (holders_of m)) (catch_chain_stands n)
+    (λ entry l is. catch_chain_stands o entry l (longer_catch_chain n o holders entry l is)) k.catch_chains m.catch_chains more.catch_chains in
+    let calls = grown (IsCallAt n) (call_from (holders_of k) (catch_chains_of k)) (call_from (holders_of m) (catch_chains_of m)) (call_stands n)
+    (λ entry c is. call_stands o entry c (longer_call n o holders catch_chains entry c is)) k.calls m.calls more.calls in
+    let constraints = grown (IsConstraintAt n) (constraint_from k.classes (holders_of k) (catch_chains_of k) (calls_of k)) (constraint_from m.classes (holders_of m) (catch_chains_of m) (calls_of m)) (constraint_stands n)
+    (λ constraint u is. constraint_stands o constraint u (longer_constraint n o more.classes holders catch_chains calls constraint u is)) k.constraints m.constraints more.constraints in
+    record { classes = more.classes; sites = sites; holders = holders; catch_chains = catch_chains; calls = calls; constraints = constraints }
 
 pub more_sound : (k m : Kept) → IsMore k m → IsWithoutDoubles m.sites → IsWithoutDoubles m.places → AreFew m → IsSound m
 more_sound k m more sites places few =
@@ -116,9 +116,9 @@ more_sound k m more sites places few =
     record {
       sites = stand_too (IsSiteAt n) (IsSiteAt o) (grown_site n o grows) m.sites more.sites.stand;
       places = stand_too (IsHolderAt n) (IsHolderAt o) (grown_holder n o grows) m.places more.places.stand;
-      landings = stand_too (IsLandingAt n) (IsLandingAt o) (grown_landing n o grows) m.landings more.landings.stand;
+      catch_chains = stand_too (IsCatchChainAt n) (IsCatchChainAt o) (grown_catch_chain n o grows) m.catch_chains more.catch_chains.stand;
       calls = stand_too (IsCallAt n) (IsCallAt o) (grown_call n o grows) m.calls more.calls.stand;
-      users = stand_too (IsUserAt n) (IsUserAt o) (grown_user n o grows) m.users more.users.stand;
+      constraints = stand_too (IsConstraintAt n) (IsConstraintAt o) (grown_constraint n o grows) m.constraints more.constraints.stand;
       sites_apart = sites;
       places_apart = places;
       few = few;

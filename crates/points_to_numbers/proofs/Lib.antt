@@ -11,5 +11,5 @@ pub mod Adding
 pub mod AddedItems
 pub mod Making
 pub mod KnownPlaces
-pub mod OneUser
+pub mod OneConstraint
 pub mod FreshKeys

@@ -4,13 +4,13 @@ use Rattle.std.specs.Result.{OnOk}
 use Rattle.std.proofs.lemmas.Option.{slice_get-get_or, same_Some}
 use Rattle.jvm_model.specs.declared.site.Site.{Site}
 use Rattle.points_to_rules.specs.Facts.{Holder, may_hold}
-use Rattle.points_to_constraints.specs.Items.{User as ItemUser, Item as RuleItem, known, used}
+use Rattle.points_to_constraints.specs.Items.{Constraint as ItemConstraint, Item as RuleItem, known, constrained}
 use Rattle.points_to_numbers.specs.declared.item.Item.{Item}
-use Rattle.points_to_numbers.specs.Numbered.{Numbered, Grows, IsHolderAt, IsUserAt}
+use Rattle.points_to_numbers.specs.Numbered.{Numbered, Grows, IsHolderAt, IsConstraintAt}
 use Rattle.points_to_numbers.specs.Steps.{IsItemAt, Adds, Makes, IsUseOf, IsHoldingOf}
 use Rattle.points_to_rules.specs.declared.place.Place.{Place}
-use Rattle.points_to_numbers.specs.declared.keys.User.{User}
-use Rattle.points_to_numbers.proofs.AddedItems.{adds_used, adds_held}
+use Rattle.points_to_numbers.specs.declared.keys.Constraint.{Constraint}
+use Rattle.points_to_numbers.proofs.AddedItems.{adds_constrained, adds_held}
 use Rattle.points_to_numbers.proofs.Adding.{adds_none, adds_only, adds_same, adds_both, OfOne, adds_start, adds_next, adds_all, OfOneBelow, adds_below_start, adds_below_next}
 use Rattle.points_to_numbers.proofs.Growing.{grows_same, grows_on}
 
@@ -41,10 +41,10 @@ makes_both n m o P Q a b c first second = record {
 pub makes_grown : (n m o : Numbered) (P : RuleItem → Type 0) (a b : List Item) → Grows n m → length m.calls ≡ length n.calls → Makes m o P a b → Makes n o P a b
 makes_grown n m o P a b grows calls makes = record { grows = grows_on n m o grows makes.grows; calls = makes.calls ∙ calls; adds = makes.adds }
 
--- one use, by the things that stand for the place and the user
-pub makes_used : (n m : Numbered) (place : Place) (user : User) (h : Holder) (u : ItemUser) (a b : List Item) → IsHolderAt n place h → IsUserAt n user u
-    → Grows n m → length m.calls ≡ length n.calls → Adds m (IsUseOf n place user) a b → Makes n m (λ x. x ≡ used h u) a b
-makes_used n m place user h u a b is_h is_u grows calls adds = record { grows = grows; calls = calls; adds = adds_used n m place user h u a b is_h is_u adds }
+-- one use, by the things that stand for the place and the constraint
+pub makes_constrained : (n m : Numbered) (place : Place) (constraint : Constraint) (h : Holder) (u : ItemConstraint) (a b : List Item) → IsHolderAt n place h → IsConstraintAt n constraint u
+    → Grows n m → length m.calls ≡ length n.calls → Adds m (IsUseOf n place constraint) a b → Makes n m (λ x. x ≡ constrained h u) a b
+makes_constrained n m place constraint h u a b is_h is_u grows calls adds = record { grows = grows; calls = calls; adds = adds_constrained n m place constraint h u a b is_h is_u adds }
 
 -- one holding, by what stands for the place
 pub makes_held : (n m : Numbered) (place : Place) (h : Holder) (s : Site) (a b : List Item) → IsHolderAt n place h

@@ -6,19 +6,19 @@ use Rattle.program_index.specs.TextNumbers.{Extends as TextsExtend}
 use Rattle.program_index.proofs.TextPlaces.{stands_longer}
 use Rattle.indexmap.specs.IndexSet.{insert_key}
 use Rattle.points_to_rules.specs.Facts.{Holder}
-use Rattle.points_to_constraints.specs.Items.{Landing as ItemLanding, CallSite as ItemCallSite, User as ItemUser}
-use Rattle.points_to_numbers.specs.declared.entries.Landing.{Landing}
+use Rattle.points_to_constraints.specs.Items.{CatchChain as ItemCatchChain, CallSite as ItemCallSite, Constraint as ItemConstraint}
+use Rattle.points_to_numbers.specs.declared.entries.CatchChain.{CatchChain}
 use Rattle.points_to_numbers.specs.declared.entries.CallSite.{CallSite}
 use Rattle.points_to_numbers.specs.declared.keys.SiteKey.{SiteKey}
 use Rattle.points_to_rules.specs.declared.place.Place.{Place}
-use Rattle.points_to_numbers.specs.declared.keys.User.{User}
-use Rattle.points_to_numbers.specs.Numbered.{Numbered, Extends, Grows, IsNumbered, IsSiteAt, IsHolderAt, IsLandingAt, IsCallAt, IsUserAt}
-use Rattle.points_to_numbers.specs.Kept.{Kept, IsSound, numbered, call_from, holders_of, landings_of}
+use Rattle.points_to_numbers.specs.declared.keys.Constraint.{Constraint}
+use Rattle.points_to_numbers.specs.Numbered.{Numbered, Extends, Grows, IsNumbered, IsSiteAt, IsHolderAt, IsCatchChainAt, IsCallAt, IsConstraintAt}
+use Rattle.points_to_numbers.specs.Kept.{Kept, IsSound, numbered, call_from, holders_of, catch_chains_of}
 use Rattle.points_to_numbers.proofs.AddedKeys.{inserted}
-use Rattle.points_to_numbers.proofs.ExactKeys.{same_sites, same_users, site_itself, user_itself, exact_sites, exact_users}
+use Rattle.points_to_numbers.proofs.ExactKeys.{same_sites, same_constraints, site_itself, constraint_itself, exact_sites, exact_constraints}
 use Rattle.points_to_rules.proofs.ExactPlaces.{same_places, place_itself, exact_places}
 use Rattle.points_to_numbers.proofs.KeptKeys.{more_grows}
-use Rattle.points_to_numbers.proofs.Taking.{IsTaken, taken_at, has_site, classes_more, site_taken, holder_taken, landing_taken, call_taken, user_taken}
+use Rattle.points_to_numbers.proofs.Taking.{IsTaken, taken_at, has_site, classes_more, site_taken, holder_taken, catch_chain_taken, call_taken, constraint_taken}
 
 -- names more: what stood there stands there
 pub longer_texts : (old new : List (List ℕ)) → TextsExtend old new → Extends old new
@@ -42,19 +42,19 @@ module _ (k : Kept) (n : Numbered) (is : numbered k ≡ n) (sound : IsSound k) w
       let added = inserted same_places exact_places place_itself k.places places place number new stored in
       taken_at IsHolderAt (λ o. o.holders) k (record k { places = places }) n place number is (holder_taken k sound places place number room added) stands
 
-  pub user_numbered : (users : List User) (user : User) (number : ℕ) → users ≡ insert_key same_users k.users user → length users < 2 ^ 32
-      → (x : User) × (slice_get users number ≡ Some x) × (same_users user x ≡ true) → (u : ItemUser) × IsUserAt n user u
-      → IsTaken IsUserAt (λ o. o.users) n (record k { users = users }) user number
-  user_numbered users user number new room stored stands =
-      let added = inserted same_users exact_users user_itself k.users users user number new stored in
-      taken_at IsUserAt (λ o. o.users) k (record k { users = users }) n user number is (user_taken k sound users user number room added) stands
+  pub constraint_numbered : (constraints : List Constraint) (constraint : Constraint) (number : ℕ) → constraints ≡ insert_key same_constraints k.constraints constraint → length constraints < 2 ^ 32
+      → (x : Constraint) × (slice_get constraints number ≡ Some x) × (same_constraints constraint x ≡ true) → (u : ItemConstraint) × IsConstraintAt n constraint u
+      → IsTaken IsConstraintAt (λ o. o.constraints) n (record k { constraints = constraints }) constraint number
+  constraint_numbered constraints constraint number new room stored stands =
+      let added = inserted same_constraints exact_constraints constraint_itself k.constraints constraints constraint number new stored in
+      taken_at IsConstraintAt (λ o. o.constraints) k (record k { constraints = constraints }) n constraint number is (constraint_taken k sound constraints constraint number room added) stands
 
-  pub landing_numbered : (landings : List Landing) (entry : Landing) (number : ℕ) → landings ≡ k.landings ++ entry ∷ [] → number ≡ length k.landings → (l : ItemLanding) × IsLandingAt n entry l
-      → IsTaken IsLandingAt (λ o. o.landings) n (record k { landings = landings }) entry number
-  landing_numbered landings entry number new last stands =
-      let taken = taken_at IsLandingAt (λ o. o.landings) k (record k { landings = k.landings ++ entry ∷ [] }) n entry (length k.landings) is (landing_taken k sound entry) stands in
-      subst (λ (all : List Landing). IsTaken IsLandingAt (λ o. o.landings) n (record k { landings = all }) entry number) (sym new)
-      (subst (λ (place : ℕ). IsTaken IsLandingAt (λ o. o.landings) n (record k { landings = k.landings ++ entry ∷ [] }) entry place) (sym last) taken)
+  pub catch_chain_numbered : (catch_chains : List CatchChain) (entry : CatchChain) (number : ℕ) → catch_chains ≡ k.catch_chains ++ entry ∷ [] → number ≡ length k.catch_chains → (l : ItemCatchChain) × IsCatchChainAt n entry l
+      → IsTaken IsCatchChainAt (λ o. o.catch_chains) n (record k { catch_chains = catch_chains }) entry number
+  catch_chain_numbered catch_chains entry number new last stands =
+      let taken = taken_at IsCatchChainAt (λ o. o.catch_chains) k (record k { catch_chains = k.catch_chains ++ entry ∷ [] }) n entry (length k.catch_chains) is (catch_chain_taken k sound entry) stands in
+      subst (λ (all : List CatchChain). IsTaken IsCatchChainAt (λ o. o.catch_chains) n (record k { catch_chains = all }) entry number) (sym new)
+      (subst (λ (place : ℕ). IsTaken IsCatchChainAt (λ o. o.catch_chains) n (record k { catch_chains = k.catch_chains ++ entry ∷ [] }) entry place) (sym last) taken)
 
   pub call_numbered : (calls : List CallSite) (entry : CallSite) (number : ℕ) → calls ≡ k.calls ++ entry ∷ [] → number ≡ length k.calls → (c : ItemCallSite) × IsCallAt n entry c
       → IsTaken IsCallAt (λ o. o.calls) n (record k { calls = calls }) entry number
@@ -69,17 +69,17 @@ module _ (k : Kept) (n : Numbered) (is : numbered k ≡ n) (sound : IsSound k) w
   pub calls_stay : (m : Kept) → m.calls ≡ k.calls → length (numbered m).calls ≡ length n.calls
   unfolding numbered
   calls_stay m same =
-      length-map m.calls (call_from (holders_of m) (landings_of m)) ∙ ap length same ∙ sym (length-map k.calls (call_from (holders_of k) (landings_of k)))
+      length-map m.calls (call_from (holders_of m) (catch_chains_of m)) ∙ ap length same ∙ sym (length-map k.calls (call_from (holders_of k) (catch_chains_of k)))
       ∙ ap (λ (o : Numbered). length o.calls) is
 
   -- as many as are kept
   pub calls_are : length k.calls ≡ length n.calls
   unfolding numbered
-  calls_are = sym (length-map k.calls (call_from (holders_of k) (landings_of k))) ∙ ap (λ (o : Numbered). length o.calls) is
+  calls_are = sym (length-map k.calls (call_from (holders_of k) (catch_chains_of k))) ∙ ap (λ (o : Numbered). length o.calls) is
 
   -- one more where one is pushed
   pub calls_pushed : (calls : List CallSite) (entry : CallSite) → calls ≡ k.calls ++ entry ∷ [] → length (numbered (record k { calls = calls })).calls ≡ length n.calls + 1
   unfolding numbered
   calls_pushed calls entry new =
       let m = record k { calls = calls } in
-      length-map calls (call_from (holders_of m) (landings_of m)) ∙ ap length new ∙ length_push k.calls entry ∙ ap (λ (count : ℕ). count + 1) calls_are
+      length-map calls (call_from (holders_of m) (catch_chains_of m)) ∙ ap length new ∙ length_push k.calls entry ∙ ap (λ (count : ℕ). count + 1) calls_are

@@ -5,16 +5,16 @@ use Rattle.std.specs.Option.{option_copied, IsSome}
 use Rattle.std.proofs.lemmas.Option.{none-some}
 use Rattle.jvm_model.specs.declared.site.Site.{Site}
 use Rattle.points_to_rules.specs.Facts.{Holder}
-use Rattle.points_to_constraints.specs.Items.{Landing as ItemLanding, CallSite as ItemCallSite, User as ItemUser}
-use Rattle.points_to_numbers.specs.declared.entries.Landing.{Landing}
+use Rattle.points_to_constraints.specs.Items.{CatchChain as ItemCatchChain, CallSite as ItemCallSite, Constraint as ItemConstraint}
+use Rattle.points_to_numbers.specs.declared.entries.CatchChain.{CatchChain}
 use Rattle.points_to_numbers.specs.declared.entries.CallSite.{CallSite}
 use Rattle.points_to_numbers.specs.declared.keys.SiteKey.{SiteKey}
 use Rattle.points_to_rules.specs.declared.place.Place.{Place}
-use Rattle.points_to_numbers.specs.declared.keys.User.{User}
-use Rattle.points_to_numbers.specs.Numbered.{Numbered, IsNumbered, IsSiteAt, IsHolderAt, IsLandingAt, IsCallAt, IsUserAt}
-use Rattle.points_to_numbers.specs.Kept.{Kept, IsSound, numbered, site_from, landing_from, call_from, user_from, sites_of, holders_of, landings_of, calls_of}
+use Rattle.points_to_numbers.specs.declared.keys.Constraint.{Constraint}
+use Rattle.points_to_numbers.specs.Numbered.{Numbered, IsNumbered, IsSiteAt, IsHolderAt, IsCatchChainAt, IsCallAt, IsConstraintAt}
+use Rattle.points_to_numbers.specs.Kept.{Kept, IsSound, numbered, site_from, catch_chain_from, call_from, constraint_from, sites_of, holders_of, catch_chains_of, calls_of}
 use Rattle.points_to_rules.specs.Places.{holder_from}
-use Rattle.points_to_numbers.proofs.Standing.{site_stands, holder_stands, landing_stands, call_stands, user_stands}
+use Rattle.points_to_numbers.proofs.Standing.{site_stands, holder_stands, catch_chain_stands, call_stands, constraint_stands}
 use Rattle.points_to_numbers.proofs.KeptKeys.{read_at, within_at}
 
 module _ (k : Kept) (sound : IsSound k) where
@@ -34,29 +34,29 @@ module _ (k : Kept) (sound : IsSound k) where
   unfolding numbered
   holder_within = within_at (IsHolderAt (numbered k)) (holder_from (sites_of k)) (holder_stands (numbered k)) k.places
 
-  landing_read : (number : ℕ) (entry : Landing) → slice_get k.landings number ≡ Some entry → (l : ItemLanding) → slice_get (numbered k).landings number ≡ Some l → IsLandingAt (numbered k) entry l
+  catch_chain_read : (number : ℕ) (entry : CatchChain) → slice_get k.catch_chains number ≡ Some entry → (l : ItemCatchChain) → slice_get (numbered k).catch_chains number ≡ Some l → IsCatchChainAt (numbered k) entry l
   unfolding numbered
-  landing_read = read_at (IsLandingAt (numbered k)) (landing_from (holders_of k)) (landing_stands (numbered k)) k.landings sound.landings
+  catch_chain_read = read_at (IsCatchChainAt (numbered k)) (catch_chain_from (holders_of k)) (catch_chain_stands (numbered k)) k.catch_chains sound.catch_chains
 
-  landing_within : (number : ℕ) → IsNumbered (numbered k).landings number → number < length k.landings
+  catch_chain_within : (number : ℕ) → IsNumbered (numbered k).catch_chains number → number < length k.catch_chains
   unfolding numbered
-  landing_within = within_at (IsLandingAt (numbered k)) (landing_from (holders_of k)) (landing_stands (numbered k)) k.landings
+  catch_chain_within = within_at (IsCatchChainAt (numbered k)) (catch_chain_from (holders_of k)) (catch_chain_stands (numbered k)) k.catch_chains
 
   call_read : (number : ℕ) (entry : CallSite) → slice_get k.calls number ≡ Some entry → (c : ItemCallSite) → slice_get (numbered k).calls number ≡ Some c → IsCallAt (numbered k) entry c
   unfolding numbered
-  call_read = read_at (IsCallAt (numbered k)) (call_from (holders_of k) (landings_of k)) (call_stands (numbered k)) k.calls sound.calls
+  call_read = read_at (IsCallAt (numbered k)) (call_from (holders_of k) (catch_chains_of k)) (call_stands (numbered k)) k.calls sound.calls
 
   call_within : (number : ℕ) → IsNumbered (numbered k).calls number → number < length k.calls
   unfolding numbered
-  call_within = within_at (IsCallAt (numbered k)) (call_from (holders_of k) (landings_of k)) (call_stands (numbered k)) k.calls
+  call_within = within_at (IsCallAt (numbered k)) (call_from (holders_of k) (catch_chains_of k)) (call_stands (numbered k)) k.calls
 
-  user_read : (number : ℕ) (user : User) → slice_get k.users number ≡ Some user → (u : ItemUser) → slice_get (numbered k).users number ≡ Some u → IsUserAt (numbered k) user u
+  constraint_read : (number : ℕ) (constraint : Constraint) → slice_get k.constraints number ≡ Some constraint → (u : ItemConstraint) → slice_get (numbered k).constraints number ≡ Some u → IsConstraintAt (numbered k) constraint u
   unfolding numbered
-  user_read = read_at (IsUserAt (numbered k)) (user_from k.classes (holders_of k) (landings_of k) (calls_of k)) (user_stands (numbered k)) k.users sound.users
+  constraint_read = read_at (IsConstraintAt (numbered k)) (constraint_from k.classes (holders_of k) (catch_chains_of k) (calls_of k)) (constraint_stands (numbered k)) k.constraints sound.constraints
 
-  user_within : (number : ℕ) → IsNumbered (numbered k).users number → number < length k.users
+  constraint_within : (number : ℕ) → IsNumbered (numbered k).constraints number → number < length k.constraints
   unfolding numbered
-  user_within = within_at (IsUserAt (numbered k)) (user_from k.classes (holders_of k) (landings_of k) (calls_of k)) (user_stands (numbered k)) k.users
+  constraint_within = within_at (IsConstraintAt (numbered k)) (constraint_from k.classes (holders_of k) (catch_chains_of k) (calls_of k)) (constraint_stands (numbered k)) k.constraints
 
 -- ---- by lists that are those of the tables
 
@@ -73,11 +73,11 @@ module _ (k : Kept) (n : Numbered) (is : numbered k ≡ n) (sound : IsSound k) w
   pub has_holder : (number : ℕ) → IsNumbered n.holders number → number < length k.places
   has_holder = subst (λ (o : Numbered). (number : ℕ) → IsNumbered o.holders number → number < length k.places) is (holder_within k sound)
 
-  pub landing_at : (number : ℕ) (entry : Landing) → slice_get k.landings number ≡ Some entry → (l : ItemLanding) → slice_get n.landings number ≡ Some l → IsLandingAt n entry l
-  landing_at number entry at = subst (λ (o : Numbered). (l : ItemLanding) → slice_get o.landings number ≡ Some l → IsLandingAt o entry l) is (landing_read k sound number entry at)
+  pub catch_chain_at : (number : ℕ) (entry : CatchChain) → slice_get k.catch_chains number ≡ Some entry → (l : ItemCatchChain) → slice_get n.catch_chains number ≡ Some l → IsCatchChainAt n entry l
+  catch_chain_at number entry at = subst (λ (o : Numbered). (l : ItemCatchChain) → slice_get o.catch_chains number ≡ Some l → IsCatchChainAt o entry l) is (catch_chain_read k sound number entry at)
 
-  pub has_landing : (number : ℕ) → IsNumbered n.landings number → number < length k.landings
-  has_landing = subst (λ (o : Numbered). (number : ℕ) → IsNumbered o.landings number → number < length k.landings) is (landing_within k sound)
+  pub has_catch_chain : (number : ℕ) → IsNumbered n.catch_chains number → number < length k.catch_chains
+  has_catch_chain = subst (λ (o : Numbered). (number : ℕ) → IsNumbered o.catch_chains number → number < length k.catch_chains) is (catch_chain_within k sound)
 
   pub call_at : (number : ℕ) (entry : CallSite) → slice_get k.calls number ≡ Some entry → (c : ItemCallSite) → slice_get n.calls number ≡ Some c → IsCallAt n entry c
   call_at number entry at = subst (λ (o : Numbered). (c : ItemCallSite) → slice_get o.calls number ≡ Some c → IsCallAt o entry c) is (call_read k sound number entry at)
@@ -85,11 +85,11 @@ module _ (k : Kept) (n : Numbered) (is : numbered k ≡ n) (sound : IsSound k) w
   pub has_call : (number : ℕ) → IsNumbered n.calls number → number < length k.calls
   has_call = subst (λ (o : Numbered). (number : ℕ) → IsNumbered o.calls number → number < length k.calls) is (call_within k sound)
 
-  pub user_at : (number : ℕ) (user : User) → slice_get k.users number ≡ Some user → (u : ItemUser) → slice_get n.users number ≡ Some u → IsUserAt n user u
-  user_at number user at = subst (λ (o : Numbered). (u : ItemUser) → slice_get o.users number ≡ Some u → IsUserAt o user u) is (user_read k sound number user at)
+  pub constraint_at : (number : ℕ) (constraint : Constraint) → slice_get k.constraints number ≡ Some constraint → (u : ItemConstraint) → slice_get n.constraints number ≡ Some u → IsConstraintAt n constraint u
+  constraint_at number constraint at = subst (λ (o : Numbered). (u : ItemConstraint) → slice_get o.constraints number ≡ Some u → IsConstraintAt o constraint u) is (constraint_read k sound number constraint at)
 
-  pub has_user : (number : ℕ) → IsNumbered n.users number → number < length k.users
-  has_user = subst (λ (o : Numbered). (number : ℕ) → IsNumbered o.users number → number < length k.users) is (user_within k sound)
+  pub has_constraint : (number : ℕ) → IsNumbered n.constraints number → number < length k.constraints
+  has_constraint = subst (λ (o : Numbered). (number : ℕ) → IsNumbered o.constraints number → number < length k.constraints) is (constraint_within k sound)
 
 -- ---- names
 

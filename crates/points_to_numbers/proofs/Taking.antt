@@ -4,17 +4,17 @@ use Rattle.std.specs.List.{slice_get}
 use Rattle.list_laws.proofs.Places.{pushed_at}
 use Rattle.jvm_model.specs.declared.site.Site.{Site}
 use Rattle.points_to_rules.specs.Facts.{Holder}
-use Rattle.points_to_constraints.specs.Items.{Landing as ItemLanding, CallSite as ItemCallSite, User as ItemUser}
-use Rattle.points_to_numbers.specs.declared.entries.Landing.{Landing}
+use Rattle.points_to_constraints.specs.Items.{CatchChain as ItemCatchChain, CallSite as ItemCallSite, Constraint as ItemConstraint}
+use Rattle.points_to_numbers.specs.declared.entries.CatchChain.{CatchChain}
 use Rattle.points_to_numbers.specs.declared.entries.CallSite.{CallSite}
 use Rattle.points_to_numbers.specs.declared.keys.SiteKey.{SiteKey}
 use Rattle.points_to_rules.specs.declared.place.Place.{Place}
-use Rattle.points_to_numbers.specs.declared.keys.User.{User}
-use Rattle.points_to_numbers.specs.Numbered.{Numbered, Extends, Grows, IsNumbered, IsSiteAt, IsHolderAt, IsLandingAt, IsCallAt, IsUserAt}
-use Rattle.points_to_numbers.specs.Kept.{Kept, AreFew, IsSound, numbered, site_from, landing_from, call_from, user_from, sites_of, holders_of, landings_of, calls_of}
+use Rattle.points_to_numbers.specs.declared.keys.Constraint.{Constraint}
+use Rattle.points_to_numbers.specs.Numbered.{Numbered, Extends, Grows, IsNumbered, IsSiteAt, IsHolderAt, IsCatchChainAt, IsCallAt, IsConstraintAt}
+use Rattle.points_to_numbers.specs.Kept.{Kept, AreFew, IsSound, numbered, site_from, catch_chain_from, call_from, constraint_from, sites_of, holders_of, catch_chains_of, calls_of}
 use Rattle.points_to_rules.specs.Places.{holder_from}
-use Rattle.points_to_numbers.proofs.Standing.{site_stands, holder_stands, landing_stands, call_stands, user_stands}
-use Rattle.points_to_numbers.proofs.Growing.{grown_site, grown_holder, grown_landing, grown_call, grown_user}
+use Rattle.points_to_numbers.proofs.Standing.{site_stands, holder_stands, catch_chain_stands, call_stands, constraint_stands}
+use Rattle.points_to_numbers.proofs.Growing.{grown_site, grown_holder, grown_catch_chain, grown_call, grown_constraint}
 use Rattle.points_to_numbers.proofs.AddedKeys.{IsAdded, extends_same}
 use Rattle.points_to_numbers.proofs.KeptKeys.{IsMore, no_more, one_more, one_pushed, at_number, more_grows, more_sound}
 
@@ -36,8 +36,8 @@ has_site n key (name, at) = (
   record { class = at; kind = refl; method = refl; offset = refl },
 )
 
-few_too : (m : Kept) → length m.sites < 2 ^ 32 → length m.places < 2 ^ 32 → length m.users < 2 ^ 32 → AreFew m
-few_too m sites places users = record { sites = sites; places = places; users = users }
+few_too : (m : Kept) → length m.sites < 2 ^ 32 → length m.places < 2 ^ 32 → length m.constraints < 2 ^ 32 → AreFew m
+few_too m sites places constraints = record { sites = sites; places = places; constraints = constraints }
 
 module _ (k : Kept) (sound : IsSound k) where
   -- nothing more is kept
@@ -46,9 +46,9 @@ module _ (k : Kept) (sound : IsSound k) where
     classes = extends_same k.classes;
     sites = no_more (IsSiteAt (numbered k)) k.sites sound.sites;
     places = no_more (IsHolderAt (numbered k)) k.places sound.places;
-    landings = no_more (IsLandingAt (numbered k)) k.landings sound.landings;
+    catch_chains = no_more (IsCatchChainAt (numbered k)) k.catch_chains sound.catch_chains;
     calls = no_more (IsCallAt (numbered k)) k.calls sound.calls;
-    users = no_more (IsUserAt (numbered k)) k.users sound.users;
+    constraints = no_more (IsConstraintAt (numbered k)) k.constraints sound.constraints;
   }
 
   -- names more
@@ -57,15 +57,15 @@ module _ (k : Kept) (sound : IsSound k) where
     classes = longer;
     sites = same.sites;
     places = same.places;
-    landings = same.landings;
+    catch_chains = same.catch_chains;
     calls = same.calls;
-    users = same.users;
+    constraints = same.constraints;
   }
 
   pub classes_sound : (classes : List (List ℕ)) → Extends k.classes classes → IsSound (record k { classes = classes })
   classes_sound classes longer =
       more_sound k (record k { classes = classes }) (classes_more classes longer) sound.sites_apart sound.places_apart
-      (few_too (record k { classes = classes }) sound.few.sites sound.few.places sound.few.users)
+      (few_too (record k { classes = classes }) sound.few.sites sound.few.places sound.few.constraints)
 
   -- a site more
   site_more : (sites : List SiteKey) (key : SiteKey) (number : ℕ) → IsAdded k.sites sites key number → (s : Site) × IsSiteAt (numbered k) key s → IsMore k (record k { sites = sites })
@@ -73,9 +73,9 @@ module _ (k : Kept) (sound : IsSound k) where
     classes = same.classes;
     sites = one_more (IsSiteAt (numbered k)) k.sites sites key number added sound.sites stands;
     places = same.places;
-    landings = same.landings;
+    catch_chains = same.catch_chains;
     calls = same.calls;
-    users = same.users;
+    constraints = same.constraints;
   }
 
   pub site_taken : (sites : List SiteKey) (key : SiteKey) (number : ℕ) → length sites < 2 ^ 32 → IsAdded k.sites sites key number → (s : Site) × IsSiteAt (numbered k) key s
@@ -86,7 +86,7 @@ module _ (k : Kept) (sound : IsSound k) where
       let more = site_more sites key number added stands in
       let grows = more_grows k m more in
       record {
-        sound = more_sound k m more (added.apart sound.sites_apart) sound.places_apart (few_too m room sound.few.places sound.few.users);
+        sound = more_sound k m more (added.apart sound.sites_apart) sound.places_apart (few_too m room sound.few.places sound.few.constraints);
         grows = grows;
         stands = λ s is. at_number (IsSiteAt (numbered m)) (site_from m.classes) (site_stands (numbered m)) m.sites number key s added.stands
             (grown_site (numbered k) (numbered m) grows key s is);
@@ -98,9 +98,9 @@ module _ (k : Kept) (sound : IsSound k) where
     classes = same.classes;
     sites = same.sites;
     places = one_more (IsHolderAt (numbered k)) k.places places place number added sound.places stands;
-    landings = same.landings;
+    catch_chains = same.catch_chains;
     calls = same.calls;
-    users = same.users;
+    constraints = same.constraints;
   }
 
   pub holder_taken : (places : List Place) (place : Place) (number : ℕ) → length places < 2 ^ 32 → IsAdded k.places places place number → (h : Holder) × IsHolderAt (numbered k) place h
@@ -111,35 +111,35 @@ module _ (k : Kept) (sound : IsSound k) where
       let more = holder_more places place number added stands in
       let grows = more_grows k m more in
       record {
-        sound = more_sound k m more sound.sites_apart (added.apart sound.places_apart) (few_too m sound.few.sites room sound.few.users);
+        sound = more_sound k m more sound.sites_apart (added.apart sound.places_apart) (few_too m sound.few.sites room sound.few.constraints);
         grows = grows;
         stands = λ h is. at_number (IsHolderAt (numbered m)) (holder_from (sites_of m)) (holder_stands (numbered m)) m.places number place h added.stands
             (grown_holder (numbered k) (numbered m) grows place h is);
       }
 
-  -- a landing more
-  landing_more : (entry : Landing) → (l : ItemLanding) × IsLandingAt (numbered k) entry l → IsMore k (record k { landings = k.landings ++ entry ∷ [] })
-  landing_more entry stands = record {
+  -- a catch chain more
+  catch_chain_more : (entry : CatchChain) → (l : ItemCatchChain) × IsCatchChainAt (numbered k) entry l → IsMore k (record k { catch_chains = k.catch_chains ++ entry ∷ [] })
+  catch_chain_more entry stands = record {
     classes = same.classes;
     sites = same.sites;
     places = same.places;
-    landings = one_pushed (IsLandingAt (numbered k)) k.landings entry sound.landings stands;
+    catch_chains = one_pushed (IsCatchChainAt (numbered k)) k.catch_chains entry sound.catch_chains stands;
     calls = same.calls;
-    users = same.users;
+    constraints = same.constraints;
   }
 
-  pub landing_taken : (entry : Landing) → (l : ItemLanding) × IsLandingAt (numbered k) entry l
-      → IsTaken IsLandingAt (λ n. n.landings) (numbered k) (record k { landings = k.landings ++ entry ∷ [] }) entry (length k.landings)
+  pub catch_chain_taken : (entry : CatchChain) → (l : ItemCatchChain) × IsCatchChainAt (numbered k) entry l
+      → IsTaken IsCatchChainAt (λ n. n.catch_chains) (numbered k) (record k { catch_chains = k.catch_chains ++ entry ∷ [] }) entry (length k.catch_chains)
   unfolding numbered
-  landing_taken entry stands =
-      let m = record k { landings = k.landings ++ entry ∷ [] } in
-      let more = landing_more entry stands in
+  catch_chain_taken entry stands =
+      let m = record k { catch_chains = k.catch_chains ++ entry ∷ [] } in
+      let more = catch_chain_more entry stands in
       let grows = more_grows k m more in
       record {
-        sound = more_sound k m more sound.sites_apart sound.places_apart (few_too m sound.few.sites sound.few.places sound.few.users);
+        sound = more_sound k m more sound.sites_apart sound.places_apart (few_too m sound.few.sites sound.few.places sound.few.constraints);
         grows = grows;
-        stands = λ l is. at_number (IsLandingAt (numbered m)) (landing_from (holders_of m)) (landing_stands (numbered m)) m.landings (length k.landings) entry l (pushed_at k.landings entry)
-            (grown_landing (numbered k) (numbered m) grows entry l is);
+        stands = λ l is. at_number (IsCatchChainAt (numbered m)) (catch_chain_from (holders_of m)) (catch_chain_stands (numbered m)) m.catch_chains (length k.catch_chains) entry l (pushed_at k.catch_chains entry)
+            (grown_catch_chain (numbered k) (numbered m) grows entry l is);
       }
 
   -- a call more
@@ -148,9 +148,9 @@ module _ (k : Kept) (sound : IsSound k) where
     classes = same.classes;
     sites = same.sites;
     places = same.places;
-    landings = same.landings;
+    catch_chains = same.catch_chains;
     calls = one_pushed (IsCallAt (numbered k)) k.calls entry sound.calls stands;
-    users = same.users;
+    constraints = same.constraints;
   }
 
   pub call_taken : (entry : CallSite) → (c : ItemCallSite) × IsCallAt (numbered k) entry c
@@ -161,33 +161,33 @@ module _ (k : Kept) (sound : IsSound k) where
       let more = call_more entry stands in
       let grows = more_grows k m more in
       record {
-        sound = more_sound k m more sound.sites_apart sound.places_apart (few_too m sound.few.sites sound.few.places sound.few.users);
+        sound = more_sound k m more sound.sites_apart sound.places_apart (few_too m sound.few.sites sound.few.places sound.few.constraints);
         grows = grows;
-        stands = λ c is. at_number (IsCallAt (numbered m)) (call_from (holders_of m) (landings_of m)) (call_stands (numbered m)) m.calls (length k.calls) entry c (pushed_at k.calls entry)
+        stands = λ c is. at_number (IsCallAt (numbered m)) (call_from (holders_of m) (catch_chains_of m)) (call_stands (numbered m)) m.calls (length k.calls) entry c (pushed_at k.calls entry)
             (grown_call (numbered k) (numbered m) grows entry c is);
       }
 
-  -- a user more
-  user_more : (users : List User) (user : User) (number : ℕ) → IsAdded k.users users user number → (u : ItemUser) × IsUserAt (numbered k) user u → IsMore k (record k { users = users })
-  user_more users user number added stands = record {
+  -- a constraint more
+  constraint_more : (constraints : List Constraint) (constraint : Constraint) (number : ℕ) → IsAdded k.constraints constraints constraint number → (u : ItemConstraint) × IsConstraintAt (numbered k) constraint u → IsMore k (record k { constraints = constraints })
+  constraint_more constraints constraint number added stands = record {
     classes = same.classes;
     sites = same.sites;
     places = same.places;
-    landings = same.landings;
+    catch_chains = same.catch_chains;
     calls = same.calls;
-    users = one_more (IsUserAt (numbered k)) k.users users user number added sound.users stands;
+    constraints = one_more (IsConstraintAt (numbered k)) k.constraints constraints constraint number added sound.constraints stands;
   }
 
-  pub user_taken : (users : List User) (user : User) (number : ℕ) → length users < 2 ^ 32 → IsAdded k.users users user number → (u : ItemUser) × IsUserAt (numbered k) user u
-      → IsTaken IsUserAt (λ n. n.users) (numbered k) (record k { users = users }) user number
+  pub constraint_taken : (constraints : List Constraint) (constraint : Constraint) (number : ℕ) → length constraints < 2 ^ 32 → IsAdded k.constraints constraints constraint number → (u : ItemConstraint) × IsConstraintAt (numbered k) constraint u
+      → IsTaken IsConstraintAt (λ n. n.constraints) (numbered k) (record k { constraints = constraints }) constraint number
   unfolding numbered
-  user_taken users user number room added stands =
-      let m = record k { users = users } in
-      let more = user_more users user number added stands in
+  constraint_taken constraints constraint number room added stands =
+      let m = record k { constraints = constraints } in
+      let more = constraint_more constraints constraint number added stands in
       let grows = more_grows k m more in
       record {
         sound = more_sound k m more sound.sites_apart sound.places_apart (few_too m sound.few.sites sound.few.places room);
         grows = grows;
-        stands = λ u is. at_number (IsUserAt (numbered m)) (user_from m.classes (holders_of m) (landings_of m) (calls_of m)) (user_stands (numbered m)) m.users number user u added.stands
-            (grown_user (numbered k) (numbered m) grows user u is);
+        stands = λ u is. at_number (IsConstraintAt (numbered m)) (constraint_from m.classes (holders_of m) (catch_chains_of m) (calls_of m)) (constraint_stands (numbered m)) m.constraints number constraint u added.stands
+            (grown_constraint (numbered k) (numbered m) grows constraint u is);
       }

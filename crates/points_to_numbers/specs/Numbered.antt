@@ -6,24 +6,24 @@ use Rattle.jvm_model.specs.declared.site.Site.{Site}
 use Rattle.least_sets.specs.Rules.{IsWithoutDoubles}
 use Rattle.points_to_rules.specs.Facts.{Holder}
 use Rattle.points_to_rules.specs.Places.{IsHolderIn}
-use Rattle.points_to_constraints.specs.Items.{Arm as ItemArm, Landing as ItemLanding, CallSite as ItemCallSite, User as ItemUser, pass_to, pass_fitting, read_field, write_field, read_elements, write_elements, throw_at, land_at, select}
-use Rattle.points_to_numbers.specs.declared.entries.Arm.{Arm}
-use Rattle.points_to_numbers.specs.declared.entries.Landing.{Landing}
+use Rattle.points_to_constraints.specs.Items.{CatchClause as ItemCatchClause, CatchChain as ItemCatchChain, CallSite as ItemCallSite, Constraint as ItemConstraint, copy_to, filter_to, load_field, store_field, load_elements, store_elements, throw_to, rethrow_to, dispatch}
+use Rattle.points_to_numbers.specs.declared.entries.CatchClause.{CatchClause}
+use Rattle.points_to_numbers.specs.declared.entries.CatchChain.{CatchChain}
 use Rattle.points_to_numbers.specs.declared.entries.CallSite.{CallSite}
 use Rattle.points_to_rules.specs.declared.place.PlaceNo.{PlaceNo}
 use Rattle.points_to_numbers.specs.declared.keys.SiteKey.{SiteKey}
 use Rattle.points_to_rules.specs.declared.place.Place.{Place}
-use Rattle.points_to_numbers.specs.declared.keys.User.{User}
-use Rattle.points_to_numbers.specs.declared.keys.User.TheVariants as users
+use Rattle.points_to_numbers.specs.declared.keys.Constraint.{Constraint}
+use Rattle.points_to_numbers.specs.declared.keys.Constraint.TheVariants as constraints
 
 -- The lists by whose places things are numbered.
 pub record Numbered : Type 0 where
   pub classes : List (List ℕ)
   pub sites : List Site
   pub holders : List Holder
-  pub landings : List ItemLanding
+  pub catch_chains : List ItemCatchChain
   pub calls : List ItemCallSite
-  pub users : List ItemUser
+  pub constraints : List ItemConstraint
 
 -- What stands there stays there.
 abbrev pub Extends : {X : Type 0} → List X → List X → Type 0
@@ -33,9 +33,9 @@ pub record Grows (old new : Numbered) : Type 0 where
   pub classes : Extends old.classes new.classes
   pub sites : Extends old.sites new.sites
   pub holders : Extends old.holders new.holders
-  pub landings : Extends old.landings new.landings
+  pub catch_chains : Extends old.catch_chains new.catch_chains
   pub calls : Extends old.calls new.calls
-  pub users : Extends old.users new.users
+  pub constraints : Extends old.constraints new.constraints
 
 -- ---- what keys stand for
 
@@ -52,25 +52,25 @@ IsHolderAt n place h = IsHolderIn n.sites place h
 abbrev pub IsNumbered : {X : Type 0} → List X → ℕ → Type 0
 IsNumbered {X} list number = (x : X) × (slice_get list number ≡ Some x)
 
-abbrev pub IsUserAt : Numbered → User → ItemUser → Type 0
-IsUserAt n (users.PassTo to) u = (h : Holder) × (slice_get n.holders to.0 ≡ Some h) × (u ≡ pass_to h)
-IsUserAt n (users.PassFitting class to) u = (name : List ℕ) × (h : Holder) × (slice_get n.classes class.0 ≡ Some name) × (slice_get n.holders to.0 ≡ Some h) × (u ≡ pass_fitting name h)
-IsUserAt n (users.ReadField field to) u = (h : Holder) × (slice_get n.holders to.0 ≡ Some h) × (u ≡ read_field field h)
-IsUserAt n (users.WriteField field from) u = (h : Holder) × (slice_get n.holders from.0 ≡ Some h) × (u ≡ write_field field h)
-IsUserAt n (users.ReadElements to) u = (h : Holder) × (slice_get n.holders to.0 ≡ Some h) × (u ≡ read_elements h)
-IsUserAt n (users.WriteElements from) u = (h : Holder) × (slice_get n.holders from.0 ≡ Some h) × (u ≡ write_elements h)
-IsUserAt n (users.ThrowAt landing) u = (l : ItemLanding) × (slice_get n.landings landing.0 ≡ Some l) × (u ≡ throw_at l)
-IsUserAt n (users.LandAt landing) u = (l : ItemLanding) × (slice_get n.landings landing.0 ≡ Some l) × (u ≡ land_at l)
-IsUserAt n (users.Select call) u = (c : ItemCallSite) × (slice_get n.calls call.0 ≡ Some c) × (u ≡ select c)
+abbrev pub IsConstraintAt : Numbered → Constraint → ItemConstraint → Type 0
+IsConstraintAt n (constraints.CopyTo to) u = (h : Holder) × (slice_get n.holders to.0 ≡ Some h) × (u ≡ copy_to h)
+IsConstraintAt n (constraints.FilterTo class to) u = (name : List ℕ) × (h : Holder) × (slice_get n.classes class.0 ≡ Some name) × (slice_get n.holders to.0 ≡ Some h) × (u ≡ filter_to name h)
+IsConstraintAt n (constraints.LoadField field to) u = (h : Holder) × (slice_get n.holders to.0 ≡ Some h) × (u ≡ load_field field h)
+IsConstraintAt n (constraints.StoreField field from) u = (h : Holder) × (slice_get n.holders from.0 ≡ Some h) × (u ≡ store_field field h)
+IsConstraintAt n (constraints.LoadElements to) u = (h : Holder) × (slice_get n.holders to.0 ≡ Some h) × (u ≡ load_elements h)
+IsConstraintAt n (constraints.StoreElements from) u = (h : Holder) × (slice_get n.holders from.0 ≡ Some h) × (u ≡ store_elements h)
+IsConstraintAt n (constraints.ThrowTo catch_chain) u = (l : ItemCatchChain) × (slice_get n.catch_chains catch_chain.0 ≡ Some l) × (u ≡ throw_to l)
+IsConstraintAt n (constraints.RethrowTo catch_chain) u = (l : ItemCatchChain) × (slice_get n.catch_chains catch_chain.0 ≡ Some l) × (u ≡ rethrow_to l)
+IsConstraintAt n (constraints.Dispatch call) u = (c : ItemCallSite) × (slice_get n.calls call.0 ≡ Some c) × (u ≡ dispatch c)
 
 -- ---- what entries stand for
 
-pub record IsArmAt (n : Numbered) (entry : Arm) (a : ItemArm) : Type 0 where
+pub record IsCatchClauseAt (n : Numbered) (entry : CatchClause) (a : ItemCatchClause) : Type 0 where
   pub handler : a.handler ≡ entry.handler
   pub to : slice_get n.holders entry.to.0 ≡ Some a.to
 
-pub record IsLandingAt (n : Numbered) (entry : Landing) (l : ItemLanding) : Type 0 where
-  pub arms : AllZip (IsArmAt n) entry.arms l.arms
+pub record IsCatchChainAt (n : Numbered) (entry : CatchChain) (l : ItemCatchChain) : Type 0 where
+  pub catch_clauses : AllZip (IsCatchClauseAt n) entry.catch_clauses l.catch_clauses
   pub outside : slice_get n.holders entry.outside.0 ≡ Some l.outside
 
 abbrev pub IsUnitAt : Numbered → Option PlaceNo → Option Holder → Type 0
@@ -85,7 +85,7 @@ pub record IsCallAt (n : Numbered) (entry : CallSite) (c : ItemCallSite) : Type 
   pub resolved : c.resolved ≡ entry.resolved
   pub arguments : AllZip (IsUnitAt n) entry.arguments c.arguments
   pub results : AllZip (λ (place : PlaceNo) (h : Holder). slice_get n.holders place.0 ≡ Some h) entry.results c.results
-  pub landing : slice_get n.landings entry.landing.0 ≡ Some c.landing
+  pub catch_chain : slice_get n.catch_chains entry.catch_chain.0 ≡ Some c.catch_chain
 
 -- ---- things that have one number each
 
@@ -94,11 +94,11 @@ pub record AreApart (n : Numbered) : Type 0 where
   pub sites : IsWithoutDoubles n.sites
   pub holders : IsWithoutDoubles n.holders
 
--- No landing and no call has two numbers.
+-- No catch chain and no call has two numbers.
 pub record AreSingle (n : Numbered) : Type 0 where
-  pub landings : IsWithoutDoubles n.landings
+  pub catch_chains : IsWithoutDoubles n.catch_chains
   pub calls : IsWithoutDoubles n.calls
 
 -- Nothing is numbered.
 abbrev pub none_numbered : Numbered
-none_numbered = record { classes = []; sites = []; holders = []; landings = []; calls = []; users = [] }
+none_numbered = record { classes = []; sites = []; holders = []; catch_chains = []; calls = []; constraints = [] }

@@ -1,21 +1,21 @@
-//! The entries of what is numbered and has lists of its own: landings and calls.
+//! The entries of what is numbered and has lists of its own: catch chains and calls.
 
-use crate::keys::LandingNo;
+use crate::keys::CatchChainNo;
 use jvm_model::{MethodNo, Sequence};
 use op_model::{CallKind, NodeHandler, NodeRef};
 use points_to_rules::PlaceNo;
 
 /// A handler, and the place of what it takes.
 #[derive(Clone, Copy, Debug, PartialEq, Eq)]
-pub struct Arm {
+pub struct CatchClause {
     pub handler: NodeHandler,
     pub to: PlaceNo,
 }
 
 /// Where exceptions of a node go: to the first handler that takes them, or else on to the callers.
 #[derive(Debug, Drop)]
-pub struct Landing {
-    pub arms: Sequence<Arm>,
+pub struct CatchChain {
+    pub catch_clauses: Sequence<CatchClause>,
     pub outside: PlaceNo,
 }
 
@@ -28,5 +28,5 @@ pub struct CallSite {
     pub resolved: MethodNo,
     pub arguments: Sequence<Option<PlaceNo>>,
     pub results: Sequence<PlaceNo>,
-    pub landing: LandingNo,
+    pub catch_chain: CatchChainNo,
 }

@@ -1,6 +1,6 @@
 //! The items that the solver takes in, by numbers.
 
-use crate::keys::{CallNo, UserNo};
+use crate::keys::{CallNo, ConstraintNo};
 use jvm_model::{MethodNo, SiteNo};
 use points_to_rules::PlaceNo;
 
@@ -13,6 +13,6 @@ pub enum Item {
     Runs(MethodNo),
     /// The call may go to the method.
     Calls(CallNo, MethodNo),
-    /// Each object of the place goes to the user.
-    Uses(PlaceNo, UserNo),
+    /// Each object of the place goes to the constraint.
+    Constrains(PlaceNo, ConstraintNo),
 }

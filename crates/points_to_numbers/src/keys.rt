@@ -7,17 +7,17 @@ use points_to_rules::PlaceNo;
 #[derive(Clone, Copy, Debug, PartialEq, Eq, Hash)]
 pub struct ClassNameNo(pub u32);
 
-/// The number of a landing: of where the exceptions of a node go.
+/// The number of a catch chain: of where the exceptions of a node go.
 #[derive(Clone, Copy, Debug, PartialEq, Eq, Hash)]
-pub struct LandingNo(pub u32);
+pub struct CatchChainNo(pub u32);
 
 /// The number of a call.
 #[derive(Clone, Copy, Debug, PartialEq, Eq, Hash)]
 pub struct CallNo(pub u32);
 
-/// The number of a user.
+/// The number of a constraint.
 #[derive(Clone, Copy, Debug, PartialEq, Eq, Hash)]
-pub struct UserNo(pub u32);
+pub struct ConstraintNo(pub u32);
 
 /// An allocation site. `offset` is counted from the first byte of the method's code.
 #[derive(Clone, Copy, Debug, PartialEq, Eq, Hash)]
@@ -30,23 +30,23 @@ pub struct SiteKey {
 
 /// What is done with each object of a place.
 #[derive(Clone, Copy, Debug, PartialEq, Eq, Hash)]
-pub enum User {
+pub enum Constraint {
     /// The other place holds it too.
-    PassTo(PlaceNo),
+    CopyTo(PlaceNo),
     /// The other place holds it too, where it fits the class.
-    PassFitting(ClassNameNo, PlaceNo),
+    FilterTo(ClassNameNo, PlaceNo),
     /// What its field holds, the other place holds.
-    ReadField(FieldNo, PlaceNo),
+    LoadField(FieldNo, PlaceNo),
     /// What the other place holds, its field holds.
-    WriteField(FieldNo, PlaceNo),
+    StoreField(FieldNo, PlaceNo),
     /// What its elements hold, the other place holds.
-    ReadElements(PlaceNo),
+    LoadElements(PlaceNo),
     /// What the other place holds, its elements hold.
-    WriteElements(PlaceNo),
+    StoreElements(PlaceNo),
     /// It is thrown, where it is a `Throwable`.
-    ThrowAt(LandingNo),
+    ThrowTo(CatchChainNo),
     /// It is an exception that is thrown on.
-    LandAt(LandingNo),
+    RethrowTo(CatchChainNo),
     /// It selects the target of a call.
-    Select(CallNo),
+    Dispatch(CallNo),
 }

@@ -1,4 +1,4 @@
-//! The numbers of the points-to solver: of sites, places, users, landings and calls, in the order in which they are found; and the items that
+//! The numbers of the points-to solver: of sites, places, constraints, catch chains and calls, in the order in which they are found; and the items that
 //! it takes in, by these numbers. What is numbered stays, so that a number stands for one thing.
 #![tactic(auto)]
 
@@ -8,8 +8,8 @@ mod keys;
 mod steps;
 mod tables;
 
-pub use entries::{Arm, CallSite, Landing};
+pub use entries::{CallSite, CatchChain, CatchClause};
 pub use item::Item;
-pub use keys::{CallNo, ClassNameNo, LandingNo, SiteKey, User, UserNo};
-pub use steps::{add_holding, add_use, boot_site};
+pub use keys::{CallNo, CatchChainNo, ClassNameNo, Constraint, ConstraintNo, SiteKey};
+pub use steps::{add_constraint, add_holding, boot_site};
 pub use tables::Tables;

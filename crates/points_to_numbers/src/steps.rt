@@ -4,33 +4,33 @@ ghost use Rattle.std.specs.Prelude.{◌≡◌, length, Some, slice_get, IfOk, On
 ghost use Rattle.machine_bytecode.specs.Start.{boot_site};
 ghost use Rattle.jvm_model.specs.declared.site.Site.{Site};
 ghost use Rattle.points_to_rules.specs.Facts.{Holder};
-ghost use Rattle.points_to_constraints.specs.Items.{User as ItemUser};
-ghost use Rattle.points_to_numbers.specs.Numbered.{Grows, IsNumbered, IsHolderAt, IsUserAt};
+ghost use Rattle.points_to_constraints.specs.Items.{Constraint as ItemConstraint};
+ghost use Rattle.points_to_numbers.specs.Numbered.{Grows, IsNumbered, IsHolderAt, IsConstraintAt};
 ghost use Rattle.points_to_numbers.specs.Steps.{Adds, IsUseOf, IsHoldingOf};
 
 use crate::item::Item;
-use crate::keys::{SiteKey, User};
+use crate::keys::{Constraint, SiteKey};
 use crate::tables::Tables;
 use jvm_model::{SiteKind, SiteNo};
 use points_to_rules::Place;
 use program_index::index_failure::IndexFailure;
 
-/// Adds that each object of a place goes to a user.
-pub fn add_use(
+/// Adds that each object of a place goes to a constraint.
+pub fn add_constraint(
     tables: &mut Tables,
     steps: &mut Vec<Item>,
     place: Place,
-    user: User,
+    constraint: Constraint,
 ) -> Result<(), IndexFailure>
     requires place { (h : Holder) × IsHolderAt tables.old place h }
-    requires user { (u : ItemUser) × IsUserAt tables.old user u }
+    requires constraint { (u : ItemConstraint) × IsConstraintAt tables.old constraint u }
     ensures grows { OnOk result (Grows tables.old tables.new) }
     ensures calls { OnOk result (length tables.new.calls ≡ length tables.old.calls) }
-    ensures adds { OnOk result (Adds tables.new (IsUseOf tables.old place user) steps.old.items steps.new.items) }
+    ensures adds { OnOk result (Adds tables.new (IsUseOf tables.old place constraint) steps.old.items steps.new.items) }
 {
     let place = tables.place(place)?;
-    let user = tables.user(user)?;
-    steps.push(Item::Uses(place, user))?;
+    let constraint = tables.constraint(constraint)?;
+    steps.push(Item::Constrains(place, constraint))?;
     Ok(())
 }
 

@@ -11,11 +11,11 @@ ghost use Rattle.least_sets.specs.Rules.{IsWithoutDoubles};
 ghost use Rattle.points_to_rules.specs.declared.place.Place.{Place as PlaceKey};
 ghost use Rattle.points_to_rules.specs.Facts.{Holder};
 ghost use Rattle.points_to_rules.specs.Places.{IsHolderIn, holder_from};
-ghost use Rattle.points_to_constraints.specs.Items.{Landing as ItemLanding, CallSite as ItemCallSite, User as ItemUser};
-ghost use Rattle.points_to_numbers.specs.Numbered.{Grows, IsNumbered, IsSiteAt, IsHolderAt, IsUserAt, IsLandingAt, IsCallAt, AreApart, AreSingle, none_numbered};
+ghost use Rattle.points_to_constraints.specs.Items.{CatchChain as ItemCatchChain, CallSite as ItemCallSite, Constraint as ItemConstraint};
+ghost use Rattle.points_to_numbers.specs.Numbered.{Grows, IsNumbered, IsSiteAt, IsHolderAt, IsConstraintAt, IsCatchChainAt, IsCallAt, AreApart, AreSingle, none_numbered};
 
-use crate::entries::{CallSite, Landing};
-use crate::keys::{CallNo, ClassNameNo, LandingNo, SiteKey, User, UserNo};
+use crate::entries::{CallSite, CatchChain};
+use crate::keys::{CallNo, CatchChainNo, ClassNameNo, Constraint, ConstraintNo, SiteKey};
 use failure::Failure;
 use indexmap::IndexSet;
 use jvm_model::SiteNo;
@@ -26,15 +26,15 @@ use std::alloc::Global;
 use std::hash::Hash;
 use std::marker::Model;
 
-/// Names of classes, sites, places, users, landings and calls, each of which has a number. Each name, site, place and user has one. Contracts see
+/// Names of classes, sites, places, constraints, catch chains and calls, each of which has a number. Each name, site, place and constraint has one. Contracts see
 /// what they stand for.
 #[derive(Drop)]
 pub struct Tables {
     classes: TextIndex,
     sites: IndexSet<SiteKey>,
     places: IndexSet<Place>,
-    users: IndexSet<User>,
-    landings: Vec<Landing>,
+    constraints: IndexSet<Constraint>,
+    catch_chains: Vec<CatchChain>,
     calls: Vec<CallSite>,
 }
 
@@ -59,8 +59,8 @@ impl Tables {
             classes: TextIndex::new(alloc),
             sites: IndexSet::new(alloc),
             places: IndexSet::new(alloc),
-            users: IndexSet::new(alloc),
-            landings: Vec::new(alloc),
+            constraints: IndexSet::new(alloc),
+            catch_chains: Vec::new(alloc),
             calls: Vec::new(alloc),
         }
     }
@@ -110,34 +110,34 @@ impl Tables {
         Ok(PlaceNo(number))
     }
 
-    /// The number of a user.
-    pub fn user(&mut self, user: User) -> Result<UserNo, IndexFailure>
-        requires { (u : ItemUser) × IsUserAt self.old user u }
+    /// The number of a constraint.
+    pub fn constraint(&mut self, constraint: Constraint) -> Result<ConstraintNo, IndexFailure>
+        requires { (u : ItemConstraint) × IsConstraintAt self.old constraint u }
         ensures same { OnErr result (self.new ≡ self.old) }
         ensures grows { OnOk result (Grows self.old self.new) }
         ensures calls { OnOk result (length self.new.calls ≡ length self.old.calls) }
-        ensures stands { IfOk result (λ number. (u : ItemUser) → IsUserAt self.old user u → slice_get self.new.users number.0 ≡ Some u) }
-        ensures too_many { result ≡ Err (Cause too_many) → AreTooMany self.old.users }
-        ensures full { (u : ItemUser) → IsUserAt self.old user u → StandsNowhere self.old.users u × AreTooMany self.old.users → result ≡ Err (Cause too_many) }
-        ensures only_new { (u : ItemUser) → IsUserAt self.old user u → AreSingle self.old → result ≡ Err (Cause too_many) → StandsNowhere self.old.users u }
+        ensures stands { IfOk result (λ number. (u : ItemConstraint) → IsConstraintAt self.old constraint u → slice_get self.new.constraints number.0 ≡ Some u) }
+        ensures too_many { result ≡ Err (Cause too_many) → AreTooMany self.old.constraints }
+        ensures full { (u : ItemConstraint) → IsConstraintAt self.old constraint u → StandsNowhere self.old.constraints u × AreTooMany self.old.constraints → result ≡ Err (Cause too_many) }
+        ensures only_new { (u : ItemConstraint) → IsConstraintAt self.old constraint u → AreSingle self.old → result ≡ Err (Cause too_many) → StandsNowhere self.old.constraints u }
     {
         self.apart();
-        let number = number_of(&mut self.users, user)?;
-        Ok(UserNo(number))
+        let number = number_of(&mut self.constraints, constraint)?;
+        Ok(ConstraintNo(number))
     }
 
-    /// The number of a new landing.
-    pub fn landing(&mut self, landing: Landing) -> Result<LandingNo, IndexFailure>
-        requires { (l : ItemLanding) × IsLandingAt self.old landing l }
+    /// The number of a new catch chain.
+    pub fn catch_chain(&mut self, catch_chain: CatchChain) -> Result<CatchChainNo, IndexFailure>
+        requires { (l : ItemCatchChain) × IsCatchChainAt self.old catch_chain l }
         ensures same { OnErr result (self.new ≡ self.old) }
         ensures grows { OnOk result (Grows self.old self.new) }
         ensures calls { OnOk result (length self.new.calls ≡ length self.old.calls) }
-        ensures stands { IfOk result (λ number. (l : ItemLanding) → IsLandingAt self.old landing l → slice_get self.new.landings number.0 ≡ Some l) }
-        ensures too_many { (result ≡ Err (Cause too_many)) ↔ AreTooMany self.old.landings }
+        ensures stands { IfOk result (λ number. (l : ItemCatchChain) → IsCatchChainAt self.old catch_chain l → slice_get self.new.catch_chains number.0 ≡ Some l) }
+        ensures too_many { (result ≡ Err (Cause too_many)) ↔ AreTooMany self.old.catch_chains }
     {
-        let number = next_number(self.landings.len())?;
-        self.landings.push(landing)?;
-        Ok(LandingNo(number))
+        let number = next_number(self.catch_chains.len())?;
+        self.catch_chains.push(catch_chain)?;
+        Ok(CatchChainNo(number))
     }
 
     /// The number of a new call.
@@ -179,20 +179,20 @@ impl Tables {
         *self.places.get_index(place.0 as usize).unwrap()
     }
 
-    /// The user of a number.
-    pub fn user_of(&self, user: UserNo) -> User
-        requires { IsNumbered self.now.users user.0 }
-        ensures { (u : ItemUser) → slice_get self.now.users user.0 ≡ Some u → IsUserAt self.now result u }
+    /// The constraint of a number.
+    pub fn constraint_of(&self, constraint: ConstraintNo) -> Constraint
+        requires { IsNumbered self.now.constraints constraint.0 }
+        ensures { (u : ItemConstraint) → slice_get self.now.constraints constraint.0 ≡ Some u → IsConstraintAt self.now result u }
     {
-        *self.users.get_index(user.0 as usize).unwrap()
+        *self.constraints.get_index(constraint.0 as usize).unwrap()
     }
 
-    /// The landing of a number.
-    pub fn landing_of(&self, landing: LandingNo) -> &Landing
-        requires { IsNumbered self.now.landings landing.0 }
-        ensures { (l : ItemLanding) → slice_get self.now.landings landing.0 ≡ Some l → IsLandingAt self.now result.now l }
+    /// The catch chain of a number.
+    pub fn catch_chain_of(&self, catch_chain: CatchChainNo) -> &CatchChain
+        requires { IsNumbered self.now.catch_chains catch_chain.0 }
+        ensures { (l : ItemCatchChain) → slice_get self.now.catch_chains catch_chain.0 ≡ Some l → IsCatchChainAt self.now result.now l }
     {
-        &self.landings[landing.0 as usize]
+        &self.catch_chains[catch_chain.0 as usize]
     }
 
     /// The call of a number.

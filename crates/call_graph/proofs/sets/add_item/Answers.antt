@@ -30,5 +30,5 @@ returns-in-Calls c =
     (λ adds. rw c.in-Calls.is (call_taken n c.in-Calls.call c.in-Calls.target site c.call_of.result.now.at c.args.sets.now c.add_target.new.sets stands of_node adds))
     c.add_target.ensures
 
-pub returns-in-Uses : goal.returns-in-Uses
-returns-in-Uses c = rw c.in-Uses.is (use_taken c.args.tables.now c.in-Uses.field-0 c.in-Uses.field-1 c.args.sets.now)
+pub returns-in-Constrains : goal.returns-in-Constrains
+returns-in-Constrains c = rw c.in-Constrains.is (use_taken c.args.tables.now c.in-Constrains.field-0 c.in-Constrains.field-1 c.args.sets.now)

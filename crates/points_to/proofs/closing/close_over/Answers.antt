@@ -26,7 +26,7 @@ loop-done-init g c =
       counted = c.in_ok-take_start.ensures.counted;
       room = c.in_ok-take_start.ensures.room;
       so_far = rw (c.requires.fresh.call, c.requires.fresh.method, c.requires.fresh.methods) (so_far_start p gives c.args.entry n c.take_start.new.steps.items c.take_start.new.queue.items.keys made.call made.adds made.takes
-          (values_at c.args.working.now.index.sites.groups.items) (values_at c.args.working.now.index.users.groups.items) c.requires.fresh.sites c.requires.fresh.users c.in_ok-take_start.ensures.held);
+          (values_at c.args.working.now.index.sites.groups.items) (values_at c.args.working.now.index.constraints.groups.items) c.requires.fresh.sites c.requires.fresh.constraints c.in_ok-take_start.ensures.held);
       same = same_itself gives;
       answers = c.requires.fresh.answers p n;
     }
@@ -75,6 +75,6 @@ loop-done-preserved g c =
 pub returns-clause-closed : goal.returns-clause-closed
 returns-clause-closed g c =
     let gives : ℕ → Result LoweredMethod Refusal → Type 0 = g.S.Supply.gives c.args.supply.now in
-    closed_when_done c.args.program.now gives c.args.entry c.args.pair_limit c.loop-done.working.found.tables c.loop-done.working.queue.items.keys (values_at c.loop-done.working.index.sites.groups.items) (values_at c.loop-done.working.index.users.groups.items)
+    closed_when_done c.args.program.now gives c.args.entry c.args.pair_limit c.loop-done.working.found.tables c.loop-done.working.queue.items.keys (values_at c.loop-done.working.index.sites.groups.items) (values_at c.loop-done.working.index.constraints.groups.items)
     c.loop-done.working.found.refusals.call c.loop-done.working.found.refusals.method c.loop-done.working.methods.items c.loop-done.done c.loop-done.invariant.so_far (omega (arith, c.len.ensures.count, c.loop-done-test.false)) c.len.ensures.apart c.apart.ensures
     (omega (arith, c.loop-done.invariant.counted, c.loop-done.invariant.room))

@@ -1,7 +1,7 @@
 use Rattle.std.proofs.Common.{◌<◌, length, arith, ap, List, get_or, ◌∙◌}
 use Rattle.jvm_model.specs.declared.stub.StubResult.{StubResult}
 use Rattle.points_to_calls.specs.Parts.{ResultGot}
-use Rattle.points_to_calls.proofs.Gifts.{resolves_on}
+use Rattle.points_to_calls.proofs.Origins.{resolves_on}
 use Rattle.points_to_numbers.proofs.Making.{makes_next, makes_all}
 use Rattle.points_to_calls.proofs.Stubs.{receiver_on}
 use Rattle.points_to_calls.proofs.described.give_all.Goals as goal

@@ -1,43 +1,43 @@
 use Rattle.std.proofs.Common.{Option, subst}
 use Rattle.std.proofs.lemmas.Result.{IfOk-weaker}
 use Rattle.points_to_constraints.specs.Items.{Item as RuleItem}
-use Rattle.points_to_calls.specs.declared.gift.Gift.{Gift}
-use Rattle.points_to_calls.specs.Describing.{IsGiftFor}
-use Rattle.points_to_calls.specs.Parts.{RuleGift, ResultGives, ResultGot, ResultsGet}
+use Rattle.points_to_calls.specs.declared.origin.Origin.{Origin}
+use Rattle.points_to_calls.specs.Describing.{IsOriginFor}
+use Rattle.points_to_calls.specs.Parts.{RuleOrigin, ResultGives, ResultGot, ResultsGet}
 use Rattle.points_to_numbers.proofs.Making.{makes_grown}
-use Rattle.points_to_calls.proofs.Stubs.{only_gift, no_gift, none_gift}
+use Rattle.points_to_calls.proofs.Stubs.{only_origin, no_origin, none_origin}
 use Rattle.points_to_calls.proofs.described.give_result.Goals as goal
 
 pub returns-in_default : goal.returns-in_default
 returns-in_default c = λ site r at is.
-    let p = c.args.program.now in let n = c.args.tables.now in let m = c.result_gift.new.tables in let stub = c.args.description.now.stub.now in
-    let found = c.in_ok-gift.ensures site r at is in
-    let gets = λ (k : RuleGift) (x : RuleItem). ResultsGet p site k x in
+    let p = c.args.program.now in let n = c.args.tables.now in let m = c.result_origin.new.tables in let stub = c.args.description.now.stub.now in
+    let found = c.in_ok-origin.ensures site r at is in
+    let gets = λ (k : RuleOrigin) (x : RuleItem). ResultsGet p site k x in
     makes_grown n m m (ResultGot p site stub r c.args.outcome.now) c.args.steps.now.items c.args.steps.now.items found.grows found.calls
-    (no_gift p m m m site (ResultGives c.args.outcome.now stub site r) c.args.steps.now.items c.args.steps.now.items gets
-    (none_gift m (ResultGives c.args.outcome.now stub site r) c.in_ok-gift.field-0 c.in_default.not-Some found.is))
+    (no_origin p m m m site (ResultGives c.args.outcome.now stub site r) c.args.steps.now.items c.args.steps.now.items gets
+    (none_origin m (ResultGives c.args.outcome.now stub site r) c.in_ok-origin.field-0 c.in_default.not-Some found.is))
 
 pub give_results-requires-clause-call : goal.give_results-requires-clause-call
 give_results-requires-clause-call c =
     let (site, at) = c.requires.call in let (r, is) = c.requires.receiver in
-    (site, (c.in_ok-gift.ensures site r at is).grows.calls c.args.call.0 site at)
+    (site, (c.in_ok-origin.ensures site r at is).grows.calls c.args.call.0 site at)
 
-pub give_results-requires-clause-gift : goal.give_results-requires-clause-gift
-give_results-requires-clause-gift c =
+pub give_results-requires-clause-origin : goal.give_results-requires-clause-origin
+give_results-requires-clause-origin c =
     let (site, at) = c.requires.call in let (r, is) = c.requires.receiver in
     let Q = ResultGives c.args.outcome.now c.args.description.now.stub.now site r in
-    let (g, is_g, gives, only) = subst (λ (gift : Option Gift). IsGiftFor c.result_gift.new.tables Q gift) c.in-Some.is (c.in_ok-gift.ensures site r at is).is in
+    let (g, is_g, gives, only) = subst (λ (origin : Option Origin). IsOriginFor c.result_origin.new.tables Q origin) c.in-Some.is (c.in_ok-origin.ensures site r at is).is in
     (g, is_g)
 
 pub returns : goal.returns
 returns c =
     IfOk-weaker c.give_results.result _ _
     (λ done made site r at is.
-    let p = c.args.program.now in let n = c.args.tables.now in let m = c.result_gift.new.tables in let o = c.give_results.new.tables in let stub = c.args.description.now.stub.now in
-    let found = c.in_ok-gift.ensures site r at is in
+    let p = c.args.program.now in let n = c.args.tables.now in let m = c.result_origin.new.tables in let o = c.give_results.new.tables in let stub = c.args.description.now.stub.now in
+    let found = c.in_ok-origin.ensures site r at is in
     let Q = ResultGives c.args.outcome.now stub site r in
-    let (g, is_g, gives, only) = subst (λ (gift : Option Gift). IsGiftFor m Q gift) c.in-Some.is found.is in
-    let gets = λ (k : RuleGift) (x : RuleItem). ResultsGet p site k x in
+    let (g, is_g, gives, only) = subst (λ (origin : Option Origin). IsOriginFor m Q origin) c.in-Some.is found.is in
+    let gets = λ (k : RuleOrigin) (x : RuleItem). ResultsGet p site k x in
     makes_grown n m o (ResultGot p site stub r c.args.outcome.now) c.args.steps.now.items c.give_results.new.steps.items found.grows found.calls
-    (only_gift p n m o site Q c.args.steps.now.items c.give_results.new.steps.items gets g gives only (made site g (found.grows.calls c.args.call.0 site at) is_g)))
+    (only_origin p n m o site Q c.args.steps.now.items c.give_results.new.steps.items gets g gives only (made site g (found.grows.calls c.args.call.0 site at) is_g)))
     c.give_results.ensures

@@ -2,10 +2,10 @@ use Rattle.std.proofs.Common.{refl}
 use Rattle.std.proofs.lemmas.Result.{IfOk-weaker}
 use Rattle.points_to_rules.specs.Facts.{kept_objects}
 use Rattle.points_to_constraints.specs.Items.{Item as RuleItem}
-use Rattle.points_to_calls.specs.Parts.{RuleGift, ArgumentGives, ArgumentKept, Gets}
-use Rattle.points_to_calls.proofs.Gifts.{gift_on}
+use Rattle.points_to_calls.specs.Parts.{RuleOrigin, ArgumentGives, ArgumentKept, Gets}
+use Rattle.points_to_calls.proofs.Origins.{origin_on}
 use Rattle.points_to_numbers.proofs.Making.{makes_grown}
-use Rattle.points_to_calls.proofs.Stubs.{only_gift}
+use Rattle.points_to_calls.proofs.Stubs.{only_origin}
 use Rattle.points_to_calls.proofs.described.keep_argument.Goals as goal
 
 pub returns : goal.returns
@@ -15,8 +15,8 @@ returns c =
     let p = c.args.program.now in let n = c.args.tables.now in let m = c.place.new.self in let o = c.give.new.tables in let stub = c.args.description.now.stub.now in
     let kept = c.in_ok-kept.ensures in
     let (g, is_g, gives, only) = c.in-Some.ensures n r is in
-    let gets = λ (k : RuleGift) (x : RuleItem). Gets p site k kept_objects x in
+    let gets = λ (k : RuleOrigin) (x : RuleItem). Gets p site k kept_objects x in
     makes_grown n m o (ArgumentKept p site stub r c.args.argument) c.args.steps.now.items c.give.new.steps.items kept.grows kept.calls
-    (only_gift p n m o site (ArgumentGives stub r c.args.argument) c.args.steps.now.items c.give.new.steps.items gets g gives only
-    (made site g kept_objects (kept.grows.calls c.args.call.0 site at) (gift_on n m c.in-Some.gift g kept.grows is_g) (kept.stands kept_objects refl))))
+    (only_origin p n m o site (ArgumentGives stub r c.args.argument) c.args.steps.now.items c.give.new.steps.items gets g gives only
+    (made site g kept_objects (kept.grows.calls c.args.call.0 site at) (origin_on n m c.in-Some.origin g kept.grows is_g) (kept.stands kept_objects refl))))
     c.give.ensures

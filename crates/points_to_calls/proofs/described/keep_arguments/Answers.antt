@@ -3,7 +3,7 @@ use Rattle.std.proofs.lemmas.List.{get_or_default}
 use Rattle.jvm_model.specs.declared.stub.StubArgument.{StubArgument}
 use Rattle.jvm_model.specs.declared.stub.StubArgument.TheVariants.{This}
 use Rattle.points_to_calls.specs.Parts.{ArgumentKept}
-use Rattle.points_to_calls.proofs.Gifts.{resolves_on}
+use Rattle.points_to_calls.proofs.Origins.{resolves_on}
 use Rattle.points_to_numbers.proofs.Making.{makes_next, makes_all}
 use Rattle.points_to_calls.proofs.Stubs.{receiver_on}
 use Rattle.points_to_calls.proofs.described.keep_arguments.Goals as goal

@@ -3,7 +3,7 @@ use Rattle.std.proofs.lemmas.Result.{IfOk-weaker}
 use Rattle.points_to_constraints.specs.Items.{Item as RuleItem}
 use Rattle.points_to_calls.specs.Describing.{ReceiverItem}
 use Rattle.points_to_calls.specs.Parts.{KeptItem, GotItem}
-use Rattle.points_to_calls.proofs.Gifts.{resolves_on}
+use Rattle.points_to_calls.proofs.Origins.{resolves_on}
 use Rattle.points_to_numbers.proofs.Making.{makes_both, makes_same}
 use Rattle.points_to_calls.proofs.described.receiver_items.Goals as goal
 

@@ -1,7 +1,7 @@
 use Rattle.std.specs.List.{slice_get}
 use Rattle.std.proofs.lemmas.Result.{IfOk-weaker}
 use Rattle.points_to_calls.proofs.CallParts.{stands_for}
-use Rattle.points_to_calls.proofs.Gifts.{result_got}
+use Rattle.points_to_calls.proofs.Origins.{result_got}
 use Rattle.points_to_calls.proofs.giving.give_at.Goals as goal
 
 pub give-requires-clause-to : goal.give-requires-clause-to

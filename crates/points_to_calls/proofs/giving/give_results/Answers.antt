@@ -1,29 +1,29 @@
 use Rattle.std.proofs.Common.{arith}
 use Rattle.points_to_calls.specs.Parts.{GetsAt}
-use Rattle.points_to_calls.proofs.Gifts.{resolves_on, gift_on, results_got}
+use Rattle.points_to_calls.proofs.Origins.{resolves_on, origin_on, results_got}
 use Rattle.points_to_numbers.proofs.Making.{makes_below_next}
 use Rattle.points_to_calls.proofs.giving.give_results.Goals as goal
 
 pub give_at-requires-clause-call : goal.give_at-requires-clause-call
 give_at-requires-clause-call c =
-    let (site, at) = c.requires.call in let (g, is) = c.requires.gift in
+    let (site, at) = c.requires.call in let (g, is) = c.requires.origin in
     (site, (c.loop-number.invariant site g at is).grows.calls c.args.call.0 site at)
 
 pub give_at-requires-clause-resolved : goal.give_at-requires-clause-resolved
 give_at-requires-clause-resolved c =
-    let (site, at) = c.requires.call in let (g, is) = c.requires.gift in
+    let (site, at) = c.requires.call in let (g, is) = c.requires.origin in
     resolves_on c.args.program.now c.args.tables.now c.loop-number.tables c.args.call.0 (c.loop-number.invariant site g at is).grows c.requires.call c.requires.resolved
 
-pub give_at-requires-clause-gift : goal.give_at-requires-clause-gift
-give_at-requires-clause-gift c =
-    let (site, at) = c.requires.call in let (g, is) = c.requires.gift in
-    (g, gift_on c.args.tables.now c.loop-number.tables c.args.gift g (c.loop-number.invariant site g at is).grows is)
+pub give_at-requires-clause-origin : goal.give_at-requires-clause-origin
+give_at-requires-clause-origin c =
+    let (site, at) = c.requires.call in let (g, is) = c.requires.origin in
+    (g, origin_on c.args.tables.now c.loop-number.tables c.args.origin g (c.loop-number.invariant site g at is).grows is)
 
 pub loop-number-preserved : goal.loop-number-preserved
 loop-number-preserved c = λ site g at is.
     let before = c.loop-number.invariant site g at is in
     makes_below_next (GetsAt c.args.program.now site g) c.args.tables.now c.loop-number.tables c.give_at.new.tables c.loop-number.number c.args.steps.now.items c.loop-number.steps.items c.give_at.new.steps.items
-    before (c.in_ok-give_at.ensures site g (before.grows.calls c.args.call.0 site at) (gift_on c.args.tables.now c.loop-number.tables c.args.gift g before.grows is))
+    before (c.in_ok-give_at.ensures site g (before.grows.calls c.args.call.0 site at) (origin_on c.args.tables.now c.loop-number.tables c.args.origin g before.grows is))
 
 pub returns : goal.returns
 returns c = λ site g at is.

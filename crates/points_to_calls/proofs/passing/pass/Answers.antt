@@ -1,29 +1,29 @@
 use Rattle.std.proofs.Common.{sym, subst}
 use Rattle.std.proofs.lemmas.Result.{IfOk-weaker}
 use Rattle.points_to_constraints.specs.ItemRules.{Passed}
-use Rattle.points_to_constraints.specs.Items.{User as ItemUser}
-use Rattle.points_to_numbers.specs.declared.keys.User.{User}
-use Rattle.points_to_numbers.specs.Numbered.{IsUserAt}
+use Rattle.points_to_constraints.specs.Items.{Constraint as ItemConstraint}
+use Rattle.points_to_numbers.specs.declared.keys.Constraint.{Constraint}
+use Rattle.points_to_numbers.specs.Numbered.{IsConstraintAt}
 use Rattle.points_to_numbers.specs.Steps.{Adds}
-use Rattle.points_to_calls.specs.Users.{PlainPassed}
+use Rattle.points_to_calls.specs.Constraints.{PlainPassed}
 use Rattle.points_to_numbers.proofs.Making.{makes_same}
-use Rattle.points_to_calls.proofs.PlainUsers.{no_selection, plain_passed, plain_lacks}
+use Rattle.points_to_calls.proofs.PlainConstraints.{no_selection, plain_passed, plain_lacks}
 use Rattle.points_to_calls.proofs.RightAnswers.{grown_right}
 use Rattle.points_to_calls.proofs.passing.pass.Goals as goal
 
 pub returns-in_default : goal.returns-in_default
 returns-in_default c =
     let p = c.args.program.now in let n = c.args.tables.now in let m = c.pass_plain.new.tables in
-    let (u, named) = c.requires.user in let (s, there) = c.requires.site in
-    let made = c.in_ok-pass_plain.ensures.made u s (c.user_of-entry.ensures u named) there in
+    let (u, named) = c.requires.constraint in let (s, there) = c.requires.site in
+    let made = c.in_ok-pass_plain.ensures.made u s (c.constraint_of-entry.ensures u named) there in
     record {
       grows = made.grows;
       calls = made.calls;
       adds = λ v t stands at.
-          let is = c.user_of-entry.ensures v stands in
+          let is = c.constraint_of-entry.ensures v stands in
           (makes_same n m (PlainPassed p v t) (Passed p v t) c.args.steps.now.items c.pass_plain.new.steps.items
-          (plain_passed p v t (no_selection n c.user_of-entry.result v c.in_default.not-Select is)) (c.in_ok-pass_plain.ensures.made v t is at)).adds;
-      lacks = λ v t stands at. plain_lacks p v t (no_selection n c.user_of-entry.result v c.in_default.not-Select (c.user_of-entry.ensures v stands));
+          (plain_passed p v t (no_selection n c.constraint_of-entry.result v c.in_default.not-Dispatch is)) (c.in_ok-pass_plain.ensures.made v t is at)).adds;
+      lacks = λ v t stands at. plain_lacks p v t (no_selection n c.constraint_of-entry.result v c.in_default.not-Dispatch (c.constraint_of-entry.ensures v stands));
       answers = grown_right p n m c.pass_plain.new.answers made.grows c.in_ok-pass_plain.ensures.answers;
     }
 
@@ -31,8 +31,8 @@ pub returns-clause-grows : goal.returns-clause-grows
 returns-clause-grows c =
     IfOk-weaker c.select_items.result _ _
     (λ lacks made.
-    let (u, stands) = c.requires.user in let (s, there) = c.requires.site in
-    let (call, at, e) = subst (λ (w : User). IsUserAt c.args.tables.now w u) c.in-Select.is (c.user_of-entry.ensures u stands) in
+    let (u, stands) = c.requires.constraint in let (s, there) = c.requires.site in
+    let (call, at, e) = subst (λ (w : Constraint). IsConstraintAt c.args.tables.now w u) c.in-Dispatch.is (c.constraint_of-entry.ensures u stands) in
     (made call s at there).grows)
     c.select_items.ensures.adds
 
@@ -40,8 +40,8 @@ pub returns-clause-calls : goal.returns-clause-calls
 returns-clause-calls c =
     IfOk-weaker c.select_items.result _ _
     (λ lacks made.
-    let (u, stands) = c.requires.user in let (s, there) = c.requires.site in
-    let (call, at, e) = subst (λ (w : User). IsUserAt c.args.tables.now w u) c.in-Select.is (c.user_of-entry.ensures u stands) in
+    let (u, stands) = c.requires.constraint in let (s, there) = c.requires.site in
+    let (call, at, e) = subst (λ (w : Constraint). IsConstraintAt c.args.tables.now w u) c.in-Dispatch.is (c.constraint_of-entry.ensures u stands) in
     (made call s at there).calls)
     c.select_items.ensures.adds
 
@@ -49,16 +49,16 @@ pub returns-clause-adds : goal.returns-clause-adds
 returns-clause-adds c =
     IfOk-weaker c.select_items.result _ _
     (λ lacks made u s stands there.
-    let (call, at, e) = subst (λ (w : User). IsUserAt c.args.tables.now w u) c.in-Select.is (c.user_of-entry.ensures u stands) in
-    subst (λ (v : ItemUser). Adds c.select_items.new.tables (Passed c.args.program.now v s) c.args.steps.now.items c.select_items.new.steps.items) (sym e) (made call s at there).adds)
+    let (call, at, e) = subst (λ (w : Constraint). IsConstraintAt c.args.tables.now w u) c.in-Dispatch.is (c.constraint_of-entry.ensures u stands) in
+    subst (λ (v : ItemConstraint). Adds c.select_items.new.tables (Passed c.args.program.now v s) c.args.steps.now.items c.select_items.new.steps.items) (sym e) (made call s at there).adds)
     c.select_items.ensures.adds
 
 pub returns-clause-answers : goal.returns-clause-answers
 returns-clause-answers c =
     IfOk-weaker c.select_items.result _ _
     (λ lacks made.
-    let (u, stands) = c.requires.user in let (s, there) = c.requires.site in
-    let (call, at, e) = subst (λ (w : User). IsUserAt c.args.tables.now w u) c.in-Select.is (c.user_of-entry.ensures u stands) in
+    let (u, stands) = c.requires.constraint in let (s, there) = c.requires.site in
+    let (call, at, e) = subst (λ (w : Constraint). IsConstraintAt c.args.tables.now w u) c.in-Dispatch.is (c.constraint_of-entry.ensures u stands) in
     grown_right c.args.program.now c.args.tables.now c.select_items.new.tables c.select_items.new.answers
     (made call s at there).grows c.select_items.ensures.answers)
     c.select_items.ensures.adds

@@ -4,7 +4,7 @@ use Rattle.points_to_rules.specs.Facts.{may_hold}
 use Rattle.points_to_constraints.specs.Items.{known}
 use Rattle.points_to_numbers.specs.declared.item.Item.TheVariants.{Holds}
 use Rattle.points_to_numbers.proofs.Making.{makes_none, makes_one}
-use Rattle.points_to_calls.specs.Users.{FittingPassed}
+use Rattle.points_to_calls.specs.Constraints.{FittingPassed}
 use Rattle.points_to_calls.proofs.plain.pass_if_fits.Goals as goal
 
 pub fits_kept-requires-clause-lower : goal.fits_kept-requires-clause-lower

@@ -6,7 +6,7 @@ use Rattle.points_to_constraints.specs.Items.{Item as RuleItem, known}
 use Rattle.points_to_numbers.specs.declared.item.Item.TheVariants.{Calls}
 use Rattle.points_to_rules.specs.declared.place.Place.TheVariants as places
 use Rattle.points_to_calls.specs.Selecting.{DescribedItem}
-use Rattle.points_to_calls.proofs.Gifts.{resolves_on}
+use Rattle.points_to_calls.proofs.Origins.{resolves_on}
 use Rattle.points_to_numbers.proofs.Making.{makes_one, makes_both, makes_held}
 use Rattle.points_to_calls.proofs.selecting.chosen_items.Goals as goal
 

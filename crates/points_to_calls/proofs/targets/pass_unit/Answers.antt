@@ -4,7 +4,7 @@ use Rattle.op_model.specs.declared.op.CallKind.{CallKind}
 use Rattle.slot_names.specs.declared.variable.Variable.TheVariants.{Parameter}
 use Rattle.points_to_rules.specs.Facts.{variable}
 use Rattle.points_to_constraints.specs.CallItems.{is_passed}
-use Rattle.points_to_constraints.specs.Items.{Item as RuleItem, pass_to, used}
+use Rattle.points_to_constraints.specs.Items.{Item as RuleItem, copy_to, constrained}
 use Rattle.points_to_calls.specs.Parts.{unit_in}
 use Rattle.points_to_numbers.specs.Steps.{Makes}
 use Rattle.points_to_calls.proofs.CallParts.{stands_for, no_place}
@@ -22,28 +22,28 @@ returns-in_default c = λ site at.
     no_reference c.args.tables.now site c.args.target c.args.unit c.args.steps.now.items
     (no_place c.args.tables.now c.argument_of.result (unit_in site.arguments c.args.unit) c.in_default.not-Some (c.argument_of.ensures site at))
 
-pub add_use_at-requires-clause-place : goal.add_use_at-requires-clause-place
-add_use_at-requires-clause-place c =
+pub add_constraint_at-requires-clause-place : goal.add_constraint_at-requires-clause-place
+add_constraint_at-requires-clause-place c =
     let (site, at) = c.requires in
     let (from, stands, there) = stands_for c.args.tables.now c.in-Some.from (unit_in site.arguments c.args.unit) (c.in-Some.ensures site at) in
     (from, c.in_ok-to.ensures.grows.holders c.in-Some.from.0 from there)
 
-pub add_use_at-requires-clause-user : goal.add_use_at-requires-clause-user
-add_use_at-requires-clause-user c =
+pub add_constraint_at-requires-clause-constraint : goal.add_constraint_at-requires-clause-constraint
+add_constraint_at-requires-clause-constraint c =
     let h = variable (Parameter c.args.target c.in_ok-next_number.field-0) in
-    (pass_to h, (h, c.in_ok-to.ensures.stands h refl, refl))
+    (copy_to h, (h, c.in_ok-to.ensures.stands h refl, refl))
 
 pub returns : goal.returns
 returns c =
-    IfOk-weaker c.add_use_at.result _ _
+    IfOk-weaker c.add_constraint_at.result _ _
     (λ done made site at.
     let (from, stands, there) = stands_for c.args.tables.now c.in-Some.from (unit_in site.arguments c.args.unit) (c.in-Some.ensures site at) in
     let to = λ (slot : ℕ). variable (Parameter c.args.target slot) in
     let slot = c.in_ok-next_number.field-0 in
-    unit_passed c.args.tables.now c.add_use_at.new.tables site c.args.target c.args.unit from c.args.steps.now.items c.add_use_at.new.steps.items stands
+    unit_passed c.args.tables.now c.add_constraint_at.new.tables site c.args.target c.args.unit from c.args.steps.now.items c.add_constraint_at.new.steps.items stands
     (ap (λ (k : CallKind). is_passed k c.args.unit) (c.call_of.ensures site at).kind ∙ sym c.is_passed.ensures ∙ c.if-not-is_passed.false)
-    (subst (λ (k : ℕ). Makes c.args.tables.now c.add_use_at.new.tables (λ (x : RuleItem). x ≡ used from (pass_to (to k))) c.args.steps.now.items c.add_use_at.new.steps.items) c.in_ok-next_number.ensures.number
-    (makes_grown c.args.tables.now c.place.new.self c.add_use_at.new.tables (λ (x : RuleItem). x ≡ used from (pass_to (to slot))) c.args.steps.now.items c.add_use_at.new.steps.items
+    (subst (λ (k : ℕ). Makes c.args.tables.now c.add_constraint_at.new.tables (λ (x : RuleItem). x ≡ constrained from (copy_to (to k))) c.args.steps.now.items c.add_constraint_at.new.steps.items) c.in_ok-next_number.ensures.number
+    (makes_grown c.args.tables.now c.place.new.self c.add_constraint_at.new.tables (λ (x : RuleItem). x ≡ constrained from (copy_to (to slot))) c.args.steps.now.items c.add_constraint_at.new.steps.items
     c.in_ok-to.ensures.grows c.in_ok-to.ensures.calls
-    (made from (pass_to (to slot)) (c.in_ok-to.ensures.grows.holders c.in-Some.from.0 from there) (to slot, c.in_ok-to.ensures.stands (to slot) refl, refl)))))
-    c.add_use_at.ensures
+    (made from (copy_to (to slot)) (c.in_ok-to.ensures.grows.holders c.in-Some.from.0 from there) (to slot, c.in_ok-to.ensures.stands (to slot) refl, refl)))))
+    c.add_constraint_at.ensures

@@ -6,7 +6,7 @@ use Rattle.points_to_numbers.specs.declared.item.Item.TheVariants.{Runs}
 use Rattle.points_to_calls.specs.Describing.{BodyItem}
 use Rattle.points_to_calls.specs.Parts.{UnitPassed}
 use Rattle.points_to_calls.proofs.CallParted.{PartedItem, parted}
-use Rattle.points_to_calls.proofs.Gifts.{resolves_on}
+use Rattle.points_to_calls.proofs.Origins.{resolves_on}
 use Rattle.points_to_numbers.proofs.Making.{makes_one, makes_both, makes_same}
 use Rattle.points_to_numbers.proofs.Growing.{grows_on}
 use Rattle.points_to_calls.proofs.targets.target_items.Goals as goal

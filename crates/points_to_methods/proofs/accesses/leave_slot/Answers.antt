@@ -1,4 +1,4 @@
-use Rattle.points_to_constraints.specs.Items.{pass_to, used}
+use Rattle.points_to_constraints.specs.Items.{copy_to, constrained}
 use Rattle.points_to_methods.specs.Fixed.{holder_of}
 use Rattle.points_to_methods.specs.Known.{names_at}
 use Rattle.points_to_numbers.proofs.Making.{makes_same}
@@ -9,6 +9,6 @@ pub returns : goal.returns
 returns c = λ n at.
     let l = c.args.at.now.method.now in
     makes_same c.args.tables.now c.pass.new.tables _ _ c.args.steps.now.items c.pass.new.steps.items
-    (made_here c.args.at.now.program.now l (names_at c.args.at.now) c.requires.known c.args.node n at (λ from. used from (pass_to (holder_of c.args.to))) c.args.slot
+    (made_here c.args.at.now.program.now l (names_at c.args.at.now) c.requires.known c.args.node n at (λ from. constrained from (copy_to (holder_of c.args.to))) c.args.slot
     (holder_of c.slot_place-from.result) c.slot_place-from.ensures)
     c.in_ok-pass.ensures

@@ -1,10 +1,10 @@
 use Rattle.std.proofs.Common.{◌≡◌, ℕ, List, sym, ap, subst, ◌∙◌, arith}
 use Rattle.op_model.specs.declared.node.Node.{Node}
-use Rattle.points_to_constraints.specs.Items.{Item, used}
+use Rattle.points_to_constraints.specs.Items.{Item, constrained}
 use Rattle.points_to_rules.specs.Facts.{Holder}
 use Rattle.points_to_numbers.proofs.Adding.{OfOne}
 use Rattle.points_to_numbers.specs.Steps.{Makes}
-use Rattle.points_to_methods.specs.Fixed.{holder_of, user_by}
+use Rattle.points_to_methods.specs.Fixed.{holder_of, constraint_by}
 use Rattle.points_to_methods.specs.Known.{names_at}
 use Rattle.points_to_methods.specs.Slots.{MadeAt}
 use Rattle.points_to_numbers.proofs.Making.{makes_start, makes_next_read, makes_all, makes_same}
@@ -15,12 +15,12 @@ use Rattle.points_to_methods.proofs.accesses.pass_after.Goals as goal
 pub loop-offset-init : goal.loop-offset-init
 loop-offset-init c =
     let l = c.args.at.now.method.now in
-    makes_start (MadeAt l (names_at c.args.at.now) (λ to. used (holder_of c.args.from) (user_by c.args.passing to)) c.args.target) c.args.tables.now c.as_slice-offset-items.result.now c.args.steps.now.items
+    makes_start (MadeAt l (names_at c.args.at.now) (λ to. constrained (holder_of c.args.from) (constraint_by c.args.passing to)) c.args.target) c.args.tables.now c.as_slice-offset-items.result.now c.args.steps.now.items
 
 pub loop-offset-preserved : goal.loop-offset-preserved
 loop-offset-preserved c =
     let l = c.args.at.now.method.now in
-    makes_next_read (MadeAt l (names_at c.args.at.now) (λ to. used (holder_of c.args.from) (user_by c.args.passing to)) c.args.target) c.args.tables.now c.loop-offset.tables c.pass_at.new.tables c.as_slice-offset-items.result.now c.loop-offset.offset-index 0
+    makes_next_read (MadeAt l (names_at c.args.at.now) (λ to. constrained (holder_of c.args.from) (constraint_by c.args.passing to)) c.args.target) c.args.tables.now c.loop-offset.tables c.pass_at.new.tables c.as_slice-offset-items.result.now c.loop-offset.offset-index 0
     c.args.steps.now.items c.loop-offset.steps.items c.pass_at.new.steps.items c.loop-offset-test.true c.loop-offset.invariant c.in_ok-pass_at.ensures
 
 pub returns : goal.returns
@@ -29,7 +29,7 @@ returns c = λ n at.
     let read = c.index-as_slice-node.result in
     let items = c.as_slice-offset-items.result.now in
     let same : read ≡ n = read_node l.nodes c.as_slice.result.now c.args.node n read c.as_slice.ensures c.requires.there c.index-as_slice-node.is at in
-    let make : Holder → Item = (λ to. used (holder_of c.args.from) (user_by c.args.passing to)) in
+    let make : Holder → Item = (λ to. constrained (holder_of c.args.from) (constraint_by c.args.passing to)) in
     let all = makes_all (MadeAt l (names_at c.args.at.now) make c.args.target) c.args.tables.now c.loop-offset.tables items c.loop-offset.offset-index c.args.steps.now.items c.loop-offset.steps.items
     (omega arith) c.loop-offset.invariant in
     let of_node = subst (λ (xs : List ℕ). Makes c.args.tables.now c.loop-offset.tables (OfOne (MadeAt l (names_at c.args.at.now) make c.args.target) xs) c.args.steps.now.items c.loop-offset.steps.items)

@@ -1,6 +1,6 @@
-use Rattle.points_to_constraints.specs.Items.{used}
+use Rattle.points_to_constraints.specs.Items.{constrained}
 use Rattle.points_to_constraints.specs.NodeItems.{WritesItem}
-use Rattle.points_to_methods.specs.Fixed.{holder_of, user_by}
+use Rattle.points_to_methods.specs.Fixed.{holder_of, constraint_by}
 use Rattle.points_to_methods.specs.Known.{names_at}
 use Rattle.points_to_numbers.proofs.Making.{makes_same}
 use Rattle.points_to_methods.proofs.AccessedSlots.{made_of_two}
@@ -9,7 +9,7 @@ use Rattle.points_to_methods.proofs.accesses.write_slot.Goals as goal
 pub returns : goal.returns
 returns c = λ n at.
     let l = c.args.at.now.method.now in
-    makes_same c.args.tables.now c.pass.new.tables _ (WritesItem l n c.args.slot c.args.value (user_by c.args.passing)) c.args.steps.now.items c.pass.new.steps.items
-    (made_of_two c.args.at.now.program.now l (names_at c.args.at.now) c.requires.known c.args.node n at (λ into from. used into (user_by c.args.passing from)) c.args.slot c.args.value
+    makes_same c.args.tables.now c.pass.new.tables _ (WritesItem l n c.args.slot c.args.value (constraint_by c.args.passing)) c.args.steps.now.items c.pass.new.steps.items
+    (made_of_two c.args.at.now.program.now l (names_at c.args.at.now) c.requires.known c.args.node n at (λ into from. constrained into (constraint_by c.args.passing from)) c.args.slot c.args.value
     (holder_of c.slot_place-into.result) (holder_of c.slot_place-from.result) c.slot_place-into.ensures c.slot_place-from.ensures)
     c.in_ok-pass.ensures

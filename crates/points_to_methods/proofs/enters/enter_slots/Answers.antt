@@ -1,5 +1,5 @@
 use Rattle.std.proofs.Common.{◌+◌, ap, arith}
-use Rattle.points_to_constraints.specs.Items.{pass_to, used}
+use Rattle.points_to_constraints.specs.Items.{copy_to, constrained}
 use Rattle.points_to_rules.specs.Facts.{Holder, variable}
 use Rattle.slot_names.specs.declared.variable.Variable.TheVariants.{Parameter}
 use Rattle.points_to_methods.specs.Known.{names_at}
@@ -16,7 +16,7 @@ loop-slot-preserved c =
     makes_below_next (EntersSlot (names_at c.args.at.now) l.method) c.args.tables.now c.loop-slot.tables c.pass.new.tables c.loop-slot.slot
     c.args.steps.now.items c.loop-slot.steps.items c.pass.new.steps.items c.loop-slot.invariant
     (makes_item c.loop-slot.tables c.pass.new.tables _ _ c.loop-slot.steps.items c.pass.new.steps.items
-    (ap (λ (h : Holder). used (variable (Parameter l.method c.loop-slot.slot)) (pass_to h)) c.slot_place.ensures) c.in_ok-pass.ensures)
+    (ap (λ (h : Holder). constrained (variable (Parameter l.method c.loop-slot.slot)) (copy_to h)) c.slot_place.ensures) c.in_ok-pass.ensures)
 
 pub returns : goal.returns
 returns c =

@@ -1,5 +1,5 @@
 use Rattle.std.proofs.Common.{◌≡◌}
-use Rattle.points_to_constraints.specs.Items.{pass_to, used}
+use Rattle.points_to_constraints.specs.Items.{copy_to, constrained}
 use Rattle.points_to_methods.specs.Fixed.{holder_of}
 use Rattle.points_to_methods.specs.Known.{names_at}
 use Rattle.points_to_methods.specs.Slots.{slot_holder}
@@ -12,5 +12,5 @@ returns c =
     let names = names_at c.args.at.now in
     let from = c.args.from in
     let to = c.args.to in
-    let same : used (holder_of c.slot_place-source.result) (pass_to (holder_of c.slot_place-target.result)) ≡ used (slot_holder names from.node from.slot) (pass_to (slot_holder names to.node to.slot)) = cc in
+    let same : constrained (holder_of c.slot_place-source.result) (copy_to (holder_of c.slot_place-target.result)) ≡ constrained (slot_holder names from.node from.slot) (copy_to (slot_holder names to.node to.slot)) = cc in
     makes_item c.args.tables.now c.pass.new.tables _ _ c.args.steps.now.items c.pass.new.steps.items same c.in_ok-pass.ensures

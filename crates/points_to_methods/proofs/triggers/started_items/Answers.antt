@@ -1,29 +1,29 @@
 use Rattle.std.proofs.Common.{◌≡◌, refl}
 use Rattle.points_to_rules.specs.Facts.{thrown_by}
-use Rattle.points_to_constraints.specs.Items.{Item as RuleItem, land_at, used}
+use Rattle.points_to_constraints.specs.Items.{Item as RuleItem, rethrow_to, constrained}
 use Rattle.points_to_rules.specs.declared.place.Place.TheVariants as places
-use Rattle.points_to_numbers.specs.declared.keys.User.TheVariants as users
-use Rattle.points_to_numbers.proofs.Making.{makes_both, makes_used}
+use Rattle.points_to_numbers.specs.declared.keys.Constraint.TheVariants as constraints
+use Rattle.points_to_numbers.proofs.Making.{makes_both, makes_constrained}
 use Rattle.points_to_methods.specs.Initiated.{IsInitiated}
 use Rattle.points_to_methods.proofs.triggers.started_items.Goals as goal
 
-pub add_use-requires-clause-user : goal.add_use-requires-clause-user
-add_use-requires-clause-user c =
-    let (landing, stands) = c.requires in
-    (land_at landing, (landing, c.in_ok-initiated_items.ensures.grows.landings c.args.landing.0 landing stands, refl))
+pub add_constraint-requires-clause-constraint : goal.add_constraint-requires-clause-constraint
+add_constraint-requires-clause-constraint c =
+    let (catch_chain, stands) = c.requires in
+    (rethrow_to catch_chain, (catch_chain, c.in_ok-initiated_items.ensures.grows.catch_chains c.args.catch_chain.0 catch_chain stands, refl))
 
 pub returns : goal.returns
-returns c = λ landing stands.
+returns c = λ catch_chain stands.
     let i = c.args.initialiser in
     let one = c.args.tables.now in
     let two = c.initiated_items.new.tables in
-    let three = c.add_use.new.tables in
+    let three = c.add_constraint.new.tables in
     let before = c.args.steps.now.items in
     let between = c.initiated_items.new.steps.items in
-    let after = c.add_use.new.steps.items in
+    let after = c.add_constraint.new.steps.items in
     let first = c.in_ok-initiated_items.ensures in
-    let facts = c.in_ok-add_use.ensures in
-    let Land : RuleItem → Type 0 = (λ x. x ≡ used (thrown_by i) (land_at landing)) in
-    let second = makes_used two three (places.Thrown i) (users.LandAt c.args.landing) (thrown_by i) (land_at landing) between after refl
-    (landing, first.grows.landings c.args.landing.0 landing stands, refl) facts.grows facts.calls facts.adds in
+    let facts = c.in_ok-add_constraint.ensures in
+    let Land : RuleItem → Type 0 = (λ x. x ≡ constrained (thrown_by i) (rethrow_to catch_chain)) in
+    let second = makes_constrained two three (places.Thrown i) (constraints.RethrowTo c.args.catch_chain) (thrown_by i) (rethrow_to catch_chain) between after refl
+    (catch_chain, first.grows.catch_chains c.args.catch_chain.0 catch_chain stands, refl) facts.grows facts.calls facts.adds in
     makes_both one two three (IsInitiated i) Land before between after first second

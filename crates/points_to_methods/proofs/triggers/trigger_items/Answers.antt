@@ -40,28 +40,28 @@ returns-then-is_empty c = λ n at.
     makes_none c.args.tables.now (TriggerItem p l.method l n) c.args.steps.now.items (none_started p l n (none_found p n class is_trigger within found.items c.in_ok-initialisers.ensures empty))
 
 pub loop-initialiser-init : goal.loop-initialiser-init
-loop-initialiser-init c = λ landing stands.
-    makes_start (λ (i : MethodNo). IsStarted i landing) c.landing_of.new.tables c.deref-initialiser-items.result.now c.args.steps.now.items
+loop-initialiser-init c = λ catch_chain stands.
+    makes_start (λ (i : MethodNo). IsStarted i catch_chain) c.catch_chain_of.new.tables c.deref-initialiser-items.result.now c.args.steps.now.items
 
 pub started_items-requires : goal.started_items-requires
 started_items-requires c =
     let (n, at) = stands_below c.args.at.now.method.now.nodes c.args.node c.requires.there in
-    let (landing, is_landing, stands) = c.in_ok-landing.ensures.stands n at in
-    (landing, (c.loop-initialiser.invariant landing stands).grows.landings c.in_ok-landing.landing.0 landing stands)
+    let (catch_chain, is_catch_chain, stands) = c.in_ok-catch_chain.ensures.stands n at in
+    (catch_chain, (c.loop-initialiser.invariant catch_chain stands).grows.catch_chains c.in_ok-catch_chain.catch_chain.0 catch_chain stands)
 
 pub loop-initialiser-preserved : goal.loop-initialiser-preserved
-loop-initialiser-preserved c = λ landing stands.
-    let made = c.loop-initialiser.invariant landing stands in
-    makes_next_read (λ (i : MethodNo). IsStarted i landing) c.landing_of.new.tables c.loop-initialiser.tables c.started_items.new.tables c.deref-initialiser-items.result.now c.loop-initialiser.initialiser-index _
+loop-initialiser-preserved c = λ catch_chain stands.
+    let made = c.loop-initialiser.invariant catch_chain stands in
+    makes_next_read (λ (i : MethodNo). IsStarted i catch_chain) c.catch_chain_of.new.tables c.loop-initialiser.tables c.started_items.new.tables c.deref-initialiser-items.result.now c.loop-initialiser.initialiser-index _
     c.args.steps.now.items c.loop-initialiser.steps.items c.started_items.new.steps.items c.loop-initialiser-test.true made
-    (c.in_ok-started_items.ensures landing (made.grows.landings c.in_ok-landing.landing.0 landing stands))
+    (c.in_ok-started_items.ensures catch_chain (made.grows.catch_chains c.in_ok-catch_chain.catch_chain.0 catch_chain stands))
 
 pub returns : goal.returns
 returns c = λ n at.
     let p = c.args.at.now.program.now in
     let l = c.args.at.now.method.now in
     let one = c.args.tables.now in
-    let two = c.landing_of.new.tables in
+    let two = c.catch_chain_of.new.tables in
     let three = c.loop-initialiser.tables in
     let before = c.args.steps.now.items in
     let after = c.loop-initialiser.steps.items in
@@ -70,9 +70,9 @@ returns c = λ n at.
     let items = c.deref-initialiser-items.result.now in
     let is_trigger : n.trigger ≡ Some class = trigger_read l.nodes c.as_slice.result.now c.args.node n _ (Some class) c.as_slice.ensures at c.in-Some.is in
     let within = trigger_numbered p l c.requires.known.in_program c.args.node n at class is_trigger in
-    let (landing, is_landing, stands) = c.in_ok-landing.ensures.stands n at in
-    let all = makes_all (λ (i : MethodNo). IsStarted i landing) two three items c.loop-initialiser.initialiser-index before after (omega arith) (c.loop-initialiser.invariant landing stands) in
-    let of_found = subst (λ (is : List MethodNo). Makes two three (OfOne (λ (i : MethodNo). IsStarted i landing) is) before after) c.deref-initialiser-items.ensures.value all in
+    let (catch_chain, is_catch_chain, stands) = c.in_ok-catch_chain.ensures.stands n at in
+    let all = makes_all (λ (i : MethodNo). IsStarted i catch_chain) two three items c.loop-initialiser.initialiser-index before after (omega arith) (c.loop-initialiser.invariant catch_chain stands) in
+    let of_found = subst (λ (is : List MethodNo). Makes two three (OfOne (λ (i : MethodNo). IsStarted i catch_chain) is) before after) c.deref-initialiser-items.ensures.value all in
     makes_same one three _ (TriggerItem p l.method l n) before after
-    (all_started p n class is_trigger within found c.in_ok-initialisers.ensures l (names_at c.args.at.now) c.requires.known landing is_landing)
-    (makes_grown one two three _ before after c.in_ok-landing.ensures.grows c.in_ok-landing.ensures.calls of_found)
+    (all_started p n class is_trigger within found c.in_ok-initialisers.ensures l (names_at c.args.at.now) c.requires.known catch_chain is_catch_chain)
+    (makes_grown one two three _ before after c.in_ok-catch_chain.ensures.grows c.in_ok-catch_chain.ensures.calls of_found)

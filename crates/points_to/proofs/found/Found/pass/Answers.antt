@@ -12,24 +12,24 @@ pub returns-clause-adds : goal.returns-clause-adds
 returns-clause-adds c =
     let n = c.args.self.now.tables in
     let p = c.args.program.now in
-    let user = c.args.user in
+    let constraint = c.args.constraint in
     let site = c.args.site in
     let adds = handed_ok _ c.pass.result c.in_ok-lacks.lacks _ c.in_ok-lacks.ensures.cases c.pass.ensures.adds in
-    adds_same c.pass.new.tables _ (IsPassed p n user site) c.args.steps.now.items c.pass.new.steps.items (passed_here p n user site c.requires.user.numbered c.requires.site)
-    (adds c.requires.user.numbered.0 c.requires.site.0 c.requires.user.numbered.1 c.requires.site.1)
+    adds_same c.pass.new.tables _ (IsPassed p n constraint site) c.args.steps.now.items c.pass.new.steps.items (passed_here p n constraint site c.requires.constraint.numbered c.requires.site)
+    (adds c.requires.constraint.numbered.0 c.requires.site.0 c.requires.constraint.numbered.1 c.requires.site.1)
 
 pub returns-clause-lacks : goal.returns-clause-lacks
 returns-clause-lacks c =
     let n = c.args.self.now.tables in
     let m = c.pass.new.tables in
     let p = c.args.program.now in
-    let user = c.args.user in
+    let constraint = c.args.constraint in
     let site = c.args.site in
     let lacks = c.in_ok-lacks.lacks in
     let grows = handed_ok _ c.pass.result lacks _ c.in_ok-lacks.ensures.cases c.pass.ensures.grows in
     let told = handed_ok _ c.pass.result lacks _ c.in_ok-lacks.ensures.cases c.pass.ensures.lacks in
-    let back = reason_before n m grows user c.requires.user.numbered lacks in
-    let are = lacks_are p c.well_formed-2.ensures.program n user site c.requires.user.numbered.0 c.requires.site.0 lacks c.requires.user.numbered.1 c.requires.site.1
-    (told c.requires.user.numbered.0 c.requires.site.0 c.requires.user.numbered.1 c.requires.site.1) in
-    let same : (call : RefusedCall) → NotesReason m user lacks call ↔ IsLackOf p n user site call = λ call. ((λ h. (are call).0 ((back call).0 h)), (λ h. (back call).1 ((are call).1 h))) in
-    calls_same (NotesReason m user lacks) (IsLackOf p n user site) c.args.self.now.refusals.call c.note_lack.new.refusals.call same c.note_lack.ensures.call
+    let back = reason_before n m grows constraint c.requires.constraint.numbered lacks in
+    let are = lacks_are p c.well_formed-2.ensures.program n constraint site c.requires.constraint.numbered.0 c.requires.site.0 lacks c.requires.constraint.numbered.1 c.requires.site.1
+    (told c.requires.constraint.numbered.0 c.requires.site.0 c.requires.constraint.numbered.1 c.requires.site.1) in
+    let same : (call : RefusedCall) → NotesReason m constraint lacks call ↔ IsLackOf p n constraint site call = λ call. ((λ h. (are call).0 ((back call).0 h)), (λ h. (back call).1 ((are call).1 h))) in
+    calls_same (NotesReason m constraint lacks) (IsLackOf p n constraint site) c.args.self.now.refusals.call c.note_lack.new.refusals.call same c.note_lack.ensures.call

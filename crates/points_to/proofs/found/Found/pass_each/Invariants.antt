@@ -10,7 +10,7 @@ invariant-loop-site l = record {
   grows : Grows l.initial.self.tables l.self.tables;
   calls : length l.self.tables.calls ≡ length l.initial.self.tables.calls;
   answers : AreRight l.program l.self.tables l.self.answers;
-  adds : Adds l.self.tables (PassesSome l.program l.initial.self.tables l.user (take l.site-index l.sites)) l.initial.steps.items l.steps.items;
-  lacks : NotesCalls (LacksSome l.program l.initial.self.tables l.user (take l.site-index l.sites)) l.initial.self.refusals.call l.self.refusals.call;
+  adds : Adds l.self.tables (PassesSome l.program l.initial.self.tables l.constraint (take l.site-index l.sites)) l.initial.steps.items l.steps.items;
+  lacks : NotesCalls (LacksSome l.program l.initial.self.tables l.constraint (take l.site-index l.sites)) l.initial.self.refusals.call l.self.refusals.call;
   method : l.self.refusals.method ≡ l.initial.self.refusals.method;
 }

@@ -7,7 +7,7 @@ returns c = (λ i. numbered (record {
   classes = c.new.ensures i;
   sites = c.new-2.ensures.empty i;
   places = c.new-3.ensures.empty i;
-  landings = c.new-5.ensures.items i;
+  catch_chains = c.new-5.ensures.items i;
   calls = c.new-6.ensures.items i;
-  users = c.new-4.ensures.empty i;
+  constraints = c.new-4.ensures.empty i;
 }))

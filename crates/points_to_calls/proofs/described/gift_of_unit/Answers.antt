@@ -1,8 +1,0 @@
-use Rattle.std.proofs.Common.{sym, Option, ◌∙◌, ap}
-use Rattle.jvm_model.specs.declared.number.SiteNo.{SiteNo}
-use Rattle.points_to_calls.specs.Describing.{gift_of_unit}
-use Rattle.points_to_calls.proofs.Stubs.{later_unit}
-use Rattle.points_to_calls.proofs.described.gift_of_unit.Goals as goal
-
-pub returns : goal.returns
-returns c = sym (ap (λ (receiver : Option SiteNo). gift_of_unit receiver c.args.unit) c.in-Some.is ∙ later_unit c.in-Some.site c.args.unit c.if-unit-eq0.false)

@@ -1,0 +1,60 @@
+//! Where exceptions go.
+
+ghost use Rattle.std.specs.Prelude.{◌≡◌, ◌↔◌, ℕ, List, Some, slice_get, IfSome, IsTrue};
+ghost use Rattle.program_model.specs.Numbers.{name_at, IsClassNumber};
+ghost use Rattle.machine_nodes.specs.NodeSteps.{Takes};
+ghost use Rattle.points_to_calls.specs.Parts.{GoesTo, IsCatchChainPlace};
+ghost use Rattle.points_to_constraints.specs.Items.{CatchChain as ItemCatchChain};
+ghost use Rattle.points_to_numbers.specs.Numbered.{IsNumbered};
+
+use hierarchy::fits;
+use jvm_model::ClassNo;
+use op_model::NodeHandler;
+use points_to_numbers::{CatchChain, CatchChainNo, Tables};
+use points_to_rules::PlaceNo;
+use program_model::program::Program;
+
+/// Where an exception of a class goes: the place of the first handler that takes it, or else that outside of the method.
+pub(crate) fn lands(
+    program: &Program,
+    tables: &Tables,
+    catch_chain: CatchChainNo,
+    class: &[u8],
+) -> PlaceNo
+    requires { IsNumbered tables.now.catch_chains catch_chain.0 }
+    ensures { (l : ItemCatchChain) → slice_get tables.now.catch_chains catch_chain.0 ≡ Some l → IsCatchChainPlace program.now tables.now class.now l result }
+{
+    goes_to(program, tables.catch_chain_of(catch_chain), class)
+}
+
+/// The same by the entry of the catch chain.
+fn goes_to(program: &Program, catch_chain: &CatchChain, class: &[u8]) -> PlaceNo
+    ensures { GoesTo program.now class.now catch_chain.now.catch_clauses catch_chain.now.outside result }
+{
+    let thrown = program.find(class);
+    for catch_clause in catch_chain.catch_clauses.as_slice() {
+        if takes(program, catch_clause.handler, thrown, class) {
+            return catch_clause.to;
+        }
+    }
+    catch_chain.outside
+}
+
+/// Whether a handler takes an exception of a class, which has this number if it is one of the program. One of a class that is not in the program
+/// is taken by a handler of all.
+fn takes(program: &Program, handler: NodeHandler, thrown: Option<ClassNo>, class: &[u8]) -> bool
+    requires { IfSome thrown (λ number. IsClassNumber program.now number.0 × (name_at program.now number.0 ≡ class.now)) }
+    ensures { IsTrue result ↔ Takes program.now handler class.now }
+{
+    program.well_formed();
+    let Some(caught) = handler.catch else {
+        return true;
+    };
+    if caught.0 as usize >= program.class_count() {
+        return false;
+    }
+    match thrown {
+        Some(number) => program.is_at_or_above(number, caught),
+        None => fits(program, program.class_name(caught), class),
+    }
+}

@@ -1,7 +1,0 @@
-use Rattle.points_to_numbers.proofs.AddedItems.{use_added}
-use Rattle.points_to_numbers.proofs.steps.add_use.Goals as goal
-
-pub returns-clause-adds : goal.returns-clause-adds
-returns-clause-adds c =
-    use_added c.args.tables.now c.place.new.self c.user.new.self c.args.place c.args.user c.in_ok-place.place c.in_ok-user.user c.args.steps.now.items c.push.new.self.items
-    c.in_ok-place.ensures.grows c.in_ok-place.ensures.stands c.in_ok-user.ensures.grows c.in_ok-user.ensures.stands c.requires.place c.requires.user c.in_ok-push.ensures.items
