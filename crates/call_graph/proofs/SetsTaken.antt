@@ -20,7 +20,7 @@ use Rattle.points_to_numbers.proofs.AddedKeys.{IsAdded}
 use Rattle.op_model.specs.declared.node.NodeRef.{NodeRef}
 use Rattle.call_graph.specs.declared.sets.Sets.{Sets}
 use Rattle.ground.specs.Added.{AreAdded}
-use Rattle.call_graph.specs.Sets.{AddsTarget, AreListed, AreSetsOf, IsCalled, IsTarget, TakesItem}
+use Rattle.call_graph.specs.Sets.{AddsTarget, AreCalled, AreListed, AreSetsOf, IsCalled, IsTarget, TakesItem}
 
 -- ---- a target more
 
@@ -46,6 +46,17 @@ module _ (old new : Sets) (call : NodeRef) (target : MethodNo) (number : ℕ) (c
     | inr last ↦ (call, ap (λ (k : ℕ). slice_get new.calls.keys k) (sym last.0) ∙ calls.stands)
   ]
 
+  still_called : AreCalled old → AreCalled new
+  still_called called at key stands = elim (calls.others at key stands) [
+    | inl before ↦ (let (m, there) = called at key before in (m, put_keeps old.targets.groups.items new.targets.groups.items number target put at m there))
+    | inr same ↦
+        let here : number ≡ at = apart call number at calls.stands (stands ∙ ap Some same) in
+        (
+          target,
+          subst (λ (k : ℕ). Contains (values_at new.targets.groups.items k) target) here (put_there old.targets.groups.items new.targets.groups.items number target put),
+        )
+  ]
+
   new_target : (key : NodeRef) (m : MethodNo) → (key ≡ call) × (m ≡ target) → IsTarget new key m
   new_target key m (same_call, same) = (
     number,
@@ -59,6 +70,7 @@ module _ (old new : Sets) (call : NodeRef) (target : MethodNo) (number : ℕ) (c
     running = running;
     targets = λ listed key m. (target_cases listed key m, λ either. elim either [ inl before ↦ target_stays key m before | inr last ↦ new_target key m last ]);
     listed = still_listed;
+    called = still_called;
   }
 
 -- ---- which items are there
@@ -92,6 +104,11 @@ module _ (n : Numbered) (item : Item) (old new : Sets) (items : List Item) (sets
   listed_stay calls same number m there =
       let (key, stands) = sets.listed number m (subst (λ (g : Groups MethodNo). Contains (values_at g.groups.items number) m) same there) in
       (key, ap (λ (ks : List NodeRef). slice_get ks number) calls ∙ stands)
+
+  called_stay : new.calls.keys ≡ old.calls.keys → new.targets ≡ old.targets → AreCalled new
+  called_stay calls same number key at =
+      let (m, there) = sets.called number key (sym (ap (λ (ks : List NodeRef). slice_get ks number) calls) ∙ at) in
+      (m, subst (λ (g : Groups MethodNo). Contains (values_at g.groups.items number) m) (sym same) there)
 
   targets_stay : ((call : CallNo) (m : MethodNo) → item ≡ Calls call m → ⊥) → new.calls.keys ≡ old.calls.keys → new.targets ≡ old.targets
       → (key : NodeRef) (m : MethodNo) → IsTarget new key m ↔ IsCalled n (items ++ item ∷ []) key m
@@ -133,6 +150,7 @@ holding_taken n place site old new put running calls targets = record {
     runs = running_stays n (Holds place site) old new items sets (λ m e. cc) running;
     targets = targets_stay n (Holds place site) old new items sets (λ call m e. cc) calls targets;
     listed = listed_stay n (Holds place site) old new items sets calls targets;
+    called = called_stay n (Holds place site) old new items sets calls targets;
   };
 }
 
@@ -154,6 +172,7 @@ run_taken n method old new added sites calls targets = record {
     );
     targets = targets_stay n (Runs method) old new items sets (λ call m e. cc) calls targets;
     listed = listed_stay n (Runs method) old new items sets calls targets;
+    called = called_stay n (Runs method) old new items sets calls targets;
   };
 }
 
@@ -185,6 +204,7 @@ call_taken n call target site key old new stands of_node adds = record {
       ],
     );
     listed = adds.listed sets.listed;
+    called = adds.called sets.called;
   };
 }
 
@@ -196,5 +216,6 @@ use_taken n place constraint sets = record {
     runs = running_stays n (Constrains place constraint) sets sets items are (λ m e. cc) refl;
     targets = targets_stay n (Constrains place constraint) sets sets items are (λ call m e. cc) refl refl;
     listed = are.listed;
+    called = are.called;
   };
 }

@@ -60,6 +60,7 @@ module _ (p : Program) (n : Numbered) (l : Lists) (are : AreNumbered n l) (items
         let (x, is) = stands_for_each n items found facts (Holds (record { 0 = place }) site) item in
         let (s, at) = held_site n place site x is in
         (s, ap (λ (ss : List Site). slice_get ss site.0) are.sites ∙ at);
+    called = sets.called;
     targets = λ number target there.
         let (call, stands) = sets.listed number target there in
         targets.each call target ((found_calls n l are items found facts sets call target).1 (number, stands, there));

@@ -24,11 +24,16 @@ IsCalled n items key target = (call : CallNo) × (site : CallSite) × Contains i
 abbrev pub AreListed : Sets → Type 0
 AreListed s = (number : ℕ) (target : MethodNo) → Contains (values_at s.targets.groups.items number) target → (key : NodeRef) × (slice_get s.calls.keys number ≡ Some key)
 
+-- Each listed call has a target.
+abbrev pub AreCalled : Sets → Type 0
+AreCalled s = (number : ℕ) (key : NodeRef) → slice_get s.calls.keys number ≡ Some key → (target : MethodNo) × Contains (values_at s.targets.groups.items number) target
+
 pub record AreSetsOf (n : Numbered) (items : List Item) (s : Sets) : Type 0 where
   pub holds : (place : ℕ) (site : SiteNo) → Contains (values_at s.sites.groups.items place) site ↔ Contains items (Holds (record { 0 = place }) site)
   pub runs : (m : MethodNo) → Contains s.running.keys m ↔ Contains items (Runs m)
   pub targets : (key : NodeRef) (target : MethodNo) → IsTarget s key target ↔ IsCalled n items key target
   pub listed : AreListed s
+  pub called : AreCalled s
 
 -- The sets are those of one item more.
 pub record TakesItem (n : Numbered) (item : Item) (old new : Sets) : Type 0 where
@@ -40,3 +45,4 @@ pub record AddsTarget (call : NodeRef) (target : MethodNo) (old new : Sets) : Ty
   pub running : new.running ≡ old.running
   pub targets : AreListed old → (key : NodeRef) (m : MethodNo) → IsTarget new key m ↔ (IsTarget old key m ⊎ ((key ≡ call) × (m ≡ target)))
   pub listed : AreListed old → AreListed new
+  pub called : AreCalled old → AreCalled new

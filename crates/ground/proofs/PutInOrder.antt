@@ -38,6 +38,9 @@ module _ (old new : Lists) (put : ArePutInOrder old new) where
     places = sound.places;
     places_apart = sound.places_apart;
     held = λ place site there. sound.held place site ((put.held place site).0 there);
+    called = λ number call at.
+        let (target, there) = sound.called number call at in
+        (target, (put.targets number target).1 there);
     targets = λ call target there. sound.targets call target ((put.targets call target).0 there);
     few = sound.few;
   }

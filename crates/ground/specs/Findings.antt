@@ -9,7 +9,7 @@ use Rattle.op_model.specs.declared.lowered.LoweredMethod.{LoweredMethod}
 use Rattle.op_model.specs.declared.node.Node.{Node}
 use Rattle.op_model.specs.declared.node.NodeRef.{NodeRef}
 use Rattle.op_model.specs.Supplies.{GivenAs}
-use Rattle.points_to_rules.specs.Facts.{Holder, Fact, may_hold}
+use Rattle.points_to_rules.specs.Facts.{Holder, Fact, may_call, may_hold}
 use Rattle.points_to_rules.specs.Rules.{IsSlot}
 use Rattle.ground.specs.declared.node_place.NodePlace.{NodePlace}
 
@@ -79,3 +79,9 @@ pub record AreSitesOf (g : Findings) (h : Holder) (numbers : List SiteNo) : Type
 pub record HoldsAlone (g : Findings) (h : Holder) (s : Site) : Type 0 where
   pub holds : Contains g.facts (may_hold h s)
   pub only : (other : Site) → Contains g.facts (may_hold h other) → other ≡ s
+
+-- ---- calls
+
+-- The call may go to some method.
+abbrev pub MayGoOn : Findings → NodeRef → Type 0
+MayGoOn g call = (m : MethodNo) × Contains g.facts (may_call call m)

@@ -6,6 +6,7 @@ use Rattle.jvm_model.specs.declared.number.SiteNo.{SiteNo}
 use Rattle.jvm_model.specs.declared.site.Site.{Site}
 use Rattle.jvm_model.specs.Programs.{Program}
 use Rattle.program_model.specs.Numbers.{IsMethodNumber}
+use Rattle.op_model.specs.declared.node.NodeRef.{NodeRef}
 use Rattle.grouped_lists.specs.Groups.{values_at}
 use Rattle.least_sets.specs.Rules.{IsWithoutDoubles}
 use Rattle.slot_names.specs.KeptNames.{name_table}
@@ -19,7 +20,7 @@ use Rattle.ground.specs.declared.lists.Lists.{Lists}
 use Rattle.ground.specs.Lists.{number_of}
 
 -- The methods are methods of the program, with their numbers and the variables of their slots; no site and no place has two numbers; each place stands for a
--- holder; and the numbers of sites and of targets are numbers of something. 32 bits number the places.
+-- holder; each listed call has a target; and the numbers of sites and of targets are numbers of something. 32 bits number the places.
 pub record AreSound (p : Program) (l : Lists) : Type 0 where
   pub methods : (m : RunningMethod) → Contains l.methods.items m → IsWholeMethod p m.method.method.0 m.method
   pub names : (m : RunningMethod) → Contains l.methods.items m → AreNames m.method (name_table m.names)
@@ -28,5 +29,6 @@ pub record AreSound (p : Program) (l : Lists) : Type 0 where
   pub places : (number : ℕ) (place : Place) → slice_get l.places.keys number ≡ Some place → (h : Holder) × IsHolderIn l.sites.items place h
   pub places_apart : IsWithoutDoubles l.places.keys
   pub held : (place : ℕ) (site : SiteNo) → Contains (values_at l.held.groups.items place) site → (s : Site) × (slice_get l.sites.items site.0 ≡ Some s)
+  pub called : (number : ℕ) (call : NodeRef) → slice_get l.calls.keys number ≡ Some call → (target : MethodNo) × Contains (values_at l.targets.groups.items number) target
   pub targets : (call : ℕ) (target : MethodNo) → Contains (values_at l.targets.groups.items call) target → IsMethodNumber p target.0
   pub few : length l.places.keys < 2 ^ 32

@@ -13,7 +13,7 @@ ghost use Rattle.points_to_rules.specs.Places.{IsHolderIn};
 ghost use Rattle.points_to_rules.specs.WholeMethods.{IsWholeMethod};
 ghost use Rattle.ground.specs.declared.lists.FieldWrite.{FieldWrite as RuleWrite};
 ghost use Rattle.ground.specs.declared.node_place.NodePlace.{NodePlace as RuleNodePlace};
-ghost use Rattle.ground.specs.Findings.{AreSitesOf, HasNode, HoldsAlone, IsNodeAt, IsPlaceInMethod, IsPlaceOfMethod, IsPlaceOfNode, IsSlotOf};
+ghost use Rattle.ground.specs.Findings.{AreSitesOf, HasNode, HoldsAlone, IsNodeAt, IsPlaceInMethod, IsPlaceOfMethod, IsPlaceOfNode, IsSlotOf, MayGoOn};
 ghost use Rattle.ground.specs.Ordered.{DoAscend, method_number, site_number};
 ghost use Rattle.ground.specs.Lists.{HasFacts, holders_of, nodes_of};
 ghost use Rattle.ground.specs.Sound.{AreSound};
@@ -260,7 +260,7 @@ impl<'p> Ground<'p> {
 
     /// The calls that may go to a method, each once.
     pub fn calls(&self) -> &[NodeRef]
-        ensures { (call : RuleNodeRef) (m : RuleMethodNo) → Contains self.now.facts (may_call call m) → Contains result.now call }
+        ensures { (call : RuleNodeRef) → Contains result.now call ↔ MayGoOn self.now call }
     {
         self.lists.calls.as_slice()
     }
