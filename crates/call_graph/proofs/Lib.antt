@@ -1,3 +1,6 @@
+-- A set takes one item more: "for all items of which these were the sets" (`TakesItem`).
+-- No rule rests on what methods write (`plain_premises`): least sets are made one over the other (`least_together`).
+-- Lists that grow without order are `AreAdded` of ground; `==` that tells keys apart is `Tells`.
 pub mod Closings
 pub mod Combined
 pub mod ExactEdges

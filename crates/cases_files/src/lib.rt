@@ -1,5 +1,6 @@
-//! The cases of the programs that print what they find in class files: a case is a folder of class files, with or without a stub file.
-//! Here its files are read and linked.
+//! For tests: the cases of the programs that print what they find in class files. A case is a folder of class files, with or without a stub
+//! file. Here its files are read and linked.
+//! The programs call `folders`, `read_files`, `read_all_stubs` and `link_case`. Begin with src/class_files.rt and src/programs.rt.
 #![tactic(auto)]
 
 mod case_failure;

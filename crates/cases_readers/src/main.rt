@@ -1,13 +1,12 @@
-//! Prints what the readers answer to the rows of cases, for tests: to class files, with their code and their flow graphs, and to
+//! For tests: prints what the readers answer to the rows of cases, that is to class files, with their code and their flow graphs, and to
 //! property files and stub files. Then it prints the rows of the instruction table.
 //!
 //! ```text
 //! cases_readers NAMES CLASSES TEXTS
 //! ```
 //!
-//! CLASSES is a folder of cases of class files, and NAMES a file of lines that stand before each of them; TEXTS is a folder of cases
-//! of property files and of stub files. A case is a file. Of each, in byte order of their names, its name is printed, and then the
-//! answers.
+//! CLASSES is a folder of cases of class files, NAMES a file of lines that stand before each of them, TEXTS a folder of cases of property
+//! files and of stub files. A case is a file; of each, in byte order of their names, its name is printed, and then the answers.
 #![tactic(auto)]
 
 mod classes;

@@ -1,13 +1,12 @@
-//! Prints what runs of the verifier answer. A case is a folder with a file `words`, which has the words of the run, one a line, and a folder `folder`, which is
-//! the tree of files. The one word is the folder of the cases:
+//! For tests: prints what runs of the verifier answer. A case is a folder with a file `words`, which has the words of the run, one a line,
+//! and a folder `folder`, which is the tree of files. The one word is the folder of the cases:
 //!
 //! ```text
 //! cases_run FOLDER
 //! ```
 //!
-//! Of each case, in byte order of their names, its name is printed, then what the run writes, and its exit status.
-//!
-//! Tests of runs over trees and sinks in memory stand beside it.
+//! Of each case, in byte order of their names, its name is printed, then what the run writes, and its exit status. Tests of runs over trees
+//! and sinks in memory stand beside it.
 #![tactic(auto)]
 
 #[cfg(test)]

@@ -1,4 +1,7 @@
-//! Which methods have code (JVMS 4.7.3), and the initialisers that the initialisation of a class runs (JVMS 2.9, 5.5).
+//! Where a program begins: its entry, and the initialisers that the initialisation of a class runs (JVMS 2.9, 5.5); and which methods have
+//! code (JVMS 4.7.3).
+//! The run calls `find_entry` and `has_method_named`; the points-to solver `is_coded` and `coded_initialisers`.
+//! Begin with specs/Entries.antt and src/entry.rt; with src/initialisers.rt for initialisers.
 #![tactic(auto)]
 
 mod coded;

@@ -1,6 +1,7 @@
-//! The methods of small named programs as nodes: laws that they are those of the rules, and that the same executions, state by state,
-//! are executions of bytecode and of nodes. They call nothing, and no layer needs them to prove its own: they show that the
+//! The methods of the programs of example_machine as nodes: laws that they are those of the rules, and that the same executions, state by
+//! state, are executions of bytecode and of nodes. They call nothing, and no layer needs them to prove its own: they show that the
 //! definitions let happen what should.
+//! Begin with src/within.rt and src/lowering.rt.
 #![tactic(auto)]
 
 pub mod calls;

@@ -1,3 +1,7 @@
+-- Words and property file compute by `refl` under `clap_on_literals` and `toml_on_literals`, each in a lemma of its own.
+-- Class files and stubs are brought into byte order by exchanges: that is a permutation by definition.
+-- A blank for a class far down in the program is not found within the limit of steps: write it out.
+-- Concrete code before an open rest: `two_there` rewrites the test of the length.
 mod Words
 mod Properties
 mod Linked

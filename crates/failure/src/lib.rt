@@ -1,5 +1,6 @@
-//! The one type of failure of all layers: each layer has a type of its own for its causes, and an alias of `Failure` at it.
-//! Memory can run out in almost every call, so that is said here once.
+//! Why a call gave no answer: a cause of its own, or out of memory. Each layer has a type for its causes, and an alias of `Failure` at it.
+//! The layers above call `widen` and `map_cause`, and let `?` make `OutOfMemory` of the allocator's errors. All stands in this file; what a
+//! failure that is handed on still says is `IsWidened`, in specs/Widening.antt.
 #![tactic(auto)]
 
 ghost use Rattle.std.specs.Prelude.{◌≡◌};

@@ -1,5 +1,9 @@
-//! The flow graph of a method (JVMS 2.6.2, 4.9.2, 4.10): for each instruction that is reached, the height of its operand
-//! stack, where it goes on, and the handlers that cover it. The layers above call `graph`, and cite `IsFlow` of specs/.
+//! The flow graph of a method (JVMS 2.6.2, 4.9.2, 4.10): for each instruction that is reached, the height of its operand stack, where it
+//! goes on, and the handlers that cover it; or the first fault. Lowering calls `graph`; what a graph is stands in specs/, as `IsGraph` and
+//! `IsFlow`.
+//! The law `one_graph` says that a code has no two answers, memory aside.
+//! Begin with src/build.rt, which joins the others: uncaught.rt lists handlers by the offsets that they cover, effect.rt has what is popped
+//! and pushed, walk.rt reaches the instructions, steps.rt makes the first fault or the steps of the marks.
 #![tactic(auto)]
 
 mod build;

@@ -1,5 +1,7 @@
-//! What is known of a program that is analysed: the methods that may run, the sites, the objects that places may hold, the targets of calls, and the
-//! fields that methods may write. It is made of lists, whoever found them, and read without memory. The stages and the report stand on it.
+//! What is known of a program that is analysed: the methods that may run, the sites, the objects that places may hold, the targets of
+//! calls, and the fields that methods may write. It is made of lists, whoever found them, and read without memory.
+//! call_graph makes a `Ground` of `Lists`; the stages and the report read it, and ask `call_event` which event a call is.
+//! What is read is what the facts of specs/Findings.antt say. Begin with src/ground.rt and src/lists.rt.
 #![tactic(auto)]
 
 mod calls;

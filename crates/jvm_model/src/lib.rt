@@ -1,6 +1,9 @@
-//! The data that every layer speaks of: class files as the JVM Specification, SE 8 (JVMS) defines them,
-//! the automaton of a property, allocation sites, and the reasons of a refusal. The definitions that
-//! contracts cite stand in specs/. The layers above read the fields, and cite the definitions.
+//! The data that every layer speaks of: class files as the JVM Specification, SE 8 (JVMS) defines them, code, stubs, the automaton of a
+//! property, allocation sites, and the reasons of a refusal; and small functions on names, descriptors, the constant pool and offsets.
+//! The layers above read the fields, call `descriptor_of`, `row_of_opcode` and the look-ups of `lookup` and `sound`, and cite the
+//! definitions of specs/: what is spelled and sound, and what linking, resolution and selection give.
+//! Begin with src/class_file.rt and specs/Soundness.antt for class files, specs/Programs.antt for programs, specs/Table.antt for
+//! instructions.
 #![tactic(auto)]
 
 pub mod access;

@@ -1,3 +1,5 @@
+-- A clause that leaves the order of a list open has one beside it that fixes it.
+-- Searches for initialisers are walks of `hierarchy`: only the induction over the chain is here (UpwardInitialisers.antt).
 pub mod AddedClasses
 pub mod OrderedClasses
 pub mod TakenHandlers

@@ -1,5 +1,8 @@
-//! What of a node is no operation: the handlers that cover it, the classes that it may throw, whether it may start an initialiser; and
-//! the units of a method's parameters. The layer that lowers methods puts them together.
+//! What of a node is no operation: the handlers that cover it, the classes that it may throw, whether it may start an initialiser; and the
+//! units of a method's parameters.
+//! Lowering calls `catches_of`, `first_unknown`, `entry_offset`, `node_handlers`, `thrown_classes` and `parameter_units`; the crates above
+//! it also call `has_code`.
+//! Begin with src/catches.rt and src/exceptions.rt.
 #![tactic(auto)]
 
 pub mod catches;

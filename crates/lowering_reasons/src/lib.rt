@@ -1,6 +1,8 @@
-//! Why an instruction has no node: what it names is not in the program or is of another kind, or is something that the analysis does
-//! not follow. The layer that lowers methods asks for each instruction that is reached, and gets the first reason, or the member that
-//! the instruction names. Nothing here takes memory.
+//! Why an instruction has no node: what it names is not in the program or is of another kind, or is something that the analysis does not
+//! follow. Nothing here takes memory.
+//! Lowering calls `judge` for each instruction that is reached, and gets the first reason, or the `NamedMember`.
+//! Begin with specs/Reasons.antt, the reasons and their order, and with src/judgement.rt; followed.rt, stubs.rt, members.rt, mismatch.rt,
+//! targets.rt and finalizers.rt have the tests.
 #![tactic(auto)]
 
 mod absent;

@@ -1,5 +1,8 @@
 //! Nodes: a method as operations on slots, each at the offset of its instruction; the edges of their flow; and a supplier of methods as
-//! nodes. The layers above analyse nodes and look at bytecode no more; the layer that lowers methods makes nodes.
+//! nodes.
+//! The layers above analyse a `LoweredMethod`, and look at bytecode no more. Lowering makes it; the points-to solver asks a `Supply` for it
+//! by its number, whose contract says that a method is given as one thing, and always as that.
+//! Begin with src/node.rt and src/op.rt.
 #![tactic(auto)]
 
 mod lowered;

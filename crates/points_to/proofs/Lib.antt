@@ -1,3 +1,5 @@
+-- Ranges of numbers are a closed set (`IsInRange`) and no invariant: use `derivation_in_closed`.
+-- Listed methods are those of the items at the front of the work list; one item more gives one method or none.
 mod ExactItems
 mod Taken
 mod Grouped

@@ -1,5 +1,9 @@
-//! The items of the points-to solver to which the nodes of a method lead: what flows from slot to slot, what each operation makes, reads, writes
-//! and throws, and the exceptions that a node may throw itself. Calls, loads of static fields and initialisers stand in the crate above.
+//! The items of the points-to solver to which a method leads: what enters, what flows from slot to slot, what each operation makes, reads,
+//! writes, calls and throws, and the initialisers that a node may start.
+//! The solver calls `method_items` for each method that may run and has code, and `initiated_items` for the initialisers of the entry's
+//! class.
+//! Begin with src/methods.rt and src/nodes.rt; operations.rt and accesses.rt have the operations, calls.rt the calls, exceptions.rt and
+//! handlers.rt what is thrown.
 #![tactic(auto)]
 
 mod accesses;

@@ -1,6 +1,8 @@
-//! The rules of the points-to analysis over nodes, with the methods that may run, the targets of calls and the fields that methods may write:
-//! which fact follows from which; what is answered, and why there is no answer. The solver, the checker of certificates and the theorems stand on
-//! these definitions. The crate has definitions, in specs/, laws of them, and the types that they speak of; it runs nothing.
+//! The rules of the points-to analysis over nodes, with the methods that may run, the targets of calls and the fields that methods may
+//! write: which fact follows from which; what is answered, and why there is no answer. The crate has definitions, in specs/, and the types
+//! that they speak of; it runs nothing.
+//! The solver, the ground, the stages and the theorems stand on `Fact`, `Instance`, `IsSolution` and `IsSolveEnd`.
+//! Begin with specs/Facts.antt and Rules.antt; then Solutions.antt and Refusals.antt.
 #![tactic(auto)]
 
 pub mod laws;

@@ -1,6 +1,7 @@
-//! Indexes of names and of members, sets of classes, and the order of classes by their supertypes. The linked program stands on
-//! it. Orders, sets and lists of supertypes are over numbers of classes alone, which are plain `u32` here; where other numbers stand
-//! beside it, that of a class is a `ClassNo`.
+//! Texts and members by number, sets of classes, and the order of classes by their supertypes. Classes are plain `u32` here; where other
+//! numbers stand beside it, that of a class is a `ClassNo`.
+//! The program's model calls `upward_order`, `above_lists` and `MemberIndex`; linking and the points-to solver number texts by `TextIndex`.
+//! Begin with src/text_index.rt and src/order.rt.
 #![tactic(auto)]
 
 pub mod above;

@@ -1,3 +1,8 @@
+-- Everything follows from the program and not from a walk: a class has one member of a signature (`MembersDiffer`).
+-- One order: ascending lists that hold each item equally often are equal (Orders.antt); no permutation is taken apart.
+-- Alike programs meet the same flat claims (FirstUnmet.antt), so a refusal is that of the list of claims.
+-- The rank of a name is how many names are above it: chains and searches recur below a limit, with no order of classes.
+-- A name that no class has begins no chain: laws of calls ask for no class.
 pub mod ArrayNames
 pub mod Calls
 pub mod Chains

@@ -1,3 +1,7 @@
+-- Bridges.antt leads from numbers to names: prove orders and cycles of numbers, and use it last.
+-- A lemma on fields is carried to the value by one `subst` over the whole statement (Accessing.antt).
+-- Keys and places of members are two independent facts (`TellEach`); methods and fields share all lemmas.
+-- A new kind of member is an `impl` of `MemberKind`; the lemmas are over any list of declarations.
 pub mod Ordered
 pub mod Bridges
 pub mod Ranking

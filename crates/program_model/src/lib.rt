@@ -1,5 +1,7 @@
-//! The linked program: a program in which each name has its class, and what the searches read of it. Classes, methods and fields have
-//! numbers; the definitions that contracts cite stand in jvm_model and in specs/.
+//! The linked program: its classes, methods and fields by number, and what stands for a method when it is called. Linking calls
+//! `Program::assemble`; the layers above read a `Program`, and call `well_formed` for what holds of each one.
+//! specs/Numbers.antt has what a number stands for. Begin with src/program.rt: numbering.rt gives classes their numbers, by names in byte
+//! order, and member_table.rt methods and fields.
 #![tactic(auto)]
 
 pub mod link_failure;

@@ -1,6 +1,9 @@
-//! Property files: the TOML document of an automaton, read and tested. The layer above calls `read_property`, which
-//! answers the automaton, or the rule that the file breaks. A file's table is read key by key: `reading` has the
-//! keys in their order, the other modules the values that stand at them.
+//! Property files: from bytes to the `Automaton` of a property, or to the first key of which a rule is broken. The run calls
+//! `read_property`.
+//! The laws `property_is_sound`, `one_automaton`, `one_refusal` and `automaton_or_refusal` say that what is read is the automaton of a
+//! property, and that bytes have no two answers, memory aside.
+//! Begin with specs/Rules.antt, and with src/reading.rt, which has the keys in their order; the other modules have the values that stand at
+//! them.
 #![tactic(auto)]
 
 mod event_list;

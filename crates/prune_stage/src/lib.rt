@@ -1,5 +1,7 @@
-//! The first stage: which states the automaton of a property can reach by the events that may occur at the objects of a site, in whatever order and
-//! however often each (Fink et al., section 4.1). A site is safe where the error state is not among them. One walk over the calls tells it of all sites, or of one.
+//! The first stage: which states the automaton of a property can reach by the events that may occur at the objects of a site, in whatever
+//! order and however often each (Fink et al., section 4.1). A site is safe where the error state is not among them.
+//! The report calls `prune`, which tells it of all tracked sites by one walk over the calls; `prune_site` tells it of one.
+//! Begin with specs/Pruning.antt and src/pruning.rt: marks.rt walks the calls, stage_one.rt searches the automaton.
 #![tactic(auto)]
 
 mod answers;

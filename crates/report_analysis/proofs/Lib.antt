@@ -1,3 +1,5 @@
+-- What is said over listed methods is said over any supplier that gives them (Agreeing.antt), one lemma a definition.
+-- `analyse` is two answers of a few lines, over the least sets that are made one over the other in call_graph.
 pub mod Analysed
 pub mod OwnProgram
 pub mod Objects

@@ -1,6 +1,7 @@
-//! From linked class files to the report: the points-to analysis of a folder, which lowers methods on demand; the allocation sites that a property is
-//! about; the first stage for all of them, which asks what events may occur at the objects of each, in whatever order (Fink et al., section 4.1); and the
-//! lines that tell what was found.
+//! From a linked program to its report. The run calls `analyse`: the points-to analysis, which lowers methods on demand, and its ground;
+//! and then `report_of`: the tracked sites, the verdict of each, and the text of the lines.
+//! The law `analyses_are_covered` says that the facts of an analysis cover each state of each execution on the folder's methods as nodes.
+//! Begin with src/analysis.rt and src/report.rt; verdicts.rt has the verdict of each site, writing.rt the text.
 #![tactic(auto)]
 
 mod analysis;

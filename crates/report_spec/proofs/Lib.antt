@@ -1,3 +1,6 @@
+-- The analysis's facts are not one list: a report is over any facts, and SameFacts.antt carries it over, but for writes.
+-- FirstStages.antt ranges over any two relations on stages: no lemma there knows a stage.
+-- The order of sites is compared by sixteen cases of `omega` (ReportOrder.antt).
 pub mod FirstStages
 pub mod ReportOrder
 pub mod SameFacts

@@ -1,4 +1,7 @@
-//! The lines of a report: one for each site that is tracked, with what is found of it, and the summary.
+//! Tracked sites, what is found of them, and the lines that tell it: one for each site, and the summary.
+//! The stages and the report speak of a `TrackedSite` and its `Verdict`. The report calls `verdict_line` and `summary_line`; the run prints
+//! names by `push_name`.
+//! Begin with specs/Sites.antt and specs/Lines.antt.
 #![tactic(auto)]
 
 mod lines;

@@ -1,5 +1,8 @@
 //! The variables of slots. Two slots of one variable have one value, so the layers above ask what a variable may refer to, and not each
 //! slot at each node.
+//! The points-to solver calls `names_of` for each method; it and the ground read `Names`. The laws `one_variable` and `each_variable` say
+//! that a slot has one variable at a node, `slots_of_one_variable` that two slots of it have one value in each execution.
+//! Begin with specs/Variables.antt, and with src/naming.rt, which enters the nodes one after another.
 #![tactic(auto)]
 
 mod arrivals;

@@ -1,5 +1,6 @@
-//! Tables of TOML: `read_table` reads the bytes of a document, within a limit, as its table, and the look-ups say what
-//! stands at a key and which keys there are. The crates that read files of TOML call them.
+//! From bytes to the table of a TOML document, and what stands at its keys. The readers of property files and of stub files call
+//! `read_table`, and then `text_at`, `array_at`, `value_at` and the others of src/table_access.rt.
+//! The law `one_document` says that bytes are one document, or none. Begin with src/document.rt.
 #![tactic(auto)]
 
 mod document;

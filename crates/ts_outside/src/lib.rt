@@ -1,6 +1,8 @@
-//! The outside: where files come from and where output goes, as two traits whose contracts say which
-//! bytes are given and when a fault was counted. The layers above read only through `Tree` and write
-//! only through `Sink`; the real folder and standard output are the two implementations that are trusted.
+//! The outside: where files come from and where output goes, as the traits `Tree` and `Sink`. Their contracts say which bytes are given and
+//! taken, which calls were made, and when a fault was counted.
+//! The layers above read only through `Tree` and write only through `Sink`. `RealTree` and `RealSink` are a folder and standard output;
+//! what the operating system tells them is trusted. `MemoryTree`, `MemorySink`, `SteadyTree` and `SteadySink` are for tests.
+//! Begin with src/tree.rt and src/sink.rt.
 #![tactic(auto)]
 
 mod counts;

@@ -1,5 +1,7 @@
-//! The program: it hands its words, the folder that they name and standard output to `run`, says on standard error what to do
-//! about an answer that is no report, and ends with the status.
+//! The program: it hands its words, the folder that they name and standard output to `run`, says on standard error what to do about an
+//! answer that is no report, and ends with the status.
+//! Begin with src/main.rt and src/ended.rt. sentences.rt has a sentence for each reason, advice.rt names the key or the class that breaks a
+//! rule, kept_line.rt keeps the last line that was written.
 #![tactic(auto)]
 
 mod advice;
