@@ -50,8 +50,7 @@ module _ (old new : Sets) (call : NodeRef) (target : MethodNo) (number : ℕ) (c
   still_called called at key stands = elim (calls.others at key stands) [
     | inl before ↦ (let (m, there) = called at key before in (m, put_keeps old.targets.groups.items new.targets.groups.items number target put at m there))
     | inr same ↦
-        let here : number ≡ at = apart call number at calls.stands (stands ∙ ap Some same) in
-        (
+        let here : number ≡ at = apart call number at calls.stands (stands ∙ ap Some same) in (
           target,
           subst (λ (k : ℕ). Contains (values_at new.targets.groups.items k) target) here (put_there old.targets.groups.items new.targets.groups.items number target put),
         )

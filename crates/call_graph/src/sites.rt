@@ -12,7 +12,7 @@ use std::alloc::{AllocError, Global};
 pub(crate) fn sites_of(alloc: Global, tables: &Tables) -> Result<Vec<Site>, AllocError>
     ensures { IfOk result (λ sites. sites.items ≡ tables.now.sites) }
 {
-    let count = site_count(tables)?;
+    let count = site_count(tables);
     let mut sites = Vec::new(alloc);
     for number in 0..count {
         let site = site_at(alloc, tables, SiteNo(number))?;
@@ -22,10 +22,10 @@ pub(crate) fn sites_of(alloc: Global, tables: &Tables) -> Result<Vec<Site>, Allo
 }
 
 /// How many sites there are, in 32 bits, which each number of a site has.
-fn site_count(tables: &Tables) -> Result<u32, AllocError>
-    ensures { IfOk result (λ count. count ≡ length tables.now.sites) }
+fn site_count(tables: &Tables) -> u32
+    ensures { result ≡ length tables.now.sites }
 {
-    u32::try_from(tables.site_count()).map_err(|_| AllocError)
+    tables.site_count() as u32
 }
 
 /// The site of a number.

@@ -24,7 +24,7 @@ use Rattle.points_to_numbers.proofs.Adding.{adds_same}
 use Rattle.points_to.specs.declared.refusals.RefusedMethod.{RefusedMethod}
 use Rattle.points_to_rules.specs.declared.running_method.RunningMethod.{RunningMethod}
 use Rattle.points_to_rules.specs.declared.solve_fault.SolveFault.{SolveFault}
-use Rattle.points_to_rules.specs.declared.solve_fault.SolveFault.TheVariants.{PairLimit, Refused}
+use Rattle.points_to_rules.specs.declared.solve_fault.SolveFault.TheVariants.{PairLimit, Refused, TooMany}
 use Rattle.points_to.specs.declared.closing.Working.{Working}
 use Rattle.points_to.specs.Closing.{IsClosingEnd}
 use Rattle.points_to.specs.Concluding.{SitesBy, ConstraintsBy, IsKnownIndex, IsKnownItem, ResolvesIn, FollowsFrom, RefusedBy, AddsCallsBy, AddsMethodsBy}
@@ -32,7 +32,7 @@ use Rattle.grouped_lists.specs.Groups.{values_at}
 use Rattle.points_to.specs.Passing.{IsKnownConstraint, NotesMethods}
 use Rattle.points_to.specs.Queues.{IsQueueEnd}
 use Rattle.points_to_rules.specs.Solutions.{IsSupplyOf}
-use Rattle.points_to.specs.Taking.{IsStarted, IsTakenIn, IsTakingEnd}
+use Rattle.points_to.specs.Taking.{IsOutOfRoom, IsStarted, IsTakenIn, IsTakingEnd}
 use Rattle.points_to.proofs.ItemPlaces.{front_rule}
 use Rattle.points_to.proofs.Noting.{those_same}
 use Rattle.points_to.proofs.NumberedCalls.{resolved_in}
@@ -152,15 +152,17 @@ pub closing_end : (p : Program) (gives : GivenAs) (entry : MethodNo) (limit : �
     → IsWithoutDoubles items → IsQueueEnd items limit failure → IsClosingEnd p gives entry limit failure
 closing_end p gives entry limit n items (Cause (PairLimit k)) apart h items_apart end = (end.0, many_derivable p gives entry n items h.xs limit apart h.calls h.stand items_apart h.derived end.1)
 closing_end p gives entry limit n items (Cause (Refused r)) apart h items_apart end = absurd end
+closing_end p gives entry limit n items (Cause TooMany) apart h items_apart end = tt
 closing_end p gives entry limit n items OutOfMemory apart h items_apart end = tt
 
-pub memory_end : (p : Program) (gives : GivenAs) (entry : MethodNo) (limit : ℕ) (failure : Failure SolveFault) → failure ≡ OutOfMemory → IsClosingEnd p gives entry limit failure
-memory_end p gives entry limit failure e = subst (λ (f : Failure SolveFault). IsClosingEnd p gives entry limit f) (sym e) tt
+pub room_end : (p : Program) (gives : GivenAs) (entry : MethodNo) (limit : ℕ) (failure : Failure SolveFault) → IsOutOfRoom failure → IsClosingEnd p gives entry limit failure
+room_end p gives entry limit failure (inl e) = subst (λ (f : Failure SolveFault). IsClosingEnd p gives entry limit f) (sym e) tt
+room_end p gives entry limit failure (inr e) = subst (λ (f : Failure SolveFault). IsClosingEnd p gives entry limit f) (sym e) tt
 
 -- where the start was taken in up to the limit
 pub start_end : (p : Program) (gives : GivenAs) (entry : MethodNo) (limit : ℕ) (n : Numbered) (steps items : List Item) (failure : Failure SolveFault)
     → IsTakingEnd (IsStarted p entry n steps items) items limit failure → IsClosingEnd p gives entry limit failure
-start_end p gives entry limit n steps items failure (inl memory) = memory_end p gives entry limit failure memory
+start_end p gives entry limit n steps items failure (inl room) = room_end p gives entry limit failure room
 start_end p gives entry limit n steps items failure (inr (made, end)) =
     closing_end p gives entry limit n items failure made.apart (derived_start p gives entry n steps items made.call made.adds made.takes) made.items_apart end
 
@@ -168,5 +170,5 @@ start_end p gives entry limit n steps items failure (inr (made, end)) =
 pub taken_end : (p : Program) (gives now : GivenAs) (entry : MethodNo) (limit : ℕ) (item : Item) (v w : Working) (failure : Failure SolveFault)
     → (IsTakenIn p now item v w → IsDerivedList p gives entry w.found.tables w.queue.items.keys) → IsTakingEnd (IsTakenIn p now item v w) w.queue.items.keys limit failure
     → IsClosingEnd p gives entry limit failure
-taken_end p gives now entry limit item v w failure derived (inl memory) = memory_end p gives entry limit failure memory
+taken_end p gives now entry limit item v w failure derived (inl room) = room_end p gives entry limit failure room
 taken_end p gives now entry limit item v w failure derived (inr (made, end)) = closing_end p gives entry limit w.found.tables w.queue.items.keys failure made.apart (derived made) made.items_apart end

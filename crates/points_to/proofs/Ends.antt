@@ -1,5 +1,5 @@
 -- How the solver ends: with the limit, with a refusal, or with the least sets.
-use Rattle.std.proofs.Common.{◌≡◌, ℕ, List, Option, Some, None, Result, Ok, Err, refl, sym, subst}
+use Rattle.std.proofs.Common.{◌≡◌, ℕ, List, Option, Some, None, Result, Ok, Err, refl, sym, subst, inl, inr}
 use Rattle.std.specs.List.{Contains}
 use Rattle.std.specs.Result.{IfErr, IfOk, OnOk, result_and}
 use Rattle.failure.specs.declared.Failure.{Failure}
@@ -16,19 +16,21 @@ use Rattle.points_to.specs.declared.refusals.RefusedMethod.{RefusedMethod}
 use Rattle.points_to_rules.specs.declared.running_method.RunningMethod.{RunningMethod}
 use Rattle.points_to.specs.declared.solution.Solution.{Solution}
 use Rattle.points_to_rules.specs.declared.solve_fault.SolveFault.{SolveFault}
-use Rattle.points_to_rules.specs.declared.solve_fault.SolveFault.TheVariants.{PairLimit, Refused}
+use Rattle.points_to_rules.specs.declared.solve_fault.SolveFault.TheVariants.{PairLimit, Refused, TooMany}
 use Rattle.points_to.specs.Closing.{KnownIn, IsClosed}
 use Rattle.points_to.specs.Refusing.{IsNamed, IsRefusing}
 use Rattle.points_to_rules.specs.Solutions.{IsSupplyOf, IsSolveEnd, EndsRefused}
 use Rattle.points_to.specs.Solutions.{IsSolved}
+use Rattle.points_to.specs.Taking.{IsOutOfRoom}
 use Rattle.points_to.proofs.GivenMethods.{GivesOne}
 use Rattle.points_to.proofs.NamedRefusals.{least_below, named_none, named_some}
 use Rattle.points_to.proofs.PairedFacts.{fact_there, known_there}
 use Rattle.points_to.proofs.RunningMethods.{running_same}
 
--- memory that ran out is no refusal
-pub no_memory_refusing : (p : Program) (call : Option RefusedCall) (method : Option RefusedMethod) (failure : Failure SolveFault) → failure ≡ OutOfMemory → IsRefusing p call method failure
-no_memory_refusing p call method failure e = subst (λ (f : Failure SolveFault). IsRefusing p call method f) (sym e) tt
+-- memory or numbers that ran out are no refusal
+pub no_room_refusing : (p : Program) (call : Option RefusedCall) (method : Option RefusedMethod) (failure : Failure SolveFault) → IsOutOfRoom failure → IsRefusing p call method failure
+no_room_refusing p call method failure (inl e) = subst (λ (f : Failure SolveFault). IsRefusing p call method f) (sym e) tt
+no_room_refusing p call method failure (inr e) = subst (λ (f : Failure SolveFault). IsRefusing p call method f) (sym e) tt
 
 -- what is so of a value that is answered where something else went well
 pub if_ok_and : {T U E : Type 0} (r : Result T E) (x : U) (P : Type 0) (Q : U → Type 0) → OnOk r P → (P → Q x) → IfOk (result_and r (Ok x)) Q
@@ -55,6 +57,7 @@ module _ (p : Program) (gives : GivenAs) (supply : IsSupplyOf p gives) (one : Gi
       → IsSolveEnd p gives entry limit failure
   refusing_end n items call method listed closed (Cause (PairLimit k)) none = absurd none
   refusing_end n items call method listed closed (Cause (Refused r)) named = refused_end n items call method listed closed r named
+  refusing_end n items call method listed closed (Cause TooMany) room = tt
   refusing_end n items call method listed closed OutOfMemory memory = tt
 
   pub solved : (s : Solution) (call : Option RefusedCall) (method : Option RefusedMethod) → IsClosed p gives entry limit s.tables s.items.items.keys call method s.methods.items → IsNamed p call method None

@@ -23,5 +23,6 @@ mod Closings
 mod CodeStarts
 mod RefusedNodes
 mod NamedRefusals
+mod OutOfRoom
 mod Ends
 mod StartParts

@@ -22,7 +22,7 @@ use Rattle.points_to.specs.declared.refusals.RefusedCall.{RefusedCall}
 use Rattle.points_to.specs.declared.refusals.RefusedMethod.{RefusedMethod}
 use Rattle.points_to_rules.specs.declared.running_method.RunningMethod.{RunningMethod}
 use Rattle.points_to_rules.specs.declared.solve_fault.SolveFault.{SolveFault}
-use Rattle.points_to_rules.specs.declared.solve_fault.SolveFault.TheVariants.{PairLimit, Refused}
+use Rattle.points_to_rules.specs.declared.solve_fault.SolveFault.TheVariants.{PairLimit, Refused, TooMany}
 use Rattle.points_to.specs.Firsts.{IsFirstCall, IsFirstMethod}
 use Rattle.points_to.specs.Passing.{AreThose}
 use Rattle.points_to.specs.Queues.{pairs_among}
@@ -74,8 +74,9 @@ pub record IsClosed (p : Program) (gives : GivenAs) (entry : MethodNo) (limit : 
   pub methods : HasFirstMethod (IsRefusedAmong gives (Contains xs)) method
   pub running : AreRunning gives (KnownIn xs) listed
 
--- The limit is reached by pairs that are derivable, or memory ran out.
+-- The limit is reached by pairs that are derivable, or memory or numbers ran out.
 abbrev pub IsClosingEnd : Program → GivenAs → MethodNo → (limit : ℕ) → Failure SolveFault → Type 0
 IsClosingEnd p gives entry limit (Cause (PairLimit n)) = (n ≡ limit) × HasAtLeast (Instance p gives entry) pair_of limit
 IsClosingEnd p gives entry limit (Cause (Refused r)) = ⊥
+IsClosingEnd p gives entry limit (Cause TooMany) = Unit {0}
 IsClosingEnd p gives entry limit OutOfMemory = Unit {0}

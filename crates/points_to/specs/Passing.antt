@@ -1,8 +1,6 @@
 -- This crate's own proofs alone rest on this module.
 -- What constraints make of objects, and which calls lack a target then, by the numbers of constraints and sites.
 use Rattle.std.specs.Prelude.{◌≡◌, ◌++◌, List, Option, Some, All, Contains, slice_get}
-use Rattle.failure.specs.declared.Failure.{Failure}
-use Rattle.failure.specs.declared.Failure.TheVariants.{OutOfMemory}
 use Rattle.jvm_model.specs.declared.number.SiteNo.{SiteNo}
 use Rattle.jvm_model.specs.declared.reason.Reason.{Reason}
 use Rattle.jvm_model.specs.declared.site.Site.{Site}
@@ -15,12 +13,7 @@ use Rattle.points_to_numbers.specs.declared.keys.ConstraintNo.{ConstraintNo}
 use Rattle.points_to_numbers.specs.Numbered.{Numbered, IsNumbered}
 use Rattle.points_to.specs.declared.refusals.RefusedCall.{RefusedCall}
 use Rattle.points_to.specs.declared.refusals.RefusedMethod.{RefusedMethod}
-use Rattle.points_to_rules.specs.declared.solve_fault.SolveFault.{SolveFault}
 use Rattle.points_to.specs.Firsts.{IsFirstCall, IsFirstMethod}
-
--- Memory ran out.
-abbrev pub IsOutOfMemory : Failure SolveFault → Type 0
-IsOutOfMemory failure = failure ≡ OutOfMemory
 
 -- ---- one constraint and one site
 

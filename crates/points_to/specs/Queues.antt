@@ -1,12 +1,12 @@
 -- This crate's own proofs alone rest on this module.
 -- What the work list takes in, how many pairs are among its items, and how it ends.
-use Rattle.std.specs.Prelude.{◌≡◌, ℕ, List, ◌++◌, sum_by, All, Contains}
+use Rattle.std.specs.Prelude.{◌≡◌, ℕ, ◌+◌, ◌≤◌, ◌^◌, List, ◌++◌, length, sum_by, All, Contains}
 use Rattle.failure.specs.declared.Failure.{Failure}
 use Rattle.failure.specs.declared.Failure.TheVariants.{Cause, OutOfMemory}
 use Rattle.points_to_numbers.specs.declared.item.Item.{Item}
 use Rattle.points_to_numbers.specs.declared.item.Item.TheVariants.{Holds, Runs, Calls, Constrains}
 use Rattle.points_to_rules.specs.declared.solve_fault.SolveFault.{SolveFault}
-use Rattle.points_to_rules.specs.declared.solve_fault.SolveFault.TheVariants.{PairLimit, Refused}
+use Rattle.points_to_rules.specs.declared.solve_fault.SolveFault.TheVariants.{PairLimit, Refused, TooMany}
 
 -- 1 for a pair, and 0 for another item.
 abbrev pub weight_of : Item → ℕ
@@ -25,8 +25,9 @@ pub record Takes (old steps new : List Item) : Type 0 where
   pub is : new ≡ old ++ more
   pub only : All (Contains steps) more
 
--- The pairs reached the limit, or memory ran out.
+-- The pairs reached the limit, or the items have no more numbers, or memory ran out.
 abbrev pub IsQueueEnd : List Item → (limit : ℕ) → Failure SolveFault → Type 0
 IsQueueEnd items limit (Cause (PairLimit n)) = (n ≡ limit) × (pairs_among items ≡ limit)
 IsQueueEnd items limit (Cause (Refused r)) = ⊥
+IsQueueEnd items limit (Cause TooMany) = 2 ^ 32 ≤ length items + 2
 IsQueueEnd items limit OutOfMemory = Unit {0}

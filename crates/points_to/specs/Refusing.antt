@@ -10,7 +10,7 @@ use Rattle.points_to_rules.specs.Refusals.{IsCodeStart}
 use Rattle.points_to.specs.declared.refusals.RefusedCall.{RefusedCall}
 use Rattle.points_to.specs.declared.refusals.RefusedMethod.{RefusedMethod}
 use Rattle.points_to_rules.specs.declared.solve_fault.SolveFault.{SolveFault}
-use Rattle.points_to_rules.specs.declared.solve_fault.SolveFault.TheVariants.{PairLimit, Refused}
+use Rattle.points_to_rules.specs.declared.solve_fault.SolveFault.TheVariants.{PairLimit, Refused, TooMany}
 use Rattle.points_to.specs.Firsts.{LeadsMethod, TrailsMethod}
 
 -- The refusal of a call: in the file of its class, at the file offset of its node.
@@ -39,8 +39,9 @@ abbrev pub IsOfCoded : Program → Option RefusedCall → Type 0
 IsOfCoded p None = Unit {0}
 IsOfCoded p (Some call) = IsCodedMethod p call.method.0
 
--- The failure is the refusal that is named, or memory ran out.
+-- The failure is the refusal that is named, or memory or numbers ran out.
 abbrev pub IsRefusing : Program → Option RefusedCall → Option RefusedMethod → Failure SolveFault → Type 0
 IsRefusing p call method (Cause (PairLimit n)) = ⊥
 IsRefusing p call method (Cause (Refused r)) = IsNamed p call method (Some r)
+IsRefusing p call method (Cause TooMany) = Unit {0}
 IsRefusing p call method OutOfMemory = Unit {0}

@@ -2,7 +2,7 @@
 -- What the solver's loop takes in: what the start leads to, and what follows from each item; and how that ends.
 use Rattle.std.specs.Prelude.{◌≡◌, ◌⊎◌, ℕ, List, []}
 use Rattle.failure.specs.declared.Failure.{Failure}
-use Rattle.failure.specs.declared.Failure.TheVariants.{OutOfMemory}
+use Rattle.failure.specs.declared.Failure.TheVariants.{Cause, OutOfMemory}
 use Rattle.grouped_lists.specs.Groups.{values_at}
 use Rattle.jvm_model.specs.declared.number.MethodNo.{MethodNo}
 use Rattle.jvm_model.specs.Programs.{Program}
@@ -14,6 +14,7 @@ use Rattle.points_to_numbers.specs.Numbered.{Numbered, AreApart, Grows}
 use Rattle.points_to_numbers.specs.Steps.{Adds}
 use Rattle.points_to.specs.declared.closing.Working.{Working}
 use Rattle.points_to_rules.specs.declared.solve_fault.SolveFault.{SolveFault}
+use Rattle.points_to_rules.specs.declared.solve_fault.SolveFault.TheVariants.{TooMany}
 use Rattle.points_to.specs.Concluding.{AddsCallsBy, AddsMethodsBy, FollowsFrom, LacksBy, RefusedBy}
 use Rattle.points_to.specs.Indexed.{IsIndexed}
 use Rattle.points_to.specs.Passing.{NotesCalls, NotesMethods}
@@ -41,6 +42,10 @@ pub record IsTakenIn (p : Program) (gives : GivenAs) (item : Item) (old new : Wo
   pub takes : Takes old.queue.items.keys new.steps.items new.queue.items.keys
   pub items_apart : IsWithoutDoubles new.queue.items.keys
 
--- Memory ran out; or the pairs reached the limit by what was made.
+-- Memory ran out, or something has no number.
+abbrev pub IsOutOfRoom : Failure SolveFault → Type 0
+IsOutOfRoom failure = (failure ≡ OutOfMemory) ⊎ (failure ≡ Cause TooMany)
+
+-- Memory or numbers ran out before that; or the pairs or the items reached their limit by what was made.
 abbrev pub IsTakingEnd : Type 0 → List Item → (limit : ℕ) → Failure SolveFault → Type 0
-IsTakingEnd Made items limit failure = (failure ≡ OutOfMemory) ⊎ (Made × IsQueueEnd items limit failure)
+IsTakingEnd Made items limit failure = IsOutOfRoom failure ⊎ (Made × IsQueueEnd items limit failure)

@@ -20,6 +20,7 @@ use crate::queue::Queue;
 use crate::refusals::Refusals;
 use crate::solution::Solution;
 use crate::start::start_items;
+use failure::Failure;
 use jvm_model::MethodNo;
 use op_model::Supply;
 use points_to_numbers::{Item, Tables};
@@ -160,7 +161,7 @@ fn take_start(
     ensures room { OnOk result (queue.new.pairs < pair_limit) }
     ensures end { IfErr result (IsTakingEnd (IsStarted program.now entry tables.new steps.new.items queue.new.items.keys) queue.new.items.keys pair_limit) }
 {
-    start_items(alloc, program, tables, entry, steps)?;
+    start_items(alloc, program, tables, entry, steps).map_err(Failure::widen)?;
     tables.apart();
     queue.take_all(steps, pair_limit)
 }
@@ -198,7 +199,8 @@ fn take_in<S: Supply>(
         &mut working.methods,
         item,
         &mut working.steps,
-    )?;
+    )
+    .map_err(Failure::widen)?;
     working.found.tables.apart();
     working.queue.take_all(&working.steps, pair_limit)
 }

@@ -1,6 +1,6 @@
 //! What follows from an item, together with those of one place that came before it.
 
-ghost use Rattle.std.specs.Prelude.{◌≡◌, ◌⊎◌, length, [], OnOk, IfErr};
+ghost use Rattle.std.specs.Prelude.{◌≡◌, ◌⊎◌, length, [], OnOk};
 ghost use Rattle.program_model.specs.Numbers.{IsMethodNumber};
 ghost use Rattle.op_model.specs.Supplies.{IsSameSupply};
 ghost use Rattle.points_to_calls.specs.KeptAnswers.{AreRight};
@@ -9,13 +9,12 @@ ghost use Rattle.points_to_numbers.specs.Steps.{Adds};
 ghost use Rattle.points_to_rules.specs.Solutions.{IsSupplyOf};
 ghost use Rattle.grouped_lists.specs.Groups.{values_at};
 ghost use Rattle.points_to.specs.Indexed.{IsIndexed};
-ghost use Rattle.points_to.specs.Passing.{IsOutOfMemory, NotesCalls, NotesMethods};
+ghost use Rattle.points_to.specs.Passing.{NotesCalls, NotesMethods};
 ghost use Rattle.points_to.specs.Concluding.{AddsCallsBy, AddsGivenCalls, AddsMethod, AddsMethodsBy, FollowsFrom, IsCallItem, IsGivenItem, IsKnownIndex, IsKnownItem, IsRefusedAs, LacksBy, RefusedBy, ResolvesIn};
 
 use crate::found::Found;
 use crate::index::Index;
 use crate::refusals::RefusedMethod;
-use crate::solve_failure::no_room;
 use entry_points::is_coded;
 use failure::Failure;
 use jvm_model::MethodNo;
@@ -23,7 +22,8 @@ use op_model::Supply;
 use points_to_calls::target_items;
 use points_to_methods::method_items;
 use points_to_numbers::{CallNo, Item};
-use points_to_rules::{RunningMethod, SolveFailure};
+use points_to_rules::RunningMethod;
+use program_index::index_failure::IndexFailure;
 use program_model::program::Program;
 use std::alloc::Global;
 
@@ -38,7 +38,7 @@ pub(crate) fn conclude<S: Supply>(
     methods: &mut Vec<RunningMethod>,
     item: Item,
     steps: &mut Vec<Item>,
-) -> Result<(), SolveFailure>
+) -> Result<(), IndexFailure>
     requires supply { IsSupplyOf program.now (S.gives supply.old) }
     requires item { IsKnownItem program.now found.old.tables item }
     requires index { IsKnownIndex program.now found.old.tables (values_at index.old.sites.groups.items) (values_at index.old.constraints.groups.items) }
@@ -52,7 +52,6 @@ pub(crate) fn conclude<S: Supply>(
     ensures refused { OnOk result (NotesMethods (RefusedBy (S.gives supply.old) item) found.old.refusals.method found.new.refusals.method) }
     ensures methods { OnOk result (AddsMethodsBy (S.gives supply.old) item methods.old.items methods.new.items) }
     ensures same { IsSameSupply (S.gives supply.old) (S.gives supply.new) }
-    ensures end { IfErr result IsOutOfMemory }
 {
     steps.clear();
     match item {
@@ -78,7 +77,7 @@ fn run<S: Supply>(
     methods: &mut Vec<RunningMethod>,
     method: MethodNo,
     steps: &mut Vec<Item>,
-) -> Result<(), SolveFailure>
+) -> Result<(), IndexFailure>
     requires supply { IsSupplyOf program.now (S.gives supply.old) }
     requires method { IsMethodNumber program.now method.0 }
     requires answers { AreRight program.now found.old.tables found.old.answers }
@@ -90,15 +89,13 @@ fn run<S: Supply>(
     ensures methods { OnOk result (AddsMethod (S.gives supply.old) method.0 methods.old.items methods.new.items) }
     ensures call { found.new.refusals.call ≡ found.old.refusals.call }
     ensures same { IsSameSupply (S.gives supply.old) (S.gives supply.new) }
-    ensures end { IfErr result IsOutOfMemory }
 {
     if !is_coded(program, method) {
         return Ok(());
     }
     match supply.lowered(alloc, method) {
         Ok(lowered) => {
-            let made = method_items(alloc, program, &mut found.tables, &lowered, steps);
-            let names = made.map_err(no_room)?;
+            let names = method_items(alloc, program, &mut found.tables, &lowered, steps)?;
             methods.push(RunningMethod {
                 method: lowered,
                 names,
@@ -123,7 +120,7 @@ fn call_target(
     call: CallNo,
     target: MethodNo,
     steps: &mut Vec<Item>,
-) -> Result<(), SolveFailure>
+) -> Result<(), IndexFailure>
     requires call { IsNumbered found.old.tables.calls call.0 }
     requires target { IsMethodNumber program.now target.0 }
     requires resolved { ResolvesIn program.now found.old.tables call.0 }
@@ -133,11 +130,10 @@ fn call_target(
     ensures adds { OnOk result (Adds found.new.tables (IsCallItem program.now found.old.tables call.0 target) steps.old.items steps.new.items) }
     ensures calls { OnOk result (length found.new.tables.calls ≡ length found.old.tables.calls) }
     ensures refusals { found.new.refusals ≡ found.old.refusals }
-    ensures end { IfErr result IsOutOfMemory }
 {
     if found.tables.call_of(call).at.method.is_none() {
         return Ok(());
     }
-    target_items(alloc, program, &mut found.tables, call, target, steps).map_err(no_room)?;
+    target_items(alloc, program, &mut found.tables, call, target, steps)?;
     Ok(())
 }

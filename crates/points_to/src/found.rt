@@ -1,18 +1,17 @@
 //! What was found besides the items: the numbers, and the first refusals; and how objects are passed to constraints.
 
-ghost use Rattle.std.specs.Prelude.{◌≡◌, length, Some, None, All, OnOk, IfErr};
+ghost use Rattle.std.specs.Prelude.{◌≡◌, length, Some, None, All, OnOk};
 ghost use Rattle.jvm_model.specs.Programs.{Program as LinkedProgram};
 ghost use Rattle.points_to_calls.specs.KeptAnswers.{AreRight};
 ghost use Rattle.points_to_numbers.specs.Numbered.{Numbered, Grows, IsNumbered, none_numbered};
 ghost use Rattle.points_to_numbers.specs.Steps.{Adds};
-ghost use Rattle.points_to.specs.Passing.{IsKnownConstraint, IsOutOfMemory, IsPassed, IsLackOf, NotesCalls, NotesReason, PassesToSome, PassesSome, LacksForSome, LacksSome};
+ghost use Rattle.points_to.specs.Passing.{IsKnownConstraint, IsPassed, IsLackOf, NotesCalls, NotesReason, PassesToSome, PassesSome, LacksForSome, LacksSome};
 
 use crate::refusals::{Refusals, RefusedCall};
-use crate::solve_failure::no_room;
 use jvm_model::{Reason, SiteNo};
 use points_to_calls::{Answers, pass};
 use points_to_numbers::{Constraint, ConstraintNo, Item, Tables};
-use points_to_rules::SolveFailure;
+use program_index::index_failure::IndexFailure;
 use program_model::program::Program;
 use std::alloc::Global;
 
@@ -47,7 +46,7 @@ impl Found {
         constraints: &[ConstraintNo],
         site: SiteNo,
         steps: &mut Vec<Item>,
-    ) -> Result<(), SolveFailure>
+    ) -> Result<(), IndexFailure>
         requires constraints { All (λ (constraint : ConstraintNo). IsKnownConstraint program.now self.old.tables constraint) constraints.now }
         requires site { IsNumbered self.old.tables.sites site.0 }
         requires answers { AreRight program.now self.old.tables self.old.answers }
@@ -57,7 +56,6 @@ impl Found {
         ensures adds { OnOk result (Adds self.new.tables (PassesToSome program.now self.old.tables constraints.now site) steps.old.items steps.new.items) }
         ensures lacks { OnOk result (NotesCalls (LacksForSome program.now self.old.tables constraints.now site) self.old.refusals.call self.new.refusals.call) }
         ensures method { self.new.refusals.method ≡ self.old.refusals.method }
-        ensures end { IfErr result IsOutOfMemory }
     {
         for constraint in constraints {
             self.pass(alloc, program, *constraint, site, steps)?;
@@ -73,7 +71,7 @@ impl Found {
         constraint: ConstraintNo,
         sites: &[SiteNo],
         steps: &mut Vec<Item>,
-    ) -> Result<(), SolveFailure>
+    ) -> Result<(), IndexFailure>
         requires constraint { IsKnownConstraint program.now self.old.tables constraint }
         requires sites { All (λ (site : SiteNo). IsNumbered self.old.tables.sites site.0) sites.now }
         requires answers { AreRight program.now self.old.tables self.old.answers }
@@ -83,7 +81,6 @@ impl Found {
         ensures adds { OnOk result (Adds self.new.tables (PassesSome program.now self.old.tables constraint sites.now) steps.old.items steps.new.items) }
         ensures lacks { OnOk result (NotesCalls (LacksSome program.now self.old.tables constraint sites.now) self.old.refusals.call self.new.refusals.call) }
         ensures method { self.new.refusals.method ≡ self.old.refusals.method }
-        ensures end { IfErr result IsOutOfMemory }
     {
         for site in sites {
             self.pass(alloc, program, constraint, *site, steps)?;
@@ -99,7 +96,7 @@ impl Found {
         constraint: ConstraintNo,
         site: SiteNo,
         steps: &mut Vec<Item>,
-    ) -> Result<(), SolveFailure>
+    ) -> Result<(), IndexFailure>
         requires constraint { IsKnownConstraint program.now self.old.tables constraint }
         requires site { IsNumbered self.old.tables.sites site.0 }
         requires answers { AreRight program.now self.old.tables self.old.answers }
@@ -109,7 +106,6 @@ impl Found {
         ensures adds { OnOk result (Adds self.new.tables (IsPassed program.now self.old.tables constraint site) steps.old.items steps.new.items) }
         ensures lacks { OnOk result (NotesCalls (IsLackOf program.now self.old.tables constraint site) self.old.refusals.call self.new.refusals.call) }
         ensures method { self.new.refusals.method ≡ self.old.refusals.method }
-        ensures end { IfErr result IsOutOfMemory }
     {
         program.well_formed();
         let lacks = pass(
@@ -120,8 +116,7 @@ impl Found {
             constraint,
             site,
             steps,
-        )
-        .map_err(no_room)?;
+        )?;
         note_lack(&self.tables, &mut self.refusals, constraint, lacks);
         Ok(())
     }

@@ -13,7 +13,6 @@ mod queue;
 mod refusals;
 mod refused;
 mod solution;
-mod solve_failure;
 mod solver;
 mod start;
 

@@ -67,7 +67,8 @@ impl Queue {
         Ok(())
     }
 
-    /// Takes an item in, unless it is there already. The failure is the limit where the pairs reach it by this item.
+    /// Takes an item in, unless it is there already. The failure is the limit where the pairs reach it by this item, and `TooMany` where the items
+    /// have no more numbers.
     fn take(&mut self, item: Item, limit: u64) -> Result<(), SolveFailure>
         requires counted { self.old.pairs ≡ pairs_among self.old.items.keys }
         requires room { self.old.pairs < limit }
@@ -79,7 +80,7 @@ impl Queue {
         ensures end { IfErr result (IsQueueEnd self.new.items.keys limit) }
     {
         if self.items.len() >= MOST_ITEMS {
-            return Err(Failure::OutOfMemory);
+            return Err(Failure::Cause(SolveFault::TooMany));
         }
         if self.items.insert(item)? {
             self.pairs += weight(item);

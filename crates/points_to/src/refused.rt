@@ -1,15 +1,14 @@
 //! The refusal that is named: the first by the methods, by the offsets, and by the reasons.
 
-ghost use Rattle.std.specs.Prelude.{◌≡◌, IfOk, IfErr};
+ghost use Rattle.std.specs.Prelude.{◌≡◌, IfOk};
 ghost use Rattle.op_model.specs.Supplies.{IsCodedMethod};
-ghost use Rattle.points_to.specs.Passing.{IsOutOfMemory};
 ghost use Rattle.points_to.specs.Refusing.{IsCallRefusal, IsNamed, IsOfCoded, refusal_of};
 
 use crate::refusals::{Refusals, RefusedCall, RefusedMethod, leads_method};
 use failure::Failure;
 use jvm_model::layout::code_place;
 use jvm_model::{Name, Refusal};
-use points_to_rules::SolveFailure;
+use program_index::index_failure::{IndexFailure, TooMany};
 use program_model::method_body::MethodBody;
 use program_model::program::Program;
 use std::alloc::Global;
@@ -22,10 +21,9 @@ pub(crate) fn first_refusal(
     alloc: Global,
     program: &Program,
     refusals: Refusals,
-) -> Result<Option<Refusal>, SolveFailure>
+) -> Result<Option<Refusal>, IndexFailure>
     requires { IsOfCoded program.now refusals.call }
-    ensures named { IfOk result (IsNamed program.now refusals.call refusals.method) }
-    ensures end { IfErr result IsOutOfMemory }
+    ensures { IfOk result (IsNamed program.now refusals.call refusals.method) }
 {
     let Refusals { call, method } = refusals;
     let Some(call) = call else {
@@ -51,16 +49,15 @@ fn own_refusal(method: Option<RefusedMethod>) -> Option<Refusal>
     }
 }
 
-/// The refusal of a call that lacks its target, in the file of its class. An offset in the file that has no number of 32 bits is as if there were no
-/// memory for it.
+/// The refusal of a call that lacks its target, in the file of its class. The failure is `TooMany` where its offset in the file has no number of 32
+/// bits.
 fn call_refusal(
     alloc: Global,
     program: &Program,
     call: RefusedCall,
-) -> Result<Refusal, SolveFailure>
+) -> Result<Refusal, IndexFailure>
     requires { IsCodedMethod program.now call.method.0 }
-    ensures refusal { IfOk result (IsCallRefusal program.now call) }
-    ensures end { IfErr result IsOutOfMemory }
+    ensures { IfOk result (IsCallRefusal program.now call) }
 {
     program.well_formed();
     let MethodBody::InFile { file, number } = program.method_body(call.method) else {
@@ -68,7 +65,7 @@ fn call_refusal(
     };
     let offset = u64::from(code_place(file, number)) + BEFORE_CODE + u64::from(call.offset);
     if offset > u64::from(u32::MAX) {
-        return Err(Failure::OutOfMemory);
+        return Err(Failure::Cause(TooMany));
     }
     let class = program.method(call.method).class;
     let name = String::from_str(alloc, program.file_name(class).as_str())?;

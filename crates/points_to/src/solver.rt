@@ -46,7 +46,8 @@ fn refuse(alloc: Global, program: &Program, refusals: Refusals) -> Result<(), So
     ensures none { OnOk result (IsNamed program.now refusals.call refusals.method None) }
     ensures end { IfErr result (IsRefusing program.now refusals.call refusals.method) }
 {
-    match first_refusal(alloc, program, refusals)? {
+    let first = first_refusal(alloc, program, refusals).map_err(Failure::widen)?;
+    match first {
         Some(refusal) => Err(Failure::Cause(SolveFault::Refused(refusal))),
         None => Ok(()),
     }

@@ -1,19 +1,17 @@
 //! What the start of the program leads to: the entry runs and is called, with an array of strings; and the initialisers of its class run.
 
-ghost use Rattle.std.specs.Prelude.{◌≡◌, length, IfOk, IfErr, OnOk};
+ghost use Rattle.std.specs.Prelude.{◌≡◌, length, IfOk, OnOk};
 ghost use Rattle.program_model.specs.Numbers.{IsMethodNumber};
 ghost use Rattle.points_to_constraints.specs.ItemRules.{StartItem};
 ghost use Rattle.points_to_numbers.specs.Numbered.{Grows};
 ghost use Rattle.points_to_numbers.specs.Steps.{Adds};
-ghost use Rattle.points_to.specs.Passing.{IsOutOfMemory};
 ghost use Rattle.points_to.specs.Starting.{ArgumentItem, EntryItem, IsArgument, IsNumberOfStart, IsStartCall};
 
 use crate::initialisers::initialiser_items;
-use crate::solve_failure::no_room;
 use jvm_model::{MethodNo, Sequence};
 use op_model::{CallKind, NodeRef};
 use points_to_numbers::{CallNo, CallSite, CatchChain, Item, Tables, add_holding, boot_site};
-use points_to_rules::{Place, SolveFailure};
+use points_to_rules::Place;
 use program_index::index_failure::IndexFailure;
 use program_model::program::Program;
 use slot_names::Variable;
@@ -21,24 +19,6 @@ use std::alloc::Global;
 
 /// Adds what the start leads to.
 pub(crate) fn start_items(
-    alloc: Global,
-    program: &Program,
-    tables: &mut Tables,
-    entry: MethodNo,
-    steps: &mut Vec<Item>,
-) -> Result<(), SolveFailure>
-    requires entry { IsMethodNumber program.now entry.0 }
-    requires calls { length tables.old.calls ≡ 0 }
-    ensures adds { OnOk result (Adds tables.new (StartItem program.now entry) steps.old.items steps.new.items) }
-    ensures call { OnOk result (IsStartCall tables.new.calls) }
-    ensures end { IfErr result IsOutOfMemory }
-{
-    add_start(alloc, program, tables, entry, steps).map_err(no_room)?;
-    Ok(())
-}
-
-/// Adds what the start leads to, part by part.
-fn add_start(
     alloc: Global,
     program: &Program,
     tables: &mut Tables,

@@ -214,7 +214,8 @@ impl Tables {
 
     /// How many sites are numbered.
     pub fn site_count(&self) -> usize
-        ensures { result ≡ length self.now.sites }
+        ensures count { result ≡ length self.now.sites }
+        ensures few { result < 2 ^ 32 }
     {
         self.sites.len()
     }

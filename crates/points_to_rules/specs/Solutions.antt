@@ -16,7 +16,7 @@ use Rattle.slot_names.specs.KeptNames.{name_table}
 use Rattle.slot_names.specs.Tables.{AreNames}
 use Rattle.points_to_rules.specs.declared.running_method.RunningMethod.{RunningMethod}
 use Rattle.points_to_rules.specs.declared.solve_fault.SolveFault.{SolveFault}
-use Rattle.points_to_rules.specs.declared.solve_fault.SolveFault.TheVariants.{PairLimit, Refused}
+use Rattle.points_to_rules.specs.declared.solve_fault.SolveFault.TheVariants.{PairLimit, Refused, TooMany}
 use Rattle.points_to_rules.specs.Facts.{Holder, Fact, may_hold, may_run, may_call, may_write}
 use Rattle.points_to_rules.specs.Refusals.{IsFirstRefusal, IsUnrefused}
 use Rattle.points_to_rules.specs.Rules.{Instance}
@@ -66,8 +66,9 @@ pub record EndsRefused (p : Program) (gives : GivenAs) (entry : MethodNo) (limit
   pub least : AreLeastBelow p gives entry limit facts
   pub first : IsFirstRefusal p gives (Contains facts) r
 
--- Why there is no solution.
+-- Why there is no solution. Of too much to number, as of memory that ran out, no more is said.
 abbrev pub IsSolveEnd : Program → GivenAs → MethodNo → (limit : ℕ) → Failure SolveFault → Type 0
 IsSolveEnd p gives entry limit (Cause (PairLimit n)) = (n ≡ limit) × HasAtLeast (Instance p gives entry) pair_of limit
 IsSolveEnd p gives entry limit (Cause (Refused r)) = EndsRefused p gives entry limit r
+IsSolveEnd p gives entry limit (Cause TooMany) = Unit {0}
 IsSolveEnd p gives entry limit OutOfMemory = Unit {0}

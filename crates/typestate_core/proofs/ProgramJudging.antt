@@ -134,5 +134,7 @@ module _ {E : Type 0} (r : Result Answer E) (w : Wanted) (a : Automaton) (p : Pr
   end_told entry (Cause (solve_faults.Refused refusal)) end says =
       said_of (refused_line refusal.file refusal.offset refusal.reason) (λ i s l. AnalysisOutcome i p entry s l) says
       (λ stubs classes s l ends. refused_method refusal end ends)
+  end_told entry (Cause solve_faults.TooMany) end says =
+      if_ok r (λ (x : Answer). ⊥) (ToldOf (λ i s l. AnalysisOutcome i p entry s l)) says (λ x no. absurd no)
   end_told entry OutOfMemory end says =
       if_ok r (λ (x : Answer). ⊥) (ToldOf (λ i s l. AnalysisOutcome i p entry s l)) says (λ x no. absurd no)

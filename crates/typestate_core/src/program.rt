@@ -152,6 +152,7 @@ fn refuse_end(alloc: Global, failure: &SolveFailure) -> Result<Answer, RunFailur
             r.offset,
             r.reason,
         ),
+        Failure::Cause(SolveFault::TooMany) => Err(Failure::OutOfMemory),
         Failure::OutOfMemory => Err(Failure::OutOfMemory),
     }
 }

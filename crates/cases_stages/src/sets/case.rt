@@ -9,7 +9,7 @@ use crate::programs::{Linked, read_case, tell_failure};
 use crate::request::{Amount, LIMIT};
 use crate::sets::listing::{tell_counts, tell_sets};
 use crate::sets::readings::tell_disagreements;
-use anyhow::Result;
+use anyhow::{Result, bail};
 use failure::Failure;
 use ground::Ground;
 use jvm_model::{MethodNo, reason_word};
@@ -117,6 +117,7 @@ fn tell_end<R: Print>(rt: &R, failure: SolveFailure) -> Result<()> {
             println!(rt; "end refused {file} {offset} {reason}")?;
             Ok(())
         }
+        Failure::Cause(SolveFault::TooMany) => bail!("there is too much to number"),
         Failure::OutOfMemory => Err(AllocError.into()),
     }
 }

@@ -1,5 +1,4 @@
 use Rattle.std.proofs.Common.{refl}
-use Rattle.failure.proofs.HandedOn.{handed_ok}
 use Rattle.points_to_calls.proofs.RightAnswers.{grown_right}
 use Rattle.points_to_numbers.proofs.Adding.{adds_none, adds_same}
 use Rattle.points_to.specs.Concluding.{IsCallItem}
@@ -19,7 +18,7 @@ returns-clause-adds c =
     let caller = caller_there n c.args.call.0 c.call_of.result.now c.requires.call c.call_of.ensures c.call_of.result.now.at.method refl (some_there c.call_of.result.now.at.method c.if-is_none.ensures) in
     adds_same c.target_items.new.tables _ (IsCallItem p n c.args.call.0 c.args.target) c.args.steps.now.items c.target_items.new.steps.items
     (call_items p n c.args.call.0 c.args.target c.requires.call caller)
-    (handed_ok _ c.target_items.result _ _ c.in_ok-map_err.ensures.cases c.target_items.ensures.adds c.requires.call.0 c.requires.call.1)
+    (c.in_ok-target_items.ensures.adds c.requires.call.0 c.requires.call.1)
 
 pub target_items-requires-clause-resolved : goal.target_items-requires-clause-resolved
 target_items-requires-clause-resolved c = λ site stands.
@@ -29,4 +28,4 @@ target_items-requires-clause-resolved c = λ site stands.
 pub returns-clause-answers : goal.returns-clause-answers
 returns-clause-answers c =
     grown_right c.args.program.now c.args.found.now.tables c.target_items.new.tables c.args.found.now.answers
-    (handed_ok _ c.target_items.result _ _ c.in_ok-map_err.ensures.cases c.target_items.ensures.grows) c.requires.answers
+    c.in_ok-target_items.ensures.grows c.requires.answers

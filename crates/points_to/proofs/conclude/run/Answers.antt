@@ -1,7 +1,6 @@
 use Rattle.std.proofs.Common.{ℕ, inl, inr, Ok, Err, Result, refl}
 use Rattle.jvm_model.specs.declared.reason.Refusal.{Refusal}
 use Rattle.op_model.specs.declared.lowered.LoweredMethod.{LoweredMethod}
-use Rattle.failure.proofs.HandedOn.{handed_ok}
 use Rattle.points_to_calls.proofs.RightAnswers.{grown_right}
 use Rattle.points_to_constraints.specs.ItemRules.{MethodItem}
 use Rattle.points_to_numbers.proofs.Adding.{adds_none, adds_same}
@@ -26,9 +25,9 @@ pub returns-in_ok-push-in-Ok-clause-adds : goal.returns-in_ok-push-in-Ok-clause-
 returns-in_ok-push-in-Ok-clause-adds g c =
     let p = c.args.program.now in
     let gives : ℕ → Result LoweredMethod Refusal → Type 0 = g.S.Supply.gives c.args.supply.now in
-    adds_same c.method_items-made.new.tables (MethodItem p c.in-Ok.lowered) (IsGivenItem p gives c.args.method.0) c.args.steps.now.items c.method_items-made.new.steps.items
+    adds_same c.method_items.new.tables (MethodItem p c.in-Ok.lowered) (IsGivenItem p gives c.args.method.0) c.args.steps.now.items c.method_items.new.steps.items
     (given_items gives (g.met.S.Supply.one_answer c.args.supply.now) c.args.method p c.in-Ok.lowered c.in-Ok.ensures.found)
-    (handed_ok _ c.method_items-made.result _ _ c.in_ok-names-in-Ok.ensures.cases c.method_items-made.ensures.adds)
+    c.in_ok-names-in-Ok.ensures.adds
 
 pub returns-in_ok-push-in-Ok-clause-refused : goal.returns-in_ok-push-in-Ok-clause-refused
 returns-in_ok-push-in-Ok-clause-refused g c =
@@ -59,7 +58,7 @@ returns-then-not-is_coded-clause-methods g c =
 
 pub returns-in_ok-push-in-Ok-clause-methods : goal.returns-in_ok-push-in-Ok-clause-methods
 returns-in_ok-push-in-Ok-clause-methods g c =
-    let names = handed_ok _ c.method_items-made.result c.in_ok-names-in-Ok.names _ c.in_ok-names-in-Ok.ensures.cases c.method_items-made.ensures.names in
+    let names = c.in_ok-names-in-Ok.ensures.names in
     inl (record { method = c.in-Ok.lowered; names = c.in_ok-names-in-Ok.names }, record { given = c.in-Ok.ensures.found; named = names }, c.in_ok-push-in-Ok.ensures.items)
 
 pub returns-in-Err-Cause-clause-methods : goal.returns-in-Err-Cause-clause-methods
@@ -72,5 +71,5 @@ returns-in-Err-Cause-clause-methods g c =
 
 pub returns-in_ok-push-in-Ok-clause-answers : goal.returns-in_ok-push-in-Ok-clause-answers
 returns-in_ok-push-in-Ok-clause-answers g c =
-    grown_right c.args.program.now c.args.found.now.tables c.method_items-made.new.tables c.args.found.now.answers
-    (handed_ok _ c.method_items-made.result _ _ c.in_ok-names-in-Ok.ensures.cases c.method_items-made.ensures.grows) c.requires.answers
+    grown_right c.args.program.now c.args.found.now.tables c.method_items.new.tables c.args.found.now.answers
+    c.in_ok-names-in-Ok.ensures.grows c.requires.answers

@@ -23,8 +23,8 @@ code_place-requires-clause-code c =
 pub method-requires : goal.method-requires
 method-requires c = slice_get_within c.args.program.now.methods c.args.call.method.0 c.requires.method c.requires.stands
 
-pub returns-clause-refusal : goal.returns-clause-refusal
-returns-clause-refusal c =
+pub returns : goal.returns
+returns c =
     let p = c.args.program.now in
     let program = c.well_formed-2.ensures.program in
     let parts = shown_parts p program c.args.call.method.0 c.requires c.in-InFile.file c.in-InFile.number c.in-InFile.ensures in

@@ -1,5 +1,4 @@
 use Rattle.std.proofs.Common.{◌↔◌}
-use Rattle.failure.proofs.HandedOn.{handed_ok}
 use Rattle.points_to.specs.declared.refusals.RefusedCall.{RefusedCall}
 use Rattle.points_to.specs.Passing.{IsPassed, IsLackOf, NotesReason}
 use Rattle.points_to.proofs.Lacking.{lacks_are}
@@ -14,7 +13,7 @@ returns-clause-adds c =
     let p = c.args.program.now in
     let constraint = c.args.constraint in
     let site = c.args.site in
-    let adds = handed_ok _ c.pass.result c.in_ok-lacks.lacks _ c.in_ok-lacks.ensures.cases c.pass.ensures.adds in
+    let adds = c.in_ok-lacks.ensures.adds in
     adds_same c.pass.new.tables _ (IsPassed p n constraint site) c.args.steps.now.items c.pass.new.steps.items (passed_here p n constraint site c.requires.constraint.numbered c.requires.site)
     (adds c.requires.constraint.numbered.0 c.requires.site.0 c.requires.constraint.numbered.1 c.requires.site.1)
 
@@ -26,8 +25,8 @@ returns-clause-lacks c =
     let constraint = c.args.constraint in
     let site = c.args.site in
     let lacks = c.in_ok-lacks.lacks in
-    let grows = handed_ok _ c.pass.result lacks _ c.in_ok-lacks.ensures.cases c.pass.ensures.grows in
-    let told = handed_ok _ c.pass.result lacks _ c.in_ok-lacks.ensures.cases c.pass.ensures.lacks in
+    let grows = c.in_ok-lacks.ensures.grows in
+    let told = c.in_ok-lacks.ensures.lacks in
     let back = reason_before n m grows constraint c.requires.constraint.numbered lacks in
     let are = lacks_are p c.well_formed-2.ensures.program n constraint site c.requires.constraint.numbered.0 c.requires.site.0 lacks c.requires.constraint.numbered.1 c.requires.site.1
     (told c.requires.constraint.numbered.0 c.requires.site.0 c.requires.constraint.numbered.1 c.requires.site.1) in
