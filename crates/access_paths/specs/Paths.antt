@@ -20,10 +20,7 @@ pub record Path : Type 0 where
 abbrev pub bare : Root → Path
 bare r = record { root = r; fields = [] }
 
--- A path has at most so many fields, and a set at most so many paths.
-abbrev pub most_fields : ℕ
-most_fields = 3
-
+-- A set has at most so many paths.
 abbrev pub most_paths : ℕ
 most_paths = 6
 

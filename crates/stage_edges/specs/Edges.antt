@@ -32,13 +32,15 @@ IsError a none_yet = ⊥
 IsError a some_yet = ⊥
 IsError a (of_object t) = t.state ≡ a.error
 
--- There are fewer path edges than the limit, and in none of them an object is in the error state.
+-- There are fewer path edges than the limit, by answers of these facts, and in none of them an object is in the error state.
 pub record IsSafeBelow (x : Subject) (gives : GivenAs) (S : Fact → Type 0) (w : Setting) (limit : ℕ) : Type 0 where
+  pub setting : IsSettingOf x S w
   pub edges : List Edge
   pub are : ArePathEdges x gives S w edges
   pub few : length edges < limit
   pub no_error : (e : Edge) → Contains edges e → IsError x.property e.fact → ⊥
 
 -- There are at least so many.
-abbrev pub IsAtLimit : Subject → GivenAs → (Fact → Type 0) → Setting → (limit : ℕ) → Type 0
-IsAtLimit x gives S w limit = HasAtLeast (StageInstance x gives S w) (λ (e : Edge). Some e) limit
+pub record IsAtLimit (x : Subject) (gives : GivenAs) (S : Fact → Type 0) (w : Setting) (limit : ℕ) : Type 0 where
+  pub setting : IsSettingOf x S w
+  pub many : HasAtLeast (StageInstance x gives S w) (λ (e : Edge). Some e) limit
