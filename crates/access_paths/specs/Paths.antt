@@ -4,13 +4,8 @@ use Rattle.std.specs.Prelude.{ℕ, nat_eq, nat_lt, Bool, true, false, ◌&&◌, 
 use Rattle.std.specs.List.{list_any}
 use Rattle.std.specs.Str.{bytes_eq}
 use Rattle.jvm_model.specs.declared.number.FieldNo.{FieldNo}
-
--- Where a path begins: a slot of the frame, a static field, the value that the frame returns, or the one that it throws.
-pub data Root : Type 0 where
-  slot : ℕ → Root
-  static_field : FieldNo → Root
-  returned : Root
-  thrown : Root
+use Rattle.access_paths.specs.declared.root.Root.{Root}
+use Rattle.access_paths.specs.declared.root.Root.TheVariants.{Slot, Static, Returned, Thrown}
 
 pub record Path : Type 0 where
   pub root : Root
@@ -32,10 +27,10 @@ number_of f = f.0
 -- The numbers by which paths are ordered: those of the root and then those of the fields. Slots come first, then static fields, the value
 -- that is returned, and the value that is thrown.
 abbrev pub root_key : Root → List ℕ
-root_key (slot z) = 0 ∷ z ∷ []
-root_key (static_field f) = 1 ∷ f.0 ∷ []
-root_key returned = 2 ∷ []
-root_key thrown = 3 ∷ []
+root_key (Slot z) = 0 ∷ z ∷ []
+root_key (Static f) = 1 ∷ f.0 ∷ []
+root_key Returned = 2 ∷ []
+root_key Thrown = 3 ∷ []
 
 abbrev pub path_key : Path → List ℕ
 path_key x = root_key x.root ++ map number_of x.fields

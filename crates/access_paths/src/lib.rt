@@ -2,3 +2,5 @@
 //! followed; their order, and sets of them. The crate has definitions, in specs/; it runs nothing.
 //! The facts of sites, and what nodes and calls do to them, speak of `Path` and of sets as lists in order. Begin with specs/Paths.antt.
 #![tactic(auto)]
+
+pub mod root;

@@ -15,7 +15,8 @@ use Rattle.op_model.specs.declared.op.Move.{Move}
 use Rattle.op_model.specs.declared.op.Op.{Op}
 use Rattle.op_model.specs.declared.op.Source.{Source}
 use Rattle.slot_names.specs.declared.variable.Variable.TheVariants.{At}
-use Rattle.access_paths.specs.Paths.{slot, static_field, returned, thrown, Path}
+use Rattle.access_paths.specs.declared.root.Root.TheVariants.{Slot, Static, Returned, Thrown}
+use Rattle.access_paths.specs.Paths.{Path}
 use Rattle.stage_facts.specs.Facts.{SiteFact, of_object}
 use Rattle.stage_transfer.specs.Settings.{among, Setting}
 use Rattle.stage_transfer.specs.Stages.{Transfer, transfer_of}
@@ -105,7 +106,7 @@ last groups = transfer_of (setting 4 groups false)
 -- ---- facts
 
 abbrev pub path : ℕ → List FieldNo → Path
-path z fields = record { root = slot z; fields = fields }
+path z fields = record { root = Slot z; fields = fields }
 
 -- The only object of the site, opened still.
 abbrev pub one : (must : List Path) → (may : Bool) → (must_not : List Path) → SiteFact
@@ -119,10 +120,10 @@ abbrev pub only_one : (state : ℕ) → (must : List Path) → (may : Bool) → 
 only_one state must may must_not = of_object (record { unique = true; state = state; must = must; may = may; must_not = must_not })
 
 abbrev pub static_path : FieldNo → List FieldNo → Path
-static_path field fields = record { root = static_field field; fields = fields }
+static_path field fields = record { root = Static field; fields = fields }
 
 abbrev pub returned_path : List FieldNo → Path
-returned_path fields = record { root = returned; fields = fields }
+returned_path fields = record { root = Returned; fields = fields }
 
 abbrev pub thrown_path : List FieldNo → Path
-thrown_path fields = record { root = thrown; fields = fields }
+thrown_path fields = record { root = Thrown; fields = fields }

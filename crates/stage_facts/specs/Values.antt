@@ -4,34 +4,39 @@ use Rattle.std.specs.Prelude.{ℕ, List, [], ◌∷◌, Option, Some, None, slic
 use Rattle.std.specs.Option.{option_map_or}
 use Rattle.jvm_model.specs.declared.number.FieldNo.{FieldNo}
 use Rattle.machine_bytecode.specs.States.{Value, primitive_value, null_value, reference_to, Contents, fields, elements, Object, World, slot_at}
-use Rattle.access_paths.specs.Paths.{Root, slot, static_field, returned, thrown, Path}
+use Rattle.access_paths.specs.declared.root.Root.{Root}
+use Rattle.access_paths.specs.declared.root.Root.TheVariants.{Slot, Static, Returned, Thrown}
+use Rattle.access_paths.specs.Paths.{Path}
 
--- What is seen from a frame besides the world: its slots, where it runs or waits; or the value that it returns, or the object that it throws.
-pub data View : Type 0 where
-  of_slots : List Value → View
-  of_return : Value → View
-  of_throw : (place : ℕ) → View
+-- What is seen from a frame besides the world: its slots, the value that it returns, and what it throws. A primitive stands where there is none.
+pub record View : Type 0 where
+  pub slots : List Value
+  pub returned : Value
+  pub thrown : Value
 
-abbrev pub seen_slots : View → List Value
-seen_slots (of_slots slots) = slots
-seen_slots (of_return v) = []
-seen_slots (of_throw place) = []
+-- A frame that runs, or that waits.
+abbrev pub of_slots : List Value → View
+of_slots slots = record { slots = slots; returned = primitive_value; thrown = primitive_value }
 
-abbrev pub seen_return : View → Value
-seen_return (of_slots slots) = primitive_value
-seen_return (of_return v) = v
-seen_return (of_throw place) = primitive_value
+-- A frame that returns a value, or throws the object at a place, once its slots are gone.
+abbrev pub of_return : Value → View
+of_return v = record { slots = []; returned = v; thrown = primitive_value }
 
-abbrev pub seen_throw : View → Value
-seen_throw (of_slots slots) = primitive_value
-seen_throw (of_return v) = primitive_value
-seen_throw (of_throw place) = reference_to place
+abbrev pub of_throw : (place : ℕ) → View
+of_throw place = record { slots = []; returned = primitive_value; thrown = reference_to place }
+
+-- A frame that waited, to which a value is returned, or into which an object is thrown.
+abbrev pub of_result : List Value → Value → View
+of_result slots v = record { slots = slots; returned = v; thrown = primitive_value }
+
+abbrev pub of_exception : List Value → (place : ℕ) → View
+of_exception slots place = record { slots = slots; returned = primitive_value; thrown = reference_to place }
 
 abbrev pub root_value : World → View → Root → Value
-root_value w view (slot z) = slot_at (seen_slots view) z
-root_value w view (static_field f) = w.statics f.0
-root_value w view returned = seen_return view
-root_value w view thrown = seen_throw view
+root_value w view (Slot z) = slot_at view.slots z
+root_value w view (Static f) = w.statics f.0
+root_value w view Returned = view.returned
+root_value w view Thrown = view.thrown
 
 -- ---- the value of a path
 

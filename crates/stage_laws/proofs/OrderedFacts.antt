@@ -13,7 +13,8 @@ use Rattle.machine_nodes.specs.Slots.{argument_slots}
 use Rattle.op_model.specs.declared.op.Op.{Op}
 use Rattle.op_model.specs.declared.op.Op.TheVariants.{Assign, Load, Store, LoadElement, StoreElement, LoadStatic, StoreStatic, New, NewArray, Constant, Call, Return, Throw, Cast, Probe}
 use Rattle.points_to_rules.specs.Facts.{Holder, variable}
-use Rattle.access_paths.specs.Paths.{bare, has_path, slot, static_field, Path}
+use Rattle.access_paths.specs.declared.root.Root.TheVariants.{Slot, Static}
+use Rattle.access_paths.specs.Paths.{bare, has_path, Path}
 use Rattle.stage_facts.specs.Facts.{Tuple, SiteFact, none_yet, some_yet, of_object}
 use Rattle.stage_transfer.specs.Settings.{Setting, alike, among, same_site}
 use Rattle.stage_transfer.specs.Changes.{Change, changed, changed_set, copied, copying, slots_go, unwritten, writing}
@@ -41,7 +42,7 @@ set_changed : (c : Change) (set : List Path) → AreInOrder (changed_set c set)
 set_changed c set = path_set_ordered (filter (λ (x : Path). not (c.goes x.root)) set ++ c.adds set)
 
 set_joined : (slots : List ℕ) (set : List Path) → AreInOrder (joined slots set)
-set_joined slots set = path_set_ordered (set ++ map (λ (z : ℕ). bare (slot z)) slots)
+set_joined slots set = path_set_ordered (set ++ map (λ (z : ℕ). bare (Slot z)) slots)
 
 set_entered : (by : Entering) (set : List Path) → AreInOrder (entered_set by set)
 set_entered by set = path_set_ordered (filter begins_static set ++ copied (passing by) set)
@@ -54,7 +55,7 @@ changed_ordered c t = record { must = set_changed c t.must; must_not = set_chang
 
 beside_ordered : (target : Option ℕ) (t : Tuple) → IsOrdered t → IsOrdered (beside_new target t)
 beside_ordered None t ordered = record { must = ordered.must; must_not = ordered.must_not }
-beside_ordered (Some z) t ordered = record { must = ordered.must; must_not = with_ordered (bare (slot z)) t.must_not ordered.must_not }
+beside_ordered (Some z) t ordered = record { must = ordered.must; must_not = with_ordered (bare (Slot z)) t.must_not ordered.must_not }
 
 -- ---- facts
 
@@ -92,7 +93,7 @@ operation_ordered w l n (Load object field target) fact ordered = each_changed (
 operation_ordered w l n (Store object field value) fact ordered = each_changed (after_store w l n object field value) (store_ordered w l n object field value) fact
 operation_ordered w l n (LoadElement array target) fact ordered = each_changed (changed (writing w l n (array ∷ target ∷ []))) (changed_ordered (writing w l n (array ∷ target ∷ []))) fact
 operation_ordered w l n (StoreElement array value) fact ordered = each_changed (λ t. changed (writing w l n (array ∷ value ∷ [])) (puts_away (value ∷ []) t)) (λ t. changed_ordered (writing w l n (array ∷ value ∷ [])) (puts_away (value ∷ []) t)) fact
-operation_ordered w l n (LoadStatic field target) fact ordered = each_changed (after_static_load w l n field target) (changed_ordered (copying w l n (target ∷ []) (record { from = static_field field; to = slot target }))) fact
+operation_ordered w l n (LoadStatic field target) fact ordered = each_changed (after_static_load w l n field target) (changed_ordered (copying w l n (target ∷ []) (record { from = Static field; to = Slot target }))) fact
 operation_ordered w l n (StoreStatic field value) fact ordered = each_changed (changed (storing_static w l n field value)) (changed_ordered (storing_static w l n field value)) fact
 operation_ordered w l n (New site target) fact ordered = by (same_site site w.site)
   where
@@ -122,7 +123,7 @@ facts_ordered (t ∷ ts) (first, rest) = (first, facts_ordered ts rest)
 
 event_ordered : (w : Setting) (e : Event) (receiver : Holder) (z : ℕ) (slots : List ℕ) (t : Tuple) → IsOrdered t → EachTuple (after_event w e receiver z slots t)
 event_ordered w e receiver z slots t ordered =
-    by (has_path t.must (bare (slot z))) (is_of_others w receiver z t) (t.unique && w.answers.holds_no_other receiver w.site) (nat_eq w.stage 4)
+    by (has_path t.must (bare (Slot z))) (is_of_others w receiver z t) (t.unique && w.answers.holds_no_other receiver w.site) (nat_eq w.stage 4)
   where
     moved : IsOrdered (moved_by_event e t)
     moved = record { must = ordered.must; must_not = ordered.must_not }

@@ -14,7 +14,9 @@ use Rattle.machine_bytecode.specs.Events.{event_for}
 use Rattle.machine_nodes.specs.NodeSteps.{is_selecting_kind}
 use Rattle.machine_nodes.specs.Slots.{argument_slots}
 use Rattle.points_to_rules.specs.Facts.{Holder, variable}
-use Rattle.access_paths.specs.Paths.{Root, slot, static_field, returned, thrown, Path, bare, has_path, path_set}
+use Rattle.access_paths.specs.declared.root.Root.{Root}
+use Rattle.access_paths.specs.declared.root.Root.TheVariants.{Slot, Static, Returned, Thrown}
+use Rattle.access_paths.specs.Paths.{Path, bare, has_path, path_set}
 use Rattle.stage_facts.specs.Facts.{Tuple, SiteFact, none_yet, some_yet, of_object}
 use Rattle.stage_transfer.specs.Settings.{Setting, alike, among, same_site}
 use Rattle.stage_transfer.specs.Changes.{Change, Copy, changed, copied, has_fields, is_doubled, moved_to, slots_go, unwritten, writing}
@@ -32,7 +34,7 @@ moved_by_event e t = record { unique = t.unique; state = slice_index e.next t.st
 
 -- Paths of some slots join a set.
 abbrev pub joined : List ℕ → List Path → List Path
-joined slots set = path_set (set ++ map (λ (z : ℕ). bare (slot z)) slots)
+joined slots set = path_set (set ++ map (λ (z : ℕ). bare (Slot z)) slots)
 
 abbrev pub referring : List ℕ → Tuple → Tuple
 referring slots t = record { unique = t.unique; state = t.state; must = joined slots t.must; may = t.may; must_not = t.must_not }
@@ -49,12 +51,12 @@ either_way w e slots t =
 
 -- The receiver refers to no object of the site, or not to this one.
 abbrev pub is_of_others : Setting → (receiver : Holder) → (z : ℕ) → Tuple → Bool
-is_of_others w receiver z t = not (w.answers.may_hold_site receiver w.site) || (has_path t.must_not (bare (slot z)) || not t.may)
+is_of_others w receiver z t = not (w.answers.may_hold_site receiver w.site) || (has_path t.must_not (bare (Slot z)) || not t.may)
 
 -- The receiver is known to be the object; or known to be another one; or it can only be the object; or it may be either.
 abbrev pub after_event : Setting → Event → (receiver : Holder) → (z : ℕ) → (slots : List ℕ) → Tuple → List Tuple
 after_event w e receiver z slots t =
-    if has_path t.must (bare (slot z)) then moved_by_event e t ∷ []
+    if has_path t.must (bare (Slot z)) then moved_by_event e t ∷ []
     else if is_of_others w receiver z t then t ∷ []
     else if t.unique && w.answers.holds_no_other receiver w.site then referring slots (moved_by_event e t) ∷ []
     else either_way w e slots t
@@ -85,9 +87,9 @@ written_by c = option_to_list c.result ++ argument_slots c.arguments
 -- The argument is copied to the slot of the result.
 abbrev pub giving : Setting → LoweredMethod → Node → NodeCall → (z : ℕ) → Change
 giving w l n c z = record {
-  adds = copied (map (λ (r : ℕ). record { from = slot z; to = slot r }) (option_to_list c.result));
+  adds = copied (map (λ (r : ℕ). record { from = Slot z; to = Slot r }) (option_to_list c.result));
   goes = slots_go (among (written_by c));
-  doubles = λ r. unwritten w l n (among (written_by c)) r ++ flat_map (λ (y : ℕ). moved_to w l n z (slot y) r) (option_to_list c.result);
+  doubles = λ r. unwritten w l n (among (written_by c)) r ++ flat_map (λ (y : ℕ). moved_to w l n z (Slot y) r) (option_to_list c.result);
 }
 
 -- The method keeps the objects in some slots, and then gives a result.
@@ -118,7 +120,7 @@ passed by_trigger = []
 -- Each argument is copied to the slot of its unit.
 abbrev pub passing_to : (unit : ℕ) → Option ℕ → List Copy
 passing_to unit None = []
-passing_to unit (Some z) = record { from = slot z; to = slot unit } ∷ []
+passing_to unit (Some z) = record { from = Slot z; to = Slot unit } ∷ []
 
 abbrev pub passing_from : (unit : ℕ) → List (Option ℕ) → List Copy
 passing_from unit [] = []
@@ -129,19 +131,19 @@ passing (by_call c) = passing_from 0 c.arguments
 passing by_trigger = []
 
 abbrev pub is_static : Root → Bool
-is_static (slot z) = false
-is_static (static_field f) = true
-is_static returned = false
-is_static thrown = false
+is_static (Slot z) = false
+is_static (Static f) = true
+is_static Returned = false
+is_static Thrown = false
 
 abbrev pub begins_static : Path → Bool
 begins_static x = is_static x.root
 
 abbrev pub is_passed_on : Entering → Root → Bool
-is_passed_on by (slot z) = among (passed by) z
-is_passed_on by (static_field f) = true
-is_passed_on by returned = false
-is_passed_on by thrown = false
+is_passed_on by (Slot z) = among (passed by) z
+is_passed_on by (Static f) = true
+is_passed_on by Returned = false
+is_passed_on by Thrown = false
 
 abbrev pub entered_set : Entering → List Path → List Path
 entered_set by set = path_set (filter begins_static set ++ copied (passing by) set)
@@ -165,19 +167,19 @@ entered_fact by (of_object t) = of_object (entered by t)
 
 -- What an exit hands on: static fields, and of a call what is returned or thrown.
 abbrev pub is_handed_on : Entering → Root → Bool
-is_handed_on by (slot z) = false
-is_handed_on by (static_field f) = true
-is_handed_on (by_call c) returned = true
-is_handed_on by_trigger returned = false
-is_handed_on (by_call c) thrown = true
-is_handed_on by_trigger thrown = false
+is_handed_on by (Slot z) = false
+is_handed_on by (Static f) = true
+is_handed_on (by_call c) Returned = true
+is_handed_on by_trigger Returned = false
+is_handed_on (by_call c) Thrown = true
+is_handed_on by_trigger Thrown = false
 
 -- A slot of the caller that is not passed is as it was.
 abbrev pub is_kept : Entering → Root → Bool
-is_kept by (slot z) = not (among (passed by) z)
-is_kept by (static_field f) = false
-is_kept by returned = false
-is_kept by thrown = false
+is_kept by (Slot z) = not (among (passed by) z)
+is_kept by (Static f) = false
+is_kept by Returned = false
+is_kept by Thrown = false
 
 -- A path of the caller joins where it begins at such a slot, and passes no field that the target may write.
 abbrev pub joins : Setting → Entering → (target : MethodNo) → Path → Bool
@@ -192,10 +194,10 @@ written_on (by_call c) = written_by c
 written_on by_trigger = []
 
 abbrev pub is_slot : Root → Bool
-is_slot (slot z) = true
-is_slot (static_field f) = false
-is_slot returned = false
-is_slot thrown = false
+is_slot (Slot z) = true
+is_slot (Static f) = false
+is_slot Returned = false
+is_slot Thrown = false
 
 -- A path of the caller, of at least one field and with a slot as its root, does not join, and is not doubled.
 abbrev pub is_left_out : Setting → LoweredMethod → Node → Entering → (target : MethodNo) → (after : List Path) → Path → Bool

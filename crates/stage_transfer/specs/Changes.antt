@@ -5,7 +5,9 @@ use Rattle.std.specs.List.{list_any}
 use Rattle.jvm_model.specs.declared.number.FieldNo.{FieldNo}
 use Rattle.op_model.specs.declared.lowered.LoweredMethod.{LoweredMethod}
 use Rattle.op_model.specs.declared.node.Node.{Node}
-use Rattle.access_paths.specs.Paths.{Root, slot, static_field, returned, thrown, Path, has_path, path_set, same_root}
+use Rattle.access_paths.specs.declared.root.Root.{Root}
+use Rattle.access_paths.specs.declared.root.Root.TheVariants.{Slot, Static, Returned, Thrown}
+use Rattle.access_paths.specs.Paths.{Path, has_path, path_set, same_root}
 use Rattle.stage_facts.specs.Facts.{Tuple}
 use Rattle.stage_transfer.specs.Settings.{Setting, alike, among}
 
@@ -65,24 +67,24 @@ changed c t = record {
 -- ---- slots that are written
 
 abbrev pub slots_go : (ℕ → Bool) → Root → Bool
-slots_go written (slot z) = written z
-slots_go written (static_field f) = false
-slots_go written returned = false
-slots_go written thrown = false
+slots_go written (Slot z) = written z
+slots_go written (Static f) = false
+slots_go written Returned = false
+slots_go written Thrown = false
 
 -- The slots that had the root's variable before the node, and that the node does not write.
 abbrev pub unwritten : Setting → LoweredMethod → Node → (ℕ → Bool) → Root → List Root
-unwritten w l n written (slot z) = map slot (filter (λ (y : ℕ). not (written y)) (alike w l n z))
-unwritten w l n written (static_field f) = []
-unwritten w l n written returned = []
-unwritten w l n written thrown = []
+unwritten w l n written (Slot z) = map Slot (filter (λ (y : ℕ). not (written y)) (alike w l n z))
+unwritten w l n written (Static f) = []
+unwritten w l n written Returned = []
+unwritten w l n written Thrown = []
 
 -- A root that holds afterwards what these slots held, if the root is one of their variable.
 abbrev pub moved_to : Setting → LoweredMethod → Node → (from : ℕ) → (to : Root) → Root → List Root
-moved_to w l n from to (slot z) = filter (λ (r : Root). among (alike w l n z) from) (to ∷ [])
-moved_to w l n from to (static_field f) = []
-moved_to w l n from to returned = []
-moved_to w l n from to thrown = []
+moved_to w l n from to (Slot z) = filter (λ (r : Root). among (alike w l n z) from) (to ∷ [])
+moved_to w l n from to (Static f) = []
+moved_to w l n from to Returned = []
+moved_to w l n from to Thrown = []
 
 -- Slots are written, and nothing is known of what they get.
 abbrev pub writing : Setting → LoweredMethod → Node → List ℕ → Change

@@ -6,7 +6,9 @@ use Rattle.op_model.specs.declared.lowered.LoweredMethod.{LoweredMethod}
 use Rattle.op_model.specs.declared.node.Node.{Node}
 use Rattle.op_model.specs.declared.op.Op.{Op}
 use Rattle.op_model.specs.declared.op.Op.TheVariants.{Assign, Load, Store, LoadElement, StoreElement, LoadStatic, StoreStatic, New, NewArray, Constant, Call, Return, Throw, Cast, Probe}
-use Rattle.access_paths.specs.Paths.{Root, slot, thrown, same_root}
+use Rattle.access_paths.specs.declared.root.Root.{Root}
+use Rattle.access_paths.specs.declared.root.Root.TheVariants.{Slot, Thrown}
+use Rattle.access_paths.specs.Paths.{same_root}
 use Rattle.stage_facts.specs.Facts.{SiteFact}
 use Rattle.stage_transfer.specs.Settings.{Setting}
 use Rattle.stage_transfer.specs.Changes.{Change, changed, copied, moved_to, slots_go, unwritten}
@@ -32,29 +34,29 @@ thrown_slot (Probe z) = None
 
 -- The root from which the handler gets the object: the slot of a throw; or what was thrown into the frame.
 abbrev pub thrown_root : Option ℕ → Root
-thrown_root None = thrown
-thrown_root (Some value) = slot value
+thrown_root None = Thrown
+thrown_root (Some value) = Slot value
 
 -- The slot that the handler gets is one of those that hold what a throw's slot held.
 abbrev pub caught_from : Setting → LoweredMethod → Node → Option ℕ → Root → List Root
 caught_from w l n None r = []
-caught_from w l n (Some value) r = moved_to w l n value (slot l.slots) r
+caught_from w l n (Some value) r = moved_to w l n value (Slot l.slots) r
 
 -- Into a handler: the operand stack goes, and its first unit gets the object. What was thrown into the frame goes, too.
 abbrev pub catching : Setting → LoweredMethod → Node → Option ℕ → Change
 catching w l n value = record {
-  adds = copied (record { from = thrown_root value; to = slot l.slots } ∷ []);
-  goes = λ r. slots_go (nat_le l.slots) r || same_root thrown r;
+  adds = copied (record { from = thrown_root value; to = Slot l.slots } ∷ []);
+  goes = λ r. slots_go (nat_le l.slots) r || same_root Thrown r;
   doubles = λ r.
-      unwritten w l n (nat_le l.slots) r ++ (caught_from w l n value r ++ (if same_root thrown r then slot l.slots ∷ [] else []));
+      unwritten w l n (nat_le l.slots) r ++ (caught_from w l n value r ++ (if same_root Thrown r then Slot l.slots ∷ [] else []));
 }
 
 -- Out of the method: all slots go. What was thrown into the frame stays thrown; at a throw the object takes its place.
 abbrev pub unwinding : Option ℕ → Change
 unwinding None = record { adds = λ set. []; goes = slots_go every_slot; doubles = λ r. [] }
 unwinding (Some value) = record {
-  adds = copied (record { from = slot value; to = thrown } ∷ []);
-  goes = λ r. slots_go every_slot r || same_root thrown r;
+  adds = copied (record { from = Slot value; to = Thrown } ∷ []);
+  goes = λ r. slots_go every_slot r || same_root Thrown r;
   doubles = λ r. [];
 }
 

@@ -13,7 +13,9 @@ use Rattle.op_model.specs.declared.op.Op.TheVariants.{Assign, Load, Store, LoadE
 use Rattle.op_model.specs.declared.op.Source.{Source}
 use Rattle.op_model.specs.declared.op.Source.TheVariants as sources
 use Rattle.machine_nodes.specs.Slots.{argument_slots}
-use Rattle.access_paths.specs.Paths.{Root, slot, static_field, returned, Path, bare, has_path, path_set, same_root, with_path}
+use Rattle.access_paths.specs.declared.root.Root.{Root}
+use Rattle.access_paths.specs.declared.root.Root.TheVariants.{Slot, Static, Returned}
+use Rattle.access_paths.specs.Paths.{Path, bare, has_path, path_set, same_root, with_path}
 use Rattle.stage_facts.specs.Facts.{Tuple, SiteFact, none_yet, some_yet, of_object}
 use Rattle.stage_transfer.specs.Settings.{Setting, alike, among, same_field, same_site}
 use Rattle.stage_transfer.specs.Changes.{Change, Copy, begins_at, changed, copied, copying, moved_to, slots_go, unwritten, with_may, writing}
@@ -25,13 +27,13 @@ target_of m = m.target
 
 -- A move of a slot copies it; null and a primitive are no object.
 abbrev pub copies_of : Source → (target : ℕ) → List Copy
-copies_of (sources.Slot y) target = record { from = slot y; to = slot target } ∷ []
+copies_of (sources.Slot y) target = record { from = Slot y; to = Slot target } ∷ []
 copies_of sources.Null target = []
 copies_of sources.Primitive target = []
 
 -- The slot into which a slot of the root's variable is moved.
 abbrev pub moved_by : Setting → LoweredMethod → Node → Root → Source → (target : ℕ) → List Root
-moved_by w l n r (sources.Slot y) target = moved_to w l n y (slot target) r
+moved_by w l n r (sources.Slot y) target = moved_to w l n y (Slot target) r
 moved_by w l n r sources.Null target = []
 moved_by w l n r sources.Primitive target = []
 
@@ -48,10 +50,10 @@ assigning w l n moves = record {
 -- The path behind the field, of the target.
 abbrev pub loaded_fields : FieldNo → (target : ℕ) → List FieldNo → List Path
 loaded_fields field target [] = []
-loaded_fields field target (f ∷ rest) = if same_field field f then record { root = slot target; fields = rest } ∷ [] else []
+loaded_fields field target (f ∷ rest) = if same_field field f then record { root = Slot target; fields = rest } ∷ [] else []
 
 abbrev pub loaded : (object : ℕ) → FieldNo → (target : ℕ) → List Path → List Path
-loaded object field target set = flat_map (λ (x : Path). loaded_fields field target x.fields) (filter (begins_at (slot object)) set)
+loaded object field target set = flat_map (λ (x : Path). loaded_fields field target x.fields) (filter (begins_at (Slot object)) set)
 
 abbrev pub ends_in : FieldNo → List FieldNo → Bool
 ends_in field [] = false
@@ -59,7 +61,7 @@ ends_in field (f ∷ []) = same_field field f
 ends_in field (f ∷ g ∷ rest) = ends_in field (g ∷ rest)
 
 abbrev pub field_of : (object : ℕ) → FieldNo → Path
-field_of object field = record { root = slot object; fields = field ∷ [] }
+field_of object field = record { root = Slot object; fields = field ∷ [] }
 
 -- Some path ends in the field, but not that of the object: so the object may be what is loaded.
 abbrev pub may_be_loaded : (object : ℕ) → FieldNo → List Path → Bool
@@ -83,7 +85,7 @@ is_stored_field w l n object field x = has_path (map (λ (z : ℕ). field_of z f
 -- For each path of the value, that of the field, by each slot of the object's variable.
 abbrev pub stored : Setting → LoweredMethod → Node → (object : ℕ) → FieldNo → (value : ℕ) → List Path → List Path
 stored w l n object field value set =
-    flat_map (λ (z : ℕ). map (λ (x : Path). record { root = slot z; fields = field ∷ x.fields }) (filter (begins_at (slot value)) set)) (alike w l n object)
+    flat_map (λ (z : ℕ). map (λ (x : Path). record { root = Slot z; fields = field ∷ x.fields }) (filter (begins_at (Slot value)) set)) (alike w l n object)
 
 abbrev pub is_short : Setting → Path → Bool
 is_short w x = nat_le (length x.fields) w.depth
@@ -115,31 +117,31 @@ after_store w l n object field value t =
 
 -- A static field is loaded: it is copied.
 abbrev pub after_static_load : Setting → LoweredMethod → Node → FieldNo → (target : ℕ) → Tuple → Tuple
-after_static_load w l n field target t = changed (copying w l n (target ∷ []) (record { from = static_field field; to = slot target })) t
+after_static_load w l n field target t = changed (copying w l n (target ∷ []) (record { from = Static field; to = Slot target })) t
 
 -- A static field is stored to: it goes, and the value is copied to it.
 abbrev pub storing_static : Setting → LoweredMethod → Node → FieldNo → (value : ℕ) → Change
 storing_static w l n field value = record {
-  adds = copied (record { from = slot value; to = static_field field } ∷ []);
-  goes = λ r. slots_go (among (value ∷ [])) r || same_root (static_field field) r;
+  adds = copied (record { from = Slot value; to = Static field } ∷ []);
+  goes = λ r. slots_go (among (value ∷ [])) r || same_root (Static field) r;
   doubles = unwritten w l n (among (value ∷ []));
 }
 
 -- Objects are put where no path leads: into an array, or to what the library keeps.
 abbrev pub puts_away : List ℕ → Tuple → Tuple
-puts_away values t = with_may (list_any (λ (z : ℕ). has_path t.must (bare (slot z))) values) t
+puts_away values t = with_may (list_any (λ (z : ℕ). has_path t.must (bare (Slot z))) values) t
 
 -- ---- allocation
 
 -- The tuple of a new object, which the slot holds, if there is one.
 abbrev pub new_tuple : Setting → (target : Option ℕ) → (unique : Bool) → Tuple
 new_tuple w target unique =
-    record { unique = unique; state = w.property.initial; must = map (λ (z : ℕ). bare (slot z)) (option_to_list target); may = false; must_not = [] }
+    record { unique = unique; state = w.property.initial; must = map (λ (z : ℕ). bare (Slot z)) (option_to_list target); may = false; must_not = [] }
 
 -- Of another object: it is not the only one any more, and the slot holds the new one.
 abbrev pub beside_new : (target : Option ℕ) → Tuple → Tuple
 beside_new None t = record { unique = false; state = t.state; must = t.must; may = t.may; must_not = t.must_not }
-beside_new (Some z) t = record { unique = false; state = t.state; must = t.must; may = t.may; must_not = with_path (bare (slot z)) t.must_not }
+beside_new (Some z) t = record { unique = false; state = t.state; must = t.must; may = t.may; must_not = with_path (bare (Slot z)) t.must_not }
 
 -- An object of the site is allocated. It may be the one of the fact, or not.
 abbrev pub after_new : Setting → (target : Option ℕ) → (Tuple → Tuple) → SiteFact → List SiteFact
@@ -161,17 +163,17 @@ every_slot z = true
 -- A return: what was returned before goes, the value is copied there, and all slots go.
 abbrev pub returning : (value : Option ℕ) → Change
 returning value = record {
-  adds = copied (map (λ (z : ℕ). record { from = slot z; to = returned }) (option_to_list value));
-  goes = λ r. slots_go every_slot r || same_root returned r;
+  adds = copied (map (λ (z : ℕ). record { from = Slot z; to = Returned }) (option_to_list value));
+  goes = λ r. slots_go every_slot r || same_root Returned r;
   doubles = λ r. [];
 }
 
 -- After a call: what was returned is copied to the slot of the result, and goes.
 abbrev pub receiving : Setting → LoweredMethod → Node → (arguments : List ℕ) → (result : Option ℕ) → Change
 receiving w l n arguments result = record {
-  adds = copied (map (λ (z : ℕ). record { from = returned; to = slot z }) (option_to_list result));
-  goes = λ r. slots_go (among (option_to_list result ++ arguments)) r || same_root returned r;
-  doubles = λ r. unwritten w l n (among (option_to_list result ++ arguments)) r ++ (if same_root returned r then map slot (option_to_list result) else []);
+  adds = copied (map (λ (z : ℕ). record { from = Returned; to = Slot z }) (option_to_list result));
+  goes = λ r. slots_go (among (option_to_list result ++ arguments)) r || same_root Returned r;
+  doubles = λ r. unwritten w l n (among (option_to_list result ++ arguments)) r ++ (if same_root Returned r then map Slot (option_to_list result) else []);
 }
 
 -- On the way to a successor; of a call, once it has returned; of a return, out of the method. A throw has no such way. A cast keeps its slot.
