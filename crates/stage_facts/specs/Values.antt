@@ -40,15 +40,21 @@ root_value w view Thrown = view.thrown
 
 -- ---- the value of a path
 
--- What a field of these contents holds. An array has no fields.
+-- A primitive counts as null here: neither refers to an object.
+abbrev pub without_primitive : Value → Value
+without_primitive primitive_value = null_value
+without_primitive null_value = null_value
+without_primitive (reference_to place) = reference_to place
+
+-- What a field of these contents refers to. An array has no fields.
 abbrev pub field_in : FieldNo → Contents → Value
-field_in f (fields values) = values f.0
+field_in f (fields values) = without_primitive (values f.0)
 field_in f (elements values) = null_value
 
--- What an element of these contents holds. What is no array has none.
+-- What an element of these contents refers to. What is no array has none.
 abbrev pub element_in : ℕ → Contents → Value
 element_in index (fields values) = null_value
-element_in index (elements values) = slice_index_or values index null_value
+element_in index (elements values) = without_primitive (slice_index_or values index null_value)
 
 -- A part of the object at a place; null where there is no object.
 abbrev pub part_at : (Contents → Value) → List Object → ℕ → Value

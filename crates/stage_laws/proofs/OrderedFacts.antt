@@ -20,7 +20,7 @@ use Rattle.stage_transfer.specs.Settings.{Setting, alike, among, same_site}
 use Rattle.stage_transfer.specs.Changes.{Change, changed, changed_set, copied, copying, slots_go, unwritten, writing}
 use Rattle.stage_transfer.specs.Operations.{after_load, after_new, after_operation, after_static_load, after_store, assigning, beside_new, loaded, on_tuples, puts_away, receiving, returning, stored_set, storing_static}
 use Rattle.stage_transfer.specs.Exceptions.{after_raise, catching, thrown_slot, unwinding}
-use Rattle.stage_transfer.specs.Calls.{Entering, Result, an_argument, a_new_object, another, after_answer, after_event, after_exception, begins_static, call_facts, entered_fact, entered_set, event_at, event_of, giving, is_handed_on, is_of_others, joined, joins, left_by_tuple, left_fact, left_set, moved_by_event, not_referring, passing, referring, written_by}
+use Rattle.stage_transfer.specs.Calls.{Entering, Result, an_argument, a_new_object, another, after_answer, after_event, after_exception, begins_static, call_facts, entered_fact, entered_set, event_at, event_of_call, giving, is_handed_on, is_of_others, joined, joins, left_by_tuple, left_fact, left_set, moved_by_event, not_referring, passing, referring, written_by}
 use Rattle.stage_laws.specs.Normal.{AreInOrder}
 use Rattle.stage_laws.proofs.Sets.{path_set_ordered, with_ordered}
 
@@ -151,7 +151,7 @@ pub call_ordered : (w : Setting) (l : LoweredMethod) (n : Node) (c : NodeCall) (
 call_ordered w l n c none_yet ordered = (tt, tt)
 call_ordered w l n c some_yet ordered = (tt, tt)
 call_ordered w l n c (of_object t) ordered =
-    facts_ordered (event_at w l n (event_of w c) (option_flatten (slice_get c.arguments 0)) t) (at_ordered w l n (event_of w c) (option_flatten (slice_get c.arguments 0)) t ordered)
+    facts_ordered (event_at w l n (event_of_call w.property c) (option_flatten (slice_get c.arguments 0)) t) (at_ordered w l n (event_of_call w.property c) (option_flatten (slice_get c.arguments 0)) t ordered)
 
 -- ---- described methods
 

@@ -4,6 +4,7 @@
 use Rattle.std.specs.Prelude.{ℕ, suc, nat_eq, Bool, true, false, not, ◌&&◌, ◌||◌, List, [], ◌∷◌, ◌++◌, map, filter, flat_map, slice_index, slice_get, Option, Some, None, if◌then◌else◌}
 use Rattle.std.specs.List.{list_any}
 use Rattle.std.specs.Option.{option_flatten, option_to_list}
+use Rattle.jvm_model.specs.declared.automaton.Automaton.{Automaton}
 use Rattle.jvm_model.specs.declared.automaton.Event.{Event}
 use Rattle.jvm_model.specs.declared.number.MethodNo.{MethodNo}
 use Rattle.jvm_model.specs.declared.site.Site.{Site}
@@ -26,8 +27,8 @@ use Rattle.stage_transfer.specs.Exceptions.{after_raise}
 -- ---- events
 
 -- The event of a call that selects by its object, if it is one of the property's.
-abbrev pub event_of : Setting → NodeCall → Option Event
-event_of w c = if is_selecting_kind c.kind then event_for w.property (record { name = c.name; descriptor = c.descriptor }) else None
+abbrev pub event_of_call : Automaton → NodeCall → Option Event
+event_of_call a c = if is_selecting_kind c.kind then event_for a (record { name = c.name; descriptor = c.descriptor }) else None
 
 abbrev pub moved_by_event : Event → Tuple → Tuple
 moved_by_event e t = record { unique = t.unique; state = slice_index e.next t.state; must = t.must; may = t.may; must_not = t.must_not }
@@ -70,7 +71,7 @@ event_at w l n (Some e) (Some z) t = after_event w e (variable (w.answers.variab
 abbrev pub call_facts : Setting → LoweredMethod → Node → NodeCall → SiteFact → List SiteFact
 call_facts w l n c none_yet = none_yet ∷ []
 call_facts w l n c some_yet = some_yet ∷ []
-call_facts w l n c (of_object t) = map of_object (event_at w l n (event_of w c) (option_flatten (slice_get c.arguments 0)) t)
+call_facts w l n c (of_object t) = map of_object (event_at w l n (event_of_call w.property c) (option_flatten (slice_get c.arguments 0)) t)
 
 -- ---- described methods
 

@@ -1,0 +1,3 @@
+pub mod Roots
+pub mod Relations
+pub mod Laws
