@@ -150,9 +150,9 @@ pub record IsNewResult (c : NodeCall) (result : Result) (y : Path) : Type 0 wher
   pub slot : IsSlotOf c.result y
 
 -- The tuple of a new object in a state, which the slot holds, if there is one.
-pub record IsBorn (target : Option ℕ) (first : Bool) (state : ℕ) (t : Tuple) : Type 0 where
+pub record IsBorn (target : Option ℕ) (first : Bool) (initial : ℕ) (t : Tuple) : Type 0 where
   pub unique : t.unique ≡ true → first ≡ true
-  pub state : t.state ≡ state
+  pub state : t.state ≡ initial
   pub must : (y : Path) → Contains t.must y → IsSlotOf target y
   pub must_not : (y : Path) → Contains t.must_not y → ⊥
   pub held : t.may ≡ false → (z : ℕ) → target ≡ Some z → Contains t.must (bare (Slot z))
@@ -166,9 +166,9 @@ pub record IsReceiver (l : LoweredMethod) (n : Node) (receiver : ℕ) (y : Path)
   pub path_is : y ≡ bare (Slot slot)
 
 -- After an event of a receiver, which is the object, or another one.
-pub record Notes (l : LoweredMethod) (n : Node) (receiver : ℕ) (is_its : Bool) (state : ℕ) (t u : Tuple) : Type 0 where
+pub record Notes (l : LoweredMethod) (n : Node) (receiver : ℕ) (is_its : Bool) (after : ℕ) (t u : Tuple) : Type 0 where
   pub unique : u.unique ≡ true → t.unique ≡ true
-  pub state : u.state ≡ state
+  pub state : u.state ≡ after
   pub must : (y : Path) → Contains u.must y → Contains t.must y ⊎ ((is_its ≡ true) × IsReceiver l n receiver y)
   pub must_not : (y : Path) → Contains u.must_not y → Contains t.must_not y ⊎ ((is_its ≡ false) × IsReceiver l n receiver y)
   pub may : u.may ≡ false → t.may ≡ false
