@@ -2,20 +2,25 @@
 -- What a set of path edges says of the states of executions on nodes: for an object of the site, or one that is not allocated yet, each frame has an
 -- edge whose fact says of it what holds there.
 use Rattle.std.specs.Prelude.{◌≡◌, ◌≢◌, ◌⊎◌, ℕ, ◌+◌, ◌<◌, ◌≤◌, Bool, true, false, List, [], ◌∷◌, length, Option, Some, None, Ok, option_map, slice_get, Contains}
+use Rattle.jvm_model.specs.declared.number.ClassNo.{ClassNo}
 use Rattle.jvm_model.specs.declared.number.FieldNo.{FieldNo}
 use Rattle.jvm_model.specs.declared.number.MethodNo.{MethodNo}
 use Rattle.jvm_model.specs.declared.site.Site.{Site}
 use Rattle.jvm_model.specs.declared.site.SiteKind.TheVariants as kinds
+use Rattle.jvm_model.specs.Programs.{Program}
 use Rattle.jvm_model.specs.Soundness.{is_array}
 use Rattle.jvm_model.specs.Subtypes.{IsSubtype}
+use Rattle.jvm_model.specs.Table.{null_pointer}
 use Rattle.op_model.specs.declared.lowered.LoweredMethod.{LoweredMethod}
 use Rattle.op_model.specs.declared.node.Node.{Node}
 use Rattle.op_model.specs.declared.node.Spot.{Spot}
 use Rattle.op_model.specs.declared.node.Spot.TheVariants as spots
-use Rattle.op_model.specs.declared.op.Op.TheVariants.{NewArray}
+use Rattle.op_model.specs.declared.op.Op.TheVariants.{NewArray, Throw}
 use Rattle.op_model.specs.Supplies.{Given, GivenAs}
+use Rattle.machine_bytecode.specs.Machine.{exception_class}
 use Rattle.machine_bytecode.specs.Objects.{Subject}
 use Rattle.machine_bytecode.specs.States.{Value, reference_to, Object, Frame, Mode, running, throwing, ended, World, State, slot_at}
+use Rattle.machine_nodes.specs.Nodes.{IsClassNumber}
 use Rattle.machine_nodes.specs.NodeExecutions.{IsNodeExecution}
 use Rattle.machine_nodes.specs.Slots.{AreCaught}
 use Rattle.points_to_rules.specs.Facts.{Fact, may_write}
@@ -36,6 +41,15 @@ pub record IsTrackable (x : Subject) (gives : GivenAs) (s : Site) : Type 0 where
   pub observed : IsSubtype x.program x.property.class_name s.class
   pub no_arrays_there : (number : ℕ) (l : LoweredMethod) (n : Node) (sites : List Site) (target : ℕ) → gives number (Ok l) → Contains l.nodes n
       → n.op ≡ NewArray sites target → Contains sites s → ⊥
+
+-- A throw raises NullPointerException alone, and starts no initialisation (JVMS 5.5, 6.5.athrow).
+pub record ThrowsPlainly (p : Program) (n : Node) : Type 0 where
+  pub listed : (value : ℕ) (c : ClassNo) (class : List ℕ) → n.op ≡ Throw value → Contains n.throws c → IsClassNumber p c class → class ≡ exception_class null_pointer
+  pub untriggered : (value : ℕ) → n.op ≡ Throw value → n.trigger ≡ None
+
+-- So it is in each method that is given as nodes.
+abbrev pub AreThrownPlainly : Program → GivenAs → Type 0
+AreThrownPlainly p gives = (number : ℕ) (l : LoweredMethod) (n : Node) → gives number (Ok l) → Contains l.nodes n → ThrowsPlainly p n
 
 -- ---- frames that wait
 
