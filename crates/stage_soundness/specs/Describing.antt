@@ -23,7 +23,7 @@ use Rattle.machine_bytecode.specs.States.{Value, reference_to, Object, Frame, Mo
 use Rattle.machine_nodes.specs.Nodes.{IsClassNumber}
 use Rattle.machine_nodes.specs.NodeExecutions.{IsNodeExecution}
 use Rattle.machine_nodes.specs.Slots.{AreCaught}
-use Rattle.points_to_rules.specs.Facts.{Fact, may_write}
+use Rattle.points_to_rules.specs.Facts.{Fact, may_run}
 use Rattle.stage_facts.specs.Facts.{SiteFact, none_yet, of_object, Tuple, Says}
 use Rattle.stage_facts.specs.Values.{field_in, part_at, of_slots, of_return, of_throw}
 use Rattle.stage_transfer.specs.Calls.{Entering, by_call, by_trigger}
@@ -69,6 +69,7 @@ pub record Waits (x : Subject) (gives : GivenAs) (S : Fact → Type 0) (s : Site
   pub node : Node
   pub is_node : IsNode x gives (method_of f) lowered node
   pub at : node.offset ≡ f.offset
+  pub runs : (m : MethodNo) → method_of f ≡ Some m → S (may_run m)
   pub by : Entering
   pub waits : f.waits ≡ waits_so by
   pub own : SiteFact
