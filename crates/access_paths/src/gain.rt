@@ -1,0 +1,52 @@
+//! What each path of a set adds to it.
+
+ghost use Rattle.std.specs.Prelude.{◌≡◌};
+ghost use Rattle.access_paths.specs.Gains.{gained};
+
+use crate::path::Path;
+use crate::root::Root;
+use jvm_model::number::FieldNo;
+
+/// What each path of a set adds to it: one path at most.
+#[derive(Clone, Copy)]
+pub enum Gain {
+    /// Of a path of the first root, that of the second root with the same fields.
+    Copied(Root, Root),
+    /// Of a path of the first root, that behind the field of the second root, if it follows so many fields at most.
+    Stored(Root, Root, FieldNo, u8),
+    /// Of a path of the first root that begins with the field, what is left behind it, as a path of the second root.
+    Loaded(Root, FieldNo, Root),
+}
+
+impl Gain {
+    /// What the path adds.
+    pub fn of(self, path: &Path) -> Option<Path>
+        ensures { result ≡ gained self path.now }
+    {
+        match self {
+            Gain::Copied(source, target) => path.begins_at(source).then_some(path.with_root(target)),
+            Gain::Stored(source, object, field, depth) => stored(path, source, object, field, depth),
+            Gain::Loaded(object, field, target) => loaded(path, object, field, target),
+        }
+    }
+}
+
+/// The path behind the field of the object, if it is one of the source and follows so many fields at most.
+fn stored(path: &Path, source: Root, object: Root, field: FieldNo, depth: u8) -> Option<Path>
+    ensures { result ≡ gained (Gain.Stored source object field depth) path.now }
+{
+    if path.begins_at(source) && path.field_count() < depth as usize {
+        return path.behind(object, field);
+    }
+    None
+}
+
+/// What is left of the path behind its field, as a path of the target, if it is one of the object.
+fn loaded(path: &Path, object: Root, field: FieldNo, target: Root) -> Option<Path>
+    ensures { result ≡ gained (Gain.Loaded object field target) path.now }
+{
+    if path.begins_at(object) {
+        return path.rest_behind(field, target);
+    }
+    None
+}
