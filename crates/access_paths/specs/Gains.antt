@@ -1,11 +1,12 @@
 -- Proofs of this crate alone rest on this module.
 -- What each path of a set adds to it, and a cut that takes that in.
-use Rattle.std.specs.Prelude.{◌≡◌, ℕ, ◌≤◌, nat_lt, insert, ◌&&◌, ◌||◌, List, [], ◌∷◌, length, take, Option, Some, None, if◌then◌else◌}
+use Rattle.std.specs.Prelude.{◌≡◌, ℕ, ◌≤◌, nat_le, nat_lt, Bool, insert, min, ◌&&◌, ◌||◌, List, [], ◌∷◌, length, take, Option, Some, None, if◌then◌else◌}
 use Rattle.jvm_model.specs.declared.number.FieldNo.{FieldNo}
 use Rattle.access_paths.specs.declared.root.Root.{Root}
 use Rattle.access_paths.specs.declared.cut.Cut.{Cut}
 use Rattle.access_paths.specs.declared.gain.Gain.{Gain}
 use Rattle.access_paths.specs.declared.gain.Gain.TheVariants.{Copied, Stored, Loaded}
+use Rattle.access_paths.specs.Followed.{most_fields}
 use Rattle.access_paths.specs.Paths.{Path, most_paths, with_path}
 use Rattle.access_paths.specs.Operations.{begins_at, behind, is_short, same_field, with_root}
 
@@ -17,6 +18,10 @@ abbrev pub gained : Gain → Path → Option Path
 gained (Copied source target) x = if begins_at source x then Some (with_root target x) else None
 gained (Stored source object f depth) x = if begins_at source x && is_short depth (behind object f x) then Some (behind object f x) else None
 gained (Loaded object f target) x = if begins_at object x then rest_behind f target x.fields else None
+
+-- The path would be too long behind a field.
+abbrev pub is_long_store : (source : Root) → (depth : ℕ) → Path → Bool
+is_long_store source depth x = begins_at source x && nat_le (min depth most_fields) (length x.fields)
 
 -- The set with the path is that with the path put at this place.
 pub record IsPlace (x : Path) (set : List Path) (at : ℕ) : Type 0 where

@@ -10,6 +10,9 @@ ghost use Rattle.access_paths.specs.Paths.{number_of};
 use jvm_model::number::FieldNo;
 use std::cmp::Ordering;
 
+/// A path follows so many fields at most.
+pub const MOST_FIELDS: usize = 3;
+
 /// The fields that a path follows, one after another: three at most.
 #[derive(Clone, Copy)]
 pub enum Fields {

@@ -1,8 +1,9 @@
 //! What each path of a set adds to it.
 
 ghost use Rattle.std.specs.Prelude.{◌≡◌};
-ghost use Rattle.access_paths.specs.Gains.{gained};
+ghost use Rattle.access_paths.specs.Gains.{gained, is_long_store};
 
+use crate::fields::MOST_FIELDS;
 use crate::path::Path;
 use crate::root::Root;
 use jvm_model::number::FieldNo;
@@ -49,4 +50,11 @@ fn loaded(path: &Path, object: Root, field: FieldNo, target: Root) -> Option<Pat
         return path.rest_behind(field, target);
     }
     None
+}
+
+/// Whether the path is one of the source and would follow more fields than `depth`, or more than three, behind a field more.
+pub fn is_long_store(path: &Path, source: Root, depth: u8) -> bool
+    ensures { result ≡ is_long_store source depth path.now }
+{
+    path.begins_at(source) && path.field_count() >= MOST_FIELDS.min(depth as usize)
 }

@@ -154,6 +154,6 @@ impl Path {
     pub fn is_same(&self, other: &Path) -> bool
         ensures { result ≡ same_path self.now other.now }
     {
-        matches!(&self.compare(other), Ordering::Equal)
+        self.compare(other).is_eq()
     }
 }

@@ -2,13 +2,13 @@
 
 ghost use Rattle.std.specs.Prelude.{◌≡◌, ◌≤◌, ◌==◌, ◌++◌, nat_lt, [], length, insert, slice_get, MatchResult};
 ghost use Rattle.std.specs.List.{filter_map, list_any};
-ghost use Rattle.access_paths.specs.Gains.{gained, IsPlace};
-ghost use Rattle.access_paths.specs.Operations.{copies, cut_of, extended, gaining, has_long_store, loads, without_field, without_root};
+ghost use Rattle.access_paths.specs.Gains.{gained, is_long_store, IsPlace};
+ghost use Rattle.access_paths.specs.Operations.{copies, cut_of, extended, gaining, loads, without_field, without_root};
 ghost use Rattle.access_paths.specs.Paths.{has_path, most_paths, path_set, with_path};
 ghost use Rattle.access_paths.specs.Sets.{AreInOrder};
 
 use crate::cut::Cut;
-use crate::gain::Gain;
+use crate::gain::{Gain, is_long_store};
 use crate::path::Path;
 use crate::root::Root;
 use arrayvec::ArrayVec;
@@ -79,7 +79,8 @@ impl PathSet {
 
     /// The paths, in their order.
     pub fn as_slice(&self) -> &[Path]
-        ensures { result.now ≡ self.now }
+        ensures paths { result.now ≡ self.now }
+        ensures few { length result.now ≤ most_paths }
     {
         self.paths.as_slice()
     }
@@ -100,6 +101,7 @@ impl PathSet {
     pub fn copied(&self) -> PathSet
         ensures { result ≡ self.now }
     {
+        self.well_formed();
         let mut paths = ArrayVec::new();
         for path in self.as_slice() {
             paths.push(*path);
@@ -138,7 +140,7 @@ impl PathSet {
     {
         let cut = self.gaining(Gain::Stored(source, object, field, depth));
         Cut {
-            dropped: self.has_long_store(source, object, field, depth) || cut.dropped,
+            dropped: self.has_long_store(source, depth) || cut.dropped,
             set: cut.set,
         }
     }
@@ -181,6 +183,7 @@ impl PathSet {
     fn whole(&self) -> Cut
         ensures { result ≡ cut_of self.now }
     {
+        self.well_formed();
         Cut {
             set: self.copied(),
             dropped: false,
@@ -192,6 +195,7 @@ impl PathSet {
         requires { IsPlace path.now self.now at }
         ensures { result ≡ cut_of (with_path path.now self.now) }
     {
+        self.well_formed();
         if at >= MOST_PATHS {
             return Cut {
                 set: self.copied(),
@@ -212,6 +216,7 @@ impl PathSet {
     fn gaining(&self, gain: Gain) -> Cut
         ensures { result ≡ cut_of (path_set (self.now ++ filter_map (gained gain) self.now)) }
     {
+        self.well_formed();
         let mut cut = self.whole();
         for path in self.as_slice() {
             cut.gain(gain.of(path));
@@ -219,12 +224,12 @@ impl PathSet {
         cut
     }
 
-    /// Whether a path of the source would be too long behind the field of the object.
-    fn has_long_store(&self, source: Root, object: Root, field: FieldNo, depth: u8) -> bool
-        ensures { result ≡ has_long_store source object field depth self.now }
+    /// Whether a path of the source would be too long behind a field more.
+    fn has_long_store(&self, source: Root, depth: u8) -> bool
+        ensures { result ≡ list_any (is_long_store source depth) self.now }
     {
         for path in self.as_slice() {
-            if path.begins_at(source) && Gain::Stored(source, object, field, depth).of(path).is_none() {
+            if is_long_store(path, source, depth) {
                 return true;
             }
         }
