@@ -124,8 +124,8 @@ Within s t = (z : Path) → Contains s z → Contains t z
 rest_within : (x : Path) (xs ys : List Path) → IsBeforeFirst x xs → AreInOrder xs → Within (x ∷ xs) (x ∷ ys) → Within xs ys
 rest_within x xs ys first ordered within z there = elim (contains_cases x z ys (within z (contains_later x z xs there))) [
   | inl same ↦
-    let P : Path → Type 0 = λ p. comes_before (path_key x) (path_key p) ≡ true in
-    absurd (not_before_itself (path_key x) (subst P (sym same) (before_each x xs first ordered z there)))
+      let P : Path → Type 0 = λ p. comes_before (path_key x) (path_key p) ≡ true in
+      absurd (not_before_itself (path_key x) (subst P (sym same) (before_each x xs first ordered z there)))
   | inr later ↦ later
 ]
 
@@ -135,7 +135,7 @@ first_is_one x y xs ys (first, ordered) (other, others) to back = elim (contains
   | inr later ↦ elim (contains_cases x y xs back) [
     | inl same ↦ same
     | inr older ↦ absurd (not_before_itself (path_key x)
-      (before_on (path_key x) (path_key y) (path_key x) (before_each x xs first ordered y older) (before_each y ys other others x later)))
+        (before_on (path_key x) (path_key y) (path_key x) (before_each x xs first ordered y older) (before_each y ys other others x later)))
   ]
 ]
 

@@ -9,13 +9,14 @@ use Rattle.access_paths.specs.declared.fields.Fields.TheVariants.{Zero, One, Two
 abbrev pub most_fields : ℕ
 most_fields = 3
 
+-- One after another.
 abbrev pub listed : Fields → List FieldNo
 listed Zero = []
 listed (One f) = f ∷ []
 listed (Two f g) = f ∷ g ∷ []
 listed (Three f g h) = f ∷ g ∷ h ∷ []
 
--- The first three of a list.
+-- The first three of a list. They are what is listed, if there are no more.
 abbrev pub first_three : List FieldNo → Fields
 first_three [] = Zero
 first_three (f ∷ []) = One f

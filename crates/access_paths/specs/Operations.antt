@@ -10,13 +10,15 @@ use Rattle.access_paths.specs.Followed.{most_fields}
 
 -- ---- single paths
 
+-- Fields are known by their numbers.
 abbrev pub same_field : FieldNo → FieldNo → Bool
 same_field f g = nat_eq f.0 g.0
 
+-- The path is one of the root.
 abbrev pub begins_at : Root → Path → Bool
 begins_at r x = same_root r x.root
 
--- The path passes the field.
+-- The path follows the field somewhere.
 abbrev pub passes_field : FieldNo → Path → Bool
 passes_field f x = list_any (same_field f) x.fields
 
@@ -46,7 +48,7 @@ copies source target set = map (with_root target) (filter (begins_at source) set
 abbrev pub gaining : (List Path → List Path) → List Path → List Path
 gaining gain set = path_set (set ++ gain set)
 
--- What is left behind the field, as a path of the target.
+-- What is left behind the first field, if it is this one, as a path of the target.
 abbrev pub loaded_fields : FieldNo → (target : Root) → List FieldNo → List Path
 loaded_fields f target [] = []
 loaded_fields f target (g ∷ rest) = if same_field f g then record { root = target; fields = rest } ∷ [] else []
@@ -59,17 +61,19 @@ loads object f target set = flat_map (λ (x : Path). loaded_fields f target x.fi
 abbrev pub stores : (source object : Root) → FieldNo → List Path → List Path
 stores source object f set = map (behind object f) (filter (begins_at source) set)
 
+-- The path follows no more fields than the depth, and no more than a path may.
 abbrev pub is_short : (depth : ℕ) → Path → Bool
 is_short depth x = nat_le (length x.fields) (min depth most_fields)
 
+-- Those that are short enough.
 abbrev pub short_stores : (source object : Root) → FieldNo → (depth : ℕ) → List Path → List Path
 short_stores source object f depth set = filter (is_short depth) (stores source object f set)
 
--- Some path would be too long.
+-- Some are too long.
 abbrev pub has_long_store : (source object : Root) → FieldNo → (depth : ℕ) → List Path → Bool
 has_long_store source object f depth set = list_any (λ (x : Path). not (is_short depth x)) (stores source object f set)
 
--- The set with those that are short enough. Long paths are left out too.
+-- The set, and those that are short enough, cut. What is too long is left out too.
 abbrev pub extended : (source object : Root) → FieldNo → (depth : ℕ) → List Path → Cut
 extended source object f depth set = record {
   set = take most_paths (gaining (short_stores source object f depth) set);
@@ -78,8 +82,10 @@ extended source object f depth set = record {
 
 -- ---- paths that leave
 
+-- The paths of other roots.
 abbrev pub without_root : Root → List Path → List Path
 without_root r set = filter (λ (x : Path). not (begins_at r x)) set
 
+-- The paths that do not follow the field.
 abbrev pub without_field : FieldNo → List Path → List Path
 without_field f set = filter (λ (x : Path). not (passes_field f x)) set

@@ -10,5 +10,6 @@ use Rattle.access_paths.specs.Paths.{Path, comes_before, path_key}
 abbrev pub key_order : List ℕ → List ℕ → Ordering
 key_order ms ns = if comes_before ms ns then Less else if bytes_eq ms ns then Equal else Greater
 
+-- The order of their keys.
 abbrev pub path_order : Path → Path → Ordering
 path_order x y = key_order (path_key x) (path_key y)

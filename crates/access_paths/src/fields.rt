@@ -43,7 +43,9 @@ impl Fields {
             Fields::Zero => false,
             Fields::One(first) => field.0 == first.0,
             Fields::Two(first, second) => field.0 == first.0 || field.0 == second.0,
-            Fields::Three(first, second, third) => field.0 == first.0 || field.0 == second.0 || field.0 == third.0,
+            Fields::Three(first, second, third) => field.0 == first.0
+                || field.0 == second.0
+                || field.0 == third.0,
         }
     }
 

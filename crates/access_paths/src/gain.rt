@@ -11,12 +11,24 @@ use jvm_model::number::FieldNo;
 /// What each path of a set adds to it: one path at most.
 #[derive(Clone, Copy)]
 pub enum Gain {
-    /// Of a path of the first root, that of the second root with the same fields.
-    Copied(Root, Root),
-    /// Of a path of the first root, that behind the field of the second root, if it follows so many fields at most.
-    Stored(Root, Root, FieldNo, u8),
-    /// Of a path of the first root that begins with the field, what is left behind it, as a path of the second root.
-    Loaded(Root, FieldNo, Root),
+    /// Of a path of the source, that of the target with the same fields.
+    Copied {
+        source: Root,
+        target: Root,
+    },
+    /// Of a path of the source, that behind the field of the object, unless it would follow more fields than `depth`, or more than three.
+    Stored {
+        source: Root,
+        object: Root,
+        field: FieldNo,
+        depth: u8,
+    },
+    /// Of a path of the object that begins with the field, what is left behind it, as a path of the target.
+    Loaded {
+        object: Root,
+        field: FieldNo,
+        target: Root,
+    },
 }
 
 impl Gain {
@@ -25,14 +37,25 @@ impl Gain {
         ensures { result ≡ gained self path.now }
     {
         match self {
-            Gain::Copied(source, target) => path.begins_at(source).then_some(path.with_root(target)),
-            Gain::Stored(source, object, field, depth) => stored(path, source, object, field, depth),
-            Gain::Loaded(object, field, target) => loaded(path, object, field, target),
+            Gain::Copied { source, target } => path
+                .begins_at(source)
+                .then_some(path.with_root(target)),
+            Gain::Stored {
+                source,
+                object,
+                field,
+                depth,
+            } => stored(path, source, object, field, depth),
+            Gain::Loaded {
+                object,
+                field,
+                target,
+            } => loaded(path, object, field, target),
         }
     }
 }
 
-/// The path behind the field of the object, if it is one of the source and follows so many fields at most.
+/// The path behind the field of the object, if it is one of the source and is not too long there.
 fn stored(path: &Path, source: Root, object: Root, field: FieldNo, depth: u8) -> Option<Path>
     ensures { result ≡ gained (Gain.Stored source object field depth) path.now }
 {

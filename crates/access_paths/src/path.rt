@@ -115,7 +115,7 @@ impl Path {
     }
 
     /// The field of an object, and from there the fields of the path; `None` where the path follows three already.
-    pub fn behind(&self, object: Root, field: FieldNo) -> Option<Path>
+    pub(crate) fn behind(&self, object: Root, field: FieldNo) -> Option<Path>
         ensures { result ≡ (if nat_lt (length self.now.fields) most_fields then Some (behind object field self.now) else None) }
     {
         let fields = self.fields.with_first(field)?;
@@ -126,7 +126,7 @@ impl Path {
     }
 
     /// What is left of the path behind its first field, as a path of the target; `None` where it does not begin with that field.
-    pub fn rest_behind(&self, field: FieldNo, target: Root) -> Option<Path>
+    pub(crate) fn rest_behind(&self, field: FieldNo, target: Root) -> Option<Path>
         ensures { result ≡ rest_behind field target self.now.fields }
     {
         let (first, fields) = self.fields.split_first()?;

@@ -123,14 +123,18 @@ impl PathSet {
     pub fn copy_root(&self, source: Root, target: Root) -> Cut
         ensures { result ≡ cut_of (gaining (copies source target) self.now) }
     {
-        self.gaining(Gain::Copied(source, target))
+        self.gaining(Gain::Copied { source, target })
     }
 
     /// Adds to each path of the object that begins with the field what is left behind it, as a path of the target, and cuts the set.
     pub fn load(&self, object: Root, field: FieldNo, target: Root) -> Cut
         ensures { result ≡ cut_of (gaining (loads object field target) self.now) }
     {
-        self.gaining(Gain::Loaded(object, field, target))
+        self.gaining(Gain::Loaded {
+            object,
+            field,
+            target,
+        })
     }
 
     /// Adds to each path of the source that behind the field of the object, and cuts the set. What would follow more fields than `depth`,
@@ -138,7 +142,12 @@ impl PathSet {
     pub fn extend(&self, source: Root, object: Root, field: FieldNo, depth: u8) -> Cut
         ensures { result ≡ extended source object field depth self.now }
     {
-        let cut = self.gaining(Gain::Stored(source, object, field, depth));
+        let cut = self.gaining(Gain::Stored {
+            source,
+            object,
+            field,
+            depth,
+        });
         Cut {
             dropped: self.has_long_store(source, depth) || cut.dropped,
             set: cut.set,

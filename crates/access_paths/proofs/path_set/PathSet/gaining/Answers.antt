@@ -22,8 +22,8 @@ loop-path-preserved c =
     let x = c.path-item.result in
     let inside : i < length set = omega (arith, ap length c.as_slice-path-items.ensures.paths) in
     let front : take (i + 1) set ≡ take i set ++ x ∷ [] =
-        take_more set i x inside ∙ ap (λ (y : Path). take i set ++ y ∷ []) (sym (c.path-item.is ∙ ap (λ (s : List Path). get_or s i x) c.as_slice-path-items.ensures.paths)) in
+    take_more set i x inside ∙ ap (λ (y : Path). take i set ++ y ∷ []) (sym (c.path-item.is ∙ ap (λ (s : List Path). get_or s i x) c.as_slice-path-items.ensures.paths)) in
     let step : c.gain.new.self ≡ with_gain (cut_of (path_set (set ++ filter_map gain (take i set)))) (gain x) =
-        c.gain.ensures ∙ ap (λ (d : Cut). with_gain d c.of.result) c.loop-path.invariant
-        ∙ ap (λ (o : Option Path). with_gain (cut_of (path_set (set ++ filter_map gain (take i set)))) o) c.of.ensures in
+    c.gain.ensures ∙ ap (λ (d : Cut). with_gain d c.of.result) c.loop-path.invariant
+    ∙ ap (λ (o : Option Path). with_gain (cut_of (path_set (set ++ filter_map gain (take i set)))) o) c.of.ensures in
     step ∙ gain-push gain set (take i set) x ∙ ap (λ (s : List Path). cut_of (path_set (set ++ filter_map gain s))) (sym front)

@@ -23,5 +23,5 @@ returns c =
     let old = c.truncate.ensures.items ∙ ap (take 5) (c.paths.view_is ∙ c.copied-2.ensures) in
     let kept = c.insert.ensures.items ∙ ap (λ (s : List Path). insert s c.args.at x) old ∙ sym (put_within x set c.args.at c.requires (omega arith)) in
     let dropped : nat_eq c.len-dropped.result 6 ≡ nat_lt 6 (length (with_path x set)) =
-        ap (λ n. nat_eq n 6) c.len-dropped.ensures.count ∙ sym (put_drops x set c.args.at c.requires is.few) in
+    ap (λ n. nat_eq n 6) c.len-dropped.ensures.count ∙ sym (put_drops x set c.args.at c.requires is.few) in
     λ i. record { set = kept i; dropped = dropped i }
