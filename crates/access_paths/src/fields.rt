@@ -41,11 +41,11 @@ impl Fields {
     {
         match self {
             Fields::Zero => false,
-            Fields::One(first) => field.0 == first.0,
-            Fields::Two(first, second) => field.0 == first.0 || field.0 == second.0,
-            Fields::Three(first, second, third) => field.0 == first.0
-                || field.0 == second.0
-                || field.0 == third.0,
+            Fields::One(first) => field == first,
+            Fields::Two(first, second) => field == first || field == second,
+            Fields::Three(first, second, third) => field == first
+                || field == second
+                || field == third,
         }
     }
 

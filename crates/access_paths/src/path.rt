@@ -130,7 +130,7 @@ impl Path {
         ensures { result ≡ rest_behind field target self.now.fields }
     {
         let (first, fields) = self.fields.split_first()?;
-        if field.0 != first.0 {
+        if field != first {
             return None;
         }
         Some(Path {
