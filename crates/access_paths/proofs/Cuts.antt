@@ -1,12 +1,10 @@
 -- To cut a set at each path that is added is to cut it at the end.
-use Rattle.std.proofs.Common.{◌≡◌, ℕ, zero, suc, ◌≤◌, nat_lt, Bool, true, false, cond, ◌||◌, List, [], ◌∷◌, length, take, refl, sym, ◌∙◌, ap, arith, Some}
+use Rattle.std.proofs.Common.{◌≡◌, ℕ, zero, suc, ◌≤◌, nat_lt, Bool, true, false, cond, ◌||◌, List, [], ◌∷◌, length, take, refl, ap, arith, Some}
 use Rattle.std.proofs.lemmas.Bool.Decides.{nat_tests}
 use Rattle.std.proofs.lemmas.List.{take_all}
-use Rattle.access_paths.specs.declared.cut.Cut.{Cut}
 use Rattle.access_paths.specs.Paths.{Path, comes_before, most_paths, path_key, same_path, with_path}
 use Rattle.access_paths.specs.Operations.{cut_of}
 use Rattle.access_paths.specs.Gains.{with_gain}
-use Rattle.access_paths.specs.Sets.{IsPathSet}
 
 pub take-take : {X : Type 0} (n : ℕ) (xs : List X) → take n (take n xs) ≡ take n xs
 take-take zero xs = refl

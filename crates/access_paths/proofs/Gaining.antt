@@ -1,5 +1,5 @@
 -- What a set gains from its paths, one after another.
-use Rattle.std.proofs.Common.{◌≡◌, ℕ, suc, ◌≤◌, nat_le, nat_lt, Bool, true, false, cond, not, ◌&&◌, ◌||◌, List, [], ◌∷◌, ◌++◌, length, map, min, take, refl, sym, ◌∙◌, ap, arith, append-nil, append_assoc, Option, Some, None}
+use Rattle.std.proofs.Common.{◌≡◌, ℕ, suc, nat_le, Bool, true, false, cond, not, ◌&&◌, ◌||◌, List, [], ◌∷◌, ◌++◌, length, map, min, refl, sym, ◌∙◌, ap, arith, append-nil, append_assoc, Option, Some, None}
 use Rattle.std.specs.List.{cons_option, filter, filter_map, flat_map, list_any}
 use Rattle.std.proofs.lemmas.Bool.Decides.{nat_tests}
 use Rattle.std.proofs.lemmas.List.Elements.{filter_map-append}
@@ -7,7 +7,7 @@ use Rattle.jvm_model.specs.declared.number.FieldNo.{FieldNo}
 use Rattle.access_paths.specs.declared.root.Root.{Root}
 use Rattle.access_paths.specs.declared.gain.Gain.TheVariants.{Copied, Stored, Loaded}
 use Rattle.access_paths.specs.Paths.{Path, path_set}
-use Rattle.access_paths.specs.Operations.{begins_at, behind, copies, cut_of, has_long_store, is_short, loaded_fields, loads, same_field, short_stores, stores, with_root}
+use Rattle.access_paths.specs.Operations.{begins_at, behind, copies, cut_of, has_long_store, is_short, loaded_fields, loads, same_field, short_stores, with_root}
 use Rattle.access_paths.specs.Gains.{gained, is_long_store, rest_behind, with_gain}
 use Rattle.access_paths.proofs.Cuts.{cut-with}
 use Rattle.access_paths.proofs.SetMembers.{path_set_push}

@@ -1,16 +1,12 @@
 -- Where a path is put in a set, and what a set becomes with it.
-use Rattle.std.proofs.Common.{◌≡◌, ℕ, zero, suc, ◌+◌, ◌<◌, ◌≤◌, nat_eq, nat_lt, Bool, true, false, cond, List, [], ◌∷◌, ◌++◌, length, take, drop, refl, sym, ◌∙◌, ap, subst, arith}
+use Rattle.std.proofs.Common.{◌≡◌, ℕ, zero, suc, ◌<◌, ◌≤◌, nat_eq, nat_lt, Bool, true, false, List, [], ◌∷◌, length, take, refl, sym, ◌∙◌, ap, subst, arith}
 use Rattle.std.specs.List.{insert}
-use Rattle.std.specs.declared.cmp.Ordering.{Ordering}
-use Rattle.std.specs.declared.cmp.Ordering.TheVariants.{Less, Equal, Greater}
 use Rattle.std.proofs.lemmas.Bool.Decides.{nat_tests}
 use Rattle.std.proofs.lemmas.List.{length-take}
-use Rattle.access_paths.specs.declared.cut.Cut.{Cut}
-use Rattle.access_paths.specs.Paths.{Path, comes_before, most_paths, path_key, same_path, with_path}
+use Rattle.access_paths.specs.Paths.{Path, with_path}
 use Rattle.access_paths.specs.Gains.{IsPlace}
 use Rattle.access_paths.specs.Operations.{cut_of}
-use Rattle.access_paths.specs.Orders.{path_order}
-use Rattle.access_paths.specs.Sets.{AreInOrder, IsPathSet}
+use Rattle.access_paths.specs.Sets.{IsPathSet}
 use Rattle.access_paths.proofs.SetMembers.{front_ordered, with_ordered}
 
 -- ---- a path that is put at its place

@@ -1,6 +1,6 @@
 -- Public contracts rest on this module.
 -- What is done to sets of paths: paths are added, and the paths of a root or of a field leave. A set that gets too large keeps its least paths.
-use Rattle.std.specs.Prelude.{ℕ, nat_eq, nat_le, nat_lt, Bool, not, ◌||◌, List, [], ◌∷◌, ◌++◌, length, map, min, take, filter, flat_map, Option, Some, None, if◌then◌else◌}
+use Rattle.std.specs.Prelude.{ℕ, nat_eq, nat_le, nat_lt, Bool, not, ◌||◌, List, [], ◌∷◌, ◌++◌, length, map, min, take, filter, flat_map, if◌then◌else◌}
 use Rattle.std.specs.List.{list_any}
 use Rattle.jvm_model.specs.declared.number.FieldNo.{FieldNo}
 use Rattle.access_paths.specs.declared.root.Root.{Root}

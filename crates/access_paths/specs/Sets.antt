@@ -1,6 +1,6 @@
 -- Public contracts rest on this module.
 -- Sets of paths as they are kept.
-use Rattle.std.specs.Prelude.{ℕ, ◌≤◌, List, [], ◌∷◌, length, IsTrue}
+use Rattle.std.specs.Prelude.{◌≤◌, List, [], ◌∷◌, length, IsTrue}
 use Rattle.access_paths.specs.Paths.{Path, comes_before, most_paths, path_key}
 
 -- The path comes before the first of the others.

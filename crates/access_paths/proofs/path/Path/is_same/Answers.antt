@@ -1,4 +1,3 @@
-use Rattle.std.proofs.Common.{◌∙◌}
 use Rattle.access_paths.specs.Paths.{path_key}
 use Rattle.access_paths.proofs.KeyOrders.{is_eq-key_order}
 use Rattle.access_paths.proofs.path.Path.is_same.Goals as goal

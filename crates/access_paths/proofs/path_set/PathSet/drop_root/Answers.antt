@@ -1,9 +1,8 @@
-use Rattle.std.proofs.Common.{◌≡◌, not, sym, ◌∙◌, ap, rules, arith}
+use Rattle.std.proofs.Common.{not, ◌∙◌, ap, rules}
 use Rattle.std.specs.List.{filter}
 use Rattle.arrayvec.proofs.ArrayVecLemmas.{filter-from_retain}
 use Rattle.access_paths.specs.Operations.{begins_at}
 use Rattle.access_paths.specs.Paths.{Path}
-use Rattle.access_paths.specs.Sets.{IsPathSet}
 use Rattle.access_paths.proofs.SetMembers.{filter_set}
 use Rattle.access_paths.proofs.path_set.PathSet.drop_root.Goals as goal
 

@@ -1,6 +1,5 @@
 use Rattle.std.proofs.Common.{◌≡◌, ◌||◌, ◌++◌, Bool, List, sym, ◌∙◌, ap}
-use Rattle.access_paths.specs.declared.cut.Cut.{Cut}
-use Rattle.access_paths.specs.Operations.{cut_of, extended, has_long_store}
+use Rattle.access_paths.specs.Operations.{cut_of}
 use Rattle.access_paths.specs.Paths.{Path, path_set}
 use Rattle.access_paths.proofs.Gaining.{gained_stores, long_stores}
 use Rattle.access_paths.proofs.path_set.PathSet.extend.Goals as goal

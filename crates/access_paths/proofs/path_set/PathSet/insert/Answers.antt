@@ -1,7 +1,5 @@
-use Rattle.std.proofs.Common.{◌≡◌, ◌<◌, ◌≤◌, List, length, nat_eq, nat_lt, take, sym, ◌∙◌, ap, subst, arith}
+use Rattle.std.proofs.Common.{◌≡◌, List, length, nat_eq, nat_lt, take, sym, ◌∙◌, ap, subst, arith}
 use Rattle.std.specs.List.{insert}
-use Rattle.std.proofs.lemmas.List.{length-take}
-use Rattle.access_paths.specs.declared.cut.Cut.{Cut}
 use Rattle.access_paths.specs.Paths.{Path, with_path}
 use Rattle.access_paths.specs.Sets.{IsPathSet}
 use Rattle.access_paths.proofs.Places.{put_drops, put_set, put_within}
