@@ -1,6 +1,6 @@
 //! A path.
 
-ghost use Rattle.std.specs.Prelude.{◌≡◌, ◌≤◌, nat_lt, length, Some, None, if◌then◌else◌};
+ghost use Rattle.std.specs.Prelude.{◌≡◌, ◌≤◌, nat_lt, length, if◌then◌else◌};
 ghost use Rattle.access_paths.specs.Followed.{most_fields};
 ghost use Rattle.access_paths.specs.Gains.{rest_behind};
 ghost use Rattle.access_paths.specs.Operations.{begins_at, behind, passes_field, with_field, with_root};

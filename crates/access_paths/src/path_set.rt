@@ -1,6 +1,6 @@
 //! Sets of paths.
 
-ghost use Rattle.std.specs.Prelude.{◌≡◌, ◌≤◌, ◌==◌, ◌++◌, nat_lt, [], length, insert, slice_get, MatchResult};
+ghost use Rattle.std.specs.Prelude.{◌≡◌, ◌≤◌, ◌==◌, ◌++◌, [], length, slice_get, MatchResult};
 ghost use Rattle.std.specs.List.{filter_map, list_any};
 ghost use Rattle.access_paths.specs.Gains.{gained, is_long_store, IsPlace};
 ghost use Rattle.access_paths.specs.Operations.{copies, cut_of, extended, gaining, loads, without_field, without_root};
