@@ -1,6 +1,6 @@
 //! Sets of paths.
 
-ghost use Rattle.std.specs.Prelude.{◌≡◌, ◌≤◌, ◌==◌, ◌++◌, [], length, slice_get, MatchResult};
+ghost use Rattle.std.specs.Prelude.{◌≡◌, ◌≤◌, ◌==◌, ◌++◌, [], length, slice_get, MatchOption};
 ghost use Rattle.std.specs.List.{filter_map, list_any};
 ghost use Rattle.access_paths.specs.Gains.{gained, is_long_store, IsPlace};
 ghost use Rattle.access_paths.specs.Operations.{copies, cut_of, extended, gaining, loads, without_field, without_root};
@@ -109,24 +109,25 @@ impl PathSet {
         PathSet { paths }
     }
 
-    /// The set with a path more, cut.
+    /// The set gains a path, and is cut to its least six.
     pub fn add(&self, path: &Path) -> Cut
         ensures { result ≡ cut_of (with_path path.now self.now) }
     {
         match self.place(path) {
-            Ok(()) => self.whole(),
-            Err(at) => self.insert(at, path),
+            None => self.whole(),
+            Some(at) => self.insert(at, path),
         }
     }
 
-    /// Adds to each path of the source that of the target with the same fields, and cuts the set.
+    /// For each path of the source the set gains that of the target with the same fields. It is cut to its least six.
     pub fn copy_root(&self, source: Root, target: Root) -> Cut
         ensures { result ≡ cut_of (gaining (copies source target) self.now) }
     {
         self.gaining(Gain::Copied { source, target })
     }
 
-    /// Adds to each path of the object that begins with the field what is left behind it, as a path of the target, and cuts the set.
+    /// For each path of the object that begins with the field, the set gains what is left behind it, as a path of the target. It is cut to
+    /// its least six.
     pub fn load(&self, object: Root, field: FieldNo, target: Root) -> Cut
         ensures { result ≡ cut_of (gaining (loads object field target) self.now) }
     {
@@ -137,8 +138,8 @@ impl PathSet {
         })
     }
 
-    /// Adds to each path of the source that behind the field of the object, and cuts the set. What would follow more fields than `depth`,
-    /// or more than three, is left out too.
+    /// For each path of the source the set gains that behind the field of the object. It is cut to its least six. What would follow more
+    /// fields than `depth`, or more than three, is left out too.
     pub fn extend(&self, source: Root, object: Root, field: FieldNo, depth: u8) -> Cut
         ensures { result ≡ extended source object field depth self.now }
     {
@@ -172,20 +173,18 @@ impl PathSet {
         PathSet { paths }
     }
 
-    /// The whole set, where it has the path already; or else the place where the path is to be put.
-    fn place(&self, path: &Path) -> Result<(), usize>
-        ensures { MatchResult result
-            (λ _. with_path path.now self.now ≡ self.now)
-            (λ at. IsPlace path.now self.now at) }
+    /// The place where the path is to be put, counted from 0; `None` where the set has it already.
+    fn place(&self, path: &Path) -> Option<usize>
+        ensures { MatchOption result (with_path path.now self.now ≡ self.now) (λ at. IsPlace path.now self.now at) }
     {
         for (at, other) in self.as_slice().iter().enumerate() {
             match path.compare(other) {
-                Ordering::Less => return Err(at),
-                Ordering::Equal => return Ok(()),
+                Ordering::Less => return Some(at),
+                Ordering::Equal => return None,
                 Ordering::Greater => {}
             }
         }
-        Err(self.len())
+        Some(self.len())
     }
 
     /// The set as it is.
@@ -221,7 +220,7 @@ impl PathSet {
         }
     }
 
-    /// The set with what each of its paths adds to it, cut.
+    /// The set gains what each of its paths adds to it, and is cut to its least six.
     fn gaining(&self, gain: Gain) -> Cut
         ensures { result ≡ cut_of (path_set (self.now ++ filter_map (gained gain) self.now)) }
     {
