@@ -1,5 +1,5 @@
-//! Tests of the data of class files and programs, of the outside and of the readers: each public call once on its happy path, and what no
-//! clause says. They stand apart from the crates that they test, since a crate with tests is proved twice.
+//! Tests of the data of class files and programs, of the outside, of the readers and of the rows of facts: each public call once on its
+//! happy path, and what no clause says. They stand apart from the crates that they test, since a crate with tests is proved twice.
 //! cases_readers has the tables of what is read and refused.
 #![tactic(auto)]
 
@@ -19,5 +19,7 @@ mod one_method;
 mod outside;
 #[cfg(test)]
 mod readers;
+#[cfg(test)]
+mod rows;
 #[cfg(test)]
 mod words;
