@@ -1,5 +1,5 @@
 -- Paths and cells in a heap that changes: parts of objects, values of paths, and the last cells of paths.
-use Rattle.std.proofs.Common.{◌≡◌, ◌≢◌, ◌⊎◌, inl, inr, ℕ, zero, suc, List, [], ◌∷◌, ◌++◌, length, Option, Some, None, Contains, refl, sym, ◌∙◌, ap, Bool, true, false, cond}
+use Rattle.std.proofs.Common.{◌≡◌, ◌≢◌, ◌⊎◌, inl, inr, ℕ, zero, suc, List, [], ◌∷◌, ◌++◌, Option, Some, None, Contains, refl, sym, ◌∙◌, ap, Bool, true, false, cond}
 use Rattle.std.specs.Prelude.{slice_get, slice_set}
 use Rattle.std.specs.List.{AllByRecursion}
 use Rattle.std.specs.Option.{option_map_or}
@@ -9,10 +9,10 @@ use Rattle.list_laws.proofs.Members.{contains_first, contains_later}
 use Rattle.list_laws.proofs.Places.{set_at, set_other}
 use Rattle.jvm_model.specs.declared.number.FieldNo.{FieldNo}
 use Rattle.jvm_model.specs.Programs.{Program, Field}
-use Rattle.machine_bytecode.specs.States.{Value, primitive_value, null_value, reference_to, Contents, fields, elements, Object, World, default_fields, default_value, is_reference_type, slot_at}
+use Rattle.machine_bytecode.specs.States.{Value, primitive_value, null_value, reference_to, Contents, fields, Object, World, default_fields, default_value, is_reference_type}
 use Rattle.access_paths.specs.declared.root.Root.{Root}
 use Rattle.access_paths.specs.Paths.{Path, bare}
-use Rattle.stage_facts.specs.Values.{View, root_value, without_primitive, field_in, element_in, part_at, behind, followed, path_value, Cell, in_root, in_field, in_element, in_kept, field_cell, last_field_cell, last_cell, cell_value}
+use Rattle.stage_facts.specs.Values.{View, root_value, without_primitive, field_in, part_at, behind, followed, path_value, Cell, in_root, in_field, in_element, in_kept, field_cell, last_field_cell, last_cell}
 use Rattle.stage_relations.specs.Relations.{path, HasFields, EndsIn}
 
 -- ---- parts of objects
