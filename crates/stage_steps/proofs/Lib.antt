@@ -6,3 +6,5 @@ pub mod Slots
 pub mod Roots
 pub mod Fields
 pub mod Elements
+pub mod Born
+pub mod Operations
