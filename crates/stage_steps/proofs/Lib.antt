@@ -8,3 +8,4 @@ pub mod Fields
 pub mod Elements
 pub mod Born
 pub mod Operations
+pub mod Events
