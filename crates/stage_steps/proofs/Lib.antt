@@ -1,2 +1,5 @@
 pub mod Paths
 pub mod Calm
+pub mod Entering
+pub mod Returning
+pub mod Receiving
