@@ -3,3 +3,5 @@ pub mod Calm
 pub mod Entering
 pub mod Returning
 pub mod Receiving
+pub mod Rerooting
+pub mod Raising
