@@ -5,3 +5,4 @@ pub mod Returning
 pub mod Receiving
 pub mod Rerooting
 pub mod Raising
+pub mod Leaving
