@@ -24,8 +24,8 @@ use Rattle.stage_transfer.specs.Stages.{Transfer}
 use Rattle.stage_relations.specs.Roots.{HandedOn, IsDropped, StaysIn}
 use Rattle.stage_relations.specs.Relations.{HasFields, IsClear, IsSlotRoot, Joined, Joins, must_not_of, must_of, Target}
 use Rattle.stage_relations.specs.Laws.{IsStage}
-use Rattle.stage_steps.specs.Said.{ChangesFields}
-use Rattle.stage_steps.proofs.Paths.{follow_same, follows_from, Unchanged}
+use Rattle.stage_steps.specs.Said.{AgreeOnPlaces, AreEqual, ChangesFields}
+use Rattle.stage_steps.proofs.Paths.{follow_same, follows_from, same_place, Unchanged}
 use Rattle.stage_steps.proofs.Calm.{calm_describes, listed_root, none_new}
 
 -- A frame that waits for a method, now that this is left: the fact with which the method was entered said what held then, and since then slots stayed, but
@@ -38,6 +38,14 @@ pub record Behind (S : Fact → Type 0) (s : Site) (o : ℕ) (now : World) (by :
   pub cleared : (z place : ℕ) → slot_at waiting z ≡ reference_to place → StaysIn by z
   pub bounded : (z place : ℕ) → slot_at waiting z ≡ reference_to place → place < length world.heap
   pub changes : ChangesFields S target world.heap now.heap
+
+-- Slots of one variable that have objects have one, as they had at the call.
+pub waiting_agree : (S : Fact → Type 0) (s : Site) (o : ℕ) (now : World) (by : Entering) (target : MethodNo) (sent : SiteFact) (waiting : List Value) (l : LoweredMethod) (n : Node)
+    (behind : Behind S s o now by target sent waiting) → AreEqual l n behind.slots → AgreeOnPlaces l n waiting
+waiting_agree S s o now by target sent waiting l n behind equal y z p q alike first second =
+    let before = behind.stays y (behind.cleared y p first) in
+    let also = behind.stays z (behind.cleared z q second) in
+    same_place p q (sym first ∙ before ∙ equal y z alike ∙ sym also ∙ second)
 
 -- An exit, which has no slots.
 abbrev pub at_exit : (returned thrown : Value) → View

@@ -53,7 +53,7 @@ pub record IsInHandler (handler : Option ℕ) (locals z : ℕ) : Type 0 where
   pub low : z ≤ locals
 
 -- What is seen where the thrown object goes.
-pub record Lands (handler : Option ℕ) (locals thrown : ℕ) (slots : List Value) (new : View) : Type 0 where
+pub record SeesThrown (handler : Option ℕ) (locals thrown : ℕ) (slots : List Value) (new : View) : Type 0 where
   pub kept : (offset z : ℕ) → handler ≡ Some offset → z < locals → slot_at new.slots z ≡ slot_at slots z
   pub given : (offset : ℕ) → handler ≡ Some offset → slot_at new.slots locals ≡ reference_to thrown
   pub uncaught : handler ≡ None → new.thrown ≡ reference_to thrown
@@ -61,7 +61,7 @@ pub record Lands (handler : Option ℕ) (locals thrown : ℕ) (slots : List Valu
   pub in_slot : (z place : ℕ) → slot_at new.slots z ≡ reference_to place → IsInHandler handler locals z
   pub in_flight : (place : ℕ) → new.thrown ≡ reference_to place → handler ≡ None
 
-lands_out : (locals thrown : ℕ) (slots : List Value) → Lands None locals thrown slots (of_throw thrown)
+lands_out : (locals thrown : ℕ) (slots : List Value) → SeesThrown None locals thrown slots (of_throw thrown)
 lands_out locals thrown slots = record {
   kept = λ offset z e lt. absurd (none-some offset e);
   given = λ offset e. absurd (none-some offset e);
@@ -71,7 +71,7 @@ lands_out locals thrown slots = record {
   in_flight = λ place e. refl;
 }
 
-lands_in : (offset locals thrown : ℕ) (slots left : List Value) → AreCaught locals (reference_to thrown) slots left → Lands (Some offset) locals thrown slots (of_slots left)
+lands_in : (offset locals thrown : ℕ) (slots left : List Value) → AreCaught locals (reference_to thrown) slots left → SeesThrown (Some offset) locals thrown slots (of_slots left)
 lands_in offset locals thrown slots left caught = record {
   kept = λ other z e lt. caught.kept z lt;
   given = λ other e. caught.given;
@@ -88,7 +88,7 @@ lands_in offset locals thrown slots left caught = record {
 -- ---- tuples
 
 module _ (o : ℕ) (w x : World) (value handler : Option ℕ) (locals thrown : ℕ) (slots : List Value) (was : Value) (new : View) (statics : (f : FieldNo) → x.statics f.0 ≡ w.statics f.0)
-    (source : IsThrownFrom o x value slots was thrown) (lands : Lands handler locals thrown slots new) where
+    (source : IsThrownFrom o x value slots was thrown) (lands : SeesThrown handler locals thrown slots new) where
   -- a root that gets the thrown object
   thrown_went : (r q : Root) → root_value x new q ≡ reference_to thrown → root_value w (with_thrown slots was) r ≡ thrown_value value slots was → Went o w x (with_thrown slots was) new r q
   thrown_went r q gets had = by source

@@ -1,7 +1,5 @@
 -- After a call, in the frame that waited.
-use Rattle.std.proofs.Common.{◌≡◌, ◌≢◌, ◌⊎◌, inl, inr, ℕ, List, [], Option, Some, None, Contains, refl, sym, ◌∙◌, ap}
-use Rattle.std.proofs.lemmas.Bool.{cases_eq}
-use Rattle.std.proofs.lemmas.Option.{same_Some, none-some}
+use Rattle.std.proofs.Common.{◌≡◌, ◌≢◌, ◌⊎◌, inl, inr, ℕ, List, [], Some, refl, sym, ◌∙◌}
 use Rattle.list_laws.proofs.Members.{contains_none}
 use Rattle.jvm_model.specs.declared.site.Site.{Site}
 use Rattle.op_model.specs.declared.lowered.LoweredMethod.{LoweredMethod}
@@ -9,17 +7,19 @@ use Rattle.op_model.specs.declared.node.Node.{Node}
 use Rattle.op_model.specs.declared.op.Call.{Call as NodeCall}
 use Rattle.op_model.specs.declared.op.Op.TheVariants.{Call, New, Throw}
 use Rattle.machine_bytecode.specs.Objects.{Subject}
-use Rattle.machine_bytecode.specs.States.{Value, primitive_value, reference_to, World, slot_at}
-use Rattle.machine_nodes.specs.Slots.{AreLeft, argument_slots}
+use Rattle.machine_bytecode.specs.States.{Value, reference_to, World, slot_at}
+use Rattle.machine_nodes.specs.Slots.{AreLeft}
 use Rattle.points_to_rules.specs.Facts.{Fact}
 use Rattle.access_paths.specs.declared.root.Root.{Root}
 use Rattle.access_paths.specs.declared.root.Root.TheVariants.{Slot, Static, Returned, Thrown}
 use Rattle.stage_facts.specs.Facts.{SiteFact, Says}
 use Rattle.stage_facts.specs.Values.{of_result, of_slots, root_value}
+use Rattle.stage_transfer.specs.Calls.{by_call}
 use Rattle.stage_transfer.specs.Stages.{Transfer}
-use Rattle.stage_relations.specs.Roots.{Doubles, HasVariables, Received}
+use Rattle.stage_relations.specs.Roots.{Doubles, HasVariables, Received, StaysIn}
 use Rattle.stage_relations.specs.Laws.{IsStage}
 use Rattle.stage_steps.specs.Said.{AgreeOnPlaces, Results}
+use Rattle.stage_steps.proofs.Sites.{some_or_not}
 use Rattle.stage_steps.proofs.Calm.{From, doubled_value, moved_says}
 
 received_value : (c : NodeCall) (v : Value) (w : World) (slots left : List Value) → AreLeft [] c.result v slots left → {r q : Root} → Received c r q
@@ -29,17 +29,13 @@ received_value c v w slots left are_left (Received.kept {z = z} aside) = are_lef
 received_value c v w slots left are_left Received.static = refl
 received_value c v w slots left are_left Received.thrown = refl
 
-result_or_not : (result : Option ℕ) (z : ℕ) → (result ≡ Some z) ⊎ (result ≢ Some z)
-result_or_not None z = inr (λ e. none-some z e)
-result_or_not (Some y) z = elim (cases_eq y z) [ inl e ↦ inl (ap Some e) | inr apart ↦ inr (λ e. apart (same_Some y z e)) ]
-
 received_from : (c : NodeCall) (v : Value) (o : ℕ) (w : World) (slots left : List Value) → AreLeft [] c.result v slots left
-    → ((z : ℕ) → Contains (argument_slots c.arguments) z → slot_at slots z ≡ primitive_value) → (q : Root) → root_value w (of_slots left) q ≡ reference_to o
+    → ((z place : ℕ) → slot_at slots z ≡ reference_to place → StaysIn (by_call c) z) → (q : Root) → root_value w (of_slots left) q ≡ reference_to o
     → From (Received c) w (of_result slots v) o q
 received_from c v o w slots left are_left cleared (Static f) is = record { root = Static f; goes = Received.static; is = is }
 received_from c v o w slots left are_left cleared Returned is = absurd (cc is)
 received_from c v o w slots left are_left cleared Thrown is = absurd (cc is)
-received_from c v o w slots left are_left cleared (Slot z) is = by (result_or_not c.result z)
+received_from c v o w slots left are_left cleared (Slot z) is = by (some_or_not c.result z)
   where
     by : (c.result ≡ Some z) ⊎ (c.result ≢ Some z) → From (Received c) w (of_result slots v) o (Slot z)
     by (inl e) = record { root = Returned; goes = Received.result e; is = sym (are_left.given z e) ∙ is }
@@ -47,13 +43,13 @@ received_from c v o w slots left are_left cleared (Slot z) is = by (result_or_no
         let before : slot_at slots z ≡ reference_to o = sym (are_left.kept z (contains_none z) apart) ∙ is in
         record {
           root = Slot z;
-          goes = Received.kept (record { no_argument = λ there. (let bad : primitive_value ≡ reference_to o = sym (cleared z there) ∙ before in cc bad); no_result = apart });
+          goes = Received.kept (record { no_argument = cleared z o before; no_result = apart });
           is = before;
         }
 
 module _ (x : Subject) (S : Fact → Type 0) (s : Site) (t : Transfer) (laws : IsStage x S s t) (o : ℕ) where
   pub receive_says : (l : LoweredMethod) (n : Node) (c : NodeCall) (v : Value) (f : SiteFact) (w : World) (slots left : List Value) → HasVariables l n → AgreeOnPlaces l n slots
-      → n.op ≡ Call c → AreLeft [] c.result v slots left → ((z : ℕ) → Contains (argument_slots c.arguments) z → slot_at slots z ≡ primitive_value)
+      → n.op ≡ Call c → AreLeft [] c.result v slots left → ((z place : ℕ) → slot_at slots z ≡ reference_to place → StaysIn (by_call c) z)
       → Says s f o w (of_result slots v) → Results (t.next l n f) (λ g. Says s g o w (of_slots left))
   receive_says l n c v f w slots left variables agree op_is are_left cleared says =
       moved_says s o w (of_result slots v) (of_slots left) (Received c) (Doubles l n (Received c)) (t.next l n)
