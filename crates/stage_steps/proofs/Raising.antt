@@ -194,7 +194,7 @@ throws_slot : (op : Op) (z : ℕ) → thrown_slot op ≡ Some z → op ≡ Throw
 throws_slot (Throw value) z e = ap Throw (same_Some _ _ e)
 throws_slot _ z e = absurd (none-some z e)
 
-equal_agree : (l : LoweredMethod) (n : Node) (slots : List Value) → AreEqual l n slots → AgreeOnPlaces l n slots
+pub equal_agree : (l : LoweredMethod) (n : Node) (slots : List Value) → AreEqual l n slots → AgreeOnPlaces l n slots
 equal_agree l n slots equal y z p q alike first second = same_place p q (sym first ∙ equal y z alike ∙ second)
 
 -- ---- facts
