@@ -6,6 +6,8 @@ pub mod Slots
 pub mod Roots
 pub mod Fields
 pub mod Elements
+pub mod Born
+pub mod Operations
 pub mod Entering
 pub mod Returning
 pub mod Receiving
