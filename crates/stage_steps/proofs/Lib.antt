@@ -9,3 +9,9 @@ pub mod Elements
 pub mod Born
 pub mod Operations
 pub mod Events
+pub mod Entering
+pub mod Returning
+pub mod Receiving
+pub mod Rerooting
+pub mod Raising
+pub mod Leaving
