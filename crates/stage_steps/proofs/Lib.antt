@@ -15,3 +15,4 @@ pub mod Receiving
 pub mod Rerooting
 pub mod Raising
 pub mod Leaving
+pub mod Kept
