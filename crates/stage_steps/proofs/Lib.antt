@@ -16,3 +16,4 @@ pub mod Rerooting
 pub mod Raising
 pub mod Leaving
 pub mod Kept
+pub mod Described
