@@ -1,19 +1,18 @@
 -- New objects: a new object of the site is described by a tuple that is born with it; and where others are made, facts without an object stay.
-use Rattle.std.proofs.Common.{◌≡◌, ◌≢◌, ◌⊎◌, inl, inr, ℕ, ◌<◌, ◌≤◌, List, [], ◌∷◌, ◌++◌, length, Option, Some, None, Contains, Bool, true, false, refl, sym, ◌∙◌, ap, subst, arith}
-use Rattle.std.specs.Prelude.{slice_get, slice_set}
+use Rattle.std.proofs.Common.{◌≡◌, ◌≢◌, ◌⊎◌, inl, inr, ℕ, ◌<◌, ◌≤◌, List, [], ◌∷◌, ◌++◌, length, Option, Some, Contains, Bool, true, false, refl, sym, ◌∙◌, ap, subst, arith}
+use Rattle.std.specs.Prelude.{slice_get}
 use Rattle.std.proofs.lemmas.Bool.{cases_eq, cases_lt}
 use Rattle.std.proofs.lemmas.List.{length_push}
-use Rattle.std.proofs.lemmas.Option.{same_Some, slice_get_within}
-use Rattle.list_laws.proofs.Members.{contained_or_not, contains_only}
+use Rattle.std.proofs.lemmas.Option.{slice_get_within}
+use Rattle.list_laws.proofs.Members.{contained_or_not}
 use Rattle.list_laws.proofs.Places.{pushed_at, push_cases, stands_below}
-use Rattle.jvm_model.specs.declared.number.FieldNo.{FieldNo}
 use Rattle.jvm_model.specs.declared.site.Site.{Site}
 use Rattle.machine_bytecode.specs.Objects.{Subject}
 use Rattle.machine_bytecode.specs.States.{Value, primitive_value, reference_to, Object, World, slot_at, with_object, new_object}
 use Rattle.machine_nodes.specs.Slots.{AreLeft}
 use Rattle.access_paths.specs.declared.root.Root.TheVariants.{Slot, Static, Returned, Thrown}
-use Rattle.access_paths.specs.Paths.{Path, bare}
-use Rattle.stage_facts.specs.Facts.{Tuple, SiteFact, some_yet, of_object, EndsIn, Describes, HasSome, HasNone, Says}
+use Rattle.access_paths.specs.Paths.{bare}
+use Rattle.stage_facts.specs.Facts.{Tuple, SiteFact, some_yet, of_object, EndsIn, Describes, HasNone, Says}
 use Rattle.stage_facts.specs.Values.{of_slots, field_in, element_in, path_value, Cell, in_root, in_field, in_element, in_kept, cell_value}
 use Rattle.stage_relations.specs.Relations.{IsBorn}
 use Rattle.stage_relations.specs.Laws.{Meets}

@@ -3,8 +3,8 @@
 use Rattle.std.proofs.Common.{◌≡◌, ◌≢◌, ◌⊎◌, inl, inr, ℕ, ◌≤◌, List, [], ◌∷◌, ◌++◌, length, Option, Some, None, Contains, Bool, true, false, refl, sym, ◌∙◌, ap, subst}
 use Rattle.std.specs.Prelude.{slice_get}
 use Rattle.std.specs.List.{flat_map}
-use Rattle.std.specs.Option.{option_flatten, option_map, option_map_or}
-use Rattle.std.proofs.lemmas.Option.{same_Some, slice_get_within}
+use Rattle.std.specs.Option.{option_map, option_map_or}
+use Rattle.std.proofs.lemmas.Option.{slice_get_within}
 use Rattle.list_laws.proofs.Members.{contained_or_not, contains_only}
 use Rattle.list_laws.proofs.Places.{contains_at, in_longer, place_of, pushed_at}
 use Rattle.jvm_model.specs.declared.number.FieldNo.{FieldNo}
@@ -20,14 +20,14 @@ use Rattle.op_model.specs.declared.node.Node.{Node}
 use Rattle.op_model.specs.declared.op.Call.{Call as NodeCall}
 use Rattle.op_model.specs.declared.op.Op.TheVariants.{Call}
 use Rattle.machine_bytecode.specs.Described.{DescribedMethod, argument_unit, argument_value, places_of, kept_by, Gives, GivesResult, ThrowsListed}
-use Rattle.machine_bytecode.specs.Objects.{Subject, MakesObject}
+use Rattle.machine_bytecode.specs.Objects.{Subject}
 use Rattle.machine_bytecode.specs.States.{Value, primitive_value, null_value, reference_to, fields, Object, Frame, World, default_fields, slot_at, with_kept, with_object, new_object, site_at}
 use Rattle.machine_nodes.specs.Slots.{AreLeft, argument_values, argument_slots}
 use Rattle.points_to_rules.specs.Facts.{Fact}
 use Rattle.access_paths.specs.declared.root.Root.{Root}
 use Rattle.access_paths.specs.declared.root.Root.TheVariants.{Slot, Static, Returned, Thrown}
 use Rattle.access_paths.specs.Paths.{Path}
-use Rattle.stage_facts.specs.Facts.{Tuple, SiteFact, none_yet, some_yet, of_object, Describes, HasSome, HasNone, Says}
+use Rattle.stage_facts.specs.Facts.{Tuple, SiteFact, none_yet, some_yet, of_object, Describes, HasNone, Says}
 use Rattle.stage_facts.specs.Values.{View, of_slots, root_value, field_in, element_in, path_value, in_kept}
 use Rattle.stage_transfer.specs.Calls.{Result, an_argument, a_new_object, another}
 use Rattle.stage_transfer.specs.Stages.{Transfer}
@@ -37,7 +37,7 @@ use Rattle.stage_relations.specs.Relations.{IsNewResult, PutsAway, Reroots, IsBo
 use Rattle.stage_relations.specs.Laws.{IsIdle, IsStage, Meets}
 use Rattle.stage_steps.specs.Said.{AreEqual, IsBounded, IsTracked, Results, SaysCaught}
 use Rattle.stage_steps.proofs.Paths.{default_field, no_kept, same_place}
-use Rattle.stage_steps.proofs.Calm.{Calm, From, NoneNew, calm_push, doubled_value, idle_says, reroots_describes}
+use Rattle.stage_steps.proofs.Calm.{Calm, From, NoneNew, doubled_value, idle_says, reroots_describes}
 use Rattle.stage_steps.proofs.Sites.{site_or_not, some_or_not}
 use Rattle.stage_steps.proofs.Shapes.{append_cases}
 use Rattle.stage_steps.proofs.Roots.{at_end}
@@ -105,6 +105,25 @@ answered_describes l n c result s o w after value slots left u v equal are_left 
 
     known : (y : Path) → IsNewResult c result y → path_value after (of_slots left) y ≢ reference_to o
     known y k is = fresh k.site k.result_is (sym (are_left.given k.slot.slot k.slot.target_is) ∙ sym (ap (path_value after (of_slots left)) k.slot.path_is) ∙ is)
+
+-- What a stub that describes the target lists as a result, and a fact for it.
+pub record HasAnswer (x : Subject) (s : Site) (t : Transfer) (o : ℕ) (m : Option MethodNo) (l : LoweredMethod) (n : Node) (c : NodeCall) (target : ℕ) (f : SiteFact) (after : World) (left : List Value) : Type 0 where
+  pub stub : StubMethod
+  pub parameters : List (List ℕ)
+  pub is_stub : IsStub x (record { 0 = target }) stub parameters
+  pub result : StubResult
+  pub listed : Contains stub.returns result
+  pub results : Results (t.answer l n c (kept_slots c stub parameters) (given_by m n c stub parameters result) f) (λ g. Says s g o after (of_slots left))
+
+-- What a stub that describes the target lists as thrown; the new object of that class; and a fact for each way that it may go.
+pub record HasException (x : Subject) (s : Site) (t : Transfer) (o : ℕ) (l : LoweredMethod) (n : Node) (c : NodeCall) (target : ℕ) (frame : Frame) (f : SiteFact) (slots : List Value) (thrown : ℕ) (after : World) : Type 0 where
+  pub stub : StubMethod
+  pub parameters : List (List ℕ)
+  pub is_stub : IsStub x (record { 0 = target }) stub parameters
+  pub class : List ℕ
+  pub listed : Contains stub.throws class
+  pub stands : slice_get after.heap thrown ≡ Some (new_object x.program (site_at kinds.Thrown frame class) x.property.initial)
+  pub results : (handler : Option ℕ) → Results (t.exception l n (kept_slots c stub parameters) handler f) (λ g. SaysCaught s g o after slots l.slots thrown handler)
 
 -- a method that the machine finds described is described for the rules
 stub_of : (x : Subject) (target : ℕ) (d : DescribedMethod x target) → IsStub x (record { 0 = target }) d.stub d.descriptor.parameters
@@ -220,15 +239,6 @@ module _ (x : Subject) (S : Fact → Type 0) (s : Site) (t : Transfer) (laws : I
       | inr ne ↦ new_other some_yet tt ne says
     ]
 
-  -- What a stub that describes the target lists as a result, and a fact for it.
-  pub record HasAnswer (m : Option MethodNo) (l : LoweredMethod) (n : Node) (c : NodeCall) (target : ℕ) (f : SiteFact) (after : World) (left : List Value) : Type 0 where
-    pub stub : StubMethod
-    pub parameters : List (List ℕ)
-    pub is_stub : IsStub x (record { 0 = target }) stub parameters
-    pub result : StubResult
-    pub listed : Contains stub.returns result
-    pub results : Results (t.answer l n c (kept_slots c stub parameters) (given_by m n c stub parameters result) f) (λ g. Says s g o after (of_slots left))
-
   module _ (m : Option MethodNo) (l : LoweredMethod) (n : Node) (c : NodeCall) (target : ℕ) (frame : Frame) (f : SiteFact) (w after : World) (value : Value) (slots left : List Value)
       (method_is : m ≡ option_map (λ (number : ℕ). record { 0 = number }) frame.method) (offset_is : n.offset ≡ frame.offset) (variables : HasVariables l n) (equal : AreEqual l n slots)
       (bounded : IsBounded w slots) (are_left : AreLeft (argument_slots c.arguments) c.result value slots left) (tracked : IsTracked s o after.heap) (says : Says s f o w (of_slots slots))
@@ -272,7 +282,7 @@ module _ (x : Subject) (S : Fact → Type 0) (s : Site) (t : Transfer) (laws : I
   pub answer_says : (m : Option MethodNo) (l : LoweredMethod) (n : Node) (c : NodeCall) (target : ℕ) (frame : Frame) (f : SiteFact) (w after : World) (value : Value) (slots left : List Value)
       → m ≡ option_map (λ (number : ℕ). record { 0 = number }) frame.method → n.offset ≡ frame.offset → HasVariables l n → AreEqual l n slots → IsBounded w slots
       → GivesResult x target frame (argument_values c.arguments slots) w value after → AreLeft (argument_slots c.arguments) c.result value slots left → IsTracked s o after.heap
-      → Says s f o w (of_slots slots) → HasAnswer m l n c target f after left
+      → Says s f o w (of_slots slots) → HasAnswer x s t o m l n c target f after left
   answer_says m l n c target frame f w after value slots left method_is offset_is variables equal bounded given are_left tracked says =
       let d = given.called in
       record {
@@ -285,16 +295,6 @@ module _ (x : Subject) (S : Fact → Type 0) (s : Site) (t : Transfer) (laws : I
       }
 
   -- ---- exceptions
-
-  -- What a stub that describes the target lists as thrown; the new object of that class; and a fact for each way that it may go.
-  pub record HasException (l : LoweredMethod) (n : Node) (c : NodeCall) (target : ℕ) (frame : Frame) (f : SiteFact) (slots : List Value) (thrown : ℕ) (after : World) : Type 0 where
-    pub stub : StubMethod
-    pub parameters : List (List ℕ)
-    pub is_stub : IsStub x (record { 0 = target }) stub parameters
-    pub class : List ℕ
-    pub listed : Contains stub.throws class
-    pub stands : slice_get after.heap thrown ≡ Some (new_object x.program (site_at kinds.Thrown frame class) x.property.initial)
-    pub results : (handler : Option ℕ) → Results (t.exception l n (kept_slots c stub parameters) handler f) (λ g. SaysCaught s g o after slots l.slots thrown handler)
 
   module _ (l : LoweredMethod) (n : Node) (c : NodeCall) (w : World) (made : Object) (kept places : List ℕ) (slots : List Value) (variables : HasVariables l n) (equal : AreEqual l n slots)
       (op_is : n.op ≡ Call c) (are : AreKept slots kept places) (contents : made.contents ≡ fields (default_fields x.program)) (apart : made.site ≢ s)
@@ -339,7 +339,7 @@ module _ (x : Subject) (S : Fact → Type 0) (s : Site) (t : Transfer) (laws : I
 
   pub exception_says : (l : LoweredMethod) (n : Node) (c : NodeCall) (target : ℕ) (frame : Frame) (f : SiteFact) (w after : World) (thrown : ℕ) (slots : List Value) → HasVariables l n → AreEqual l n slots
       → n.op ≡ Call c → s.kind ≢ kinds.Thrown → ThrowsListed x target frame (argument_values c.arguments slots) w thrown after → IsTracked s o after.heap → Says s f o w (of_slots slots)
-      → HasException l n c target frame f slots thrown after
+      → HasException x s t o l n c target frame f slots thrown after
   exception_says l n c target frame f w after thrown slots variables equal op_is kind throws tracked says =
       let d = throws.called in
       let places = flat_map (λ (a : StubArgument). places_of (argument_value x target d (argument_values c.arguments slots) a)) d.stub.keeps in

@@ -1,6 +1,6 @@
 -- Elements after an operation that goes on, and what is kept: where no other cells are possible, they refer to the object nowhere.
-use Rattle.std.proofs.Common.{◌≡◌, ◌≢◌, ◌⊎◌, inl, inr, ℕ, ◌<◌, ◌≤◌, List, [], ◌∷◌, ◌++◌, length, Option, Some, Contains, false, refl, sym, ◌∙◌, ap, subst, arith}
-use Rattle.std.specs.Prelude.{slice_get, slice_set, slice_index_or}
+use Rattle.std.proofs.Common.{◌≡◌, ◌≢◌, ◌⊎◌, inl, inr, ℕ, List, ◌++◌, Some, Contains, false, refl, sym, ◌∙◌, ap, arith}
+use Rattle.std.specs.Prelude.{slice_get, slice_set}
 use Rattle.std.specs.Option.{option_map_or}
 use Rattle.std.proofs.lemmas.Bool.{cases_eq}
 use Rattle.std.proofs.lemmas.List.{get_or-set_other}
@@ -20,7 +20,7 @@ use Rattle.stage_facts.specs.Values.{of_slots, without_primitive, element_in, pa
 use Rattle.stage_relations.specs.Relations.{IsComplete}
 use Rattle.stage_steps.proofs.Paths.{no_element, no_kept, part_held, part_is, part_push, part_set, part_set_here, reference_in}
 use Rattle.stage_steps.proofs.Calm.{listed_root}
-use Rattle.stage_steps.proofs.Shapes.{IsNewArray, Shape, stayed, pushed, arrayed, wrote, filled, shape, with_field, with_element, append_cases}
+use Rattle.stage_steps.proofs.Shapes.{Shape, stayed, pushed, arrayed, wrote, filled, shape, with_field, with_element, append_cases}
 use Rattle.stage_steps.proofs.Slots.{kept_same}
 
 -- the object was put into an array

@@ -1,9 +1,9 @@
 -- Events: what a fact said of an object, a result of the transfer says once the event of a call has happened.
-use Rattle.std.proofs.Common.{◌≡◌, ◌≢◌, ◌⊎◌, inl, inr, ℕ, zero, ◌+◌, ◌<◌, ◌≤◌, List, [], ◌∷◌, length, Option, Some, None, Contains, Bool, true, false, cond, refl, sym, ◌∙◌, ap, subst, arith}
-use Rattle.std.specs.Prelude.{slice_get, slice_set, slice_index, IsTrue}
+use Rattle.std.proofs.Common.{◌≡◌, ◌≢◌, ◌⊎◌, inl, inr, ℕ, ◌≤◌, List, [], ◌∷◌, length, Option, Some, None, Contains, Bool, true, false, cond, refl, sym, ◌∙◌, ap, subst, arith}
+use Rattle.std.specs.Prelude.{slice_get, slice_set, slice_index}
 use Rattle.std.proofs.lemmas.Bool.{cases_eq}
 use Rattle.std.proofs.lemmas.List.{get_or_past, length-set}
-use Rattle.std.proofs.lemmas.Option.{same_Some, none-some, slice_get_within}
+use Rattle.std.proofs.lemmas.Option.{same_Some, none-some}
 use Rattle.list_laws.proofs.Places.{set_other}
 use Rattle.jvm_model.specs.declared.automaton.Event.{Event}
 use Rattle.jvm_model.specs.declared.site.Site.{Site}
@@ -14,7 +14,7 @@ use Rattle.op_model.specs.declared.node.Node.{Node}
 use Rattle.op_model.specs.declared.op.Call.{Call as NodeCall}
 use Rattle.op_model.specs.declared.op.CallKind.{CallKind}
 use Rattle.op_model.specs.declared.op.CallKind.TheVariants as call_kinds
-use Rattle.machine_bytecode.specs.Events.{event_for, IsEvent, HasEvents, moved, unmoved}
+use Rattle.machine_bytecode.specs.Events.{event_for, HasEvents, moved, unmoved}
 use Rattle.machine_bytecode.specs.Objects.{Subject, Refers}
 use Rattle.machine_bytecode.specs.States.{Value, primitive_value, reference_to, Object, World, slot_at, with_automaton}
 use Rattle.machine_nodes.specs.NodeSteps.{is_selecting_kind}
@@ -30,12 +30,12 @@ use Rattle.stage_facts.specs.Facts.{Tuple, SiteFact, none_yet, some_yet, of_obje
 use Rattle.stage_facts.specs.Values.{of_slots, root_value, field_in, element_in, path_value}
 use Rattle.stage_transfer.specs.Calls.{event_of_call}
 use Rattle.stage_transfer.specs.Stages.{Transfer}
-use Rattle.stage_relations.specs.Roots.{AreAlike, same, of_one}
+use Rattle.stage_relations.specs.Roots.{same, of_one}
 use Rattle.stage_relations.specs.Relations.{IsReceiver, Notes}
 use Rattle.stage_relations.specs.Laws.{IsIdle, IsStage}
-use Rattle.stage_steps.specs.Said.{IsTracked, AreEqual, Results}
+use Rattle.stage_steps.specs.Said.{AreEqual, Results}
 use Rattle.stage_steps.proofs.Paths.{part_set, same_place, set_here}
-use Rattle.stage_steps.proofs.Calm.{HasAt, NoneNew, Calm, calm_here, There, calm_describes, idle_says, idle_here, listed_root}
+use Rattle.stage_steps.proofs.Calm.{NoneNew, Calm, calm_here, There, calm_describes, idle_says, idle_here, listed_root}
 use Rattle.stage_steps.proofs.Shapes.{was_set}
 
 -- ---- another state of an object

@@ -1,8 +1,7 @@
 -- Fields after an operation that goes on: where no other cells are possible, a path ends in each field that has the object.
-use Rattle.std.proofs.Common.{◌≡◌, ◌≢◌, ◌⊎◌, inl, inr, ℕ, List, [], ◌∷◌, Option, Some, Contains, false, refl, sym, ◌∙◌, ap, subst}
-use Rattle.std.specs.Prelude.{slice_get, slice_set}
+use Rattle.std.proofs.Common.{◌≡◌, ◌≢◌, ◌⊎◌, inl, inr, ℕ, List, [], ◌∷◌, Some, false, refl, sym, ◌∙◌, ap, subst}
+use Rattle.std.specs.Prelude.{slice_set}
 use Rattle.std.proofs.lemmas.Bool.{cases_eq}
-use Rattle.std.proofs.lemmas.Option.{same_Some}
 use Rattle.jvm_model.specs.declared.number.FieldNo.{FieldNo}
 use Rattle.jvm_model.specs.declared.site.Site.{Site}
 use Rattle.op_model.specs.declared.lowered.LoweredMethod.{LoweredMethod}
@@ -15,7 +14,7 @@ use Rattle.machine_nodes.specs.NodeSteps.{Leads}
 use Rattle.access_paths.specs.declared.root.Root.TheVariants.{Slot}
 use Rattle.access_paths.specs.Paths.{Path}
 use Rattle.stage_facts.specs.Facts.{Tuple, EndsIn, Describes}
-use Rattle.stage_facts.specs.Values.{of_slots, without_primitive, field_in, part_at, Cell, in_field, field_cell, last_cell}
+use Rattle.stage_facts.specs.Values.{of_slots, without_primitive, field_in, part_at, in_field, field_cell, last_cell}
 use Rattle.stage_relations.specs.Relations.{path, IsOverwritten, IsComplete}
 use Rattle.stage_steps.specs.Said.{AreEqual}
 use Rattle.stage_steps.proofs.Paths.{has_fields, part_set, part_set_here, reference_in}

@@ -1,6 +1,5 @@
 -- Operations that go on: what a fact said of an object, a result of the transfer says after the operation.
-use Rattle.std.proofs.Common.{◌≡◌, ◌≢◌, ◌⊎◌, inl, inr, ℕ, ◌≤◌, List, [], ◌∷◌, ◌++◌, length, Option, Some, None, Contains, Bool, true, false, refl, sym, ◌∙◌, ap, subst}
-use Rattle.std.specs.Prelude.{slice_get, slice_set}
+use Rattle.std.proofs.Common.{◌≡◌, ◌≢◌, ◌⊎◌, inl, inr, ℕ, ◌≤◌, List, [], ◌∷◌, length, Some, Contains, true, false, refl, sym, ◌∙◌, ap, subst}
 use Rattle.std.proofs.lemmas.List.{length-set}
 use Rattle.list_laws.proofs.Members.{contains_only}
 use Rattle.jvm_model.specs.declared.site.Site.{Site}
@@ -9,7 +8,7 @@ use Rattle.op_model.specs.declared.node.Node.{Node}
 use Rattle.op_model.specs.declared.op.Op.{Op}
 use Rattle.op_model.specs.declared.op.Op.TheVariants.{Assign, Load, Store, LoadElement, StoreElement, LoadStatic, StoreStatic, New, NewArray, Constant, Call, Return, Throw, Cast, Probe}
 use Rattle.machine_bytecode.specs.Objects.{Subject}
-use Rattle.machine_bytecode.specs.States.{Value, reference_to, Object, World, with_object, new_object, slot_at}
+use Rattle.machine_bytecode.specs.States.{Value, reference_to, Object, World, new_object}
 use Rattle.machine_nodes.specs.NodeSteps.{Leads}
 use Rattle.machine_nodes.specs.Slots.{AreLeft}
 use Rattle.access_paths.specs.declared.root.Root.TheVariants.{Slot, Static, Returned, Thrown}
@@ -19,13 +18,13 @@ use Rattle.stage_facts.specs.Facts.{Tuple, SiteFact, none_yet, some_yet, of_obje
 use Rattle.stage_facts.specs.Values.{of_slots, path_value, Cell, in_root, in_field, in_element, in_kept, cell_value}
 use Rattle.stage_transfer.specs.Stages.{Transfer}
 use Rattle.stage_relations.specs.Roots.{HasVariables}
-use Rattle.stage_relations.specs.Relations.{IsComplete, Flows}
+use Rattle.stage_relations.specs.Relations.{Flows}
 use Rattle.stage_relations.specs.Laws.{IsIdle, IsPlain, IsStage}
 use Rattle.stage_steps.specs.Said.{IsTracked, AreEqual, IsBounded, Results}
 use Rattle.stage_steps.proofs.Paths.{reference_in, same_place, with_reference}
 use Rattle.stage_steps.proofs.Calm.{NoneNew, idle_says}
 use Rattle.stage_steps.proofs.Sites.{site_or_not}
-use Rattle.stage_steps.proofs.Shapes.{IsNewArray, Shape, stayed, pushed, arrayed, wrote, filled, shape, Remains, remains, Makes, an_object, an_array, was}
+use Rattle.stage_steps.proofs.Shapes.{Shape, stayed, pushed, arrayed, wrote, filled, shape, Remains, remains, Makes, an_object, an_array, was}
 use Rattle.stage_steps.proofs.Slots.{op_leads, comes_value}
 use Rattle.stage_steps.proofs.Roots.{IsNoConstant, at_end, slot_end, static_end}
 use Rattle.stage_steps.proofs.Fields.{any_field_end}

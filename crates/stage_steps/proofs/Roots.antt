@@ -1,9 +1,9 @@
 -- Roots after an operation that goes on: where no other cells are possible, each root that has the object is listed.
-use Rattle.std.proofs.Common.{◌≡◌, ◌≢◌, ◌⊎◌, inl, inr, ℕ, List, [], ◌∷◌, ◌++◌, length, map, Option, Some, None, Contains, false, refl, sym, ◌∙◌, ap, subst, arith}
-use Rattle.std.specs.Prelude.{slice_get, slice_index_or}
+use Rattle.std.proofs.Common.{◌≡◌, ◌≢◌, ◌⊎◌, inl, inr, ℕ, List, [], ◌∷◌, ◌++◌, length, Option, Some, None, Contains, false, refl, sym, ◌∙◌, ap, subst, arith}
+use Rattle.std.specs.Prelude.{slice_get}
 use Rattle.std.specs.Option.{option_to_list}
 use Rattle.std.proofs.lemmas.List.Elements.{Contains-append_cases}
-use Rattle.std.proofs.lemmas.Option.{same_Some, none-some, slice_get_within, get_or_from_slice_get}
+use Rattle.std.proofs.lemmas.Option.{same_Some, slice_get_within, get_or_from_slice_get}
 use Rattle.list_laws.proofs.Members.{contained_or_not, contains_only, contained_in_map, contains_none}
 use Rattle.list_laws.proofs.Places.{place_of}
 use Rattle.jvm_model.specs.declared.number.FieldNo.{FieldNo}
@@ -16,18 +16,18 @@ use Rattle.op_model.specs.declared.op.Op.TheVariants.{Assign, Load, Store, LoadE
 use Rattle.op_model.specs.declared.op.Source.{Source}
 use Rattle.op_model.specs.declared.op.Source.TheVariants as sources
 use Rattle.machine_bytecode.specs.Objects.{Subject, constant_classes}
-use Rattle.machine_bytecode.specs.States.{Value, primitive_value, null_value, reference_to, elements, Object, World, slot_at}
+use Rattle.machine_bytecode.specs.States.{Value, primitive_value, null_value, reference_to, Object, World, slot_at}
 use Rattle.machine_nodes.specs.NodeSteps.{Leads}
 use Rattle.machine_nodes.specs.Slots.{source_value, AreLeft}
 use Rattle.access_paths.specs.declared.root.Root.{Root}
-use Rattle.access_paths.specs.declared.root.Root.TheVariants.{Slot, Static, Returned, Thrown}
-use Rattle.access_paths.specs.Paths.{Path, bare}
+use Rattle.access_paths.specs.declared.root.Root.TheVariants.{Slot, Static}
+use Rattle.access_paths.specs.Paths.{bare}
 use Rattle.stage_facts.specs.Facts.{Tuple, EndsIn, Describes}
 use Rattle.stage_facts.specs.Values.{of_slots, root_value, without_primitive, field_in, element_in, part_at, in_root, in_field, in_element}
 use Rattle.stage_transfer.specs.Operations.{target_of}
 use Rattle.stage_relations.specs.Roots.{gone_slots, Copied, kept, moved, loaded, stored, static}
 use Rattle.stage_relations.specs.Relations.{IsComplete}
-use Rattle.stage_steps.proofs.Paths.{ends_in, no_element, part_is, root_path, same_place}
+use Rattle.stage_steps.proofs.Paths.{ends_in, no_element, part_is, same_place}
 use Rattle.stage_steps.proofs.Calm.{listed_root}
 use Rattle.stage_steps.proofs.Sites.{some_or_not, same_field}
 use Rattle.stage_steps.proofs.Slots.{kept_slot, copied_value}

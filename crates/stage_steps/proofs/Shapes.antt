@@ -1,10 +1,10 @@
 -- How an operation that goes on changes the heap: which fields, sites and states are as before.
-use Rattle.std.proofs.Common.{◌≡◌, ◌≢◌, ◌⊎◌, inl, inr, ℕ, zero, suc, ◌+◌, ◌*◌, ◌<◌, ◌≤◌, List, [], ◌∷◌, ◌++◌, length, drop, map, replicate, Some, None, Contains, refl, sym, ◌∙◌, ap, subst, arith}
+use Rattle.std.proofs.Common.{◌≡◌, ◌≢◌, ◌⊎◌, inl, inr, ℕ, zero, suc, ◌+◌, ◌*◌, ◌<◌, ◌≤◌, List, [], ◌∷◌, ◌++◌, length, drop, map, replicate, Some, Contains, refl, sym, ◌∙◌, ap, subst, arith}
 use Rattle.std.specs.Prelude.{slice_get, slice_set, slice_index_or}
 use Rattle.std.specs.List.{AllByRecursion}
 use Rattle.std.proofs.lemmas.Bool.{cases_eq}
 use Rattle.std.proofs.lemmas.List.Elements.{Contains-append_cases}
-use Rattle.std.proofs.lemmas.Option.{same_Some, none-some}
+use Rattle.std.proofs.lemmas.Option.{same_Some}
 use Rattle.list_laws.proofs.Members.{contains_cases, contains_first, contains_later, contains_none}
 use Rattle.list_laws.proofs.Places.{contains_at, in_longer, set_cases, set_other}
 use Rattle.jvm_model.specs.declared.number.FieldNo.{FieldNo}
@@ -12,7 +12,7 @@ use Rattle.jvm_model.specs.declared.site.Site.{Site}
 use Rattle.op_model.specs.declared.op.Op.{Op}
 use Rattle.op_model.specs.declared.op.Op.TheVariants.{Assign, Load, Store, LoadElement, StoreElement, LoadStatic, StoreStatic, New, NewArray, Constant, Call, Return, Throw, Cast, Probe}
 use Rattle.machine_bytecode.specs.Objects.{Subject}
-use Rattle.machine_bytecode.specs.States.{Value, null_value, reference_to, fields, elements, Object, World, slot_at, updated, default_fields, default_element, new_object, new_array, Dimension, references_from, arrays_of_arrays, arrays_from}
+use Rattle.machine_bytecode.specs.States.{Value, null_value, reference_to, fields, elements, Object, World, slot_at, updated, default_element, new_object, new_array, Dimension, references_from, arrays_of_arrays, arrays_from}
 use Rattle.machine_nodes.specs.NodeSteps.{Leads}
 use Rattle.stage_facts.specs.Values.{without_primitive, field_in, element_in, part_at}
 use Rattle.stage_relations.specs.Relations.{IsUnstored}

@@ -1,28 +1,23 @@
 -- What an operation that goes on does to roots, and to paths: a root, and a path, that comes from another one has its value.
-use Rattle.std.proofs.Common.{◌≡◌, ◌≢◌, ◌⊎◌, inl, inr, ℕ, List, [], ◌∷◌, ◌++◌, map, Option, Some, None, Contains, refl, sym, ◌∙◌, ap, subst}
-use Rattle.std.specs.Prelude.{slice_get, slice_set}
+use Rattle.std.proofs.Common.{◌≡◌, ◌≢◌, ℕ, List, [], ◌∷◌, ◌++◌, map, Option, Some, None, Contains, refl, sym, ◌∙◌, ap, subst}
 use Rattle.std.specs.Option.{option_to_list}
 use Rattle.std.proofs.lemmas.List.Elements.{Contains-append_left, Contains-append_right}
-use Rattle.std.proofs.lemmas.Option.{same_Some, none-some}
-use Rattle.list_laws.proofs.Members.{contained_or_not, contains_cases, contains_first, contains_map, contained_in_map, contains_none}
+use Rattle.list_laws.proofs.Members.{contains_first, contains_map}
 use Rattle.jvm_model.specs.declared.number.FieldNo.{FieldNo}
 use Rattle.op_model.specs.declared.lowered.LoweredMethod.{LoweredMethod}
 use Rattle.op_model.specs.declared.node.Node.{Node}
-use Rattle.op_model.specs.declared.op.Move.{Move}
 use Rattle.op_model.specs.declared.op.Op.{Op}
 use Rattle.op_model.specs.declared.op.Op.TheVariants.{Assign, Load, Store, LoadElement, StoreElement, LoadStatic, StoreStatic, New, NewArray, Constant, Call, Return, Throw, Cast, Probe}
 use Rattle.op_model.specs.declared.op.Source.{Source}
-use Rattle.op_model.specs.declared.op.Source.TheVariants as sources
 use Rattle.machine_bytecode.specs.Objects.{Subject}
 use Rattle.machine_bytecode.specs.States.{Value, primitive_value, null_value, reference_to, Object, World, slot_at}
 use Rattle.machine_nodes.specs.NodeSteps.{Leads}
-use Rattle.machine_nodes.specs.Slots.{source_value, AreMoved, AreLeft}
+use Rattle.machine_nodes.specs.Slots.{source_value, AreLeft}
 use Rattle.access_paths.specs.declared.root.Root.{Root}
-use Rattle.access_paths.specs.declared.root.Root.TheVariants.{Slot, Static, Returned, Thrown}
 use Rattle.access_paths.specs.Paths.{Path}
 use Rattle.stage_facts.specs.Values.{of_slots, root_value, without_primitive, field_in, part_at, behind, followed, path_value, last_field_cell, last_cell}
 use Rattle.stage_transfer.specs.Operations.{target_of}
-use Rattle.stage_relations.specs.Roots.{AreAlike, Doubles, own, shared, gone_slots, Keeps, Copied, kept, moved, loaded, stored, static, returned, thrown}
+use Rattle.stage_relations.specs.Roots.{AreAlike, Doubles, own, shared, Keeps, Copied, kept, moved, loaded, stored, static, returned, thrown}
 use Rattle.stage_relations.specs.Relations.{HasFields, Comes, rooted, taken, put}
 use Rattle.stage_steps.specs.Said.{AreEqual}
 use Rattle.stage_steps.proofs.Paths.{follow_same, last_same, part_is, part_set_here}
