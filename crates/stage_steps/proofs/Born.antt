@@ -57,7 +57,7 @@ module _ (x : Subject) (s : Site) (o : ℕ) (target : Option ℕ) (operands : Li
       ];
     };
     must = λ y listed. (let k = born.must y listed in
-    ap (path_value (with_object w (new_object x.program s x.property.initial)) (of_slots new)) k.path_is ∙ left.given k.slot k.target_is ∙ ap reference_to (sym o_is));
+        ap (path_value (with_object w (new_object x.program s x.property.initial)) (of_slots new)) k.path_is ∙ left.given k.slot k.target_is ∙ ap reference_to (sym o_is));
     must_not = λ y listed. absurd (born.must_not y listed);
     cells = λ off c is. cell off c is;
   }

@@ -272,7 +272,7 @@ module _ (x : Subject) (S : Fact → Type 0) (s : Site) (t : Transfer) (laws : I
         let own : Site = record { kind = kinds.Result; method = m; offset = n.offset; class = class } in
         let same : site_at kinds.Result frame class ≡ own = λ i. record { kind = kinds.Result; method = sym method_is i; offset = sym offset_is i; class = class } in
         let after_is : after ≡ with_object (with_kept w places) (new_object x.program own x.property.initial) =
-            gives.after_is ∙ ap (λ (y : Site). with_object (with_kept w places) (new_object x.program y x.property.initial)) same in
+        gives.after_is ∙ ap (λ (y : Site). with_object (with_kept w places) (new_object x.program y x.property.initial)) same in
         subst (λ (y : World). Results (t.answer l n c kept (a_new_object own) f) (λ g. Says s g o y (of_slots left))) (sym after_is)
         (new_object_says l n c own w kept places slots left variables equal bounded (are_kept x target d c slots)
         (subst (λ (v : Value). AreLeft (argument_slots c.arguments) c.result v slots left) gives.made_is are_left)

@@ -67,8 +67,8 @@ element_before {op = op} {old = old} {before = before} (filled {base = base} {va
         (λ q. ap without_primitive (get_or-set_other values k index (slot_at old value) null_value ne) ∙ sym (ap (element_in index) holds))) ∙ later)
     by (inl d) (inl q) =
         let part : without_primitive (slot_at old value) ≡ reference_to o =
-            sym (ap without_primitive (get_or-set_at values k index (slot_at old value) null_value q inside))
-            ∙ sym (part_set_here (element_in index) before at into written held) ∙ sym (ap (part_at (element_in index) (slice_set before at written)) d) ∙ later in
+        sym (ap without_primitive (get_or-set_at values k index (slot_at old value) null_value q inside))
+        ∙ sym (part_set_here (element_in index) before at into written held) ∙ sym (ap (part_at (element_in index) (slice_set before at written)) d) ∙ later in
         inr (record { array = base; value = value; op_is = op_is; is = reference_in _ o part })
 
 module _ (x : Subject) (l : LoweredMethod) (n : Node) (w after : World) (old new : List Value) (s : Site) (o : ℕ) (t u : Tuple) (d : Describes s t o w (of_slots old)) (off : t.may ≡ false) where

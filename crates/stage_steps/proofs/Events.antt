@@ -151,7 +151,7 @@ module _ (x : Subject) (S : Fact → Type 0) (s : Site) (t : Transfer) (laws : I
   module _ (l : LoweredMethod) (n : Node) (c : NodeCall) (w after : World) (slots : List Value) (reached : AreReachedNodes l) (stands : Contains l.nodes n) (equal : AreEqual l n slots)
       (events : HasEvents x (is_selecting_kind c.kind) (record { name = c.name; descriptor = c.descriptor }) (argument_values c.arguments slots) w after)
       (held : (z : ℕ) (h : Holder) (place : ℕ) (object : Object) → slice_get c.arguments 0 ≡ Some (Some z) → IsSlot l n z h → slot_at slots z ≡ reference_to place
-          → slice_get w.heap place ≡ Some object → S (may_hold h object.site))
+      → slice_get w.heap place ≡ Some object → S (may_hold h object.site))
       (observed : (object : Object) → slice_get w.heap o ≡ Some object → object.site ≡ s → (is_array object.class ≡ false) × IsSubtype x.program x.property.class_name object.class) where
     abbrev event_found : Option Event
     event_found = event_for x.property (record { name = c.name; descriptor = c.descriptor })
@@ -162,8 +162,8 @@ module _ (x : Subject) (S : Fact → Type 0) (s : Site) (t : Transfer) (laws : I
     other_says e u place object k is receiver apart d =
         let named = each_variable l n k.slot reached stands in
         let r = laws.event_other l n c e k.slot u reached stands is k.first (λ listed. not_its (d.must (bare (Slot k.slot)) listed))
-            (λ unique only. apart ((d.only unique).only place object receiver
-            (only (variable named.0) (record { name = named.0; named = named.1; is = refl }) object.site (held k.slot (variable named.0) place object k.first (record { name = named.0; named = named.1; is = refl }) k.is receiver)))) in
+        (λ unique only. apart ((d.only unique).only place object receiver
+        (only (variable named.0) (record { name = named.0; named = named.1; is = refl }) object.site (held k.slot (variable named.0) place object k.first (record { name = named.0; named = named.1; is = refl }) k.is receiver)))) in
         record { fact = of_object r.tuple; listed = r.listed; says = by events r.tuple r.related }
       where
         not_its : slot_at slots k.slot ≢ reference_to o
@@ -213,8 +213,8 @@ module _ (x : Subject) (S : Fact → Type 0) (s : Site) (t : Transfer) (laws : I
         by (moved event later) =
             let one : event.receiver.object ≡ d.object = same_Some _ _ (sym event.receiver.held ∙ ap (slice_get w.heap) place_is ∙ d.stands) in
             let r = laws.event_its l n c e k.slot u reached stands is k.first
-                (λ h slot. subst (λ (site : Site). S (may_hold h site)) d.of_site (held k.slot h o d.object k.first slot k.is d.stands))
-                (λ listed. d.must_not (bare (Slot k.slot)) listed k.is) (λ off. listed_root s o w (of_slots slots) u (Slot k.slot) d off k.is) in
+            (λ h slot. subst (λ (site : Site). S (may_hold h site)) d.of_site (held k.slot h o d.object k.first slot k.is d.stands))
+            (λ listed. d.must_not (bare (Slot k.slot)) listed k.is) (λ off. listed_root s o w (of_slots slots) u (Slot k.slot) d off k.is) in
             let there : There s (slice_index e.next u.state) o (slice_set w.heap event.receiver.place (in_state event.receiver.object state)) = record {
               object = in_state event.receiver.object state;
               stands = subst (λ (place : ℕ). slice_get (slice_set w.heap event.receiver.place (in_state event.receiver.object state)) place ≡ Some (in_state event.receiver.object state)) place_is
@@ -276,7 +276,7 @@ module _ (x : Subject) (S : Fact → Type 0) (s : Site) (t : Transfer) (laws : I
       → HasEvents x (is_selecting_kind c.kind) (record { name = c.name; descriptor = c.descriptor }) (argument_values c.arguments slots) w after
       → (is_selecting_kind c.kind ≡ true → Refers w (slot_at (argument_values c.arguments slots) 0))
       → ((z : ℕ) (h : Holder) (place : ℕ) (object : Object) → slice_get c.arguments 0 ≡ Some (Some z) → IsSlot l n z h → slot_at slots z ≡ reference_to place
-          → slice_get w.heap place ≡ Some object → S (may_hold h object.site))
+      → slice_get w.heap place ≡ Some object → S (may_hold h object.site))
       → ((object : Object) → slice_get w.heap o ≡ Some object → object.site ≡ s → (is_array object.class ≡ false) × IsSubtype x.program x.property.class_name object.class)
       → Says s f o w (of_slots slots) → Results (t.event l n c f) (λ g. Says s g o after (of_slots slots))
   event_says l n c none_yet w after slots reached stands equal events receives held observed says = idle_event_says l n c w after slots reached stands equal events held observed none_yet tt says

@@ -82,7 +82,7 @@ module _ (x : Subject) (l : LoweredMethod) (n : Node) (w after : World) (old new
   over_cell object field value place g f y refers gone ends =
       let slot_is : slot_at old gone.slot ≡ reference_to place = equal gone.slot gone.object gone.alike ∙ ap (slot_at old) (sym (stored_object gone.op_is)) ∙ refers in
       let cell_is : Some (in_field place gone.field) ≡ Some (in_field g f) =
-          sym (ap (λ (v : Value). field_cell v gone.field) slot_is) ∙ sym (ap (last_cell w (of_slots old)) gone.path_is) ∙ ends in
+      sym (ap (λ (v : Value). field_cell v gone.field) slot_is) ∙ sym (ap (last_cell w (of_slots old)) gone.path_is) ∙ ends in
       record { same_place = cell_place cell_is; same_field = stored_field gone.op_is ∙ cell_field cell_is }
 
   stored_end : (object : ℕ) (field : FieldNo) (value place : ℕ) (f : FieldNo) → Leads (Store object field value) x w old new after → IsComplete l n (Store object field value) t.must u.must
@@ -116,9 +116,9 @@ module _ (x : Subject) (l : LoweredMethod) (n : Node) (w after : World) (old new
           (before (λ d. ap without_primitive (updated_other leads.0.values field.0 f.0 (slot_at old value) (λ q. ne (same_field f field q))) ∙ sym (ap (field_in f) leads.0.holds)))
       by (inl e) (inl q) =
           let part : without_primitive (slot_at old value) ≡ reference_to o =
-              sym (ap without_primitive (updated_here leads.0.values field.0 f.0 (slot_at old value) (ap (λ (g : FieldNo). g.0) q)))
-              ∙ sym (part_set_here (field_in f) w.heap at into written leads.0.to.held) ∙ sym (ap (part_at (field_in f) (slice_set w.heap at written)) e)
-              ∙ sym (ap (λ (h : List Object). part_at (field_in f) h place) heap_is) ∙ is in
+          sym (ap without_primitive (updated_here leads.0.values field.0 f.0 (slot_at old value) (ap (λ (g : FieldNo). g.0) q)))
+          ∙ sym (part_set_here (field_in f) w.heap at into written leads.0.to.held) ∙ sym (ap (part_at (field_in f) (slice_set w.heap at written)) e)
+          ∙ sym (ap (λ (h : List Object). part_at (field_in f) h place) heap_is) ∙ is in
           let p = c.stores object value field refl (listed_root s o w (of_slots old) t (Slot value) d off (reference_in _ o part)) in
           let slot_is : slot_at new p.slot ≡ reference_to at = kept_slot (Store object field value) x w after old new p.slot leads p.keeps ∙ equal p.slot object p.alike ∙ leads.0.to.is in
           record {

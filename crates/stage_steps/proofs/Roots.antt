@@ -112,7 +112,7 @@ module _ (x : Subject) (l : LoweredMethod) (n : Node) (w after : World) (old new
       let read = leads.is_read in
       let to = read.to in
       let part : part_at (field_in field) w.heap to.place ≡ reference_to o =
-          part_is (field_in field) w.heap to.place to.object to.held ∙ ap (field_in field) read.holds ∙ ap without_primitive (sym read.is ∙ k.is) in
+      part_is (field_in field) w.heap to.place to.object to.held ∙ ap (field_in field) read.holds ∙ ap without_primitive (sym read.is ∙ k.is) in
       let e = d.cells off (in_field to.place field) part in
       as_slot target z (same_Some _ _ k.is_target) (at_root (Slot target) (c.loads object target field refl e.path e.listed (ends_in w (of_slots old) e.path to.place field e.ends)))
   gone_end (Store object field value) z leads c there is = absurd (no_target (object ∷ value ∷ []) z leads.1 there is)
@@ -122,8 +122,8 @@ module _ (x : Subject) (l : LoweredMethod) (n : Node) (w after : World) (old new
       let to = read.of.array.to in
       let at = place_of read.of.array.values leads.value read.among in
       let part : part_at (element_in at.0) w.heap to.place ≡ reference_to o =
-          part_is (element_in at.0) w.heap to.place to.object to.held ∙ ap (element_in at.0) read.of.array.holds
-          ∙ ap without_primitive (get_or_from_slice_get read.of.array.values at.0 leads.value null_value at.1 ∙ k.is) in
+      part_is (element_in at.0) w.heap to.place to.object to.held ∙ ap (element_in at.0) read.of.array.holds
+      ∙ ap without_primitive (get_or_from_slice_get read.of.array.values at.0 leads.value null_value at.1 ∙ k.is) in
       let e = d.cells off (in_element to.place at.0) part in
       absurd (no_element w (of_slots old) e.path to.place at.0 e.ends)
   gone_end (StoreElement array value) z leads c there is = absurd (no_target (array ∷ value ∷ []) z leads.1 there is)
