@@ -24,7 +24,8 @@ use Rattle.stage_steps.proofs.Sites.{some_or_not}
 -- ---- objects of other sites
 
 -- a place where no object stands yet has none of other sites either
-pub longer : (s : Site) (o : ℕ) (heap more : List Object) → ((object : Object) → Contains more object → object.site ≢ s) → IsTracked s o (heap ++ more) → length heap ≤ o → length (heap ++ more) ≤ o
+pub longer : (s : Site) (o : ℕ) (heap more : List Object) → ((object : Object) → Contains more object → object.site ≢ s) → IsTracked s o (heap ++ more)
+    → length heap ≤ o → length (heap ++ more) ≤ o
 longer s o heap more others tracked le = by (cases_lt o (length (heap ++ more)))
   where
     by : (o < length (heap ++ more)) ⊎ (length (heap ++ more) ≤ o) → length (heap ++ more) ≤ o
@@ -38,26 +39,32 @@ longer s o heap more others tracked le = by (cases_lt o (length (heap ++ more)))
 
 -- ---- an object of the site
 
-module _ (x : Subject) (s : Site) (o : ℕ) (target : Option ℕ) (operands : List ℕ) (first : Bool) (w : World) (old new : List Value) (left : AreLeft operands target (reference_to (length w.heap)) old new)
+module _ (x : Subject) (s : Site) (o : ℕ) (target : Option ℕ) (operands : List ℕ) (first : Bool) (w : World) (old new : List Value)
+    (left : AreLeft operands target (reference_to (length w.heap)) old new)
     (bounded : IsBounded w old) (none : first ≡ true → HasNone s w.heap) where
   -- nothing that refers to an object refers to the new one
   nothing : (c : Cell) → o ≡ length w.heap → cell_value w (of_slots old) c ≡ reference_to o → ⊥
   nothing c e is = let inside = bounded.each c o is in omega (arith, inside, e)
 
-  born_describes : (u : Tuple) → o ≡ length w.heap → IsBorn target first x.property.initial u → Describes s u o (with_object w (new_object x.program s x.property.initial)) (of_slots new)
+  born_describes : (u : Tuple) → o ≡ length w.heap → IsBorn target first x.property.initial u
+      → Describes s u o (with_object w (new_object x.program s x.property.initial)) (of_slots new)
   born_describes u o_is born = record {
     object = new_object x.program s x.property.initial;
-    stands = subst (λ (k : ℕ). slice_get (w.heap ++ new_object x.program s x.property.initial ∷ []) k ≡ Some (new_object x.program s x.property.initial)) (sym o_is) (pushed_at w.heap (new_object x.program s x.property.initial));
+    stands =
+        subst (λ (k : ℕ). slice_get (w.heap ++ new_object x.program s x.property.initial ∷ []) k ≡ Some (new_object x.program s x.property.initial)) (sym o_is)
+        (pushed_at w.heap (new_object x.program s x.property.initial));
     of_site = refl;
     in_state = sym born.state;
     only = λ unique. record {
       only = λ place object stands of_site. elim (push_cases w.heap (new_object x.program s x.property.initial) place object stands) [
-        | inl before ↦ absurd ((let empty = none (born.unique unique) in empty.none) (record { place = place; object = object; stands = before; of_site = of_site }))
+        | inl before ↦
+            absurd ((let empty = none (born.unique unique) in empty.none) (record { place = place; object = object; stands = before; of_site = of_site }))
         | inr late ↦ late.0 ∙ sym o_is
       ];
     };
     must = λ y listed. (let k = born.must y listed in
-        ap (path_value (with_object w (new_object x.program s x.property.initial)) (of_slots new)) k.path_is ∙ left.given k.slot k.target_is ∙ ap reference_to (sym o_is));
+        ap (path_value (with_object w (new_object x.program s x.property.initial)) (of_slots new)) k.path_is ∙ left.given k.slot k.target_is
+        ∙ ap reference_to (sym o_is));
     must_not = λ y listed. absurd (born.must_not y listed);
     cells = λ off c is. cell off c is;
   }
@@ -85,14 +92,20 @@ module _ (x : Subject) (s : Site) (o : ℕ) (target : Option ℕ) (operands : Li
       → Results facts (λ g. Says s g o (with_object w (new_object x.program s x.property.initial)) (of_slots new))
   made_says facts le some meets = by (cases_eq o (length w.heap))
     where
-      by : (o ≡ length w.heap) ⊎ (o ≢ length w.heap) → Results facts (λ g. Says s g o (with_object w (new_object x.program s x.property.initial)) (of_slots new))
+      by : (o ≡ length w.heap) ⊎ (o ≢ length w.heap)
+          → Results facts (λ g. Says s g o (with_object w (new_object x.program s x.property.initial)) (of_slots new))
       by (inl e) = record { fact = of_object meets.tuple; listed = meets.listed; says = born_describes meets.tuple e meets.related }
       by (inr ne) = record {
         fact = some_yet;
         listed = some;
         says = (
           at_least,
-          record { place = length w.heap; object = new_object x.program s x.property.initial; stands = pushed_at w.heap (new_object x.program s x.property.initial); of_site = refl },
+          record {
+            place = length w.heap;
+            object = new_object x.program s x.property.initial;
+            stands = pushed_at w.heap (new_object x.program s x.property.initial);
+            of_site = refl;
+          },
         );
       }
         where

@@ -43,7 +43,8 @@ some_before s before after none some =
 pub record Calm (s : Site) (o : ℕ) (w x : World) (u : Tuple) : Type 0 where
   pub field : (f : FieldNo) → Unchanged w.heap x.heap f
   pub none : u.unique ≡ true → NoneNew s w.heap x.heap
-  pub element : u.may ≡ false → (place index : ℕ) → part_at (element_in index) x.heap place ≡ reference_to o → part_at (element_in index) w.heap place ≡ reference_to o
+  pub element : u.may ≡ false → (place index : ℕ) → part_at (element_in index) x.heap place ≡ reference_to o
+      → part_at (element_in index) w.heap place ≡ reference_to o
   pub kept : u.may ≡ false → (number : ℕ) → option_map_or reference_to (slice_get x.kept number) null_value ≡ reference_to o
       → option_map_or reference_to (slice_get w.kept number) null_value ≡ reference_to o
 
@@ -88,7 +89,8 @@ calm_describes s o w x old new t u Goes calm there same unique must must_not may
   stands = there.stands;
   of_site = there.of_site;
   in_state = there.in_state;
-  only = λ is. record { only = λ place object stands of_site. (let k = (calm.none is).was place object stands of_site in (d.only (unique is)).only place k.object k.stands k.of_site) };
+  only =
+      λ is. record { only = λ place object stands of_site. (let k = (calm.none is).was place object stands of_site in (d.only (unique is)).only place k.object k.stands k.of_site) };
   must = λ y listed. elim (must y listed) [
     | inl from ↦ path_same w x old new calm.field from.path y from.fields (same _ _ from.goes) ∙ d.must from.path from.listed
     | inr is ↦ is
@@ -106,8 +108,13 @@ calm_describes s o w x old new t u Goes calm there same unique must must_not may
         let e = d.cells (may off) (in_field place f) (sym (calm.field f place) ∙ is) in
         let has = has_fields w old e.path place f e.ends in
         let y = with_fields off e.path e.listed has in
-        record { path = y.path; listed = y.listed; ends = cell_same w x old new calm.field e.path.root y.path.root e.path.fields y.path.fields y.fields has y.goes ∙ e.ends }
-    cell off (in_element place index) is = let e = d.cells (may off) (in_element place index) (calm.element off place index is) in absurd (no_element w old e.path place index e.ends)
+        record {
+          path = y.path;
+          listed = y.listed;
+          ends = cell_same w x old new calm.field e.path.root y.path.root e.path.fields y.path.fields y.fields has y.goes ∙ e.ends;
+        }
+    cell off (in_element place index) is =
+        let e = d.cells (may off) (in_element place index) (calm.element off place index is) in absurd (no_element w old e.path place index e.ends)
     cell off (in_kept number) is = let e = d.cells (may off) (in_kept number) (calm.kept off number is) in absurd (no_kept w old e.path number e.ends)
 
 -- a root that has the object has it from another one
@@ -117,24 +124,28 @@ pub record From (Goes : Root → Root → Type 0) (w : World) (view : View) (o :
   pub is : root_value w view root ≡ reference_to o
 
 -- where no other cells are possible, each root that has the object is listed
-pub listed_root : (s : Site) (o : ℕ) (w : World) (view : View) (t : Tuple) (r : Root) → Describes s t o w view → t.may ≡ false → root_value w view r ≡ reference_to o → Contains t.must (bare r)
+pub listed_root : (s : Site) (o : ℕ) (w : World) (view : View) (t : Tuple) (r : Root) → Describes s t o w view → t.may ≡ false
+    → root_value w view r ≡ reference_to o → Contains t.must (bare r)
 listed_root s o w view t r d off is =
     let e = d.cells off (in_root r) is in
     subst (λ (x : Path). Contains t.must x) (root_path w view e.path r e.ends) e.listed
 
 -- The roots of two paths of the object, of which one is the double of the other, have one value.
 abbrev pub DoublesAgree : ℕ → World → World → View → View → (Root → Root → Type 0) → Type 0
-DoublesAgree o w x old new Doubled = (a b : Path) → path_value w old a ≡ reference_to o → path_value x new b ≡ reference_to o → HasFields a.fields → b.fields ≡ a.fields
+DoublesAgree o w x old new Doubled =
+    (a b : Path) → path_value w old a ≡ reference_to o → path_value x new b ≡ reference_to o → HasFields a.fields → b.fields ≡ a.fields
     → Doubled a.root b.root → root_value x new b.root ≡ root_value w old a.root
 
-pub reroots_describes : (s : Site) (o : ℕ) (w x : World) (old new : View) (t u : Tuple) (Goes Doubled : Root → Root → Type 0) (Known : Path → Type 0) → Calm s o w x u
+pub reroots_describes : (s : Site) (o : ℕ) (w x : World) (old new : View) (t u : Tuple) (Goes Doubled : Root → Root → Type 0) (Known : Path → Type 0)
+    → Calm s o w x u
     → ((object : Object) → slice_get w.heap o ≡ Some object → slice_get x.heap o ≡ Some object)
     → ((r q : Root) → Goes r q → root_value x new q ≡ root_value w old r)
     → (u.may ≡ false → (q : Root) → root_value x new q ≡ reference_to o → From Goes w old o q)
     → ((y : Path) → Known y → path_value x new y ≢ reference_to o)
     → DoublesAgree o w x old new Doubled → Reroots Goes Doubled Known t u → Describes s t o w old → Describes s u o x new
 reroots_describes s o w x old new t u Goes Doubled Known calm stays same from known agree rel d =
-    calm_describes s o w x old new t u Goes calm (record { object = d.object; stands = stays d.object d.stands; of_site = d.of_site; in_state = d.in_state ∙ sym rel.state })
+    calm_describes s o w x old new t u Goes calm
+    (record { object = d.object; stands = stays d.object d.stands; of_site = d.of_site; in_state = d.in_state ∙ sym rel.state })
     same rel.unique (λ y listed. inl (rel.must y listed))
     (λ y listed. elim (rel.must_not y listed) [ inl source ↦ inl source | inr is ↦ inr (known y is) ])
     rel.may
@@ -146,13 +157,16 @@ reroots_describes s o w x old new t u Goes Doubled Known calm stays same from kn
     d
 
 -- roots that go to others agree with them
-pub goes_agree : (o : ℕ) (w x : World) (old new : View) (Goes : Root → Root → Type 0) → ((r q : Root) → Goes r q → root_value x new q ≡ root_value w old r) → DoublesAgree o w x old new Goes
+pub goes_agree : (o : ℕ) (w x : World) (old new : View) (Goes : Root → Root → Type 0) → ((r q : Root) → Goes r q → root_value x new q ≡ root_value w old r)
+    → DoublesAgree o w x old new Goes
 goes_agree o w x old new Goes same a b is_a is_b has fields_are goes = same _ _ goes
 
 -- and so do those of slots of one variable
-pub doubled_value : (o : ℕ) (w x : World) (old new : View) (l : LoweredMethod) (n : Node) (Goes : Root → Root → Type 0) → ((r q : Root) → Goes r q → root_value x new q ≡ root_value w old r)
+pub doubled_value : (o : ℕ) (w x : World) (old new : View) (l : LoweredMethod) (n : Node) (Goes : Root → Root → Type 0)
+    → ((r q : Root) → Goes r q → root_value x new q ≡ root_value w old r)
     → AgreeOnPlaces l n old.slots → DoublesAgree o w x old new (Doubles l n Goes)
-doubled_value o w x old new l n Goes same agree a b is_a is_b has fields_are double = by double (follows_from w.heap (root_value w old a.root) a.fields o is_a) (follows_from x.heap (root_value x new b.root) b.fields o is_b)
+doubled_value o w x old new l n Goes same agree a b is_a is_b has fields_are double =
+    by double (follows_from w.heap (root_value w old a.root) a.fields o is_a) (follows_from x.heap (root_value x new b.root) b.fields o is_b)
   where
     by : {r q : Root} → Doubles l n Goes r q → IsReference (root_value w old r) → IsReference (root_value x new q) → root_value x new q ≡ root_value w old r
     by (own goes) p q = same _ _ goes
@@ -165,14 +179,16 @@ doubled_value o w x old new l n Goes same agree a b is_a is_b has fields_are dou
 
 pub idle_says : (s : Site) (o : ℕ) (w x : World) (old new : View) (f : SiteFact) → IsIdle f → (length w.heap ≤ o → length x.heap ≤ o) → NoneNew s w.heap x.heap
     → (HasSome s w.heap → HasSome s x.heap) → Says s f o w old → Says s f o x new
-idle_says s o w x old new none_yet idle longer none stays says = (longer says.0, record { none = λ some. (let before = says.1 in before.none (some_before s w.heap x.heap none some)) })
+idle_says s o w x old new none_yet idle longer none stays says =
+    (longer says.0, record { none = λ some. (let before = says.1 in before.none (some_before s w.heap x.heap none some)) })
 idle_says s o w x old new some_yet idle longer none stays says = (longer says.0, stays says.1)
 idle_says s o w x old new (of_object t) idle longer none stays says = absurd idle
 
 -- in a world with the same heap
 pub idle_here : (s : Site) (o : ℕ) (w x : World) (old new : View) (f : SiteFact) → IsIdle f → x.heap ≡ w.heap → Says s f o w old → Says s f o x new
 idle_here s o w x old new f idle e says =
-    idle_says s o w x old new f idle (λ le. subst (λ (h : List Object). length h ≤ o) (sym e) le) (subst (λ (h : List Object). NoneNew s w.heap h) (sym e) (none_new s w.heap))
+    idle_says s o w x old new f idle
+    (λ le. subst (λ (h : List Object). length h ≤ o) (sym e) le) (subst (λ (h : List Object). NoneNew s w.heap h) (sym e) (none_new s w.heap))
     (λ some. subst (λ (h : List Object). HasSome s h) (sym e) some) says
 
 -- ---- what facts say where roots alone change
@@ -189,7 +205,9 @@ moved_says s o w old new Goes Doubled apply idle meets same from agree (of_objec
     record {
       fact = of_object k.tuple;
       listed = k.listed;
-      says = reroots_describes s o w w old new u k.tuple Goes Doubled NoPath (calm_here s o w k.tuple) (λ object stands. stands) same (λ off. from) (λ y bad. absurd bad) agree k.related says;
+      says =
+          reroots_describes s o w w old new u k.tuple Goes Doubled NoPath (calm_here s o w k.tuple) (λ object stands. stands) same (λ off. from)
+          (λ y bad. absurd bad) agree k.related says;
     }
 
 -- and of one with a single result
@@ -216,7 +234,8 @@ same_says s o w statics started old new same (of_object u) d =
     calm_describes s o w (record { heap = w.heap; statics = statics; kept = w.kept; started = started }) old new u u (λ r q. r ≡ q)
     (record { field = λ f place. refl; none = λ unique. none_new s w.heap; element = λ off place index is. is; kept = λ off number is. is })
     (record { object = d.object; stands = d.stands; of_site = d.of_site; in_state = d.in_state }) (λ r q e. same q ∙ ap (root_value w old) (sym e)) (λ is. is)
-    (λ y listed. inl (record { path = y; listed = listed; goes = refl; fields = refl })) (λ y listed. inl (record { path = y; listed = listed; goes = refl; fields = refl }))
+    (λ y listed. inl (record { path = y; listed = listed; goes = refl; fields = refl }))
+    (λ y listed. inl (record { path = y; listed = listed; goes = refl; fields = refl }))
     (λ off. off) (λ off r is. listed_root s o w old u r d off (sym (same r) ∙ is))
     (λ off y listed has. record { path = y; listed = listed; goes = same y.root; fields = refl }) d
 

@@ -58,24 +58,30 @@ data IsOldValue (slots : List Value) (kept : List ℕ) (value : Value) : Result 
   of_kept : (place : ℕ) → value ≡ reference_to place → Contains kept place → IsOldValue slots kept value another
   of_nothing : ((place : ℕ) → value ≢ reference_to place) → IsOldValue slots kept value another
 
-not_new : {slots : List Value} {kept : List ℕ} {value : Value} {result : Result} → IsOldValue slots kept value result → (site : Site) → result ≢ a_new_object site
+not_new : {slots : List Value} {kept : List ℕ} {value : Value} {result : Result} → IsOldValue slots kept value result → (site : Site)
+    → result ≢ a_new_object site
 not_new (of_argument z e) site is = cc is
 not_new (of_kept place e there) site is = cc is
 not_new (of_nothing none) site is = cc is
 
-given_argument : (slots : List Value) (kept : List ℕ) (value : Value) (slot : Option ℕ) → value ≡ option_map_or (slot_at slots) slot primitive_value → IsOldValue slots kept value (argument_given slot)
+given_argument : (slots : List Value) (kept : List ℕ) (value : Value) (slot : Option ℕ) → value ≡ option_map_or (slot_at slots) slot primitive_value
+    → IsOldValue slots kept value (argument_given slot)
 given_argument slots kept value None e = of_nothing (λ place is. (let bad : primitive_value ≡ reference_to place = sym e ∙ is in cc bad))
 given_argument slots kept value (Some z) e = of_argument z e
 
 -- ---- tuples
 
-answered_describes : (l : LoweredMethod) (n : Node) (c : NodeCall) (result : Result) (s : Site) (o : ℕ) (w after : World) (value : Value) (slots left : List Value) (u v : Tuple) → AreEqual l n slots
+answered_describes : (l : LoweredMethod) (n : Node) (c : NodeCall) (result : Result) (s : Site) (o : ℕ) (w after : World) (value : Value)
+    (slots left : List Value) (u v : Tuple) → AreEqual l n slots
     → AreLeft (argument_slots c.arguments) c.result value slots left → ((f : FieldNo) → after.statics f.0 ≡ w.statics f.0) → Calm s o w after v
-    → ((object : Object) → slice_get w.heap o ≡ Some object → slice_get after.heap o ≡ Some object) → ((z : ℕ) → result ≡ an_argument z → value ≡ slot_at slots z)
+    → ((object : Object) → slice_get w.heap o ≡ Some object → slice_get after.heap o ≡ Some object)
+    → ((z : ℕ) → result ≡ an_argument z → value ≡ slot_at slots z)
     → (v.may ≡ false → value ≡ reference_to o → IsArgumentGiven result) → ((site : Site) → result ≡ a_new_object site → value ≢ reference_to o)
-    → Reroots (Answered c result) (Doubles l n (Answered c result)) (IsNewResult c result) u v → Describes s u o w (of_slots slots) → Describes s v o after (of_slots left)
+    → Reroots (Answered c result) (Doubles l n (Answered c result)) (IsNewResult c result) u v → Describes s u o w (of_slots slots)
+    → Describes s v o after (of_slots left)
 answered_describes l n c result s o w after value slots left u v equal are_left statics calm stays argument source fresh rel d =
-    reroots_describes s o w after (of_slots slots) (of_slots left) u v (Answered c result) (Doubles l n (Answered c result)) (IsNewResult c result) calm stays same from known
+    reroots_describes s o w after (of_slots slots) (of_slots left) u v (Answered c result) (Doubles l n (Answered c result))
+    (IsNewResult c result) calm stays same from known
     (doubled_value o w after (of_slots slots) (of_slots left) l n (Answered c result) same (equal_agree l n slots equal)) rel d
   where
     answered : {r q : Root} → Answered c result r q → root_value after (of_slots left) q ≡ root_value w (of_slots slots) r
@@ -88,14 +94,19 @@ answered_describes l n c result s o w after value slots left u v equal are_left 
     same : (r q : Root) → Answered c result r q → root_value after (of_slots left) q ≡ root_value w (of_slots slots) r
     same r q goes = answered goes
 
-    slot_from : v.may ≡ false → (z : ℕ) → slot_at left z ≡ reference_to o → (c.result ≡ Some z) ⊎ (c.result ≢ Some z) → Contains (argument_slots c.arguments) z ⊎ (Contains (argument_slots c.arguments) z → ⊥)
+    slot_from : v.may ≡ false → (z : ℕ) → slot_at left z ≡ reference_to o → (c.result ≡ Some z) ⊎ (c.result ≢ Some z)
+        → Contains (argument_slots c.arguments) z ⊎ (Contains (argument_slots c.arguments) z → ⊥)
         → From (Answered c result) w (of_slots slots) o (Slot z)
     slot_from off z is (inl e) any =
         let value_is = sym (are_left.given z e) ∙ is in
         let k = source off value_is in
         record { root = Slot k.slot; goes = Answered.given k.is e; is = sym (argument k.slot k.is) ∙ value_is }
     slot_from off z is (inr ne) (inl there) = absurd (let bad : primitive_value ≡ reference_to o = sym (are_left.cleared z there ne) ∙ is in cc bad)
-    slot_from off z is (inr ne) (inr free) = record { root = Slot z; goes = Answered.kept (record { no_argument = free; no_result = ne }); is = sym (are_left.kept z free ne) ∙ is }
+    slot_from off z is (inr ne) (inr free) = record {
+      root = Slot z;
+      goes = Answered.kept (record { no_argument = free; no_result = ne });
+      is = sym (are_left.kept z free ne) ∙ is;
+    }
 
     from : v.may ≡ false → (q : Root) → root_value after (of_slots left) q ≡ reference_to o → From (Answered c result) w (of_slots slots) o q
     from off (Slot z) is = slot_from off z is (some_or_not c.result z) (contained_or_not (argument_slots c.arguments) z)
@@ -104,10 +115,12 @@ answered_describes l n c result s o w after value slots left u v equal are_left 
     from off Thrown is = absurd (cc is)
 
     known : (y : Path) → IsNewResult c result y → path_value after (of_slots left) y ≢ reference_to o
-    known y k is = fresh k.site k.result_is (sym (are_left.given k.slot.slot k.slot.target_is) ∙ sym (ap (path_value after (of_slots left)) k.slot.path_is) ∙ is)
+    known y k is =
+        fresh k.site k.result_is (sym (are_left.given k.slot.slot k.slot.target_is) ∙ sym (ap (path_value after (of_slots left)) k.slot.path_is) ∙ is)
 
 -- What a stub that describes the target lists as a result, and a fact for it.
-pub record HasAnswer (x : Subject) (s : Site) (t : Transfer) (o : ℕ) (m : Option MethodNo) (l : LoweredMethod) (n : Node) (c : NodeCall) (target : ℕ) (f : SiteFact) (after : World) (left : List Value) : Type 0 where
+pub record HasAnswer (x : Subject) (s : Site) (t : Transfer) (o : ℕ) (m : Option MethodNo) (l : LoweredMethod) (n : Node) (c : NodeCall) (target : ℕ)
+    (f : SiteFact) (after : World) (left : List Value) : Type 0 where
   pub stub : StubMethod
   pub parameters : List (List ℕ)
   pub is_stub : IsStub x (record { 0 = target }) stub parameters
@@ -116,14 +129,16 @@ pub record HasAnswer (x : Subject) (s : Site) (t : Transfer) (o : ℕ) (m : Opti
   pub results : Results (t.answer l n c (kept_slots c stub parameters) (given_by m n c stub parameters result) f) (λ g. Says s g o after (of_slots left))
 
 -- What a stub that describes the target lists as thrown; the new object of that class; and a fact for each way that it may go.
-pub record HasException (x : Subject) (s : Site) (t : Transfer) (o : ℕ) (l : LoweredMethod) (n : Node) (c : NodeCall) (target : ℕ) (frame : Frame) (f : SiteFact) (slots : List Value) (thrown : ℕ) (after : World) : Type 0 where
+pub record HasException (x : Subject) (s : Site) (t : Transfer) (o : ℕ) (l : LoweredMethod) (n : Node) (c : NodeCall) (target : ℕ) (frame : Frame)
+    (f : SiteFact) (slots : List Value) (thrown : ℕ) (after : World) : Type 0 where
   pub stub : StubMethod
   pub parameters : List (List ℕ)
   pub is_stub : IsStub x (record { 0 = target }) stub parameters
   pub class : List ℕ
   pub listed : Contains stub.throws class
   pub stands : slice_get after.heap thrown ≡ Some (new_object x.program (site_at kinds.Thrown frame class) x.property.initial)
-  pub results : (handler : Option ℕ) → Results (t.exception l n (kept_slots c stub parameters) handler f) (λ g. SaysCaught s g o after slots l.slots thrown handler)
+  pub results : (handler : Option ℕ)
+      → Results (t.exception l n (kept_slots c stub parameters) handler f) (λ g. SaysCaught s g o after slots l.slots thrown handler)
 
 -- a method that the machine finds described is described for the rules
 stub_of : (x : Subject) (target : ℕ) (d : DescribedMethod x target) → IsStub x (record { 0 = target }) d.stub d.descriptor.parameters
@@ -137,8 +152,10 @@ stub_of x target d = record {
 
 module _ (x : Subject) (S : Fact → Type 0) (s : Site) (t : Transfer) (laws : IsStage x S s t) (o : ℕ) where
   -- no new object
-  old_value_says : (l : LoweredMethod) (n : Node) (c : NodeCall) (f : SiteFact) (result : Result) (w : World) (kept places : List ℕ) (value : Value) (slots left : List Value) → HasVariables l n → AreEqual l n slots
-      → IsOldValue slots (w.kept ++ places) value result → AreKept slots kept places → AreLeft (argument_slots c.arguments) c.result value slots left → Says s f o w (of_slots slots)
+  old_value_says : (l : LoweredMethod) (n : Node) (c : NodeCall) (f : SiteFact) (result : Result) (w : World) (kept places : List ℕ) (value : Value)
+      (slots left : List Value) → HasVariables l n → AreEqual l n slots
+      → IsOldValue slots (w.kept ++ places) value result → AreKept slots kept places → AreLeft (argument_slots c.arguments) c.result value slots left
+      → Says s f o w (of_slots slots)
       → Results (t.answer l n c kept result f) (λ g. Says s g o (with_kept w places) (of_slots left))
   old_value_says l n c none_yet result w kept places value slots left variables equal old are are_left says =
       record { fact = none_yet; listed = laws.answer_idle l n c kept result none_yet tt (not_new old s); says = says }
@@ -150,7 +167,8 @@ module _ (x : Subject) (S : Fact → Type 0) (s : Site) (t : Transfer) (laws : I
         fact = of_object k.tuple;
         listed = k.listed;
         says = answered_describes l n c result s o w (with_kept w places) value slots left u k.tuple equal are_left (λ g. refl)
-            (calm_kept s o w places k.tuple (not_put_away s o w slots kept places u k.tuple are d k.related.0.may k.related.1)) (λ object stands. stands) (argument old)
+            (calm_kept s o w places k.tuple (not_put_away s o w slots kept places u k.tuple are d k.related.0.may k.related.1))
+            (λ object stands. stands) (argument old)
             (λ off is. source old k.tuple k.related.0.may k.related.1 off is) (λ site e. absurd (not_new old site e)) k.related.0 d;
       }
     where
@@ -163,7 +181,8 @@ module _ (x : Subject) (S : Fact → Type 0) (s : Site) (t : Transfer) (laws : I
       argument (of_nothing none) z is = absurd (cc is)
 
       -- what is kept is not the object, if the tuple is closed
-      source : {r : Result} → IsOldValue slots (w.kept ++ places) value r → (v : Tuple) → (v.may ≡ false → u.may ≡ false) → PutsAway kept u v → v.may ≡ false → value ≡ reference_to o → IsArgumentGiven r
+      source : {r : Result} → IsOldValue slots (w.kept ++ places) value r → (v : Tuple) → (v.may ≡ false → u.may ≡ false) → PutsAway kept u v → v.may ≡ false
+          → value ≡ reference_to o → IsArgumentGiven r
       source (of_argument y e) v may away off is = record { slot = y; is = refl }
       source (of_kept place e there) v may away off is =
           let at = place_of (w.kept ++ places) place there in
@@ -177,8 +196,10 @@ module _ (x : Subject) (S : Fact → Type 0) (s : Site) (t : Transfer) (laws : I
       source (of_nothing none) v may away off is = absurd (none o is)
 
   -- a new object
-  module _ (l : LoweredMethod) (n : Node) (c : NodeCall) (site : Site) (w : World) (kept places : List ℕ) (slots left : List Value) (variables : HasVariables l n) (equal : AreEqual l n slots)
-      (bounded : IsBounded w slots) (are : AreKept slots kept places) (are_left : AreLeft (argument_slots c.arguments) c.result (reference_to (length w.heap)) slots left)
+  module _ (l : LoweredMethod) (n : Node) (c : NodeCall) (site : Site) (w : World) (kept places : List ℕ) (slots left : List Value)
+      (variables : HasVariables l n) (equal : AreEqual l n slots)
+      (bounded : IsBounded w slots) (are : AreKept slots kept places)
+      (are_left : AreLeft (argument_slots c.arguments) c.result (reference_to (length w.heap)) slots left)
       (tracked : IsTracked s o (w.heap ++ new_object x.program site x.property.initial ∷ [])) where
     abbrev made : Object
     made = new_object x.program site x.property.initial
@@ -186,7 +207,8 @@ module _ (x : Subject) (S : Fact → Type 0) (s : Site) (t : Transfer) (laws : I
     abbrev after : World
     after = with_object (with_kept w places) (new_object x.program site x.property.initial)
 
-    new_tuple : (u : Tuple) → Describes s u o w (of_slots slots) → Results (t.answer l n c kept (a_new_object site) (of_object u)) (λ g. Says s g o after (of_slots left))
+    new_tuple : (u : Tuple) → Describes s u o w (of_slots slots)
+        → Results (t.answer l n c kept (a_new_object site) (of_object u)) (λ g. Says s g o after (of_slots left))
     new_tuple u d =
         let k = laws.answer l n c kept (a_new_object site) u variables in
         record {
@@ -195,13 +217,15 @@ module _ (x : Subject) (S : Fact → Type 0) (s : Site) (t : Transfer) (laws : I
           says = answered_describes l n c (a_new_object site) s o w after (reference_to (length w.heap)) slots left u k.tuple equal are_left (λ g. refl)
               (calm_kept_push s o w places made k.tuple (not_put_away s o w slots kept places u k.tuple are d k.related.0.may k.related.1) (default_field x.program) (λ index. refl)
               (λ unique of_site. (let shared : k.tuple.unique ≡ false = k.related.2 (ap a_new_object of_site) in cc (unique, shared))))
-              (λ object stands. in_longer w.heap (made ∷ []) o object stands) (λ z is. absurd (cc is)) (λ off is. absurd (apart is)) (λ of e. apart) k.related.0 d;
+              (λ object stands. in_longer w.heap (made ∷ []) o object stands) (λ z is. absurd (cc is)) (λ off is. absurd (apart is))
+              (λ of e. apart) k.related.0 d;
         }
       where
         apart : reference_to (length w.heap) ≢ reference_to o
         apart is = at_end w.heap o d.object d.stands (same_place _ _ is)
 
-    new_other : (f : SiteFact) → IsIdle f → site ≢ s → Says s f o w (of_slots slots) → Results (t.answer l n c kept (a_new_object site) f) (λ g. Says s g o after (of_slots left))
+    new_other : (f : SiteFact) → IsIdle f → site ≢ s → Says s f o w (of_slots slots)
+        → Results (t.answer l n c kept (a_new_object site) f) (λ g. Says s g o after (of_slots left))
     new_other f idle ne says = record {
       fact = f;
       listed = laws.answer_idle l n c kept (a_new_object site) f idle (λ e. ne (same_site e));
@@ -222,13 +246,15 @@ module _ (x : Subject) (S : Fact → Type 0) (s : Site) (t : Transfer) (laws : I
         }
 
     new_its : (f : SiteFact) (first : Bool) → IsIdle f → site ≡ s → length w.heap ≤ o → (first ≡ true → HasNone s w.heap)
-        → Meets (IsBorn c.result first x.property.initial) (t.answer l n c kept (a_new_object s) f) → Results (t.answer l n c kept (a_new_object site) f) (λ g. Says s g o after (of_slots left))
+        → Meets (IsBorn c.result first x.property.initial) (t.answer l n c kept (a_new_object s) f)
+        → Results (t.answer l n c kept (a_new_object site) f) (λ g. Says s g o after (of_slots left))
     new_its f first idle e le none meets =
         subst (λ (y : Site). Results (t.answer l n c kept (a_new_object y) f) (λ g. Says s g o (with_object (with_kept w places) (new_object x.program y x.property.initial)) (of_slots left))) (sym e)
         (made_says x s o c.result (argument_slots c.arguments) first (with_kept w places) slots left are_left (bounded_kept w slots kept places bounded are) none
         (t.answer l n c kept (a_new_object s) f) le (laws.answer_some l n c kept f idle) meets)
 
-    new_object_says : (f : SiteFact) → Says s f o w (of_slots slots) → Results (t.answer l n c kept (a_new_object site) f) (λ g. Says s g o after (of_slots left))
+    new_object_says : (f : SiteFact) → Says s f o w (of_slots slots)
+        → Results (t.answer l n c kept (a_new_object site) f) (λ g. Says s g o after (of_slots left))
     new_object_says (of_object u) d = new_tuple u d
     new_object_says none_yet says = elim (site_or_not site s) [
       | inl e ↦ new_its none_yet true tt e says.0 (λ _. says.1) (laws.answer_first l n c kept)
@@ -239,9 +265,12 @@ module _ (x : Subject) (S : Fact → Type 0) (s : Site) (t : Transfer) (laws : I
       | inr ne ↦ new_other some_yet tt ne says
     ]
 
-  module _ (m : Option MethodNo) (l : LoweredMethod) (n : Node) (c : NodeCall) (target : ℕ) (frame : Frame) (f : SiteFact) (w after : World) (value : Value) (slots left : List Value)
-      (method_is : m ≡ option_map (λ (number : ℕ). record { 0 = number }) frame.method) (offset_is : n.offset ≡ frame.offset) (variables : HasVariables l n) (equal : AreEqual l n slots)
-      (bounded : IsBounded w slots) (are_left : AreLeft (argument_slots c.arguments) c.result value slots left) (tracked : IsTracked s o after.heap) (says : Says s f o w (of_slots slots))
+  module _ (m : Option MethodNo) (l : LoweredMethod) (n : Node) (c : NodeCall) (target : ℕ) (frame : Frame) (f : SiteFact) (w after : World) (value : Value)
+      (slots left : List Value)
+      (method_is : m ≡ option_map (λ (number : ℕ). record { 0 = number }) frame.method) (offset_is : n.offset ≡ frame.offset) (variables : HasVariables l n)
+      (equal : AreEqual l n slots)
+      (bounded : IsBounded w slots) (are_left : AreLeft (argument_slots c.arguments) c.result value slots left) (tracked : IsTracked s o after.heap)
+      (says : Says s f o w (of_slots slots))
       (d : DescribedMethod x target) where
     -- the places that are kept
     abbrev places : List ℕ
@@ -251,7 +280,8 @@ module _ (x : Subject) (S : Fact → Type 0) (s : Site) (t : Transfer) (laws : I
     kept = kept_slots c d.stub d.descriptor.parameters
 
     -- a value that is not new
-    old_answer : (result : Result) → IsOldValue slots (w.kept ++ places) value result → after ≡ with_kept w places → Results (t.answer l n c kept result f) (λ g. Says s g o after (of_slots left))
+    old_answer : (result : Result) → IsOldValue slots (w.kept ++ places) value result → after ≡ with_kept w places
+        → Results (t.answer l n c kept result f) (λ g. Says s g o after (of_slots left))
     old_answer result old e =
         subst (λ (y : World). Results (t.answer l n c kept result f) (λ g. Says s g o y (of_slots left))) (sym e)
         (old_value_says l n c f result w kept places value slots left variables equal old (are_kept x target d c slots) are_left says)
@@ -259,7 +289,8 @@ module _ (x : Subject) (S : Fact → Type 0) (s : Site) (t : Transfer) (laws : I
     nothing_given : (v : Value) → value ≡ v → ((place : ℕ) → v ≢ reference_to place) → IsOldValue slots (w.kept ++ places) value another
     nothing_given v e none = of_nothing (λ place is. none place (sym e ∙ is))
 
-    answer_of : (result : StubResult) → Gives x target d frame (argument_values c.arguments slots) result (kept_by x target d (argument_values c.arguments slots) w) value after
+    answer_of : (result : StubResult)
+        → Gives x target d frame (argument_values c.arguments slots) result (kept_by x target d (argument_values c.arguments slots) w) value after
         → Results (t.answer l n c kept (given_by m n c d.stub d.descriptor.parameters result) f) (λ g. Says s g o after (of_slots left))
     answer_of results.Primitive gives = old_answer another (nothing_given primitive_value gives.0 (λ place e. cc e)) gives.1
     answer_of results.Void gives = old_answer another (nothing_given primitive_value gives.0 (λ place e. cc e)) gives.1
@@ -270,7 +301,8 @@ module _ (x : Subject) (S : Fact → Type 0) (s : Site) (t : Transfer) (laws : I
         (gives.0 ∙ unit_value c.arguments slots (argument_unit d.stub.is_static d.descriptor.parameters a))) gives.1
     answer_of (results.New class) gives =
         let own : Site = record { kind = kinds.Result; method = m; offset = n.offset; class = class } in
-        let same : site_at kinds.Result frame class ≡ own = λ i. record { kind = kinds.Result; method = sym method_is i; offset = sym offset_is i; class = class } in
+        let same : site_at kinds.Result frame class ≡ own =
+        λ i. record { kind = kinds.Result; method = sym method_is i; offset = sym offset_is i; class = class } in
         let after_is : after ≡ with_object (with_kept w places) (new_object x.program own x.property.initial) =
         gives.after_is ∙ ap (λ (y : Site). with_object (with_kept w places) (new_object x.program y x.property.initial)) same in
         subst (λ (y : World). Results (t.answer l n c kept (a_new_object own) f) (λ g. Says s g o y (of_slots left))) (sym after_is)
@@ -279,9 +311,12 @@ module _ (x : Subject) (S : Fact → Type 0) (s : Site) (t : Transfer) (laws : I
         (subst (λ (y : World). IsTracked s o y.heap) after_is tracked) f says)
     answer_of results.Kept gives = old_answer another (of_kept gives.0.object.to.place gives.0.object.to.is gives.0.kept) gives.1
 
-  pub answer_says : (m : Option MethodNo) (l : LoweredMethod) (n : Node) (c : NodeCall) (target : ℕ) (frame : Frame) (f : SiteFact) (w after : World) (value : Value) (slots left : List Value)
-      → m ≡ option_map (λ (number : ℕ). record { 0 = number }) frame.method → n.offset ≡ frame.offset → HasVariables l n → AreEqual l n slots → IsBounded w slots
-      → GivesResult x target frame (argument_values c.arguments slots) w value after → AreLeft (argument_slots c.arguments) c.result value slots left → IsTracked s o after.heap
+  pub answer_says : (m : Option MethodNo) (l : LoweredMethod) (n : Node) (c : NodeCall) (target : ℕ) (frame : Frame) (f : SiteFact) (w after : World)
+      (value : Value) (slots left : List Value)
+      → m ≡ option_map (λ (number : ℕ). record { 0 = number }) frame.method → n.offset ≡ frame.offset → HasVariables l n → AreEqual l n slots
+      → IsBounded w slots
+      → GivesResult x target frame (argument_values c.arguments slots) w value after → AreLeft (argument_slots c.arguments) c.result value slots left
+      → IsTracked s o after.heap
       → Says s f o w (of_slots slots) → HasAnswer x s t o m l n c target f after left
   answer_says m l n c target frame f w after value slots left method_is offset_is variables equal bounded given are_left tracked says =
       let d = given.called in
@@ -291,12 +326,15 @@ module _ (x : Subject) (S : Fact → Type 0) (s : Site) (t : Transfer) (laws : I
         is_stub = stub_of x target d;
         result = given.result;
         listed = contains_at d.stub.returns given.place given.result given.listed;
-        results = answer_of m l n c target frame f w after value slots left method_is offset_is variables equal bounded are_left tracked says d given.result given.gives;
+        results =
+            answer_of m l n c target frame f w after value slots left method_is offset_is variables equal bounded are_left tracked says d given.result
+            given.gives;
       }
 
   -- ---- exceptions
 
-  module _ (l : LoweredMethod) (n : Node) (c : NodeCall) (w : World) (made : Object) (kept places : List ℕ) (slots : List Value) (variables : HasVariables l n) (equal : AreEqual l n slots)
+  module _ (l : LoweredMethod) (n : Node) (c : NodeCall) (w : World) (made : Object) (kept places : List ℕ) (slots : List Value) (variables : HasVariables l n)
+      (equal : AreEqual l n slots)
       (op_is : n.op ≡ Call c) (are : AreKept slots kept places) (contents : made.contents ≡ fields (default_fields x.program)) (apart : made.site ≢ s)
       (tracked : IsTracked s o (w.heap ++ made ∷ [])) where
     thrown_idle : (f : SiteFact) → IsIdle f → Says s f o w (of_slots slots) → (view : View) → Says s f o (with_object (with_kept w places) made) view
@@ -337,8 +375,10 @@ module _ (x : Subject) (S : Fact → Type 0) (s : Site) (t : Transfer) (laws : I
               (thrown_new o x.program (with_kept w places) made None slots primitive_value contents (slice_get_within w.heap o d.object d.stands) (λ place e. cc e)) k.related.0 d;
         }
 
-  pub exception_says : (l : LoweredMethod) (n : Node) (c : NodeCall) (target : ℕ) (frame : Frame) (f : SiteFact) (w after : World) (thrown : ℕ) (slots : List Value) → HasVariables l n → AreEqual l n slots
-      → n.op ≡ Call c → s.kind ≢ kinds.Thrown → ThrowsListed x target frame (argument_values c.arguments slots) w thrown after → IsTracked s o after.heap → Says s f o w (of_slots slots)
+  pub exception_says : (l : LoweredMethod) (n : Node) (c : NodeCall) (target : ℕ) (frame : Frame) (f : SiteFact) (w after : World) (thrown : ℕ)
+      (slots : List Value) → HasVariables l n → AreEqual l n slots
+      → n.op ≡ Call c → s.kind ≢ kinds.Thrown → ThrowsListed x target frame (argument_values c.arguments slots) w thrown after → IsTracked s o after.heap
+      → Says s f o w (of_slots slots)
       → HasException x s t o l n c target frame f slots thrown after
   exception_says l n c target frame f w after thrown slots variables equal op_is kind throws tracked says =
       let d = throws.called in

@@ -31,8 +31,10 @@ pub record IsFilled (op : Op) (old : List Value) (o : ℕ) : Type 0 where
   pub is : slot_at old value ≡ reference_to o
 
 -- an element that refers to an object that was there did so before, or it was written
-pub element_before : {x : Subject} {op : Op} {old : List Value} {before after : List Object} → Shape x op old before after → (o : ℕ) (object : Object) → slice_get before o ≡ Some object
-    → (place index : ℕ) → part_at (element_in index) after place ≡ reference_to o → (part_at (element_in index) before place ≡ reference_to o) ⊎ IsFilled op old o
+pub element_before : {x : Subject} {op : Op} {old : List Value} {before after : List Object} → Shape x op old before after → (o : ℕ) (object : Object)
+    → slice_get before o ≡ Some object
+    → (place index : ℕ) → part_at (element_in index) after place ≡ reference_to o
+    → (part_at (element_in index) before place ≡ reference_to o) ⊎ IsFilled op old o
 element_before (stayed e) o object stands place index is = inl (sym (ap (λ (h : List Object). part_at (element_in index) h place) e) ∙ is)
 element_before {x = x} {before = before} (pushed {site = site} op_is e) o object stands place index is =
     inl (sym (part_push (element_in index) before (new_object x.program site x.property.initial) place refl) ∙ sym (ap (λ (h : List Object). part_at (element_in index) h place) e) ∙ is)
@@ -51,7 +53,8 @@ element_before {op = op} {old = old} {before = before} (arrayed {sites = sites} 
 element_before {old = old} {before = before} (wrote {value = value} {f = f} at into values op_is ref held holds e) o object stands place index is =
     inl (sym (part_set (element_in index) before at place into (with_field into values f (slot_at old value)) held (λ _. sym (ap (element_in index) holds)))
     ∙ sym (ap (λ (h : List Object). part_at (element_in index) h place) e) ∙ is)
-element_before {op = op} {old = old} {before = before} (filled {base = base} {value = value} at into values k op_is held holds inside e) o object stands place index is =
+element_before {op = op} {old = old} {before = before}
+    (filled {base = base} {value = value} at into values k op_is held holds inside e) o object stands place index is =
     by (cases_eq place at) (cases_eq index k)
   where
     written : Object
@@ -71,8 +74,10 @@ element_before {op = op} {old = old} {before = before} (filled {base = base} {va
         ∙ sym (part_set_here (element_in index) before at into written held) ∙ sym (ap (part_at (element_in index) (slice_set before at written)) d) ∙ later in
         inr (record { array = base; value = value; op_is = op_is; is = reference_in _ o part })
 
-module _ (x : Subject) (l : LoweredMethod) (n : Node) (w after : World) (old new : List Value) (s : Site) (o : ℕ) (t u : Tuple) (d : Describes s t o w (of_slots old)) (off : t.may ≡ false) where
-  pub element_end : (op : Op) (place index : ℕ) → Leads op x w old new after → IsComplete l n op t.must u.must → part_at (element_in index) after.heap place ≡ reference_to o
+module _ (x : Subject) (l : LoweredMethod) (n : Node) (w after : World) (old new : List Value) (s : Site) (o : ℕ) (t u : Tuple)
+    (d : Describes s t o w (of_slots old)) (off : t.may ≡ false) where
+  pub element_end : (op : Op) (place index : ℕ) → Leads op x w old new after → IsComplete l n op t.must u.must
+      → part_at (element_in index) after.heap place ≡ reference_to o
       → EndsIn u.must after (of_slots new) (in_element place index)
   element_end op place index leads c is = elim (element_before (shape op x w after old new leads) o d.object d.stands place index is) [
     | inl before ↦ (let e = d.cells off (in_element place index) before in absurd (no_element w (of_slots old) e.path place index e.ends))
@@ -82,6 +87,7 @@ module _ (x : Subject) (l : LoweredMethod) (n : Node) (w after : World) (old new
   pub kept_end : (op : Op) (number : ℕ) → Leads op x w old new after → option_map_or reference_to (slice_get after.kept number) null_value ≡ reference_to o
       → EndsIn u.must after (of_slots new) (in_kept number)
   kept_end op number leads is =
-      let before = sym (ap (λ (places : List ℕ). option_map_or reference_to (slice_get places number) null_value) (kept_same op x w after old new leads)) ∙ is in
+      let before =
+      sym (ap (λ (places : List ℕ). option_map_or reference_to (slice_get places number) null_value) (kept_same op x w after old new leads)) ∙ is in
       let e = d.cells off (in_kept number) before in
       absurd (no_kept w (of_slots old) e.path number e.ends)

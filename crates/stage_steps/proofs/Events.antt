@@ -43,12 +43,15 @@ use Rattle.stage_steps.proofs.Shapes.{was_set}
 abbrev in_state : Object → ℕ → Object
 in_state object state = record { site = object.site; class = object.class; contents = object.contents; automaton = state }
 
-state_none_new : (s : Site) (w : World) (place state : ℕ) (object : Object) → slice_get w.heap place ≡ Some object → NoneNew s w.heap (slice_set w.heap place (in_state object state))
+state_none_new : (s : Site) (w : World) (place state : ℕ) (object : Object) → slice_get w.heap place ≡ Some object
+    → NoneNew s w.heap (slice_set w.heap place (in_state object state))
 state_none_new s w place state object held = record {
-  was = λ k y stands of_site. (let b = was_set w.heap place k object (in_state object state) y held refl stands in record { object = b.object; stands = b.stands; of_site = b.of_site ∙ of_site });
+  was =
+      λ k y stands of_site. (let b = was_set w.heap place k object (in_state object state) y held refl stands in record { object = b.object; stands = b.stands; of_site = b.of_site ∙ of_site });
 }
 
-state_calm : (s : Site) (o : ℕ) (w : World) (place state : ℕ) (object : Object) (u : Tuple) → slice_get w.heap place ≡ Some object → Calm s o w (with_automaton w place object state) u
+state_calm : (s : Site) (o : ℕ) (w : World) (place state : ℕ) (object : Object) (u : Tuple) → slice_get w.heap place ≡ Some object
+    → Calm s o w (with_automaton w place object state) u
 state_calm s o w place state object u held = record {
   field = λ f k. part_set (field_in f) w.heap place k object (in_state object state) held (λ _. refl);
   none = λ unique. state_none_new s w place state object held;
@@ -56,7 +59,8 @@ state_calm s o w place state object u held = record {
   kept = λ off number is. is;
 }
 
-state_some : (s : Site) (w : World) (place state : ℕ) (object : Object) → slice_get w.heap place ≡ Some object → HasSome s w.heap → HasSome s (slice_set w.heap place (in_state object state))
+state_some : (s : Site) (w : World) (place state : ℕ) (object : Object) → slice_get w.heap place ≡ Some object → HasSome s w.heap
+    → HasSome s (slice_set w.heap place (in_state object state))
 state_some s w place state object held some = by (cases_eq some.place place)
   where
     by : (some.place ≡ place) ⊎ (some.place ≢ place) → HasSome s (slice_set w.heap place (in_state object state))
@@ -66,13 +70,20 @@ state_some s w place state object held some = by (cases_eq some.place place)
       stands = set_here w.heap place object (in_state object state) held;
       of_site = ap (λ (y : Object). y.site) (same_Some _ _ (sym held ∙ ap (slice_get w.heap) (sym e) ∙ some.stands)) ∙ some.of_site;
     }
-    by (inr ne) = record { place = some.place; object = some.object; stands = set_other w.heap place some.place (in_state object state) ne ∙ some.stands; of_site = some.of_site }
+    by (inr ne) = record {
+      place = some.place;
+      object = some.object;
+      stands = set_other w.heap place some.place (in_state object state) ne ∙ some.stands;
+      of_site = some.of_site;
+    }
 
 -- ---- tuples
 
-noted_describes : (l : LoweredMethod) (n : Node) (receiver : ℕ) (is_its : Bool) (state : ℕ) (s : Site) (o : ℕ) (w after : World) (slots : List Value) (t u : Tuple) → Calm s o w after u
+noted_describes : (l : LoweredMethod) (n : Node) (receiver : ℕ) (is_its : Bool) (state : ℕ) (s : Site) (o : ℕ) (w after : World) (slots : List Value)
+    (t u : Tuple) → Calm s o w after u
     → ((f : ℕ) → after.statics f ≡ w.statics f) → There s state o after.heap → AreEqual l n slots → (is_its ≡ true → slot_at slots receiver ≡ reference_to o)
-    → (is_its ≡ false → slot_at slots receiver ≢ reference_to o) → Notes l n receiver is_its state t u → Describes s t o w (of_slots slots) → Describes s u o after (of_slots slots)
+    → (is_its ≡ false → slot_at slots receiver ≢ reference_to o) → Notes l n receiver is_its state t u → Describes s t o w (of_slots slots)
+    → Describes s u o after (of_slots slots)
 noted_describes l n receiver is_its state s o w after slots t u calm statics there equal its its_not rel d =
     calm_describes s o w after (of_slots slots) (of_slots slots) t u (λ r q. r ≡ q) calm
     (record { object = there.object; stands = there.stands; of_site = there.of_site; in_state = there.in_state ∙ sym rel.state })
@@ -113,7 +124,8 @@ record IsReceiverSlot (arguments : List (Option ℕ)) (slots : List Value) (plac
   first : slice_get arguments 0 ≡ Some (Some slot)
   is : slot_at slots slot ≡ reference_to place
 
-receiver_slot : (arguments : List (Option ℕ)) (slots : List Value) (place : ℕ) → slot_at (argument_values arguments slots) 0 ≡ reference_to place → IsReceiverSlot arguments slots place
+receiver_slot : (arguments : List (Option ℕ)) (slots : List Value) (place : ℕ) → slot_at (argument_values arguments slots) 0 ≡ reference_to place
+    → IsReceiverSlot arguments slots place
 receiver_slot [] slots place e = absurd (cc e)
 receiver_slot (None ∷ rest) slots place e = absurd (cc e)
 receiver_slot (Some z ∷ rest) slots place e = record { slot = z; first = refl; is = e }
@@ -125,7 +137,8 @@ equal_at_start l n slots no_slots no_stack y z (of_one v low high one two) = abs
 
 module _ (x : Subject) (S : Fact → Type 0) (s : Site) (t : Transfer) (laws : IsStage x S s t) (o : ℕ) where
   -- a call that is no event
-  pub silent_says : (l : LoweredMethod) (n : Node) (c : NodeCall) (f : SiteFact) (w : World) (slots : List Value) → AreEqual l n slots → event_of_call x.property c ≡ None
+  pub silent_says : (l : LoweredMethod) (n : Node) (c : NodeCall) (f : SiteFact) (w : World) (slots : List Value) → AreEqual l n slots
+      → event_of_call x.property c ≡ None
       → Says s f o w (of_slots slots) → Results (t.event l n c f) (λ g. Says s g o w (of_slots slots))
   silent_says l n c none_yet w slots equal silent says = record { fact = none_yet; listed = laws.event_idle l n c none_yet tt; says = says }
   silent_says l n c some_yet w slots equal silent says = record { fact = some_yet; listed = laws.event_idle l n c some_yet tt; says = says }
@@ -135,20 +148,23 @@ module _ (x : Subject) (S : Fact → Type 0) (s : Site) (t : Transfer) (laws : I
         fact = of_object k.tuple;
         listed = k.listed;
         says = noted_describes l n (length slots) false u.state s o w w slots u k.tuple (calm_here s o w k.tuple) (λ f. refl)
-            (record { object = d.object; stands = d.stands; of_site = d.of_site; in_state = d.in_state }) equal (λ bad. absurd (cc bad)) (λ _. outside) (k.related (length slots)) d;
+            (record { object = d.object; stands = d.stands; of_site = d.of_site; in_state = d.in_state }) equal (λ bad. absurd (cc bad))
+            (λ _. outside) (k.related (length slots)) d;
       }
     where
       outside : slot_at slots (length slots) ≢ reference_to o
       outside is = let bad : primitive_value ≡ reference_to o = sym (get_or_past slots (length slots) primitive_value (omega arith)) ∙ is in cc bad
 
   -- the call of the start is static
-  pub start_event_says : (l : LoweredMethod) (n : Node) (c : NodeCall) (f : SiteFact) (w : World) (slots : List Value) → l.slots ≡ 0 → l.stack ≡ 0 → c.kind ≡ call_kinds.Static
+  pub start_event_says : (l : LoweredMethod) (n : Node) (c : NodeCall) (f : SiteFact) (w : World) (slots : List Value) → l.slots ≡ 0 → l.stack ≡ 0
+      → c.kind ≡ call_kinds.Static
       → Says s f o w (of_slots slots) → Results (t.event l n c f) (λ g. Says s g o w (of_slots slots))
   start_event_says l n c f w slots no_slots no_stack static says =
       silent_says l n c f w slots (equal_at_start l n slots no_slots no_stack)
       (ap (λ (kind : CallKind). cond (is_selecting_kind kind) (event_for x.property (record { name = c.name; descriptor = c.descriptor })) None) static) says
 
-  module _ (l : LoweredMethod) (n : Node) (c : NodeCall) (w after : World) (slots : List Value) (reached : AreReachedNodes l) (stands : Contains l.nodes n) (equal : AreEqual l n slots)
+  module _ (l : LoweredMethod) (n : Node) (c : NodeCall) (w after : World) (slots : List Value) (reached : AreReachedNodes l) (stands : Contains l.nodes n)
+      (equal : AreEqual l n slots)
       (events : HasEvents x (is_selecting_kind c.kind) (record { name = c.name; descriptor = c.descriptor }) (argument_values c.arguments slots) w after)
       (held : (z : ℕ) (h : Holder) (place : ℕ) (object : Object) → slice_get c.arguments 0 ≡ Some (Some z) → IsSlot l n z h → slot_at slots z ≡ reference_to place
       → slice_get w.heap place ≡ Some object → S (may_hold h object.site))
@@ -157,7 +173,8 @@ module _ (x : Subject) (S : Fact → Type 0) (s : Site) (t : Transfer) (laws : I
     event_found = event_for x.property (record { name = c.name; descriptor = c.descriptor })
 
     -- the event of an object at another place, or none
-    other_says : (e : Event) (u : Tuple) (place : ℕ) (object : Object) (k : IsReceiverSlot c.arguments slots place) → event_of_call x.property c ≡ Some e → slice_get w.heap place ≡ Some object
+    other_says : (e : Event) (u : Tuple) (place : ℕ) (object : Object) (k : IsReceiverSlot c.arguments slots place) → event_of_call x.property c ≡ Some e
+        → slice_get w.heap place ≡ Some object
         → place ≢ o → Describes s u o w (of_slots slots) → Results (t.event l n c (of_object u)) (λ g. Says s g o after (of_slots slots))
     other_says e u place object k is receiver apart d =
         let named = each_variable l n k.slot reached stands in
@@ -169,14 +186,16 @@ module _ (x : Subject) (S : Fact → Type 0) (s : Site) (t : Transfer) (laws : I
         not_its : slot_at slots k.slot ≢ reference_to o
         not_its its = apart (same_place _ _ (sym k.is ∙ its))
 
-        by : HasEvents x (is_selecting_kind c.kind) (record { name = c.name; descriptor = c.descriptor }) (argument_values c.arguments slots) w after → (v : Tuple)
+        by : HasEvents x (is_selecting_kind c.kind) (record { name = c.name; descriptor = c.descriptor }) (argument_values c.arguments slots) w after
+            → (v : Tuple)
             → Notes l n k.slot false u.state u v → Describes s v o after (of_slots slots)
         by (unmoved none same_world) v rel = subst (λ (y : World). Describes s v o y (of_slots slots)) (sym same_world)
             (noted_describes l n k.slot false u.state s o w w slots u v (calm_here s o w v) (λ f. refl) (record { object = d.object; stands = d.stands; of_site = d.of_site; in_state = d.in_state }) equal
             (λ bad. absurd (cc bad)) (λ _. not_its) rel d)
         by (moved event later) v rel = subst (λ (y : World). Describes s v o y (of_slots slots)) (sym later)
             (noted_describes l n k.slot false u.state s o w _ slots u v (state_calm s o w event.receiver.place state event.receiver.object v event.receiver.held) (λ f. refl)
-            (record { object = d.object; stands = set_other w.heap event.receiver.place o _ elsewhere ∙ d.stands; of_site = d.of_site; in_state = d.in_state }) equal
+            (record { object = d.object; stands = set_other w.heap event.receiver.place o _ elsewhere ∙ d.stands; of_site = d.of_site; in_state = d.in_state })
+            equal
             (λ bad. absurd (cc bad)) (λ _. not_its) rel d)
           where
             state : ℕ
@@ -192,7 +211,8 @@ module _ (x : Subject) (S : Fact → Type 0) (s : Site) (t : Transfer) (laws : I
                 same_slot e = cc e
 
     -- the event of the object
-    its_says : (e : Event) (u : Tuple) (object : Object) (k : IsReceiverSlot c.arguments slots o) → IsChosen (is_selecting_kind c.kind) event_found e → event_of_call x.property c ≡ Some e
+    its_says : (e : Event) (u : Tuple) (object : Object) (k : IsReceiverSlot c.arguments slots o) → IsChosen (is_selecting_kind c.kind) event_found e
+        → event_of_call x.property c ≡ Some e
         → (receiver : Refers w (slot_at (argument_values c.arguments slots) 0)) → receiver.place ≡ o → Describes s u o w (of_slots slots)
         → Results (t.event l n c (of_object u)) (λ g. Says s g o after (of_slots slots))
     its_says e u object k choice is receiver at d = by events
@@ -217,17 +237,23 @@ module _ (x : Subject) (S : Fact → Type 0) (s : Site) (t : Transfer) (laws : I
             (λ listed. d.must_not (bare (Slot k.slot)) listed k.is) (λ off. listed_root s o w (of_slots slots) u (Slot k.slot) d off k.is) in
             let there : There s (slice_index e.next u.state) o (slice_set w.heap event.receiver.place (in_state event.receiver.object state)) = record {
               object = in_state event.receiver.object state;
-              stands = subst (λ (place : ℕ). slice_get (slice_set w.heap event.receiver.place (in_state event.receiver.object state)) place ≡ Some (in_state event.receiver.object state)) place_is
+              stands =
+                  subst (λ (place : ℕ). slice_get (slice_set w.heap event.receiver.place (in_state event.receiver.object state)) place ≡ Some (in_state event.receiver.object state)) place_is
                   (set_here w.heap event.receiver.place event.receiver.object (in_state event.receiver.object state) event.receiver.held);
               of_site = ap (λ (y : Object). y.site) one ∙ d.of_site;
-              in_state = ap (λ (y : Event). slice_index y.next event.receiver.object.automaton) same_event ∙ ap (slice_index e.next) (ap (λ (y : Object). y.automaton) one ∙ d.in_state);
+              in_state =
+                  ap (λ (y : Event). slice_index y.next event.receiver.object.automaton) same_event
+                  ∙ ap (slice_index e.next) (ap (λ (y : Object). y.automaton) one ∙ d.in_state);
             } in
             subst (λ (y : World). Results (t.event l n c (of_object u)) (λ g. Says s g o y (of_slots slots))) (sym later)
             (record {
               fact = of_object r.tuple;
               listed = r.listed;
-              says = noted_describes l n k.slot true (slice_index e.next u.state) s o w (with_automaton w event.receiver.place event.receiver.object state) slots u r.tuple
-                  (state_calm s o w event.receiver.place state event.receiver.object r.tuple event.receiver.held) (λ f. refl) there equal (λ _. k.is) (λ bad. absurd (cc bad)) r.related d;
+              says =
+                  noted_describes l n k.slot true (slice_index e.next u.state) s o w
+                  (with_automaton w event.receiver.place event.receiver.object state) slots u r.tuple
+                  (state_calm s o w event.receiver.place state event.receiver.object r.tuple event.receiver.held) (λ f. refl) there equal (λ _. k.is)
+                  (λ bad. absurd (cc bad)) r.related d;
             })
           where
             state : ℕ
@@ -242,23 +268,28 @@ module _ (x : Subject) (S : Fact → Type 0) (s : Site) (t : Transfer) (laws : I
     idle_event_says : (f : SiteFact) → IsIdle f → Says s f o w (of_slots slots) → Results (t.event l n c f) (λ g. Says s g o after (of_slots slots))
     idle_event_says f idle says = record { fact = f; listed = laws.event_idle l n c f idle; says = by events }
       where
-        by : HasEvents x (is_selecting_kind c.kind) (record { name = c.name; descriptor = c.descriptor }) (argument_values c.arguments slots) w after → Says s f o after (of_slots slots)
+        by : HasEvents x (is_selecting_kind c.kind) (record { name = c.name; descriptor = c.descriptor }) (argument_values c.arguments slots) w after
+            → Says s f o after (of_slots slots)
         by (unmoved none same_world) = idle_here s o w after (of_slots slots) (of_slots slots) f idle (ap (λ (y : World). y.heap) same_world) says
         by (moved event later) = subst (λ (y : World). Says s f o y (of_slots slots)) (sym later)
             (idle_says s o w (with_automaton w event.receiver.place event.receiver.object state) (of_slots slots) (of_slots slots) f idle
             (λ le. subst (λ (k : ℕ). k ≤ o) (sym (length-set w.heap event.receiver.place (in_state event.receiver.object state))) le)
-            (state_none_new s w event.receiver.place state event.receiver.object event.receiver.held) (state_some s w event.receiver.place state event.receiver.object event.receiver.held) says)
+            (state_none_new s w event.receiver.place state event.receiver.object event.receiver.held)
+            (state_some s w event.receiver.place state event.receiver.object event.receiver.held) says)
           where
             state : ℕ
             state = slice_index event.event.next event.receiver.object.automaton
 
-    tuple_event_says : (u : Tuple) → (is_selecting_kind c.kind ≡ true → Refers w (slot_at (argument_values c.arguments slots) 0)) → (found : Option Event) → event_of_call x.property c ≡ found
+    tuple_event_says : (u : Tuple) → (is_selecting_kind c.kind ≡ true → Refers w (slot_at (argument_values c.arguments slots) 0)) → (found : Option Event)
+        → event_of_call x.property c ≡ found
         → Describes s u o w (of_slots slots) → Results (t.event l n c (of_object u)) (λ g. Says s g o after (of_slots slots))
     tuple_event_says u receives None silent d = by events
       where
         by : HasEvents x (is_selecting_kind c.kind) (record { name = c.name; descriptor = c.descriptor }) (argument_values c.arguments slots) w after
             → Results (t.event l n c (of_object u)) (λ g. Says s g o after (of_slots slots))
-        by (unmoved none same_world) = subst (λ (y : World). Results (t.event l n c (of_object u)) (λ g. Says s g o y (of_slots slots))) (sym same_world) (silent_says l n c (of_object u) w slots equal silent d)
+        by (unmoved none same_world) =
+            subst (λ (y : World). Results (t.event l n c (of_object u)) (λ g. Says s g o y (of_slots slots))) (sym same_world)
+            (silent_says l n c (of_object u) w slots equal silent d)
         by (moved event later) =
             absurd (none-some event.event (sym silent ∙ ap (λ (b : Bool). cond b event_found None) event.selecting ∙ event.named))
     tuple_event_says u receives (Some e) is d =
@@ -266,20 +297,26 @@ module _ (x : Subject) (S : Fact → Type 0) (s : Site) (t : Transfer) (laws : I
         let receiver = receives choice.selecting in
         by choice receiver (cases_eq receiver.place o)
       where
-        by : IsChosen (is_selecting_kind c.kind) event_found e → (receiver : Refers w (slot_at (argument_values c.arguments slots) 0)) → (receiver.place ≡ o) ⊎ (receiver.place ≢ o)
+        by : IsChosen (is_selecting_kind c.kind) event_found e → (receiver : Refers w (slot_at (argument_values c.arguments slots) 0))
+            → (receiver.place ≡ o) ⊎ (receiver.place ≢ o)
             → Results (t.event l n c (of_object u)) (λ g. Says s g o after (of_slots slots))
-        by choice receiver (inl at) = its_says e u receiver.object (receiver_slot c.arguments slots o (receiver.is ∙ ap reference_to at)) choice is receiver at d
-        by choice receiver (inr apart) = other_says e u receiver.place receiver.object (receiver_slot c.arguments slots receiver.place receiver.is) is receiver.held apart d
+        by choice receiver (inl at) =
+            its_says e u receiver.object (receiver_slot c.arguments slots o (receiver.is ∙ ap reference_to at)) choice is receiver at d
+        by choice receiver (inr apart) =
+            other_says e u receiver.place receiver.object (receiver_slot c.arguments slots receiver.place receiver.is) is receiver.held apart d
 
   -- the event of a call, before the call itself
-  pub event_says : (l : LoweredMethod) (n : Node) (c : NodeCall) (f : SiteFact) (w after : World) (slots : List Value) → AreReachedNodes l → Contains l.nodes n → AreEqual l n slots
+  pub event_says : (l : LoweredMethod) (n : Node) (c : NodeCall) (f : SiteFact) (w after : World) (slots : List Value) → AreReachedNodes l → Contains l.nodes n
+      → AreEqual l n slots
       → HasEvents x (is_selecting_kind c.kind) (record { name = c.name; descriptor = c.descriptor }) (argument_values c.arguments slots) w after
       → (is_selecting_kind c.kind ≡ true → Refers w (slot_at (argument_values c.arguments slots) 0))
       → ((z : ℕ) (h : Holder) (place : ℕ) (object : Object) → slice_get c.arguments 0 ≡ Some (Some z) → IsSlot l n z h → slot_at slots z ≡ reference_to place
       → slice_get w.heap place ≡ Some object → S (may_hold h object.site))
       → ((object : Object) → slice_get w.heap o ≡ Some object → object.site ≡ s → (is_array object.class ≡ false) × IsSubtype x.program x.property.class_name object.class)
       → Says s f o w (of_slots slots) → Results (t.event l n c f) (λ g. Says s g o after (of_slots slots))
-  event_says l n c none_yet w after slots reached stands equal events receives held observed says = idle_event_says l n c w after slots reached stands equal events held observed none_yet tt says
-  event_says l n c some_yet w after slots reached stands equal events receives held observed says = idle_event_says l n c w after slots reached stands equal events held observed some_yet tt says
+  event_says l n c none_yet w after slots reached stands equal events receives held observed says =
+      idle_event_says l n c w after slots reached stands equal events held observed none_yet tt says
+  event_says l n c some_yet w after slots reached stands equal events receives held observed says =
+      idle_event_says l n c w after slots reached stands equal events held observed some_yet tt says
   event_says l n c (of_object u) w after slots reached stands equal events receives held observed d =
       tuple_event_says l n c w after slots reached stands equal events held observed u receives (event_of_call x.property c) refl d

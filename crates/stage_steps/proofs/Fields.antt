@@ -59,7 +59,8 @@ stored_object e = cc e
 stored_field : {a b c d : ℕ} {f g : FieldNo} → Store a f c ≡ Store b g d → f ≡ g
 stored_field e = cc e
 
-module _ (x : Subject) (l : LoweredMethod) (n : Node) (w after : World) (old new : List Value) (s : Site) (o : ℕ) (t u : Tuple) (equal : AreEqual l n old) (d : Describes s t o w (of_slots old)) (off : t.may ≡ false) where
+module _ (x : Subject) (l : LoweredMethod) (n : Node) (w after : World) (old new : List Value) (s : Site) (o : ℕ) (t u : Tuple) (equal : AreEqual l n old)
+    (d : Describes s t o w (of_slots old)) (off : t.may ≡ false) where
   -- a field that had the object, and whose path is not overwritten
   field_end : (op : Op) (place : ℕ) (f : FieldNo) → Leads op x w old new after → IsComplete l n op t.must u.must
       → ((y : Path) → IsOverwritten l n op y → last_cell w (of_slots old) y ≡ Some (in_field place f) → ⊥) → part_at (field_in f) w.heap place ≡ reference_to o
@@ -69,7 +70,11 @@ module _ (x : Subject) (l : LoweredMethod) (n : Node) (w after : World) (old new
       let has = has_fields w (of_slots old) e.path place f e.ends in
       elim (c.fields e.path e.listed has) [
         | inl gone ↦ absurd (over e.path gone e.ends)
-        | inr heir ↦ record { path = heir.path; listed = heir.listed; ends = comes_cell op x w after old new l n leads equal heir.comes has heir.fields ∙ e.ends }
+        | inr heir ↦ record {
+          path = heir.path;
+          listed = heir.listed;
+          ends = comes_cell op x w after old new l n leads equal heir.comes has heir.fields ∙ e.ends;
+        }
       ]
 
   -- the path of the field that is stored to ends in that field of that object
@@ -77,15 +82,18 @@ module _ (x : Subject) (l : LoweredMethod) (n : Node) (w after : World) (old new
     same_place : place ≡ g
     same_field : field ≡ f
 
-  over_cell : (object : ℕ) (field : FieldNo) (value place g : ℕ) (f : FieldNo) (y : Path) → slot_at old object ≡ reference_to place → IsOverwritten l n (Store object field value) y
+  over_cell : (object : ℕ) (field : FieldNo) (value place g : ℕ) (f : FieldNo) (y : Path) → slot_at old object ≡ reference_to place
+      → IsOverwritten l n (Store object field value) y
       → last_cell w (of_slots old) y ≡ Some (in_field g f) → IsThisField object place g field f
   over_cell object field value place g f y refers gone ends =
-      let slot_is : slot_at old gone.slot ≡ reference_to place = equal gone.slot gone.object gone.alike ∙ ap (slot_at old) (sym (stored_object gone.op_is)) ∙ refers in
+      let slot_is : slot_at old gone.slot ≡ reference_to place =
+      equal gone.slot gone.object gone.alike ∙ ap (slot_at old) (sym (stored_object gone.op_is)) ∙ refers in
       let cell_is : Some (in_field place gone.field) ≡ Some (in_field g f) =
       sym (ap (λ (v : Value). field_cell v gone.field) slot_is) ∙ sym (ap (last_cell w (of_slots old)) gone.path_is) ∙ ends in
       record { same_place = cell_place cell_is; same_field = stored_field gone.op_is ∙ cell_field cell_is }
 
-  stored_end : (object : ℕ) (field : FieldNo) (value place : ℕ) (f : FieldNo) → Leads (Store object field value) x w old new after → IsComplete l n (Store object field value) t.must u.must
+  stored_end : (object : ℕ) (field : FieldNo) (value place : ℕ) (f : FieldNo) → Leads (Store object field value) x w old new after
+      → IsComplete l n (Store object field value) t.must u.must
       → part_at (field_in f) after.heap place ≡ reference_to o → EndsIn u.must after (of_slots new) (in_field place f)
   stored_end object field value place f leads c is = by (cases_eq place leads.0.to.place) (field_or_not f field)
     where
@@ -107,7 +115,9 @@ module _ (x : Subject) (l : LoweredMethod) (n : Node) (w after : World) (old new
           (λ y gone ends. (let k = over_cell object field value at place f y leads.0.to.is gone ends in ne k.same_place k.same_field)) held
 
       before : (place ≡ at → field_in f written.contents ≡ field_in f into.contents) → part_at (field_in f) w.heap place ≡ reference_to o
-      before same = sym (part_set (field_in f) w.heap at place into written leads.0.to.held same) ∙ sym (ap (λ (h : List Object). part_at (field_in f) h place) heap_is) ∙ is
+      before same =
+          sym (part_set (field_in f) w.heap at place into written leads.0.to.held same) ∙ sym (ap (λ (h : List Object). part_at (field_in f) h place) heap_is)
+          ∙ is
 
       by : (place ≡ at) ⊎ (place ≢ at) → (f ≡ field) ⊎ (f ≢ field) → EndsIn u.must after (of_slots new) (in_field place f)
       by (inr ne) any = elsewhere (λ e d. ne (sym e)) (before (λ e. absurd (ne e)))
@@ -120,17 +130,20 @@ module _ (x : Subject) (l : LoweredMethod) (n : Node) (w after : World) (old new
           ∙ sym (part_set_here (field_in f) w.heap at into written leads.0.to.held) ∙ sym (ap (part_at (field_in f) (slice_set w.heap at written)) e)
           ∙ sym (ap (λ (h : List Object). part_at (field_in f) h place) heap_is) ∙ is in
           let p = c.stores object value field refl (listed_root s o w (of_slots old) t (Slot value) d off (reference_in _ o part)) in
-          let slot_is : slot_at new p.slot ≡ reference_to at = kept_slot (Store object field value) x w after old new p.slot leads p.keeps ∙ equal p.slot object p.alike ∙ leads.0.to.is in
+          let slot_is : slot_at new p.slot ≡ reference_to at =
+          kept_slot (Store object field value) x w after old new p.slot leads p.keeps ∙ equal p.slot object p.alike ∙ leads.0.to.is in
           record {
             path = path (Slot p.slot) (field ∷ []);
             listed = p.listed;
             ends = ap (λ (v : Value). field_cell v field) slot_is ∙ ap Some (ap (λ (k : ℕ). in_field k field) (sym e) ∙ ap (in_field place) (sym q));
           }
 
-  pub any_field_end : (op : Op) (place : ℕ) (f : FieldNo) → Leads op x w old new after → IsComplete l n op t.must u.must → part_at (field_in f) after.heap place ≡ reference_to o
+  pub any_field_end : (op : Op) (place : ℕ) (f : FieldNo) → Leads op x w old new after → IsComplete l n op t.must u.must
+      → part_at (field_in f) after.heap place ≡ reference_to o
       → EndsIn u.must after (of_slots new) (in_field place f)
   any_field_end op place f leads c is = elim (store_or_not op) [
-    | inl k ↦ stored_end k.object k.field k.value place f (op_leads op _ x w after old new k.is leads) (subst (λ (y : Op). IsComplete l n y t.must u.must) k.is c) is
+    | inl k ↦
+        stored_end k.object k.field k.value place f (op_leads op _ x w after old new k.is leads) (subst (λ (y : Op). IsComplete l n y t.must u.must) k.is c) is
     | inr un ↦ field_end op place f leads c (λ y gone e. un gone.object gone.field gone.value gone.op_is)
         (sym (field_unchanged (shape op x w after old new leads) f (λ object value. un object f value) place) ∙ is)
   ]

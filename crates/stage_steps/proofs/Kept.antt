@@ -65,12 +65,15 @@ are_kept x number d c slots = record {
   from = λ place there.
       let k = among_flat (λ (a : StubArgument). places_of (argument_value x number d (argument_values c.arguments slots) a)) d.stub.keeps place there in
       let value_is = place_held (argument_value x number d (argument_values c.arguments slots) k.of) place k.gives in
-      by place k.of k.there (slot_of c d.stub d.descriptor.parameters k.of) refl (sym (unit_value c.arguments slots (argument_unit d.stub.is_static d.descriptor.parameters k.of)) ∙ value_is);
+      by place k.of k.there (slot_of c d.stub d.descriptor.parameters k.of) refl
+      (sym (unit_value c.arguments slots (argument_unit d.stub.is_static d.descriptor.parameters k.of)) ∙ value_is);
 }
   where
     by : (place : ℕ) (a : StubArgument) → Contains d.stub.keeps a → (slot : Option ℕ) → slot_of c d.stub d.descriptor.parameters a ≡ slot
-        → option_map_or (slot_at slots) (slot_of c d.stub d.descriptor.parameters a) primitive_value ≡ reference_to place → IsHeld slots (kept_slots c d.stub d.descriptor.parameters) place
-    by place a there None e is = absurd (let bad : primitive_value ≡ reference_to place = sym (ap (λ (o : Option ℕ). option_map_or (slot_at slots) o primitive_value) e) ∙ is in cc bad)
+        → option_map_or (slot_at slots) (slot_of c d.stub d.descriptor.parameters a) primitive_value ≡ reference_to place
+        → IsHeld slots (kept_slots c d.stub d.descriptor.parameters) place
+    by place a there None e is =
+        absurd (let bad : primitive_value ≡ reference_to place = sym (ap (λ (o : Option ℕ). option_map_or (slot_at slots) o primitive_value) e) ∙ is in cc bad)
     by place a there (Some z) e is = record {
       slot = z;
       listed = flat_contains (λ (b : StubArgument). option_to_list (slot_of c d.stub d.descriptor.parameters b)) d.stub.keeps a z there
@@ -83,7 +86,8 @@ pub kept_before : (kept places : List ℕ) (number o : ℕ) → option_map_or re
     → (option_map_or reference_to (slice_get kept number) null_value ≡ reference_to o) ⊎ Contains places o
 kept_before kept places number o is = by (slice_get (kept ++ places) number) refl
   where
-    by : (found : Option ℕ) → slice_get (kept ++ places) number ≡ found → (option_map_or reference_to (slice_get kept number) null_value ≡ reference_to o) ⊎ Contains places o
+    by : (found : Option ℕ) → slice_get (kept ++ places) number ≡ found
+        → (option_map_or reference_to (slice_get kept number) null_value ≡ reference_to o) ⊎ Contains places o
     by None e = absurd (let bad : null_value ≡ reference_to o = sym (ap (λ (p : Option ℕ). option_map_or reference_to p null_value) e) ∙ is in cc bad)
     by (Some place) e =
         let one : place ≡ o = same_place place o (sym (ap (λ (p : Option ℕ). option_map_or reference_to p null_value) e) ∙ is) in
@@ -93,7 +97,8 @@ kept_before kept places number o is = by (slice_get (kept ++ places) number) ref
         ]
 
 -- a tuple that is closed does not list what is put away
-pub not_put_away : (s : Site) (o : ℕ) (w : World) (slots : List Value) (kept places : List ℕ) (u v : Tuple) → AreKept slots kept places → Describes s u o w (of_slots slots)
+pub not_put_away : (s : Site) (o : ℕ) (w : World) (slots : List Value) (kept places : List ℕ) (u v : Tuple) → AreKept slots kept places
+    → Describes s u o w (of_slots slots)
     → (v.may ≡ false → u.may ≡ false) → PutsAway kept u v → v.may ≡ false → Contains places o → ⊥
 not_put_away s o w slots kept places u v are d may away off there =
     let k = are.from o there in
@@ -110,7 +115,8 @@ calm_kept s o w places v away = record {
 }
 
 -- and an object is made
-pub calm_kept_push : (s : Site) (o : ℕ) (w : World) (places : List ℕ) (made : Object) (v : Tuple) → (v.may ≡ false → Contains places o → ⊥) → ((f : FieldNo) → field_in f made.contents ≡ null_value)
+pub calm_kept_push : (s : Site) (o : ℕ) (w : World) (places : List ℕ) (made : Object) (v : Tuple) → (v.may ≡ false → Contains places o → ⊥)
+    → ((f : FieldNo) → field_in f made.contents ≡ null_value)
     → ((index : ℕ) → element_in index made.contents ≡ null_value) → (v.unique ≡ true → made.site ≢ s) → Calm s o w (with_object (with_kept w places) made) v
 calm_kept_push s o w places made v away no_field no_element apart =
     let calm = calm_push s o w made v no_field no_element apart in
@@ -121,7 +127,8 @@ calm_kept_push s o w places made v away no_field no_element apart =
       kept = λ off number is. elim (kept_before w.kept places number o is) [ inl before ↦ before | inr now ↦ absurd (away off now) ];
     }
 
-pub bounded_kept : (w : World) (slots : List Value) (kept places : List ℕ) → IsBounded w slots → AreKept slots kept places → IsBounded (with_kept w places) slots
+pub bounded_kept : (w : World) (slots : List Value) (kept places : List ℕ) → IsBounded w slots → AreKept slots kept places
+    → IsBounded (with_kept w places) slots
 bounded_kept w slots kept places bounded are = record { each = cell }
   where
     cell : (c : Cell) (place : ℕ) → cell_value (with_kept w places) (of_slots slots) c ≡ reference_to place → place < length w.heap

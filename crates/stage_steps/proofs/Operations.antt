@@ -84,7 +84,8 @@ new_or_not (Probe slot) s = inr (λ z e. cc e)
 -- ---- an object that is there
 
 -- a tuple that flows from one that described the object describes it; if the operation makes another object of the site, no more as the only one
-pub flows_describes : (x : Subject) (l : LoweredMethod) (n : Node) (op : Op) (w after : World) (old new : List Value) (s : Site) (o : ℕ) (t u : Tuple) → Leads op x w old new after → AreEqual l n old
+pub flows_describes : (x : Subject) (l : LoweredMethod) (n : Node) (op : Op) (w after : World) (old new : List Value) (s : Site) (o : ℕ) (t u : Tuple)
+    → Leads op x w old new after → AreEqual l n old
     → IsNoConstant o → Flows l n op t u → (u.unique ≡ true → Makes op s → ⊥) → Describes s t o w (of_slots old) → Describes s u o after (of_slots new)
 flows_describes x l n op w after old new s o t u leads equal apart flow others d = record {
   object = r.object;
@@ -97,7 +98,8 @@ flows_describes x l n op w after old new s o t u leads equal apart flow others d
       | inr made ↦ absurd (others unique (subst (λ (y : Site). Makes op y) of_site made))
     ];
   };
-  must = λ y listed. (let from = flow.must y listed in reference_in _ o (comes_value op x w after old new l n leads equal from.comes ∙ with_reference _ o (d.must from.path from.listed)));
+  must =
+      λ y listed. (let from = flow.must y listed in reference_in _ o (comes_value op x w after old new l n leads equal from.comes ∙ with_reference _ o (d.must from.path from.listed)));
   must_not = λ y listed is. elim (flow.must_not y listed) [
     | inl from ↦ d.must_not from.path from.listed (reference_in _ o (sym (comes_value op x w after old new l n leads equal from.comes) ∙ with_reference _ o is))
     | inr made ↦ new_value made.site made.target made.op_is y made.path_is is
@@ -114,7 +116,8 @@ flows_describes x l n op w after old new s o t u leads equal apart flow others d
     new_value : (site : Site) (target : ℕ) → op ≡ New site target → (y : Path) → y ≡ bare (Slot target) → path_value after (of_slots new) y ≡ reference_to o → ⊥
     new_value site target e y y_is is =
         let k = op_leads op (New site target) x w after old new e leads in
-        at_end w.heap o d.object d.stands (same_place _ _ (sym k.is_made.made_is ∙ sym (k.are_left.given target refl) ∙ sym (ap (path_value after (of_slots new)) y_is) ∙ is))
+        at_end w.heap o d.object d.stands
+        (same_place _ _ (sym k.is_made.made_is ∙ sym (k.are_left.given target refl) ∙ sym (ap (path_value after (of_slots new)) y_is) ∙ is))
 
     cell : u.may ≡ false → (c : Cell) → cell_value after (of_slots new) c ≡ reference_to o → EndsIn u.must after (of_slots new) c
     cell off (in_root (Slot z)) is = slot_end x l n w after old new s o t u d (flow.may off) apart op z leads (flow.complete off) is
@@ -127,7 +130,8 @@ flows_describes x l n op w after old new s o t u leads equal apart flow others d
 
 -- ---- no object of the site is made
 
-others_stay : {x : Subject} {op : Op} {old : List Value} {before after : List Object} (s : Site) (o : ℕ) → Shape x op old before after → (Makes op s → ⊥) → IsTracked s o after → length before ≤ o → length after ≤ o
+others_stay : {x : Subject} {op : Op} {old : List Value} {before after : List Object} (s : Site) (o : ℕ) → Shape x op old before after → (Makes op s → ⊥)
+    → IsTracked s o after → length before ≤ o → length after ≤ o
 others_stay s o (stayed e) others tracked le = subst (λ (h : List Object). length h ≤ o) (sym e) le
 others_stay {x = x} {op = op} {before = before} s o (pushed {site = site} {target = target} is e) others tracked le =
     subst (λ (h : List Object). length h ≤ o) (sym e)
@@ -143,7 +147,8 @@ others_stay {before = before} s o (wrote at into values is ref held holds e) oth
 others_stay {before = before} s o (filled at into values index is held holds inside e) others tracked le =
     subst (λ (h : List Object). length h ≤ o) (sym e) (subst (λ (k : ℕ). k ≤ o) (sym (length-set before at _)) le)
 
-none_made : {x : Subject} {op : Op} {old : List Value} {before after : List Object} (s : Site) → Shape x op old before after → (Makes op s → ⊥) → NoneNew s before after
+none_made : {x : Subject} {op : Op} {old : List Value} {before after : List Object} (s : Site) → Shape x op old before after → (Makes op s → ⊥)
+    → NoneNew s before after
 none_made {op = op} s how others = record {
   was = λ place object stands of_site. elim (was how place object stands) [
     | inl k ↦ record { object = k.object; stands = k.stands; of_site = k.of_site ∙ of_site }
@@ -151,7 +156,8 @@ none_made {op = op} s how others = record {
   ];
 }
 
-some_stays : {x : Subject} {op : Op} {old : List Value} {before after : List Object} (s : Site) → Shape x op old before after → HasSome s before → HasSome s after
+some_stays : {x : Subject} {op : Op} {old : List Value} {before after : List Object} (s : Site) → Shape x op old before after → HasSome s before
+    → HasSome s after
 some_stays s how some =
     let k = remains how some.place some.object some.stands in
     record { place = some.place; object = k.object; stands = k.stands; of_site = k.of_site ∙ some.of_site }
@@ -160,7 +166,8 @@ some_stays s how some =
 
 module _ (x : Subject) (S : Fact → Type 0) (s : Site) (t : Transfer) (laws : IsStage x S s t) (o : ℕ) where
   unmade_says : (l : LoweredMethod) (n : Node) (f : SiteFact) (w after : World) (old new : List Value) → IsIdle f → Leads n.op x w old new after
-      → ((sites : List Site) (target : ℕ) → n.op ≡ NewArray sites target → Contains sites s → ⊥) → ((target : ℕ) → n.op ≢ New s target) → IsTracked s o after.heap
+      → ((sites : List Site) (target : ℕ) → n.op ≡ NewArray sites target → Contains sites s → ⊥) → ((target : ℕ) → n.op ≢ New s target)
+      → IsTracked s o after.heap
       → Says s f o w (of_slots old) → Results (t.next l n f) (λ g. Says s g o after (of_slots new))
   unmade_says l n f w after old new idle leads no_array no_object tracked says =
       let how = shape n.op x w after old new leads in
@@ -174,12 +181,18 @@ module _ (x : Subject) (S : Fact → Type 0) (s : Site) (t : Transfer) (laws : I
       others (an_object {target = target} is) = no_object target is
       others (an_array {sites = sites} {target = target} is there) = no_array sites target is there
 
-  pub next_says : (l : LoweredMethod) (n : Node) (f : SiteFact) (w after : World) (old new : List Value) → HasVariables l n → AreEqual l n old → Leads n.op x w old new after → IsBounded w old
-      → IsNoConstant o → ((sites : List Site) (target : ℕ) → n.op ≡ NewArray sites target → Contains sites s → ⊥) → IsTracked s o after.heap → Says s f o w (of_slots old)
+  pub next_says : (l : LoweredMethod) (n : Node) (f : SiteFact) (w after : World) (old new : List Value) → HasVariables l n → AreEqual l n old
+      → Leads n.op x w old new after → IsBounded w old
+      → IsNoConstant o → ((sites : List Site) (target : ℕ) → n.op ≡ NewArray sites target → Contains sites s → ⊥) → IsTracked s o after.heap
+      → Says s f o w (of_slots old)
       → Results (t.next l n f) (λ g. Says s g o after (of_slots new))
   next_says l n (of_object u) w after old new variables equal leads bounded apart no_array tracked d =
       let k = laws.next l n u variables (plain_of n.op x w after old new leads) in
-      record { fact = of_object k.tuple; listed = k.listed; says = flows_describes x l n n.op w after old new s o u k.tuple leads equal apart k.related.0 (others k.tuple k.related.1) d }
+      record {
+        fact = of_object k.tuple;
+        listed = k.listed;
+        says = flows_describes x l n n.op w after old new s o u k.tuple leads equal apart k.related.0 (others k.tuple k.related.1) d;
+      }
     where
       others : (v : Tuple) → ((target : ℕ) → n.op ≡ New s target → v.unique ≡ false) → v.unique ≡ true → Makes n.op s → ⊥
       others v off unique (an_object {target = target} is) = let shared = off target is in cc (unique, shared)

@@ -17,7 +17,8 @@ use Rattle.stage_relations.specs.Relations.{path, HasFields, EndsIn}
 
 -- ---- parts of objects
 
-pub part_is : (part : Contents → Value) (heap : List Object) (place : ℕ) (o : Object) → slice_get heap place ≡ Some o → part_at part heap place ≡ part o.contents
+pub part_is : (part : Contents → Value) (heap : List Object) (place : ℕ) (o : Object) → slice_get heap place ≡ Some o
+    → part_at part heap place ≡ part o.contents
 part_is part heap place o e = ap (λ (x : Option Object). option_map_or (λ (y : Object). part y.contents) x null_value) e
 
 -- the object whose part it is
@@ -26,11 +27,13 @@ pub record HasPart (part : Contents → Value) (heap : List Object) (place : ℕ
   pub stands : slice_get heap place ≡ Some object
   pub is : part object.contents ≡ v
 
-pub part_held : (part : Contents → Value) (heap : List Object) (place q : ℕ) → part_at part heap place ≡ reference_to q → HasPart part heap place (reference_to q)
+pub part_held : (part : Contents → Value) (heap : List Object) (place q : ℕ) → part_at part heap place ≡ reference_to q
+    → HasPart part heap place (reference_to q)
 part_held part heap place q is = by (slice_get heap place) refl
   where
     by : (x : Option Object) → slice_get heap place ≡ x → HasPart part heap place (reference_to q)
-    by None e = absurd (let bad : null_value ≡ reference_to q = sym (ap (λ (x : Option Object). option_map_or (λ (y : Object). part y.contents) x null_value) e) ∙ is in cc bad)
+    by None e =
+        absurd (let bad : null_value ≡ reference_to q = sym (ap (λ (x : Option Object). option_map_or (λ (y : Object). part y.contents) x null_value) e) ∙ is in cc bad)
     by (Some o) e = record { object = o; stands = e; is = sym (part_is part heap place o e) ∙ is }
 
 -- more objects, whose parts refer to nothing
@@ -42,14 +45,16 @@ part_append part [] (o ∷ more) (suc place) none = part_append part [] more pla
 part_append part (o ∷ heap) more zero none = refl
 part_append part (o ∷ heap) more (suc place) none = part_append part heap more place none
 
-pub part_push : (part : Contents → Value) (heap : List Object) (new : Object) (place : ℕ) → part new.contents ≡ null_value → part_at part (heap ++ new ∷ []) place ≡ part_at part heap place
+pub part_push : (part : Contents → Value) (heap : List Object) (new : Object) (place : ℕ) → part new.contents ≡ null_value
+    → part_at part (heap ++ new ∷ []) place ≡ part_at part heap place
 part_push part [] new zero e = e
 part_push part [] new (suc place) e = refl
 part_push part (o ∷ heap) new zero e = refl
 part_push part (o ∷ heap) new (suc place) e = part_push part heap new place e
 
 -- another object in the place of one
-pub set_here : (heap : List Object) (place : ℕ) (into written : Object) → slice_get heap place ≡ Some into → slice_get (slice_set heap place written) place ≡ Some written
+pub set_here : (heap : List Object) (place : ℕ) (into written : Object) → slice_get heap place ≡ Some into
+    → slice_get (slice_set heap place written) place ≡ Some written
 set_here heap place into written held = set_at heap place written (slice_get_within heap place into held)
 
 pub part_set : (part : Contents → Value) (heap : List Object) (place k : ℕ) (into written : Object) → slice_get heap place ≡ Some into
@@ -104,7 +109,8 @@ behind_same before after f primitive_value same = refl
 behind_same before after f null_value same = refl
 behind_same before after f (reference_to place) same = same place
 
-pub follow_same : (before after : List Object) (v : Value) (fs : List FieldNo) → AllByRecursion (Unchanged before after) fs → followed after v fs ≡ followed before v fs
+pub follow_same : (before after : List Object) (v : Value) (fs : List FieldNo) → AllByRecursion (Unchanged before after) fs
+    → followed after v fs ≡ followed before v fs
 follow_same before after v [] same = refl
 follow_same before after v (f ∷ fs) same =
     ap (λ (x : Value). followed after x fs) (behind_same before after f v same.0) ∙ follow_same before after (behind before f v) fs same.1
@@ -115,7 +121,8 @@ last_same before after v f [] same = refl
 last_same before after v f (g ∷ fs) same =
     ap (λ (x : Value). last_field_cell after x g fs) (behind_same before after f v same.0) ∙ last_same before after (behind before f v) g fs same.1
 
-pub each_unchanged : (before after : List Object) → ((f : FieldNo) → Unchanged before after f) → (fs : List FieldNo) → AllByRecursion (Unchanged before after) fs
+pub each_unchanged : (before after : List Object) → ((f : FieldNo) → Unchanged before after f) → (fs : List FieldNo)
+    → AllByRecursion (Unchanged before after) fs
 each_unchanged before after same [] = tt
 each_unchanged before after same (f ∷ fs) = (same f, each_unchanged before after same fs)
 
@@ -204,7 +211,8 @@ field_cell_ends (reference_to p) f place g e = cc e
 field_cell_ends primitive_value f place g e = absurd (none-some _ e)
 field_cell_ends null_value f place g e = absurd (none-some _ e)
 
-last_ends : (heap : List Object) (v : Value) (f : FieldNo) (fs : List FieldNo) (place : ℕ) (g : FieldNo) → last_field_cell heap v f fs ≡ Some (in_field place g) → EndsIn g (f ∷ fs)
+last_ends : (heap : List Object) (v : Value) (f : FieldNo) (fs : List FieldNo) (place : ℕ) (g : FieldNo) → last_field_cell heap v f fs ≡ Some (in_field place g)
+    → EndsIn g (f ∷ fs)
 last_ends heap v f [] place g e = field_cell_ends v f place g e
 last_ends heap v f (h ∷ fs) place g e = last_ends heap (behind heap f v) h fs place g e
 
@@ -216,14 +224,16 @@ ends_in w view x place g e = by x.fields x.root e
     by (f ∷ fs) q e = last_ends w.heap (root_value w view q) f fs place g e
 
 -- its root is a reference
-pub root_refers : (w : World) (view : View) (x : Path) (place : ℕ) (g : FieldNo) → last_cell w view x ≡ Some (in_field place g) → IsReference (root_value w view x.root)
+pub root_refers : (w : World) (view : View) (x : Path) (place : ℕ) (g : FieldNo) → last_cell w view x ≡ Some (in_field place g)
+    → IsReference (root_value w view x.root)
 root_refers w view x place g e = by x.fields x.root e
   where
     by : (fs : List FieldNo) (q : Root) → last_cell w view (path q fs) ≡ Some (in_field place g) → IsReference (root_value w view q)
     by [] q e = absurd (cc e)
     by (f ∷ fs) q e = ends_from w.heap (root_value w view q) f fs _ e
 
-no_end : (w : World) (view : View) (x : Path) (c : Cell) → ((r : Root) → c ≢ in_root r) → ((place : ℕ) (f : FieldNo) → c ≢ in_field place f) → last_cell w view x ≡ Some c → ⊥
+no_end : (w : World) (view : View) (x : Path) (c : Cell) → ((r : Root) → c ≢ in_root r) → ((place : ℕ) (f : FieldNo) → c ≢ in_field place f)
+    → last_cell w view x ≡ Some c → ⊥
 no_end w view x c not_root not_field e = by x.fields x.root e
   where
     by : (fs : List FieldNo) (q : Root) → last_cell w view (path q fs) ≡ Some c → ⊥

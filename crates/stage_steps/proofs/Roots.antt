@@ -46,7 +46,8 @@ pub record IsGiven (target : Option ℕ) (v : Value) (z o : ℕ) : Type 0 where
   pub is_target : target ≡ Some z
   pub is : v ≡ reference_to o
 
-pub given_value : (operands : List ℕ) (target : Option ℕ) (v : Value) (old new : List Value) (z o : ℕ) → AreLeft operands target v old new → Contains (operands ++ option_to_list target) z
+pub given_value : (operands : List ℕ) (target : Option ℕ) (v : Value) (old new : List Value) (z o : ℕ) → AreLeft operands target v old new
+    → Contains (operands ++ option_to_list target) z
     → slot_at new z ≡ reference_to o → IsGiven target v z o
 given_value operands target v old new z o left there is = by (some_or_not target z)
   where
@@ -62,7 +63,8 @@ given_value operands target v old new z o left there is = by (some_or_not target
     ]
 
 static_or_not : (op : Op) (f : FieldNo) → ((y : ℕ) × (op ≡ StoreStatic f y)) ⊎ ((y : ℕ) → op ≢ StoreStatic f y)
-static_or_not (StoreStatic g y) f = elim (cases_eq g.0 f.0) [ inl e ↦ inl (y, ap (λ (h : FieldNo). StoreStatic h y) (same_field g f e)) | inr ne ↦ inr (λ z e. ne (by y z e)) ]
+static_or_not (StoreStatic g y) f =
+    elim (cases_eq g.0 f.0) [ inl e ↦ inl (y, ap (λ (h : FieldNo). StoreStatic h y) (same_field g f e)) | inr ne ↦ inr (λ z e. ne (by y z e)) ]
   where
     by : (y z : ℕ) → StoreStatic g y ≡ StoreStatic f z → g.0 ≡ f.0
     by y z e = ap (λ (h : FieldNo). h.0) (cc e)
@@ -81,12 +83,14 @@ static_or_not (Throw value) f = inr (λ z e. cc e)
 static_or_not (Cast class slot) f = inr (λ z e. cc e)
 static_or_not (Probe slot) f = inr (λ z e. cc e)
 
-module _ (x : Subject) (l : LoweredMethod) (n : Node) (w after : World) (old new : List Value) (s : Site) (o : ℕ) (t u : Tuple) (d : Describes s t o w (of_slots old)) (off : t.may ≡ false) (apart : IsNoConstant o) where
+module _ (x : Subject) (l : LoweredMethod) (n : Node) (w after : World) (old new : List Value) (s : Site) (o : ℕ) (t u : Tuple)
+    (d : Describes s t o w (of_slots old)) (off : t.may ≡ false) (apart : IsNoConstant o) where
   at_root : (r : Root) → Contains u.must (bare r) → EndsIn u.must after (of_slots new) (in_root r)
   at_root r listed = record { path = bare r; listed = listed; ends = refl }
 
   -- a root that got what a root had that is the object's
-  pub root_end : (op : Op) (r q : Root) → IsComplete l n op t.must u.must → Copied op r q → root_value w (of_slots old) r ≡ reference_to o → EndsIn u.must after (of_slots new) (in_root q)
+  pub root_end : (op : Op) (r q : Root) → IsComplete l n op t.must u.must → Copied op r q → root_value w (of_slots old) r ≡ reference_to o
+      → EndsIn u.must after (of_slots new) (in_root q)
   root_end op r q c copied is = at_root q (c.roots r q copied (listed_root s o w (of_slots old) t r d off is))
 
   -- the same slot by another name
@@ -103,10 +107,13 @@ module _ (x : Subject) (l : LoweredMethod) (n : Node) (w after : World) (old new
       let m = contained_in_map target_of moves z there in
       as_slot m.0.target z m.2 (by m.0 m.1 m.0.source refl (sym (leads.0.moved m.0 m.1) ∙ ap (slot_at new) m.2 ∙ is))
     where
-      by : (m : Move) → Contains moves m → (source : Source) → m.source ≡ source → source_value m.source old ≡ reference_to o → EndsIn u.must after (of_slots new) (in_root (Slot m.target))
-      by m listed (sources.Slot y) e v = root_end (Assign moves) (Slot y) (Slot m.target) c (moved refl listed e) (sym (ap (λ (from : Source). source_value from old) e) ∙ v)
+      by : (m : Move) → Contains moves m → (source : Source) → m.source ≡ source → source_value m.source old ≡ reference_to o
+          → EndsIn u.must after (of_slots new) (in_root (Slot m.target))
+      by m listed (sources.Slot y) e v =
+          root_end (Assign moves) (Slot y) (Slot m.target) c (moved refl listed e) (sym (ap (λ (from : Source). source_value from old) e) ∙ v)
       by m listed sources.Null e v = absurd (let bad : null_value ≡ reference_to o = sym (ap (λ (from : Source). source_value from old) e) ∙ v in cc bad)
-      by m listed sources.Primitive e v = absurd (let bad : primitive_value ≡ reference_to o = sym (ap (λ (from : Source). source_value from old) e) ∙ v in cc bad)
+      by m listed sources.Primitive e v =
+          absurd (let bad : primitive_value ≡ reference_to o = sym (ap (λ (from : Source). source_value from old) e) ∙ v in cc bad)
   gone_end (Load object field target) z leads c there is =
       let k = given_value (object ∷ []) (Some target) leads.value old new z o leads.are_left there is in
       let read = leads.is_read in
@@ -114,7 +121,8 @@ module _ (x : Subject) (l : LoweredMethod) (n : Node) (w after : World) (old new
       let part : part_at (field_in field) w.heap to.place ≡ reference_to o =
       part_is (field_in field) w.heap to.place to.object to.held ∙ ap (field_in field) read.holds ∙ ap without_primitive (sym read.is ∙ k.is) in
       let e = d.cells off (in_field to.place field) part in
-      as_slot target z (same_Some _ _ k.is_target) (at_root (Slot target) (c.loads object target field refl e.path e.listed (ends_in w (of_slots old) e.path to.place field e.ends)))
+      as_slot target z (same_Some _ _ k.is_target)
+      (at_root (Slot target) (c.loads object target field refl e.path e.listed (ends_in w (of_slots old) e.path to.place field e.ends)))
   gone_end (Store object field value) z leads c there is = absurd (no_target (object ∷ value ∷ []) z leads.1 there is)
   gone_end (LoadElement array target) z leads c there is =
       let k = given_value (array ∷ []) (Some target) leads.value old new z o leads.are_left there is in
@@ -147,13 +155,15 @@ module _ (x : Subject) (l : LoweredMethod) (n : Node) (w after : World) (old new
   gone_end (Cast class slot) z leads c there is = absurd (contains_none z there)
   gone_end (Probe slot) z leads c there is = absurd (no_target (slot ∷ []) z leads.1 there is)
 
-  pub slot_end : (op : Op) (z : ℕ) → Leads op x w old new after → IsComplete l n op t.must u.must → slot_at new z ≡ reference_to o → EndsIn u.must after (of_slots new) (in_root (Slot z))
+  pub slot_end : (op : Op) (z : ℕ) → Leads op x w old new after → IsComplete l n op t.must u.must → slot_at new z ≡ reference_to o
+      → EndsIn u.must after (of_slots new) (in_root (Slot z))
   slot_end op z leads c is = elim (contained_or_not (gone_slots op) z) [
     | inl there ↦ gone_end op z leads c there is
     | inr free ↦ root_end op (Slot z) (Slot z) c (kept free) (sym (kept_slot op x w after old new z leads free) ∙ is)
   ]
 
-  pub static_end : (op : Op) (f : FieldNo) → Leads op x w old new after → IsComplete l n op t.must u.must → after.statics f.0 ≡ reference_to o → EndsIn u.must after (of_slots new) (in_root (Static f))
+  pub static_end : (op : Op) (f : FieldNo) → Leads op x w old new after → IsComplete l n op t.must u.must → after.statics f.0 ≡ reference_to o
+      → EndsIn u.must after (of_slots new) (in_root (Static f))
   static_end op f leads c is = elim (static_or_not op f) [
     | inl k ↦ root_end op (Slot k.0) (Static f) c (stored k.1) (sym (copied_value op x w after old new {r = Slot k.0} {q = Static f} leads (stored k.1)) ∙ is)
     | inr un ↦ root_end op (Static f) (Static f) c (static un) (sym (copied_value op x w after old new {r = Static f} {q = Static f} leads (static un)) ∙ is)

@@ -38,10 +38,12 @@ default_elements class zero index = refl
 default_elements class (suc long) zero = default_refers_not (drop 1 class)
 default_elements class (suc long) (suc index) = default_elements class long index
 
-row_is_new : (d : Dimension) (sites : List Site) (state first low count : ℕ) (o : Object) → Contains sites d.site → low ≤ first → Contains (arrays_of_arrays d state first count) o → IsNewArray sites low o
+row_is_new : (d : Dimension) (sites : List Site) (state first low count : ℕ) (o : Object) → Contains sites d.site → low ≤ first
+    → Contains (arrays_of_arrays d state first count) o → IsNewArray sites low o
 row_is_new d sites state first low zero o among le there = absurd (contains_none o there)
 row_is_new d sites state first low (suc count) o among le there =
-    by (row_is_new d sites state (first + d.long) low count o among (omega (arith, le))) (contains_cases (new_array d.site (references_from first d.long) state) o (arrays_of_arrays d state (first + d.long) count) there)
+    by (row_is_new d sites state (first + d.long) low count o among (omega (arith, le)))
+    (contains_cases (new_array d.site (references_from first d.long) state) o (arrays_of_arrays d state (first + d.long) count) there)
   where
     by : (Contains (arrays_of_arrays d state (first + d.long) count) o → IsNewArray sites low o)
         → (new_array d.site (references_from first d.long) state ≡ o) ⊎ Contains (arrays_of_arrays d state (first + d.long) count) o → IsNewArray sites low o
@@ -66,7 +68,8 @@ site_of d = d.site
 widened : (outer : Site) (sites : List Site) (first : ℕ) (o : Object) → IsNewArray sites first o → IsNewArray (outer ∷ sites) first o
 widened outer sites first o a = record { among = contains_later outer o.site sites a.among; no_field = a.no_field; beyond = a.beyond }
 
-pub arrays_are_new : (dimensions : List Dimension) (state place low count : ℕ) (o : Object) → low ≤ place → Contains (arrays_from state place count dimensions) o
+pub arrays_are_new : (dimensions : List Dimension) (state place low count : ℕ) (o : Object) → low ≤ place
+    → Contains (arrays_from state place count dimensions) o
     → IsNewArray (map (λ (d : Dimension). d.site) dimensions) low o
 arrays_are_new [] state place low count o le there = absurd (contains_none o there)
 arrays_are_new (d ∷ []) state place low count o le there =
@@ -82,7 +85,9 @@ arrays_are_new (d ∷ e ∷ deeper) state place low count o le there =
     by : (Contains (arrays_from state (place + count) (count * d.long) (e ∷ deeper)) o → IsNewArray (e.site ∷ map (λ (d : Dimension). d.site) deeper) low o)
         → Contains (arrays_of_arrays d state (place + count) count) o ⊎ Contains (arrays_from state (place + count) (count * d.long) (e ∷ deeper)) o
         → IsNewArray (d.site ∷ e.site ∷ map (λ (d : Dimension). d.site) deeper) low o
-    by rest (inl outer) = row_is_new d (d.site ∷ e.site ∷ map (λ (d : Dimension). d.site) deeper) state (place + count) low count o (contains_first d.site (e.site ∷ map (λ (d : Dimension). d.site) deeper)) (omega (arith, le)) outer
+    by rest (inl outer) =
+        row_is_new d (d.site ∷ e.site ∷ map (λ (d : Dimension). d.site) deeper) state (place + count) low count o
+        (contains_first d.site (e.site ∷ map (λ (d : Dimension). d.site) deeper)) (omega (arith, le)) outer
     by rest (inr inner) = widened d.site (e.site ∷ map (λ (d : Dimension). d.site) deeper) low o (rest inner)
 
 -- ---- the heap after an operation
@@ -97,12 +102,15 @@ with_element into values index v = record { site = into.site; class = into.class
 pub data Shape (x : Subject) (op : Op) (old : List Value) (before after : List Object) : Type 0 where
   stayed : after ≡ before → Shape x op old before after
   pushed : {site : Site} {target : ℕ} → op ≡ New site target → after ≡ before ++ new_object x.program site x.property.initial ∷ [] → Shape x op old before after
-  arrayed : {sites : List Site} {target : ℕ} (more : List Object) → op ≡ NewArray sites target → ((o : Object) → Contains more o → IsNewArray sites (length before) o) → after ≡ before ++ more
+  arrayed : {sites : List Site} {target : ℕ} (more : List Object) → op ≡ NewArray sites target
+      → ((o : Object) → Contains more o → IsNewArray sites (length before) o) → after ≡ before ++ more
       → Shape x op old before after
   wrote : {base value : ℕ} {f : FieldNo} (place : ℕ) (into : Object) (values : ℕ → Value) → op ≡ Store base f value → slot_at old base ≡ reference_to place
-      → slice_get before place ≡ Some into → into.contents ≡ fields values → after ≡ slice_set before place (with_field into values f (slot_at old value)) → Shape x op old before after
+      → slice_get before place ≡ Some into → into.contents ≡ fields values → after ≡ slice_set before place (with_field into values f (slot_at old value))
+      → Shape x op old before after
   filled : {base value : ℕ} (place : ℕ) (into : Object) (values : List Value) (index : ℕ) → op ≡ StoreElement base value → slice_get before place ≡ Some into
-      → into.contents ≡ elements values → index < length values → after ≡ slice_set before place (with_element into values index (slot_at old value)) → Shape x op old before after
+      → into.contents ≡ elements values → index < length values → after ≡ slice_set before place (with_element into values index (slot_at old value))
+      → Shape x op old before after
 
 heap_of : (a b : World) → a ≡ b → a.heap ≡ b.heap
 heap_of a b e = ap (λ (w : World). w.heap) e
@@ -113,7 +121,8 @@ shape (Load object field target) x w after old new l = stayed (heap_of after w l
 shape (Store object field value) x w after old new l = wrote l.0.to.place l.0.to.object l.0.values refl l.0.to.is l.0.to.held l.0.holds (heap_of after _ l.0.is)
 shape (LoadElement array target) x w after old new l = stayed (heap_of after w l.same)
 shape (StoreElement array value) x w after old new l =
-    filled l.0.of.array.to.place l.0.of.array.to.object l.0.of.array.values l.0.index refl l.0.of.array.to.held l.0.of.array.holds l.0.inside (heap_of after _ l.0.is)
+    filled l.0.of.array.to.place l.0.of.array.to.object l.0.of.array.values l.0.index refl l.0.of.array.to.held l.0.of.array.holds l.0.inside
+    (heap_of after _ l.0.is)
 shape (LoadStatic field target) x w after old new l = stayed (heap_of after w l.same)
 shape (StoreStatic field value) x w after old new l = stayed (heap_of after _ l.0)
 shape (New site target) x w after old new l = pushed refl (heap_of after _ l.is_made.after_is)
@@ -131,11 +140,13 @@ shape (Probe slot) x w after old new l = stayed (heap_of after w l.0.1)
 
 -- ---- fields
 
-pub field_unchanged : {x : Subject} {op : Op} {old : List Value} {before after : List Object} → Shape x op old before after → (f : FieldNo) → ((object value : ℕ) → op ≢ Store object f value)
+pub field_unchanged : {x : Subject} {op : Op} {old : List Value} {before after : List Object} → Shape x op old before after → (f : FieldNo)
+    → ((object value : ℕ) → op ≢ Store object f value)
     → Unchanged before after f
 field_unchanged {before = before} (stayed e) f un place = ap (λ (h : List Object). part_at (field_in f) h place) e
 field_unchanged {x = x} {before = before} (pushed {site = site} is e) f un place =
-    ap (λ (h : List Object). part_at (field_in f) h place) e ∙ part_push (field_in f) before (new_object x.program site x.property.initial) place (default_field x.program f)
+    ap (λ (h : List Object). part_at (field_in f) h place) e
+    ∙ part_push (field_in f) before (new_object x.program site x.property.initial) place (default_field x.program f)
 field_unchanged {before = before} (arrayed more is new e) f un place =
     ap (λ (h : List Object). part_at (field_in f) h place) e ∙ part_append (field_in f) before more place (λ o there. (let a = new o there in a.no_field f))
 field_unchanged {old = old} {before = before} (wrote {base = base} {value = value} {f = g} at into values is ref held holds e) f un place =
@@ -143,9 +154,11 @@ field_unchanged {old = old} {before = before} (wrote {base = base} {value = valu
     ∙ part_set (field_in f) before at place into (with_field into values g (slot_at old value)) held
     (λ _. ap without_primitive (updated_other values g.0 f.0 (slot_at old value) (λ d. un base value (is ∙ ap (λ (h : FieldNo). Store base h value) (sym (same_field f g d))))) ∙ sym (ap (field_in f) holds))
 field_unchanged {old = old} {before = before} (filled {value = value} at into values index is held holds inside e) f un place =
-    ap (λ (h : List Object). part_at (field_in f) h place) e ∙ part_set (field_in f) before at place into (with_element into values index (slot_at old value)) held (λ _. sym (ap (field_in f) holds))
+    ap (λ (h : List Object). part_at (field_in f) h place) e
+    ∙ part_set (field_in f) before at place into (with_element into values index (slot_at old value)) held (λ _. sym (ap (field_in f) holds))
 
-pub all_unchanged : {x : Subject} {op : Op} {old : List Value} {before after : List Object} → Shape x op old before after → (fs : List FieldNo) → IsUnstored op fs
+pub all_unchanged : {x : Subject} {op : Op} {old : List Value} {before after : List Object} → Shape x op old before after → (fs : List FieldNo)
+    → IsUnstored op fs
     → AllByRecursion (Unchanged before after) fs
 all_unchanged how [] un = tt
 all_unchanged how (f ∷ fs) un = (field_unchanged how f un.0, all_unchanged how fs un.1)
@@ -159,7 +172,8 @@ pub record Remains (heap : List Object) (place : ℕ) (old : Object) : Type 0 wh
   pub of_site : object.site ≡ old.site
   pub in_state : object.automaton ≡ old.automaton
 
-remains_set : (heap : List Object) (at place : ℕ) (into written object : Object) → slice_get heap at ≡ Some into → written.site ≡ into.site → written.automaton ≡ into.automaton
+remains_set : (heap : List Object) (at place : ℕ) (into written object : Object) → slice_get heap at ≡ Some into → written.site ≡ into.site
+    → written.automaton ≡ into.automaton
     → slice_get heap place ≡ Some object → Remains (slice_set heap at written) place object
 remains_set heap at place into written object is site state held = by (cases_eq place at)
   where
@@ -174,7 +188,8 @@ remains_set heap at place into written object is site state held = by (cases_eq 
         }
     by (inr ne) = record { object = object; stands = set_other heap at place written ne ∙ held; of_site = refl; in_state = refl }
 
-pub was_set : (heap : List Object) (at place : ℕ) (into written object : Object) → slice_get heap at ≡ Some into → written.site ≡ into.site → slice_get (slice_set heap at written) place ≡ Some object
+pub was_set : (heap : List Object) (at place : ℕ) (into written object : Object) → slice_get heap at ≡ Some into → written.site ≡ into.site
+    → slice_get (slice_set heap at written) place ≡ Some object
     → HasAt object.site heap place
 was_set heap at place into written object is site stands = elim (set_cases heap at place written object stands) [
   | inl here ↦ record { object = into; stands = ap (slice_get heap) here.0 ∙ is; of_site = sym site ∙ sym (ap (λ (o : Object). o.site) here.1) }
@@ -184,12 +199,17 @@ was_set heap at place into written object is site stands = elim (set_cases heap 
 in_heap : {before after : List Object} {place : ℕ} {object : Object} → after ≡ before → Remains before place object → Remains after place object
 in_heap {place = place} {object = object} e r = subst (λ (h : List Object). Remains h place object) (sym e) r
 
-pub remains : {x : Subject} {op : Op} {old : List Value} {before after : List Object} → Shape x op old before after → (place : ℕ) (object : Object) → slice_get before place ≡ Some object → Remains after place object
+pub remains : {x : Subject} {op : Op} {old : List Value} {before after : List Object} → Shape x op old before after → (place : ℕ) (object : Object)
+    → slice_get before place ≡ Some object → Remains after place object
 remains (stayed e) place object held = in_heap e (record { object = object; stands = held; of_site = refl; in_state = refl })
-remains {before = before} (pushed is e) place object held = in_heap e (record { object = object; stands = in_longer before _ place object held; of_site = refl; in_state = refl })
-remains {before = before} (arrayed more is new e) place object held = in_heap e (record { object = object; stands = in_longer before more place object held; of_site = refl; in_state = refl })
-remains {before = before} (wrote at into values is ref stands holds e) place object held = in_heap e (remains_set before at place into _ object stands refl refl held)
-remains {before = before} (filled at into values index is stands holds inside e) place object held = in_heap e (remains_set before at place into _ object stands refl refl held)
+remains {before = before} (pushed is e) place object held =
+    in_heap e (record { object = object; stands = in_longer before _ place object held; of_site = refl; in_state = refl })
+remains {before = before} (arrayed more is new e) place object held =
+    in_heap e (record { object = object; stands = in_longer before more place object held; of_site = refl; in_state = refl })
+remains {before = before} (wrote at into values is ref stands holds e) place object held =
+    in_heap e (remains_set before at place into _ object stands refl refl held)
+remains {before = before} (filled at into values index is stands holds inside e) place object held =
+    in_heap e (remains_set before at place into _ object stands refl refl held)
 
 -- the operation makes objects of a site
 pub data Makes (op : Op) (s : Site) : Type 0 where
@@ -201,13 +221,16 @@ append_cases [] ys k x e = inr (contains_at ys k x e)
 append_cases (y ∷ xs) ys zero x e = inl e
 append_cases (y ∷ xs) ys (suc k) x e = append_cases xs ys k x e
 
-pub was : {x : Subject} {op : Op} {old : List Value} {before after : List Object} → Shape x op old before after → (place : ℕ) (object : Object) → slice_get after place ≡ Some object
+pub was : {x : Subject} {op : Op} {old : List Value} {before after : List Object} → Shape x op old before after → (place : ℕ) (object : Object)
+    → slice_get after place ≡ Some object
     → HasAt object.site before place ⊎ Makes op object.site
-was {before = before} (stayed e) place object stands = inl (record { object = object; stands = subst (λ (h : List Object). slice_get h place ≡ Some object) e stands; of_site = refl })
+was {before = before} (stayed e) place object stands =
+    inl (record { object = object; stands = subst (λ (h : List Object). slice_get h place ≡ Some object) e stands; of_site = refl })
 was {x = x} {op = op} {before = before} (pushed {site = site} {target = target} is e) place object stands =
     by (append_cases before _ place object (subst (λ (h : List Object). slice_get h place ≡ Some object) e stands))
   where
-    by : (slice_get before place ≡ Some object) ⊎ Contains (new_object x.program site x.property.initial ∷ []) object → HasAt object.site before place ⊎ Makes op object.site
+    by : (slice_get before place ≡ Some object) ⊎ Contains (new_object x.program site x.property.initial ∷ []) object
+        → HasAt object.site before place ⊎ Makes op object.site
     by (inl held) = inl (record { object = object; stands = held; of_site = refl })
     by (inr new) = elim (contains_cases _ object [] new) [
       | inl same ↦ inr (an_object {target = target} (is ∙ ap (λ (y : Object). New y.site target) same))
