@@ -82,7 +82,8 @@ module _ (x : Subject) (s : Site) (o : ℕ) (target : Option ℕ) (operands : Li
       cell off (in_root Returned) is = absurd (cc is)
       cell off (in_root Thrown) is = absurd (cc is)
       cell off (in_field place f) is =
-          absurd (nothing (in_field place f) o_is (sym (part_push (field_in f) w.heap (new_object x.program s x.property.initial) place (default_field x.program f)) ∙ is))
+          let none = default_field x.program f in
+          absurd (nothing (in_field place f) o_is (sym (part_push (field_in f) w.heap (new_object x.program s x.property.initial) place none) ∙ is))
       cell off (in_element place index) is =
           absurd (nothing (in_element place index) o_is (sym (part_push (element_in index) w.heap (new_object x.program s x.property.initial) place refl) ∙ is))
       cell off (in_kept number) is = absurd (nothing (in_kept number) o_is is)

@@ -79,8 +79,7 @@ pub record There (s : Site) (state o : ℕ) (heap : List Object) : Type 0 where
 pub calm_describes : (s : Site) (o : ℕ) (w x : World) (old new : View) (t u : Tuple) (Goes : Root → Root → Type 0) → Calm s o w x u → There s u.state o x.heap
     → ((r q : Root) → Goes r q → root_value x new q ≡ root_value w old r) → (u.unique ≡ true → t.unique ≡ true)
     → ((y : Path) → Contains u.must y → Source Goes t.must y ⊎ (path_value x new y ≡ reference_to o))
-    → ((y : Path) → Contains u.must_not y → Source Goes t.must_not y ⊎ (path_value x new y ≢ reference_to o))
-    → (u.may ≡ false → t.may ≡ false)
+    → ((y : Path) → Contains u.must_not y → Source Goes t.must_not y ⊎ (path_value x new y ≢ reference_to o)) → (u.may ≡ false → t.may ≡ false)
     → (u.may ≡ false → (r : Root) → root_value x new r ≡ reference_to o → Contains u.must (bare r))
     → (u.may ≡ false → (y : Path) → Contains t.must y → HasFields y.fields → Target (λ r q. root_value x new q ≡ root_value w old r) y u.must)
     → Describes s t o w old → Describes s u o x new
@@ -89,8 +88,11 @@ calm_describes s o w x old new t u Goes calm there same unique must must_not may
   stands = there.stands;
   of_site = there.of_site;
   in_state = there.in_state;
-  only =
-      λ is. record { only = λ place object stands of_site. (let k = (calm.none is).was place object stands of_site in (d.only (unique is)).only place k.object k.stands k.of_site) };
+  only = λ is. record {
+    only = λ place object stands of_site.
+        let k = (calm.none is).was place object stands of_site in
+        (d.only (unique is)).only place k.object k.stands k.of_site;
+  };
   must = λ y listed. elim (must y listed) [
     | inl from ↦ path_same w x old new calm.field from.path y from.fields (same _ _ from.goes) ∙ d.must from.path from.listed
     | inr is ↦ is
@@ -137,11 +139,9 @@ DoublesAgree o w x old new Doubled =
     → Doubled a.root b.root → root_value x new b.root ≡ root_value w old a.root
 
 pub reroots_describes : (s : Site) (o : ℕ) (w x : World) (old new : View) (t u : Tuple) (Goes Doubled : Root → Root → Type 0) (Known : Path → Type 0)
-    → Calm s o w x u
-    → ((object : Object) → slice_get w.heap o ≡ Some object → slice_get x.heap o ≡ Some object)
+    → Calm s o w x u → ((object : Object) → slice_get w.heap o ≡ Some object → slice_get x.heap o ≡ Some object)
     → ((r q : Root) → Goes r q → root_value x new q ≡ root_value w old r)
-    → (u.may ≡ false → (q : Root) → root_value x new q ≡ reference_to o → From Goes w old o q)
-    → ((y : Path) → Known y → path_value x new y ≢ reference_to o)
+    → (u.may ≡ false → (q : Root) → root_value x new q ≡ reference_to o → From Goes w old o q) → ((y : Path) → Known y → path_value x new y ≢ reference_to o)
     → DoublesAgree o w x old new Doubled → Reroots Goes Doubled Known t u → Describes s t o w old → Describes s u o x new
 reroots_describes s o w x old new t u Goes Doubled Known calm stays same from known agree rel d =
     calm_describes s o w x old new t u Goes calm
@@ -163,8 +163,7 @@ goes_agree o w x old new Goes same a b is_a is_b has fields_are goes = same _ _ 
 
 -- and so do those of slots of one variable
 pub doubled_value : (o : ℕ) (w x : World) (old new : View) (l : LoweredMethod) (n : Node) (Goes : Root → Root → Type 0)
-    → ((r q : Root) → Goes r q → root_value x new q ≡ root_value w old r)
-    → AgreeOnPlaces l n old.slots → DoublesAgree o w x old new (Doubles l n Goes)
+    → ((r q : Root) → Goes r q → root_value x new q ≡ root_value w old r) → AgreeOnPlaces l n old.slots → DoublesAgree o w x old new (Doubles l n Goes)
 doubled_value o w x old new l n Goes same agree a b is_a is_b has fields_are double =
     by double (follows_from w.heap (root_value w old a.root) a.fields o is_a) (follows_from x.heap (root_value x new b.root) b.fields o is_b)
   where
@@ -220,14 +219,15 @@ entered_says s o w old new Goes apply idle one same from some_yet says = subst (
 entered_says s o w old new Goes apply idle one same from (of_object u) says =
     let k = one u in
     subst (λ (f : SiteFact). Says s f o w new) (sym k.is)
-    (reroots_describes s o w w old new u k.tuple Goes Goes NoPath (calm_here s o w k.tuple) (λ object stands. stands) same (λ off. from) (λ y bad. absurd bad) (goes_agree o w w old new Goes same) k.related says)
+    (reroots_describes s o w w old new u k.tuple Goes Goes NoPath (calm_here s o w k.tuple) (λ object stands. stands) same (λ off. from) (λ y bad. absurd bad)
+    (goes_agree o w w old new Goes same) k.related says)
 
 -- ---- worlds and views that facts do not tell apart
 
 -- Other static fields, other initialisers that were started, and another view, in which each root has the value that it had.
 pub same_says : (s : Site) (o : ℕ) (w : World) (statics : ℕ → Value) (started : List ℕ) (old new : View)
-    → ((r : Root) → root_value (record { heap = w.heap; statics = statics; kept = w.kept; started = started }) new r ≡ root_value w old r)
-    → (f : SiteFact) → Says s f o w old → Says s f o (record { heap = w.heap; statics = statics; kept = w.kept; started = started }) new
+    → ((r : Root) → root_value (record { heap = w.heap; statics = statics; kept = w.kept; started = started }) new r ≡ root_value w old r) → (f : SiteFact)
+    → Says s f o w old → Says s f o (record { heap = w.heap; statics = statics; kept = w.kept; started = started }) new
 same_says s o w statics started old new same none_yet says = says
 same_says s o w statics started old new same some_yet says = says
 same_says s o w statics started old new same (of_object u) d =

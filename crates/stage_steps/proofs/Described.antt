@@ -5,7 +5,7 @@ use Rattle.std.specs.Prelude.{slice_get}
 use Rattle.std.specs.List.{flat_map}
 use Rattle.std.specs.Option.{option_map, option_map_or}
 use Rattle.std.proofs.lemmas.Option.{slice_get_within}
-use Rattle.list_laws.proofs.Members.{contained_or_not, contains_only}
+use Rattle.list_laws.proofs.Members.{contained_or_not}
 use Rattle.list_laws.proofs.Places.{contains_at, in_longer, place_of, pushed_at}
 use Rattle.jvm_model.specs.declared.number.FieldNo.{FieldNo}
 use Rattle.jvm_model.specs.declared.number.MethodNo.{MethodNo}
@@ -37,12 +37,12 @@ use Rattle.stage_relations.specs.Relations.{IsNewResult, PutsAway, Reroots, IsBo
 use Rattle.stage_relations.specs.Laws.{IsIdle, IsStage, Meets}
 use Rattle.stage_steps.specs.Said.{AreEqual, IsBounded, IsTracked, Results, SaysCaught}
 use Rattle.stage_steps.proofs.Paths.{default_field, no_kept, same_place}
-use Rattle.stage_steps.proofs.Calm.{Calm, From, NoneNew, doubled_value, idle_says, reroots_describes}
+use Rattle.stage_steps.proofs.Calm.{Calm, From, doubled_value, reroots_describes}
 use Rattle.stage_steps.proofs.Sites.{site_or_not, some_or_not}
 use Rattle.stage_steps.proofs.Shapes.{append_cases}
 use Rattle.stage_steps.proofs.Roots.{at_end}
-use Rattle.stage_steps.proofs.Born.{longer, made_says}
-use Rattle.stage_steps.proofs.Kept.{unit_value, AreKept, are_kept, not_put_away, calm_kept, calm_kept_push, bounded_kept}
+use Rattle.stage_steps.proofs.Born.{made_says}
+use Rattle.stage_steps.proofs.Kept.{unit_value, AreKept, are_kept, not_put_away, calm_kept, calm_kept_push, bounded_kept, idle_kept_push}
 use Rattle.stage_steps.proofs.Raising.{caught_describes, caught_idle, equal_agree, thrown_new}
 
 -- ---- the value that is given
@@ -75,8 +75,8 @@ answered_describes : (l : LoweredMethod) (n : Node) (c : NodeCall) (result : Res
     (slots left : List Value) (u v : Tuple) → AreEqual l n slots
     → AreLeft (argument_slots c.arguments) c.result value slots left → ((f : FieldNo) → after.statics f.0 ≡ w.statics f.0) → Calm s o w after v
     → ((object : Object) → slice_get w.heap o ≡ Some object → slice_get after.heap o ≡ Some object)
-    → ((z : ℕ) → result ≡ an_argument z → value ≡ slot_at slots z)
-    → (v.may ≡ false → value ≡ reference_to o → IsArgumentGiven result) → ((site : Site) → result ≡ a_new_object site → value ≢ reference_to o)
+    → ((z : ℕ) → result ≡ an_argument z → value ≡ slot_at slots z) → (v.may ≡ false → value ≡ reference_to o → IsArgumentGiven result)
+    → ((site : Site) → result ≡ a_new_object site → value ≢ reference_to o)
     → Reroots (Answered c result) (Doubles l n (Answered c result)) (IsNewResult c result) u v → Describes s u o w (of_slots slots)
     → Describes s v o after (of_slots left)
 answered_describes l n c result s o w after value slots left u v equal are_left statics calm stays argument source fresh rel d =
@@ -95,8 +95,7 @@ answered_describes l n c result s o w after value slots left u v equal are_left 
     same r q goes = answered goes
 
     slot_from : v.may ≡ false → (z : ℕ) → slot_at left z ≡ reference_to o → (c.result ≡ Some z) ⊎ (c.result ≢ Some z)
-        → Contains (argument_slots c.arguments) z ⊎ (Contains (argument_slots c.arguments) z → ⊥)
-        → From (Answered c result) w (of_slots slots) o (Slot z)
+        → Contains (argument_slots c.arguments) z ⊎ (Contains (argument_slots c.arguments) z → ⊥) → From (Answered c result) w (of_slots slots) o (Slot z)
     slot_from off z is (inl e) any =
         let value_is = sym (are_left.given z e) ∙ is in
         let k = source off value_is in
@@ -155,8 +154,7 @@ module _ (x : Subject) (S : Fact → Type 0) (s : Site) (t : Transfer) (laws : I
   old_value_says : (l : LoweredMethod) (n : Node) (c : NodeCall) (f : SiteFact) (result : Result) (w : World) (kept places : List ℕ) (value : Value)
       (slots left : List Value) → HasVariables l n → AreEqual l n slots
       → IsOldValue slots (w.kept ++ places) value result → AreKept slots kept places → AreLeft (argument_slots c.arguments) c.result value slots left
-      → Says s f o w (of_slots slots)
-      → Results (t.answer l n c kept result f) (λ g. Says s g o (with_kept w places) (of_slots left))
+      → Says s f o w (of_slots slots) → Results (t.answer l n c kept result f) (λ g. Says s g o (with_kept w places) (of_slots left))
   old_value_says l n c none_yet result w kept places value slots left variables equal old are are_left says =
       record { fact = none_yet; listed = laws.answer_idle l n c kept result none_yet tt (not_new old s); says = says }
   old_value_says l n c some_yet result w kept places value slots left variables equal old are are_left says =
@@ -195,6 +193,11 @@ module _ (x : Subject) (S : Fact → Type 0) (s : Site) (t : Transfer) (laws : I
           ]
       source (of_nothing none) v may away off is = absurd (none o is)
 
+  -- some result says so, once an object of a site was made
+  abbrev AnswersNew : LoweredMethod → Node → NodeCall → World → (kept places : List ℕ) → (left : List Value) → SiteFact → Site → Type 0
+  AnswersNew l n c w kept places left f y = Results (t.answer l n c kept (a_new_object y) f)
+      (λ g. Says s g o (with_object (with_kept w places) (new_object x.program y x.property.initial)) (of_slots left))
+
   -- a new object
   module _ (l : LoweredMethod) (n : Node) (c : NodeCall) (site : Site) (w : World) (kept places : List ℕ) (slots left : List Value)
       (variables : HasVariables l n) (equal : AreEqual l n slots)
@@ -215,7 +218,8 @@ module _ (x : Subject) (S : Fact → Type 0) (s : Site) (t : Transfer) (laws : I
           fact = of_object k.tuple;
           listed = k.listed;
           says = answered_describes l n c (a_new_object site) s o w after (reference_to (length w.heap)) slots left u k.tuple equal are_left (λ g. refl)
-              (calm_kept_push s o w places made k.tuple (not_put_away s o w slots kept places u k.tuple are d k.related.0.may k.related.1) (default_field x.program) (λ index. refl)
+              (calm_kept_push s o w places made k.tuple (not_put_away s o w slots kept places u k.tuple are d k.related.0.may k.related.1)
+              (default_field x.program) (λ index. refl)
               (λ unique of_site. (let shared : k.tuple.unique ≡ false = k.related.2 (ap a_new_object of_site) in cc (unique, shared))))
               (λ object stands. in_longer w.heap (made ∷ []) o object stands) (λ z is. absurd (cc is)) (λ off is. absurd (apart is))
               (λ of e. apart) k.related.0 d;
@@ -229,29 +233,19 @@ module _ (x : Subject) (S : Fact → Type 0) (s : Site) (t : Transfer) (laws : I
     new_other f idle ne says = record {
       fact = f;
       listed = laws.answer_idle l n c kept (a_new_object site) f idle (λ e. ne (same_site e));
-      says = idle_says s o w after (of_slots slots) (of_slots left) f idle
-          (longer s o w.heap (made ∷ []) (λ object there of_site. ne (ap (λ (y : Object). y.site) (contains_only made object there) ∙ of_site)) tracked) none
-          (λ some. record { place = some.place; object = some.object; stands = in_longer w.heap (made ∷ []) some.place some.object some.stands; of_site = some.of_site }) says;
+      says = idle_kept_push s o w places made (of_slots slots) (of_slots left) f idle ne tracked says;
     }
       where
         same_site : a_new_object site ≡ a_new_object s → site ≡ s
         same_site e = cc e
 
-        none : NoneNew s w.heap (w.heap ++ made ∷ [])
-        none = record {
-          was = λ place object stands of_site. elim (append_cases w.heap (made ∷ []) place object stands) [
-            | inl before ↦ record { object = object; stands = before; of_site = of_site }
-            | inr late ↦ absurd (ne (ap (λ (y : Object). y.site) (contains_only made object late) ∙ of_site))
-          ];
-        }
-
     new_its : (f : SiteFact) (first : Bool) → IsIdle f → site ≡ s → length w.heap ≤ o → (first ≡ true → HasNone s w.heap)
         → Meets (IsBorn c.result first x.property.initial) (t.answer l n c kept (a_new_object s) f)
         → Results (t.answer l n c kept (a_new_object site) f) (λ g. Says s g o after (of_slots left))
     new_its f first idle e le none meets =
-        subst (λ (y : Site). Results (t.answer l n c kept (a_new_object y) f) (λ g. Says s g o (with_object (with_kept w places) (new_object x.program y x.property.initial)) (of_slots left))) (sym e)
-        (made_says x s o c.result (argument_slots c.arguments) first (with_kept w places) slots left are_left (bounded_kept w slots kept places bounded are) none
-        (t.answer l n c kept (a_new_object s) f) le (laws.answer_some l n c kept f idle) meets)
+        subst (AnswersNew l n c w kept places left f) (sym e)
+        (made_says x s o c.result (argument_slots c.arguments) first (with_kept w places) slots left are_left (bounded_kept w slots kept places bounded are)
+        none (t.answer l n c kept (a_new_object s) f) le (laws.answer_some l n c kept f idle) meets)
 
     new_object_says : (f : SiteFact) → Says s f o w (of_slots slots)
         → Results (t.answer l n c kept (a_new_object site) f) (λ g. Says s g o after (of_slots left))
@@ -314,10 +308,9 @@ module _ (x : Subject) (S : Fact → Type 0) (s : Site) (t : Transfer) (laws : I
   pub answer_says : (m : Option MethodNo) (l : LoweredMethod) (n : Node) (c : NodeCall) (target : ℕ) (frame : Frame) (f : SiteFact) (w after : World)
       (value : Value) (slots left : List Value)
       → m ≡ option_map (λ (number : ℕ). record { 0 = number }) frame.method → n.offset ≡ frame.offset → HasVariables l n → AreEqual l n slots
-      → IsBounded w slots
-      → GivesResult x target frame (argument_values c.arguments slots) w value after → AreLeft (argument_slots c.arguments) c.result value slots left
-      → IsTracked s o after.heap
-      → Says s f o w (of_slots slots) → HasAnswer x s t o m l n c target f after left
+      → IsBounded w slots → GivesResult x target frame (argument_values c.arguments slots) w value after
+      → AreLeft (argument_slots c.arguments) c.result value slots left → IsTracked s o after.heap → Says s f o w (of_slots slots)
+      → HasAnswer x s t o m l n c target f after left
   answer_says m l n c target frame f w after value slots left method_is offset_is variables equal bounded given are_left tracked says =
       let d = given.called in
       record {
@@ -338,18 +331,7 @@ module _ (x : Subject) (S : Fact → Type 0) (s : Site) (t : Transfer) (laws : I
       (op_is : n.op ≡ Call c) (are : AreKept slots kept places) (contents : made.contents ≡ fields (default_fields x.program)) (apart : made.site ≢ s)
       (tracked : IsTracked s o (w.heap ++ made ∷ [])) where
     thrown_idle : (f : SiteFact) → IsIdle f → Says s f o w (of_slots slots) → (view : View) → Says s f o (with_object (with_kept w places) made) view
-    thrown_idle f idle says view =
-        idle_says s o w (with_object (with_kept w places) made) (of_slots slots) view f idle
-        (longer s o w.heap (made ∷ []) (λ object there of_site. apart (ap (λ (y : Object). y.site) (contains_only made object there) ∙ of_site)) tracked) none
-        (λ some. record { place = some.place; object = some.object; stands = in_longer w.heap (made ∷ []) some.place some.object some.stands; of_site = some.of_site }) says
-      where
-        none : NoneNew s w.heap (w.heap ++ made ∷ [])
-        none = record {
-          was = λ place object stands of_site. elim (append_cases w.heap (made ∷ []) place object stands) [
-            | inl before ↦ record { object = object; stands = before; of_site = of_site }
-            | inr late ↦ absurd (apart (ap (λ (y : Object). y.site) (contains_only made object late) ∙ of_site))
-          ];
-        }
+    thrown_idle f idle says view = idle_kept_push s o w places made (of_slots slots) view f idle apart tracked says
 
     thrown_says : (f : SiteFact) → Says s f o w (of_slots slots) → (handler : Option ℕ)
         → Results (t.exception l n kept handler f) (λ g. SaysCaught s g o (with_object (with_kept w places) made) slots l.slots (length w.heap) handler)
@@ -372,14 +354,19 @@ module _ (x : Subject) (S : Fact → Type 0) (s : Site) (t : Transfer) (laws : I
               (calm_kept_push s o w places made k.tuple (not_put_away s o w slots kept places u k.tuple are d k.related.0.may k.related.1)
               (λ g. ap (field_in g) contents ∙ default_field x.program g) (λ index. ap (element_in index) contents) (λ unique. apart))
               (λ object stands. in_longer w.heap (made ∷ []) o object stands) (λ g. refl) (equal_agree l n slots equal)
-              (thrown_new o x.program (with_kept w places) made None slots primitive_value contents (slice_get_within w.heap o d.object d.stands) (λ place e. cc e)) k.related.0 d;
+              (thrown_new o x.program (with_kept w places) made None slots primitive_value contents (slice_get_within w.heap o d.object d.stands)
+              (λ place e. cc e)) k.related.0 d;
         }
+
+  -- some result says so where an object is thrown that stands at a place
+  abbrev Caught : LoweredMethod → Node → (kept : List ℕ) → SiteFact → List Value → (handler : Option ℕ) → (place : ℕ) → World → Type 0
+  Caught l n kept f slots handler place y =
+      Results (t.exception l n kept handler f) (λ g. SaysCaught s g o y slots l.slots place handler)
 
   pub exception_says : (l : LoweredMethod) (n : Node) (c : NodeCall) (target : ℕ) (frame : Frame) (f : SiteFact) (w after : World) (thrown : ℕ)
       (slots : List Value) → HasVariables l n → AreEqual l n slots
       → n.op ≡ Call c → s.kind ≢ kinds.Thrown → ThrowsListed x target frame (argument_values c.arguments slots) w thrown after → IsTracked s o after.heap
-      → Says s f o w (of_slots slots)
-      → HasException x s t o l n c target frame f slots thrown after
+      → Says s f o w (of_slots slots) → HasException x s t o l n c target frame f slots thrown after
   exception_says l n c target frame f w after thrown slots variables equal op_is kind throws tracked says =
       let d = throws.called in
       let places = flat_map (λ (a : StubArgument). places_of (argument_value x target d (argument_values c.arguments slots) a)) d.stub.keeps in
@@ -394,8 +381,9 @@ module _ (x : Subject) (S : Fact → Type 0) (s : Site) (t : Transfer) (laws : I
         listed = contains_at d.stub.throws throws.place throws.class throws.listed;
         stands = ap (λ (y : World). slice_get y.heap thrown) after_is ∙ ap (slice_get (w.heap ++ made ∷ [])) place_is ∙ pushed_at w.heap made;
         results = λ handler.
-            subst (λ (y : World). Results (t.exception l n (kept_slots c d.stub d.descriptor.parameters) handler f) (λ g. SaysCaught s g o y slots l.slots thrown handler)) (sym after_is)
-            (subst (λ (place : ℕ). Results (t.exception l n (kept_slots c d.stub d.descriptor.parameters) handler f) (λ g. SaysCaught s g o (with_object (with_kept w places) made) slots l.slots place handler)) (sym place_is)
-            (thrown_says l n c w made (kept_slots c d.stub d.descriptor.parameters) places slots variables equal op_is (are_kept x target d c slots) refl (λ e. kind (sym (ap (λ (y : Site). y.kind) e)))
-            (subst (λ (y : World). IsTracked s o y.heap) after_is tracked) f says handler));
+            subst (λ (y : World). Caught l n (kept_slots c d.stub d.descriptor.parameters) f slots handler thrown y) (sym after_is)
+            (subst (λ (place : ℕ). Caught l n (kept_slots c d.stub d.descriptor.parameters) f slots handler place (with_object (with_kept w places) made))
+            (sym place_is)
+            (thrown_says l n c w made (kept_slots c d.stub d.descriptor.parameters) places slots variables equal op_is (are_kept x target d c slots) refl
+            (λ e. kind (sym (ap (λ (y : Site). y.kind) e))) (subst (λ (y : World). IsTracked s o y.heap) after_is tracked) f says handler));
       }

@@ -18,7 +18,7 @@ use Rattle.access_paths.specs.declared.root.Root.TheVariants.{Slot}
 use Rattle.stage_facts.specs.Facts.{Tuple, EndsIn, Describes}
 use Rattle.stage_facts.specs.Values.{of_slots, without_primitive, element_in, part_at, in_element, in_kept}
 use Rattle.stage_relations.specs.Relations.{IsComplete}
-use Rattle.stage_steps.proofs.Paths.{no_element, no_kept, part_held, part_is, part_push, part_set, part_set_here, reference_in}
+use Rattle.stage_steps.proofs.Paths.{no_element, no_kept, part_held, part_in, part_is, part_push, part_set, part_set_here, reference_in}
 use Rattle.stage_steps.proofs.Calm.{listed_root}
 use Rattle.stage_steps.proofs.Shapes.{Shape, stayed, pushed, arrayed, wrote, filled, shape, with_field, with_element, append_cases}
 use Rattle.stage_steps.proofs.Slots.{kept_same}
@@ -32,14 +32,14 @@ pub record IsFilled (op : Op) (old : List Value) (o : ℕ) : Type 0 where
 
 -- an element that refers to an object that was there did so before, or it was written
 pub element_before : {x : Subject} {op : Op} {old : List Value} {before after : List Object} → Shape x op old before after → (o : ℕ) (object : Object)
-    → slice_get before o ≡ Some object
-    → (place index : ℕ) → part_at (element_in index) after place ≡ reference_to o
+    → slice_get before o ≡ Some object → (place index : ℕ) → part_at (element_in index) after place ≡ reference_to o
     → (part_at (element_in index) before place ≡ reference_to o) ⊎ IsFilled op old o
-element_before (stayed e) o object stands place index is = inl (sym (ap (λ (h : List Object). part_at (element_in index) h place) e) ∙ is)
+element_before (stayed e) o object stands place index is = inl (sym (part_in (element_in index) _ _ place e) ∙ is)
 element_before {x = x} {before = before} (pushed {site = site} op_is e) o object stands place index is =
-    inl (sym (part_push (element_in index) before (new_object x.program site x.property.initial) place refl) ∙ sym (ap (λ (h : List Object). part_at (element_in index) h place) e) ∙ is)
+    inl (sym (part_push (element_in index) before (new_object x.program site x.property.initial) place refl)
+    ∙ sym (part_in (element_in index) _ _ place e) ∙ is)
 element_before {op = op} {old = old} {before = before} (arrayed {sites = sites} more op_is new e) o object stands place index is =
-    let held = part_held (element_in index) (before ++ more) place o (sym (ap (λ (h : List Object). part_at (element_in index) h place) e) ∙ is) in
+    let held = part_held (element_in index) (before ++ more) place o (sym (part_in (element_in index) _ _ place e) ∙ is) in
     by held.object held.is (append_cases before more place held.object held.stands)
   where
     by : (holder : Object) → element_in index holder.contents ≡ reference_to o → (slice_get before place ≡ Some holder) ⊎ Contains more holder
@@ -52,7 +52,7 @@ element_before {op = op} {old = old} {before = before} (arrayed {sites = sites} 
         absurd (omega (arith, far, near))
 element_before {old = old} {before = before} (wrote {value = value} {f = f} at into values op_is ref held holds e) o object stands place index is =
     inl (sym (part_set (element_in index) before at place into (with_field into values f (slot_at old value)) held (λ _. sym (ap (element_in index) holds)))
-    ∙ sym (ap (λ (h : List Object). part_at (element_in index) h place) e) ∙ is)
+    ∙ sym (part_in (element_in index) _ _ place e) ∙ is)
 element_before {op = op} {old = old} {before = before}
     (filled {base = base} {value = value} at into values k op_is held holds inside e) o object stands place index is =
     by (cases_eq place at) (cases_eq index k)
@@ -61,7 +61,7 @@ element_before {op = op} {old = old} {before = before}
     written = with_element into values k (slot_at old value)
 
     later : part_at (element_in index) (slice_set before at written) place ≡ reference_to o
-    later = sym (ap (λ (h : List Object). part_at (element_in index) h place) e) ∙ is
+    later = sym (part_in (element_in index) _ _ place e) ∙ is
 
     by : (place ≡ at) ⊎ (place ≢ at) → (index ≡ k) ⊎ (index ≢ k) → (part_at (element_in index) before place ≡ reference_to o) ⊎ IsFilled op old o
     by (inr ne) any = inl (sym (part_set (element_in index) before at place into written held (λ d. absurd (ne d))) ∙ later)
@@ -77,8 +77,7 @@ element_before {op = op} {old = old} {before = before}
 module _ (x : Subject) (l : LoweredMethod) (n : Node) (w after : World) (old new : List Value) (s : Site) (o : ℕ) (t u : Tuple)
     (d : Describes s t o w (of_slots old)) (off : t.may ≡ false) where
   pub element_end : (op : Op) (place index : ℕ) → Leads op x w old new after → IsComplete l n op t.must u.must
-      → part_at (element_in index) after.heap place ≡ reference_to o
-      → EndsIn u.must after (of_slots new) (in_element place index)
+      → part_at (element_in index) after.heap place ≡ reference_to o → EndsIn u.must after (of_slots new) (in_element place index)
   element_end op place index leads c is = elim (element_before (shape op x w after old new leads) o d.object d.stands place index is) [
     | inl before ↦ (let e = d.cells off (in_element place index) before in absurd (no_element w (of_slots old) e.path place index e.ends))
     | inr k ↦ absurd (c.elements k.array k.value k.op_is (listed_root s o w (of_slots old) t (Slot k.value) d off k.is))

@@ -46,8 +46,9 @@ in_state object state = record { site = object.site; class = object.class; conte
 state_none_new : (s : Site) (w : World) (place state : ℕ) (object : Object) → slice_get w.heap place ≡ Some object
     → NoneNew s w.heap (slice_set w.heap place (in_state object state))
 state_none_new s w place state object held = record {
-  was =
-      λ k y stands of_site. (let b = was_set w.heap place k object (in_state object state) y held refl stands in record { object = b.object; stands = b.stands; of_site = b.of_site ∙ of_site });
+  was = λ k y stands of_site.
+      let b = was_set w.heap place k object (in_state object state) y held refl stands in
+      record { object = b.object; stands = b.stands; of_site = b.of_site ∙ of_site };
 }
 
 state_calm : (s : Site) (o : ℕ) (w : World) (place state : ℕ) (object : Object) (u : Tuple) → slice_get w.heap place ≡ Some object
@@ -130,6 +131,16 @@ receiver_slot [] slots place e = absurd (cc e)
 receiver_slot (None ∷ rest) slots place e = absurd (cc e)
 receiver_slot (Some z ∷ rest) slots place e = record { slot = z; first = refl; is = e }
 
+-- The variable of the receiver's slot holds the receiver's site.
+abbrev pub IsReceiverHeld : (Fact → Type 0) → LoweredMethod → Node → NodeCall → World → List Value → Type 0
+IsReceiverHeld S l n c w slots = (z : ℕ) (h : Holder) (place : ℕ) (object : Object) → slice_get c.arguments 0 ≡ Some (Some z) → IsSlot l n z h
+    → slot_at slots z ≡ reference_to place → slice_get w.heap place ≡ Some object → S (may_hold h object.site)
+
+-- The property observes the object of the site, if one stands at the place: it is no array, and of a subtype of the property's class.
+abbrev pub IsObserved : Subject → Site → ℕ → World → Type 0
+IsObserved x s o w = (object : Object) → slice_get w.heap o ≡ Some object → object.site ≡ s
+    → (is_array object.class ≡ false) × IsSubtype x.program x.property.class_name object.class
+
 -- in a method without slots, each slot is like itself alone
 pub equal_at_start : (l : LoweredMethod) (n : Node) (slots : List Value) → l.slots ≡ 0 → l.stack ≡ 0 → AreEqual l n slots
 equal_at_start l n slots no_slots no_stack y z (same e) = ap (slot_at slots) e
@@ -138,8 +149,7 @@ equal_at_start l n slots no_slots no_stack y z (of_one v low high one two) = abs
 module _ (x : Subject) (S : Fact → Type 0) (s : Site) (t : Transfer) (laws : IsStage x S s t) (o : ℕ) where
   -- a call that is no event
   pub silent_says : (l : LoweredMethod) (n : Node) (c : NodeCall) (f : SiteFact) (w : World) (slots : List Value) → AreEqual l n slots
-      → event_of_call x.property c ≡ None
-      → Says s f o w (of_slots slots) → Results (t.event l n c f) (λ g. Says s g o w (of_slots slots))
+      → event_of_call x.property c ≡ None → Says s f o w (of_slots slots) → Results (t.event l n c f) (λ g. Says s g o w (of_slots slots))
   silent_says l n c none_yet w slots equal silent says = record { fact = none_yet; listed = laws.event_idle l n c none_yet tt; says = says }
   silent_says l n c some_yet w slots equal silent says = record { fact = some_yet; listed = laws.event_idle l n c some_yet tt; says = says }
   silent_says l n c (of_object u) w slots equal silent d =
@@ -157,8 +167,7 @@ module _ (x : Subject) (S : Fact → Type 0) (s : Site) (t : Transfer) (laws : I
 
   -- the call of the start is static
   pub start_event_says : (l : LoweredMethod) (n : Node) (c : NodeCall) (f : SiteFact) (w : World) (slots : List Value) → l.slots ≡ 0 → l.stack ≡ 0
-      → c.kind ≡ call_kinds.Static
-      → Says s f o w (of_slots slots) → Results (t.event l n c f) (λ g. Says s g o w (of_slots slots))
+      → c.kind ≡ call_kinds.Static → Says s f o w (of_slots slots) → Results (t.event l n c f) (λ g. Says s g o w (of_slots slots))
   start_event_says l n c f w slots no_slots no_stack static says =
       silent_says l n c f w slots (equal_at_start l n slots no_slots no_stack)
       (ap (λ (kind : CallKind). cond (is_selecting_kind kind) (event_for x.property (record { name = c.name; descriptor = c.descriptor })) None) static) says
@@ -166,34 +175,36 @@ module _ (x : Subject) (S : Fact → Type 0) (s : Site) (t : Transfer) (laws : I
   module _ (l : LoweredMethod) (n : Node) (c : NodeCall) (w after : World) (slots : List Value) (reached : AreReachedNodes l) (stands : Contains l.nodes n)
       (equal : AreEqual l n slots)
       (events : HasEvents x (is_selecting_kind c.kind) (record { name = c.name; descriptor = c.descriptor }) (argument_values c.arguments slots) w after)
-      (held : (z : ℕ) (h : Holder) (place : ℕ) (object : Object) → slice_get c.arguments 0 ≡ Some (Some z) → IsSlot l n z h → slot_at slots z ≡ reference_to place
-      → slice_get w.heap place ≡ Some object → S (may_hold h object.site))
-      (observed : (object : Object) → slice_get w.heap o ≡ Some object → object.site ≡ s → (is_array object.class ≡ false) × IsSubtype x.program x.property.class_name object.class) where
+      (held : IsReceiverHeld S l n c w slots) (observed : IsObserved x s o w) where
     abbrev event_found : Option Event
     event_found = event_for x.property (record { name = c.name; descriptor = c.descriptor })
 
     -- the event of an object at another place, or none
     other_says : (e : Event) (u : Tuple) (place : ℕ) (object : Object) (k : IsReceiverSlot c.arguments slots place) → event_of_call x.property c ≡ Some e
-        → slice_get w.heap place ≡ Some object
-        → place ≢ o → Describes s u o w (of_slots slots) → Results (t.event l n c (of_object u)) (λ g. Says s g o after (of_slots slots))
+        → slice_get w.heap place ≡ Some object → place ≢ o → Describes s u o w (of_slots slots)
+        → Results (t.event l n c (of_object u)) (λ g. Says s g o after (of_slots slots))
     other_says e u place object k is receiver apart d =
-        let named = each_variable l n k.slot reached stands in
         let r = laws.event_other l n c e k.slot u reached stands is k.first (λ listed. not_its (d.must (bare (Slot k.slot)) listed))
-        (λ unique only. apart ((d.only unique).only place object receiver
-        (only (variable named.0) (record { name = named.0; named = named.1; is = refl }) object.site (held k.slot (variable named.0) place object k.first (record { name = named.0; named = named.1; is = refl }) k.is receiver)))) in
+        (λ unique only. apart ((d.only unique).only place object receiver (only h slot object.site (held k.slot h place object k.first slot k.is receiver)))) in
         record { fact = of_object r.tuple; listed = r.listed; says = by events r.tuple r.related }
       where
+        h : Holder
+        h = let named = each_variable l n k.slot reached stands in variable named.0
+
+        slot : IsSlot l n k.slot h
+        slot = let named = each_variable l n k.slot reached stands in record { name = named.0; named = named.1; is = refl }
+
         not_its : slot_at slots k.slot ≢ reference_to o
         not_its its = apart (same_place _ _ (sym k.is ∙ its))
 
         by : HasEvents x (is_selecting_kind c.kind) (record { name = c.name; descriptor = c.descriptor }) (argument_values c.arguments slots) w after
-            → (v : Tuple)
-            → Notes l n k.slot false u.state u v → Describes s v o after (of_slots slots)
+            → (v : Tuple) → Notes l n k.slot false u.state u v → Describes s v o after (of_slots slots)
         by (unmoved none same_world) v rel = subst (λ (y : World). Describes s v o y (of_slots slots)) (sym same_world)
-            (noted_describes l n k.slot false u.state s o w w slots u v (calm_here s o w v) (λ f. refl) (record { object = d.object; stands = d.stands; of_site = d.of_site; in_state = d.in_state }) equal
-            (λ bad. absurd (cc bad)) (λ _. not_its) rel d)
+            (noted_describes l n k.slot false u.state s o w w slots u v (calm_here s o w v) (λ f. refl)
+            (record { object = d.object; stands = d.stands; of_site = d.of_site; in_state = d.in_state }) equal (λ bad. absurd (cc bad)) (λ _. not_its) rel d)
         by (moved event later) v rel = subst (λ (y : World). Describes s v o y (of_slots slots)) (sym later)
-            (noted_describes l n k.slot false u.state s o w _ slots u v (state_calm s o w event.receiver.place state event.receiver.object v event.receiver.held) (λ f. refl)
+            (noted_describes l n k.slot false u.state s o w _ slots u v
+            (state_calm s o w event.receiver.place state event.receiver.object v event.receiver.held) (λ f. refl)
             (record { object = d.object; stands = set_other w.heap event.receiver.place o _ elsewhere ∙ d.stands; of_site = d.of_site; in_state = d.in_state })
             equal
             (λ bad. absurd (cc bad)) (λ _. not_its) rel d)
@@ -212,9 +223,8 @@ module _ (x : Subject) (S : Fact → Type 0) (s : Site) (t : Transfer) (laws : I
 
     -- the event of the object
     its_says : (e : Event) (u : Tuple) (object : Object) (k : IsReceiverSlot c.arguments slots o) → IsChosen (is_selecting_kind c.kind) event_found e
-        → event_of_call x.property c ≡ Some e
-        → (receiver : Refers w (slot_at (argument_values c.arguments slots) 0)) → receiver.place ≡ o → Describes s u o w (of_slots slots)
-        → Results (t.event l n c (of_object u)) (λ g. Says s g o after (of_slots slots))
+        → event_of_call x.property c ≡ Some e → (receiver : Refers w (slot_at (argument_values c.arguments slots) 0)) → receiver.place ≡ o
+        → Describes s u o w (of_slots slots) → Results (t.event l n c (of_object u)) (λ g. Says s g o after (of_slots slots))
     its_says e u object k choice is receiver at d = by events
       where
         by : HasEvents x (is_selecting_kind c.kind) (record { name = c.name; descriptor = c.descriptor }) (argument_values c.arguments slots) w after
@@ -237,9 +247,8 @@ module _ (x : Subject) (S : Fact → Type 0) (s : Site) (t : Transfer) (laws : I
             (λ listed. d.must_not (bare (Slot k.slot)) listed k.is) (λ off. listed_root s o w (of_slots slots) u (Slot k.slot) d off k.is) in
             let there : There s (slice_index e.next u.state) o (slice_set w.heap event.receiver.place (in_state event.receiver.object state)) = record {
               object = in_state event.receiver.object state;
-              stands =
-                  subst (λ (place : ℕ). slice_get (slice_set w.heap event.receiver.place (in_state event.receiver.object state)) place ≡ Some (in_state event.receiver.object state)) place_is
-                  (set_here w.heap event.receiver.place event.receiver.object (in_state event.receiver.object state) event.receiver.held);
+              stands = ap (slice_get (slice_set w.heap event.receiver.place (in_state event.receiver.object state))) (sym place_is)
+                  ∙ set_here w.heap event.receiver.place event.receiver.object (in_state event.receiver.object state) event.receiver.held;
               of_site = ap (λ (y : Object). y.site) one ∙ d.of_site;
               in_state =
                   ap (λ (y : Event). slice_index y.next event.receiver.object.automaton) same_event
@@ -281,8 +290,8 @@ module _ (x : Subject) (S : Fact → Type 0) (s : Site) (t : Transfer) (laws : I
             state = slice_index event.event.next event.receiver.object.automaton
 
     tuple_event_says : (u : Tuple) → (is_selecting_kind c.kind ≡ true → Refers w (slot_at (argument_values c.arguments slots) 0)) → (found : Option Event)
-        → event_of_call x.property c ≡ found
-        → Describes s u o w (of_slots slots) → Results (t.event l n c (of_object u)) (λ g. Says s g o after (of_slots slots))
+        → event_of_call x.property c ≡ found → Describes s u o w (of_slots slots)
+        → Results (t.event l n c (of_object u)) (λ g. Says s g o after (of_slots slots))
     tuple_event_says u receives None silent d = by events
       where
         by : HasEvents x (is_selecting_kind c.kind) (record { name = c.name; descriptor = c.descriptor }) (argument_values c.arguments slots) w after
@@ -298,8 +307,7 @@ module _ (x : Subject) (S : Fact → Type 0) (s : Site) (t : Transfer) (laws : I
         by choice receiver (cases_eq receiver.place o)
       where
         by : IsChosen (is_selecting_kind c.kind) event_found e → (receiver : Refers w (slot_at (argument_values c.arguments slots) 0))
-            → (receiver.place ≡ o) ⊎ (receiver.place ≢ o)
-            → Results (t.event l n c (of_object u)) (λ g. Says s g o after (of_slots slots))
+            → (receiver.place ≡ o) ⊎ (receiver.place ≢ o) → Results (t.event l n c (of_object u)) (λ g. Says s g o after (of_slots slots))
         by choice receiver (inl at) =
             its_says e u receiver.object (receiver_slot c.arguments slots o (receiver.is ∙ ap reference_to at)) choice is receiver at d
         by choice receiver (inr apart) =
@@ -309,10 +317,7 @@ module _ (x : Subject) (S : Fact → Type 0) (s : Site) (t : Transfer) (laws : I
   pub event_says : (l : LoweredMethod) (n : Node) (c : NodeCall) (f : SiteFact) (w after : World) (slots : List Value) → AreReachedNodes l → Contains l.nodes n
       → AreEqual l n slots
       → HasEvents x (is_selecting_kind c.kind) (record { name = c.name; descriptor = c.descriptor }) (argument_values c.arguments slots) w after
-      → (is_selecting_kind c.kind ≡ true → Refers w (slot_at (argument_values c.arguments slots) 0))
-      → ((z : ℕ) (h : Holder) (place : ℕ) (object : Object) → slice_get c.arguments 0 ≡ Some (Some z) → IsSlot l n z h → slot_at slots z ≡ reference_to place
-      → slice_get w.heap place ≡ Some object → S (may_hold h object.site))
-      → ((object : Object) → slice_get w.heap o ≡ Some object → object.site ≡ s → (is_array object.class ≡ false) × IsSubtype x.program x.property.class_name object.class)
+      → (is_selecting_kind c.kind ≡ true → Refers w (slot_at (argument_values c.arguments slots) 0)) → IsReceiverHeld S l n c w slots → IsObserved x s o w
       → Says s f o w (of_slots slots) → Results (t.event l n c f) (λ g. Says s g o after (of_slots slots))
   event_says l n c none_yet w after slots reached stands equal events receives held observed says =
       idle_event_says l n c w after slots reached stands equal events held observed none_yet tt says

@@ -17,7 +17,7 @@ use Rattle.stage_facts.specs.Facts.{Tuple, EndsIn, Describes}
 use Rattle.stage_facts.specs.Values.{of_slots, without_primitive, field_in, part_at, in_field, field_cell, last_cell}
 use Rattle.stage_relations.specs.Relations.{path, IsOverwritten, IsComplete}
 use Rattle.stage_steps.specs.Said.{AreEqual}
-use Rattle.stage_steps.proofs.Paths.{has_fields, part_set, part_set_here, reference_in}
+use Rattle.stage_steps.proofs.Paths.{has_fields, part_in, part_set, part_set_here, reference_in}
 use Rattle.stage_steps.proofs.Calm.{listed_root}
 use Rattle.stage_steps.proofs.Shapes.{shape, field_unchanged, with_field}
 use Rattle.stage_steps.proofs.Sites.{field_or_not, same_field, updated_here, updated_other}
@@ -83,8 +83,7 @@ module _ (x : Subject) (l : LoweredMethod) (n : Node) (w after : World) (old new
     same_field : field ≡ f
 
   over_cell : (object : ℕ) (field : FieldNo) (value place g : ℕ) (f : FieldNo) (y : Path) → slot_at old object ≡ reference_to place
-      → IsOverwritten l n (Store object field value) y
-      → last_cell w (of_slots old) y ≡ Some (in_field g f) → IsThisField object place g field f
+      → IsOverwritten l n (Store object field value) y → last_cell w (of_slots old) y ≡ Some (in_field g f) → IsThisField object place g field f
   over_cell object field value place g f y refers gone ends =
       let slot_is : slot_at old gone.slot ≡ reference_to place =
       equal gone.slot gone.object gone.alike ∙ ap (slot_at old) (sym (stored_object gone.op_is)) ∙ refers in
@@ -93,8 +92,8 @@ module _ (x : Subject) (l : LoweredMethod) (n : Node) (w after : World) (old new
       record { same_place = cell_place cell_is; same_field = stored_field gone.op_is ∙ cell_field cell_is }
 
   stored_end : (object : ℕ) (field : FieldNo) (value place : ℕ) (f : FieldNo) → Leads (Store object field value) x w old new after
-      → IsComplete l n (Store object field value) t.must u.must
-      → part_at (field_in f) after.heap place ≡ reference_to o → EndsIn u.must after (of_slots new) (in_field place f)
+      → IsComplete l n (Store object field value) t.must u.must → part_at (field_in f) after.heap place ≡ reference_to o
+      → EndsIn u.must after (of_slots new) (in_field place f)
   stored_end object field value place f leads c is = by (cases_eq place leads.0.to.place) (field_or_not f field)
     where
       at : ℕ
@@ -116,19 +115,20 @@ module _ (x : Subject) (l : LoweredMethod) (n : Node) (w after : World) (old new
 
       before : (place ≡ at → field_in f written.contents ≡ field_in f into.contents) → part_at (field_in f) w.heap place ≡ reference_to o
       before same =
-          sym (part_set (field_in f) w.heap at place into written leads.0.to.held same) ∙ sym (ap (λ (h : List Object). part_at (field_in f) h place) heap_is)
+          sym (part_set (field_in f) w.heap at place into written leads.0.to.held same) ∙ sym (part_in (field_in f) _ _ place heap_is)
           ∙ is
 
       by : (place ≡ at) ⊎ (place ≢ at) → (f ≡ field) ⊎ (f ≢ field) → EndsIn u.must after (of_slots new) (in_field place f)
       by (inr ne) any = elsewhere (λ e d. ne (sym e)) (before (λ e. absurd (ne e)))
       by (inl e) (inr ne) =
           elsewhere (λ d q. ne (sym q))
-          (before (λ d. ap without_primitive (updated_other leads.0.values field.0 f.0 (slot_at old value) (λ q. ne (same_field f field q))) ∙ sym (ap (field_in f) leads.0.holds)))
+          (before (λ d. ap without_primitive (updated_other leads.0.values field.0 f.0 (slot_at old value) (λ q. ne (same_field f field q)))
+          ∙ sym (ap (field_in f) leads.0.holds)))
       by (inl e) (inl q) =
           let part : without_primitive (slot_at old value) ≡ reference_to o =
           sym (ap without_primitive (updated_here leads.0.values field.0 f.0 (slot_at old value) (ap (λ (g : FieldNo). g.0) q)))
           ∙ sym (part_set_here (field_in f) w.heap at into written leads.0.to.held) ∙ sym (ap (part_at (field_in f) (slice_set w.heap at written)) e)
-          ∙ sym (ap (λ (h : List Object). part_at (field_in f) h place) heap_is) ∙ is in
+          ∙ sym (part_in (field_in f) _ _ place heap_is) ∙ is in
           let p = c.stores object value field refl (listed_root s o w (of_slots old) t (Slot value) d off (reference_in _ o part)) in
           let slot_is : slot_at new p.slot ≡ reference_to at =
           kept_slot (Store object field value) x w after old new p.slot leads p.keeps ∙ equal p.slot object p.alike ∙ leads.0.to.is in
@@ -139,8 +139,7 @@ module _ (x : Subject) (l : LoweredMethod) (n : Node) (w after : World) (old new
           }
 
   pub any_field_end : (op : Op) (place : ℕ) (f : FieldNo) → Leads op x w old new after → IsComplete l n op t.must u.must
-      → part_at (field_in f) after.heap place ≡ reference_to o
-      → EndsIn u.must after (of_slots new) (in_field place f)
+      → part_at (field_in f) after.heap place ≡ reference_to o → EndsIn u.must after (of_slots new) (in_field place f)
   any_field_end op place f leads c is = elim (store_or_not op) [
     | inl k ↦
         stored_end k.object k.field k.value place f (op_leads op _ x w after old new k.is leads) (subst (λ (y : Op). IsComplete l n y t.must u.must) k.is c) is

@@ -1,5 +1,5 @@
 -- What a described method keeps: the objects in some slots, and no others; so a tuple that is closed still is, unless it lists one of these.
-use Rattle.std.proofs.Common.{◌≡◌, ◌≢◌, ◌⊎◌, inl, inr, ℕ, zero, suc, ◌<◌, List, [], ◌∷◌, ◌++◌, length, Option, Some, None, Contains, true, false, refl, sym, ◌∙◌, ap, subst}
+use Rattle.std.proofs.Common.{◌≡◌, ◌≢◌, ◌⊎◌, inl, inr, ℕ, zero, suc, ◌<◌, ◌≤◌, List, [], ◌∷◌, ◌++◌, length, Option, Some, None, Contains, true, false, refl, sym, ◌∙◌, ap, subst}
 use Rattle.std.specs.Prelude.{slice_get}
 use Rattle.std.specs.List.{flat_map}
 use Rattle.std.specs.Option.{option_flatten, option_map_or, option_to_list}
@@ -15,13 +15,16 @@ use Rattle.machine_bytecode.specs.States.{Value, primitive_value, null_value, re
 use Rattle.machine_nodes.specs.Slots.{argument_values}
 use Rattle.points_to_rules.proofs.Flattened.{among_flat}
 use Rattle.access_paths.specs.declared.root.Root.TheVariants.{Slot, Static, Returned, Thrown}
-use Rattle.stage_facts.specs.Facts.{Tuple, Describes}
-use Rattle.stage_facts.specs.Values.{of_slots, field_in, element_in, Cell, in_root, in_field, in_element, in_kept, cell_value}
+use Rattle.stage_facts.specs.Facts.{Tuple, SiteFact, Describes, HasSome, Says}
+use Rattle.stage_facts.specs.Values.{View, of_slots, field_in, element_in, Cell, in_root, in_field, in_element, in_kept, cell_value}
 use Rattle.stage_edges.specs.Rules.{slot_of, kept_slots}
 use Rattle.stage_relations.specs.Relations.{PutsAway}
-use Rattle.stage_steps.specs.Said.{IsBounded}
+use Rattle.stage_relations.specs.Laws.{IsIdle}
+use Rattle.stage_steps.specs.Said.{IsBounded, IsTracked}
 use Rattle.stage_steps.proofs.Paths.{same_place}
-use Rattle.stage_steps.proofs.Calm.{Calm, calm_push, listed_root, none_new}
+use Rattle.stage_steps.proofs.Calm.{Calm, NoneNew, idle_says, calm_push, listed_root, none_new}
+use Rattle.list_laws.proofs.Places.{in_longer}
+use Rattle.stage_steps.proofs.Born.{longer}
 use Rattle.stage_steps.proofs.Shapes.{append_cases}
 
 -- ---- units of a call
@@ -98,8 +101,7 @@ kept_before kept places number o is = by (slice_get (kept ++ places) number) ref
 
 -- a tuple that is closed does not list what is put away
 pub not_put_away : (s : Site) (o : ℕ) (w : World) (slots : List Value) (kept places : List ℕ) (u v : Tuple) → AreKept slots kept places
-    → Describes s u o w (of_slots slots)
-    → (v.may ≡ false → u.may ≡ false) → PutsAway kept u v → v.may ≡ false → Contains places o → ⊥
+    → Describes s u o w (of_slots slots) → (v.may ≡ false → u.may ≡ false) → PutsAway kept u v → v.may ≡ false → Contains places o → ⊥
 not_put_away s o w slots kept places u v are d may away off there =
     let k = are.from o there in
     away off k.slot k.listed (listed_root s o w (of_slots slots) u (Slot k.slot) d (may off) k.is)
@@ -116,8 +118,8 @@ calm_kept s o w places v away = record {
 
 -- and an object is made
 pub calm_kept_push : (s : Site) (o : ℕ) (w : World) (places : List ℕ) (made : Object) (v : Tuple) → (v.may ≡ false → Contains places o → ⊥)
-    → ((f : FieldNo) → field_in f made.contents ≡ null_value)
-    → ((index : ℕ) → element_in index made.contents ≡ null_value) → (v.unique ≡ true → made.site ≢ s) → Calm s o w (with_object (with_kept w places) made) v
+    → ((f : FieldNo) → field_in f made.contents ≡ null_value) → ((index : ℕ) → element_in index made.contents ≡ null_value) → (v.unique ≡ true → made.site ≢ s)
+    → Calm s o w (with_object (with_kept w places) made) v
 calm_kept_push s o w places made v away no_field no_element apart =
     let calm = calm_push s o w made v no_field no_element apart in
     record {
@@ -126,6 +128,29 @@ calm_kept_push s o w places made v away no_field no_element apart =
       element = calm.element;
       kept = λ off number is. elim (kept_before w.kept places number o is) [ inl before ↦ before | inr now ↦ absurd (away off now) ];
     }
+
+-- Facts without an object stay, where one of another site is made.
+pub idle_kept_push : (s : Site) (o : ℕ) (w : World) (places : List ℕ) (made : Object) (old new : View) (f : SiteFact) → IsIdle f → made.site ≢ s
+    → IsTracked s o (w.heap ++ made ∷ []) → Says s f o w old → Says s f o (with_object (with_kept w places) made) new
+idle_kept_push s o w places made old new f idle apart tracked says =
+    idle_says s o w (with_object (with_kept w places) made) old new f idle longer_heap none some says
+  where
+    its_site : (object : Object) → Contains (made ∷ []) object → object.site ≡ s → made.site ≡ s
+    its_site object there of_site = ap (λ (y : Object). y.site) (contains_only made object there) ∙ of_site
+
+    longer_heap : length w.heap ≤ o → length (w.heap ++ made ∷ []) ≤ o
+    longer_heap = longer s o w.heap (made ∷ []) (λ object there of_site. apart (its_site object there of_site)) tracked
+
+    none : NoneNew s w.heap (w.heap ++ made ∷ [])
+    none = record {
+      was = λ place object stands of_site. elim (append_cases w.heap (made ∷ []) place object stands) [
+        | inl before ↦ record { object = object; stands = before; of_site = of_site }
+        | inr late ↦ absurd (apart (its_site object late of_site))
+      ];
+    }
+
+    some : HasSome s w.heap → HasSome s (w.heap ++ made ∷ [])
+    some k = record { place = k.place; object = k.object; stands = in_longer w.heap (made ∷ []) k.place k.object k.stands; of_site = k.of_site }
 
 pub bounded_kept : (w : World) (slots : List Value) (kept places : List ℕ) → IsBounded w slots → AreKept slots kept places
     → IsBounded (with_kept w places) slots

@@ -85,8 +85,8 @@ new_or_not (Probe slot) s = inr (λ z e. cc e)
 
 -- a tuple that flows from one that described the object describes it; if the operation makes another object of the site, no more as the only one
 pub flows_describes : (x : Subject) (l : LoweredMethod) (n : Node) (op : Op) (w after : World) (old new : List Value) (s : Site) (o : ℕ) (t u : Tuple)
-    → Leads op x w old new after → AreEqual l n old
-    → IsNoConstant o → Flows l n op t u → (u.unique ≡ true → Makes op s → ⊥) → Describes s t o w (of_slots old) → Describes s u o after (of_slots new)
+    → Leads op x w old new after → AreEqual l n old → IsNoConstant o → Flows l n op t u → (u.unique ≡ true → Makes op s → ⊥) → Describes s t o w (of_slots old)
+    → Describes s u o after (of_slots new)
 flows_describes x l n op w after old new s o t u leads equal apart flow others d = record {
   object = r.object;
   stands = r.stands;
@@ -98,8 +98,9 @@ flows_describes x l n op w after old new s o t u leads equal apart flow others d
       | inr made ↦ absurd (others unique (subst (λ (y : Site). Makes op y) of_site made))
     ];
   };
-  must =
-      λ y listed. (let from = flow.must y listed in reference_in _ o (comes_value op x w after old new l n leads equal from.comes ∙ with_reference _ o (d.must from.path from.listed)));
+  must = λ y listed.
+      let from = flow.must y listed in
+      reference_in _ o (comes_value op x w after old new l n leads equal from.comes ∙ with_reference _ o (d.must from.path from.listed));
   must_not = λ y listed is. elim (flow.must_not y listed) [
     | inl from ↦ d.must_not from.path from.listed (reference_in _ o (sym (comes_value op x w after old new l n leads equal from.comes) ∙ with_reference _ o is))
     | inr made ↦ new_value made.site made.target made.op_is y made.path_is is
@@ -136,11 +137,14 @@ others_stay s o (stayed e) others tracked le = subst (λ (h : List Object). leng
 others_stay {x = x} {op = op} {before = before} s o (pushed {site = site} {target = target} is e) others tracked le =
     subst (λ (h : List Object). length h ≤ o) (sym e)
     (longer s o before (new_object x.program site x.property.initial ∷ [])
-    (λ object there of_site. others (an_object {target = target} (is ∙ ap (λ (y : Site). New y target) (ap (λ (y : Object). y.site) (contains_only _ object there) ∙ of_site))))
+    (λ object there of_site.
+    (let same : site ≡ s = ap (λ (y : Object). y.site) (contains_only _ object there) ∙ of_site in
+    others (an_object {target = target} (is ∙ ap (λ (y : Site). New y target) same))))
     (subst (λ (h : List Object). IsTracked s o h) e tracked) le)
 others_stay {op = op} {before = before} s o (arrayed {sites = sites} {target = target} more is new e) others tracked le =
     subst (λ (h : List Object). length h ≤ o) (sym e)
-    (longer s o before more (λ object there of_site. (let a = new object there in others (an_array is (subst (λ (y : Site). Contains sites y) of_site a.among))))
+    (longer s o before more
+    (λ object there of_site. (let a = new object there in others (an_array is (subst (λ (y : Site). Contains sites y) of_site a.among))))
     (subst (λ (h : List Object). IsTracked s o h) e tracked) le)
 others_stay {before = before} s o (wrote at into values is ref held holds e) others tracked le =
     subst (λ (h : List Object). length h ≤ o) (sym e) (subst (λ (k : ℕ). k ≤ o) (sym (length-set before at _)) le)
@@ -167,8 +171,7 @@ some_stays s how some =
 module _ (x : Subject) (S : Fact → Type 0) (s : Site) (t : Transfer) (laws : IsStage x S s t) (o : ℕ) where
   unmade_says : (l : LoweredMethod) (n : Node) (f : SiteFact) (w after : World) (old new : List Value) → IsIdle f → Leads n.op x w old new after
       → ((sites : List Site) (target : ℕ) → n.op ≡ NewArray sites target → Contains sites s → ⊥) → ((target : ℕ) → n.op ≢ New s target)
-      → IsTracked s o after.heap
-      → Says s f o w (of_slots old) → Results (t.next l n f) (λ g. Says s g o after (of_slots new))
+      → IsTracked s o after.heap → Says s f o w (of_slots old) → Results (t.next l n f) (λ g. Says s g o after (of_slots new))
   unmade_says l n f w after old new idle leads no_array no_object tracked says =
       let how = shape n.op x w after old new leads in
       record {
@@ -182,9 +185,8 @@ module _ (x : Subject) (S : Fact → Type 0) (s : Site) (t : Transfer) (laws : I
       others (an_array {sites = sites} {target = target} is there) = no_array sites target is there
 
   pub next_says : (l : LoweredMethod) (n : Node) (f : SiteFact) (w after : World) (old new : List Value) → HasVariables l n → AreEqual l n old
-      → Leads n.op x w old new after → IsBounded w old
-      → IsNoConstant o → ((sites : List Site) (target : ℕ) → n.op ≡ NewArray sites target → Contains sites s → ⊥) → IsTracked s o after.heap
-      → Says s f o w (of_slots old)
+      → Leads n.op x w old new after → IsBounded w old → IsNoConstant o
+      → ((sites : List Site) (target : ℕ) → n.op ≡ NewArray sites target → Contains sites s → ⊥) → IsTracked s o after.heap → Says s f o w (of_slots old)
       → Results (t.next l n f) (λ g. Says s g o after (of_slots new))
   next_says l n (of_object u) w after old new variables equal leads bounded apart no_array tracked d =
       let k = laws.next l n u variables (plain_of n.op x w after old new leads) in
@@ -204,7 +206,8 @@ module _ (x : Subject) (S : Fact → Type 0) (s : Site) (t : Transfer) (laws : I
           let made = op_leads n.op (New s k.target) x w after old new k.is leads in
           let left = subst (λ (v : Value). AreLeft [] (Some k.target) v old new) made.is_made.made_is made.are_left in
           subst (λ (y : World). Results (t.next l n none_yet) (λ g. Says s g o y (of_slots new))) (sym made.is_made.after_is)
-          (made_says x s o (Some k.target) [] true w old new left bounded (λ _. says.1) (t.next l n none_yet) says.0 (laws.next_some l n none_yet k.target tt k.is) (laws.next_first l n k.target k.is))
+          (made_says x s o (Some k.target) [] true w old new left bounded (λ _. says.1) (t.next l n none_yet) says.0
+          (laws.next_some l n none_yet k.target tt k.is) (laws.next_first l n k.target k.is))
       by (inr none) = unmade_says l n none_yet w after old new tt leads no_array none tracked says
   next_says l n some_yet w after old new variables equal leads bounded apart no_array tracked says = by (new_or_not n.op s)
     where
@@ -213,5 +216,6 @@ module _ (x : Subject) (S : Fact → Type 0) (s : Site) (t : Transfer) (laws : I
           let made = op_leads n.op (New s k.target) x w after old new k.is leads in
           let left = subst (λ (v : Value). AreLeft [] (Some k.target) v old new) made.is_made.made_is made.are_left in
           subst (λ (y : World). Results (t.next l n some_yet) (λ g. Says s g o y (of_slots new))) (sym made.is_made.after_is)
-          (made_says x s o (Some k.target) [] false w old new left bounded (λ bad. absurd (cc bad)) (t.next l n some_yet) says.0 (laws.next_some l n some_yet k.target tt k.is) (laws.next_further l n k.target k.is))
+          (made_says x s o (Some k.target) [] false w old new left bounded (λ bad. absurd (cc bad)) (t.next l n some_yet) says.0
+          (laws.next_some l n some_yet k.target tt k.is) (laws.next_further l n k.target k.is))
       by (inr none) = unmade_says l n some_yet w after old new tt leads no_array none tracked says

@@ -17,9 +17,18 @@ use Rattle.stage_relations.specs.Relations.{path, HasFields, EndsIn}
 
 -- ---- parts of objects
 
+-- what is found at the place decides
+part_found : (part : Contents → Value) (heap : List Object) (place : ℕ) (found : Option Object) → slice_get heap place ≡ found
+    → part_at part heap place ≡ option_map_or (λ (o : Object). part o.contents) found null_value
+part_found part heap place found e = ap (λ (x : Option Object). option_map_or (λ (o : Object). part o.contents) x null_value) e
+
+-- in a heap that is the same
+pub part_in : (part : Contents → Value) (before after : List Object) (place : ℕ) → after ≡ before → part_at part after place ≡ part_at part before place
+part_in part before after place e = ap (λ (h : List Object). part_at part h place) e
+
 pub part_is : (part : Contents → Value) (heap : List Object) (place : ℕ) (o : Object) → slice_get heap place ≡ Some o
     → part_at part heap place ≡ part o.contents
-part_is part heap place o e = ap (λ (x : Option Object). option_map_or (λ (y : Object). part y.contents) x null_value) e
+part_is part heap place o e = part_found part heap place (Some o) e
 
 -- the object whose part it is
 pub record HasPart (part : Contents → Value) (heap : List Object) (place : ℕ) (v : Value) : Type 0 where
@@ -32,8 +41,7 @@ pub part_held : (part : Contents → Value) (heap : List Object) (place q : ℕ)
 part_held part heap place q is = by (slice_get heap place) refl
   where
     by : (x : Option Object) → slice_get heap place ≡ x → HasPart part heap place (reference_to q)
-    by None e =
-        absurd (let bad : null_value ≡ reference_to q = sym (ap (λ (x : Option Object). option_map_or (λ (y : Object). part y.contents) x null_value) e) ∙ is in cc bad)
+    by None e = absurd (let bad : null_value ≡ reference_to q = sym (part_found part heap place None e) ∙ is in cc bad)
     by (Some o) e = record { object = o; stands = e; is = sym (part_is part heap place o e) ∙ is }
 
 -- more objects, whose parts refer to nothing

@@ -47,8 +47,7 @@ pub record IsGiven (target : Option ℕ) (v : Value) (z o : ℕ) : Type 0 where
   pub is : v ≡ reference_to o
 
 pub given_value : (operands : List ℕ) (target : Option ℕ) (v : Value) (old new : List Value) (z o : ℕ) → AreLeft operands target v old new
-    → Contains (operands ++ option_to_list target) z
-    → slot_at new z ≡ reference_to o → IsGiven target v z o
+    → Contains (operands ++ option_to_list target) z → slot_at new z ≡ reference_to o → IsGiven target v z o
 given_value operands target v old new z o left there is = by (some_or_not target z)
   where
     of_target : (t : Option ℕ) → Contains (option_to_list t) z → t ≡ Some z

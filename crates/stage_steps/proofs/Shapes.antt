@@ -14,9 +14,9 @@ use Rattle.op_model.specs.declared.op.Op.TheVariants.{Assign, Load, Store, LoadE
 use Rattle.machine_bytecode.specs.Objects.{Subject}
 use Rattle.machine_bytecode.specs.States.{Value, null_value, reference_to, fields, elements, Object, World, slot_at, updated, default_element, new_object, new_array, Dimension, references_from, arrays_of_arrays, arrays_from}
 use Rattle.machine_nodes.specs.NodeSteps.{Leads}
-use Rattle.stage_facts.specs.Values.{without_primitive, field_in, element_in, part_at}
+use Rattle.stage_facts.specs.Values.{without_primitive, field_in, element_in}
 use Rattle.stage_relations.specs.Relations.{IsUnstored}
-use Rattle.stage_steps.proofs.Paths.{default_field, default_refers_not, part_append, part_push, part_set, reference_in, same_place, set_here, Unchanged}
+use Rattle.stage_steps.proofs.Paths.{default_field, default_refers_not, part_append, part_in, part_push, part_set, reference_in, same_place, set_here, Unchanged}
 use Rattle.stage_steps.proofs.Calm.{HasAt}
 use Rattle.stage_steps.proofs.Sites.{same_field, updated_other}
 
@@ -69,8 +69,7 @@ widened : (outer : Site) (sites : List Site) (first : ℕ) (o : Object) → IsNe
 widened outer sites first o a = record { among = contains_later outer o.site sites a.among; no_field = a.no_field; beyond = a.beyond }
 
 pub arrays_are_new : (dimensions : List Dimension) (state place low count : ℕ) (o : Object) → low ≤ place
-    → Contains (arrays_from state place count dimensions) o
-    → IsNewArray (map (λ (d : Dimension). d.site) dimensions) low o
+    → Contains (arrays_from state place count dimensions) o → IsNewArray (map (λ (d : Dimension). d.site) dimensions) low o
 arrays_are_new [] state place low count o le there = absurd (contains_none o there)
 arrays_are_new (d ∷ []) state place low count o le there =
     subst (λ (y : Object). IsNewArray (d.site ∷ []) low y) (replicated_is count _ o there) (record {
@@ -103,8 +102,7 @@ pub data Shape (x : Subject) (op : Op) (old : List Value) (before after : List O
   stayed : after ≡ before → Shape x op old before after
   pushed : {site : Site} {target : ℕ} → op ≡ New site target → after ≡ before ++ new_object x.program site x.property.initial ∷ [] → Shape x op old before after
   arrayed : {sites : List Site} {target : ℕ} (more : List Object) → op ≡ NewArray sites target
-      → ((o : Object) → Contains more o → IsNewArray sites (length before) o) → after ≡ before ++ more
-      → Shape x op old before after
+      → ((o : Object) → Contains more o → IsNewArray sites (length before) o) → after ≡ before ++ more → Shape x op old before after
   wrote : {base value : ℕ} {f : FieldNo} (place : ℕ) (into : Object) (values : ℕ → Value) → op ≡ Store base f value → slot_at old base ≡ reference_to place
       → slice_get before place ≡ Some into → into.contents ≡ fields values → after ≡ slice_set before place (with_field into values f (slot_at old value))
       → Shape x op old before after
@@ -129,7 +127,8 @@ shape (New site target) x w after old new l = pushed refl (heap_of after _ l.is_
 shape (NewArray sites target) x w after old new l =
     let made = l.is_made in
     arrayed (arrays_from x.property.initial (length w.heap) 1 made.dimensions) refl
-    (λ o there. subst (λ (known : List Site). IsNewArray known (length w.heap) o) made.of_sites (arrays_are_new made.dimensions x.property.initial (length w.heap) (length w.heap) 1 o (omega arith) there))
+    (λ o there. subst (λ (known : List Site). IsNewArray known (length w.heap) o) made.of_sites
+    (arrays_are_new made.dimensions x.property.initial (length w.heap) (length w.heap) 1 o (omega arith) there))
     (heap_of after _ made.after_is)
 shape (Constant site target) x w after old new l = stayed (heap_of after w l.same)
 shape (Call call) x w after old new l = absurd l
@@ -141,25 +140,24 @@ shape (Probe slot) x w after old new l = stayed (heap_of after w l.0.1)
 -- ---- fields
 
 pub field_unchanged : {x : Subject} {op : Op} {old : List Value} {before after : List Object} → Shape x op old before after → (f : FieldNo)
-    → ((object value : ℕ) → op ≢ Store object f value)
-    → Unchanged before after f
-field_unchanged {before = before} (stayed e) f un place = ap (λ (h : List Object). part_at (field_in f) h place) e
+    → ((object value : ℕ) → op ≢ Store object f value) → Unchanged before after f
+field_unchanged {before = before} (stayed e) f un place = part_in (field_in f) _ _ place e
 field_unchanged {x = x} {before = before} (pushed {site = site} is e) f un place =
-    ap (λ (h : List Object). part_at (field_in f) h place) e
+    part_in (field_in f) _ _ place e
     ∙ part_push (field_in f) before (new_object x.program site x.property.initial) place (default_field x.program f)
 field_unchanged {before = before} (arrayed more is new e) f un place =
-    ap (λ (h : List Object). part_at (field_in f) h place) e ∙ part_append (field_in f) before more place (λ o there. (let a = new o there in a.no_field f))
+    part_in (field_in f) _ _ place e ∙ part_append (field_in f) before more place (λ o there. (let a = new o there in a.no_field f))
 field_unchanged {old = old} {before = before} (wrote {base = base} {value = value} {f = g} at into values is ref held holds e) f un place =
-    ap (λ (h : List Object). part_at (field_in f) h place) e
+    part_in (field_in f) _ _ place e
     ∙ part_set (field_in f) before at place into (with_field into values g (slot_at old value)) held
-    (λ _. ap without_primitive (updated_other values g.0 f.0 (slot_at old value) (λ d. un base value (is ∙ ap (λ (h : FieldNo). Store base h value) (sym (same_field f g d))))) ∙ sym (ap (field_in f) holds))
+    (λ _. ap without_primitive (updated_other values g.0 f.0 (slot_at old value)
+    (λ d. un base value (is ∙ ap (λ (h : FieldNo). Store base h value) (sym (same_field f g d))))) ∙ sym (ap (field_in f) holds))
 field_unchanged {old = old} {before = before} (filled {value = value} at into values index is held holds inside e) f un place =
-    ap (λ (h : List Object). part_at (field_in f) h place) e
+    part_in (field_in f) _ _ place e
     ∙ part_set (field_in f) before at place into (with_element into values index (slot_at old value)) held (λ _. sym (ap (field_in f) holds))
 
 pub all_unchanged : {x : Subject} {op : Op} {old : List Value} {before after : List Object} → Shape x op old before after → (fs : List FieldNo)
-    → IsUnstored op fs
-    → AllByRecursion (Unchanged before after) fs
+    → IsUnstored op fs → AllByRecursion (Unchanged before after) fs
 all_unchanged how [] un = tt
 all_unchanged how (f ∷ fs) un = (field_unchanged how f un.0, all_unchanged how fs un.1)
 
@@ -173,8 +171,7 @@ pub record Remains (heap : List Object) (place : ℕ) (old : Object) : Type 0 wh
   pub in_state : object.automaton ≡ old.automaton
 
 remains_set : (heap : List Object) (at place : ℕ) (into written object : Object) → slice_get heap at ≡ Some into → written.site ≡ into.site
-    → written.automaton ≡ into.automaton
-    → slice_get heap place ≡ Some object → Remains (slice_set heap at written) place object
+    → written.automaton ≡ into.automaton → slice_get heap place ≡ Some object → Remains (slice_set heap at written) place object
 remains_set heap at place into written object is site state held = by (cases_eq place at)
   where
     by : (place ≡ at) ⊎ (place ≢ at) → Remains (slice_set heap at written) place object
@@ -189,8 +186,7 @@ remains_set heap at place into written object is site state held = by (cases_eq 
     by (inr ne) = record { object = object; stands = set_other heap at place written ne ∙ held; of_site = refl; in_state = refl }
 
 pub was_set : (heap : List Object) (at place : ℕ) (into written object : Object) → slice_get heap at ≡ Some into → written.site ≡ into.site
-    → slice_get (slice_set heap at written) place ≡ Some object
-    → HasAt object.site heap place
+    → slice_get (slice_set heap at written) place ≡ Some object → HasAt object.site heap place
 was_set heap at place into written object is site stands = elim (set_cases heap at place written object stands) [
   | inl here ↦ record { object = into; stands = ap (slice_get heap) here.0 ∙ is; of_site = sym site ∙ sym (ap (λ (o : Object). o.site) here.1) }
   | inr before ↦ record { object = object; stands = before; of_site = refl }
@@ -222,8 +218,7 @@ append_cases (y ∷ xs) ys zero x e = inl e
 append_cases (y ∷ xs) ys (suc k) x e = append_cases xs ys k x e
 
 pub was : {x : Subject} {op : Op} {old : List Value} {before after : List Object} → Shape x op old before after → (place : ℕ) (object : Object)
-    → slice_get after place ≡ Some object
-    → HasAt object.site before place ⊎ Makes op object.site
+    → slice_get after place ≡ Some object → HasAt object.site before place ⊎ Makes op object.site
 was {before = before} (stayed e) place object stands =
     inl (record { object = object; stands = subst (λ (h : List Object). slice_get h place ≡ Some object) e stands; of_site = refl })
 was {x = x} {op = op} {before = before} (pushed {site = site} {target = target} is e) place object stands =

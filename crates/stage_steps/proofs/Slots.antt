@@ -27,8 +27,7 @@ use Rattle.stage_steps.proofs.Sites.{updated_here, updated_other, same_field}
 -- ---- slots
 
 left_kept : (operands : List ℕ) (target : Option ℕ) (v : Value) (old new : List Value) (z : ℕ) → AreLeft operands target v old new
-    → (Contains (operands ++ option_to_list target) z → ⊥)
-    → slot_at new z ≡ slot_at old z
+    → (Contains (operands ++ option_to_list target) z → ⊥) → slot_at new z ≡ slot_at old z
 left_kept operands target v old new z left free =
     left.kept z (λ there. free (Contains-append_left operands (option_to_list target) z there))
     (λ e. free (Contains-append_right operands (option_to_list target) z (listed e)))
