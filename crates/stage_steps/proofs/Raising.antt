@@ -1,8 +1,9 @@
 -- Where an object is thrown: into a handler, or out of the method.
-use Rattle.std.proofs.Common.{◌≡◌, ◌≢◌, ◌⊎◌, inl, inr, ℕ, ◌<◌, ◌≤◌, List, [], ◌∷◌, ◌++◌, length, Option, Some, None, refl, sym, ◌∙◌, ap, subst, arith, length-append}
+use Rattle.std.proofs.Common.{◌≡◌, ◌≢◌, ◌⊎◌, inl, inr, ℕ, ◌<◌, ◌≤◌, List, [], ◌∷◌, ◌++◌, length, Option, Some, None, Contains, refl, sym, ◌∙◌, ap, subst, arith}
 use Rattle.std.specs.Prelude.{slice_get}
-use Rattle.std.proofs.lemmas.Bool.{cases_eq, cases_lt}
+use Rattle.std.proofs.lemmas.Bool.{cases_lt}
 use Rattle.std.proofs.lemmas.Option.{same_Some, none-some, slice_get_within}
+use Rattle.list_laws.proofs.Members.{contains_only}
 use Rattle.list_laws.proofs.Places.{in_longer, push_cases, pushed_at}
 use Rattle.jvm_model.specs.declared.number.FieldNo.{FieldNo}
 use Rattle.jvm_model.specs.declared.site.Site.{Site}
@@ -27,6 +28,7 @@ use Rattle.stage_relations.specs.Laws.{IsIdle, IsStage}
 use Rattle.stage_steps.specs.Said.{AgreeOnPlaces, AreEqual, IsTracked, Results, SaysCaught}
 use Rattle.stage_steps.proofs.Paths.{default_field, follow_null, part_is, same_place}
 use Rattle.stage_steps.proofs.Calm.{Calm, calm_here, calm_push, From, idle_says, NoneNew}
+use Rattle.stage_steps.proofs.Born.{longer}
 use Rattle.stage_steps.proofs.Rerooting.{Went, with_value, with_new, rerooted_describes}
 
 -- ---- where a thrown object is
@@ -174,13 +176,6 @@ thrown_new o p w made value slots was contents there none = made_new none lost
     lost [] e = let same = same_place (length w.heap) o e in omega (arith, there, same)
     lost (f ∷ fs) e = let bad : null_value ≡ reference_to o = sym (ap (λ (v : Value). followed (w.heap ++ made ∷ []) v fs) (part f) ∙ follow_null (w.heap ++ made ∷ []) fs) ∙ e in cc bad
 
-push_longer : (s : Site) (o : ℕ) (w : World) (made : Object) → made.site ≢ s → IsTracked s o (w.heap ++ made ∷ []) → length w.heap ≤ o → length (w.heap ++ made ∷ []) ≤ o
-push_longer s o w made apart tracked le = by (cases_eq (length w.heap) o)
-  where
-    by : (length w.heap ≡ o) ⊎ (length w.heap ≢ o) → length (w.heap ++ made ∷ []) ≤ o
-    by (inl e) = absurd (apart (tracked made (ap (slice_get (w.heap ++ made ∷ [])) (sym e) ∙ pushed_at w.heap made)))
-    by (inr ne) = let is = length-append w.heap (made ∷ []) in omega (arith, le, ne, is)
-
 push_none : (s : Site) (w : World) (made : Object) → made.site ≢ s → NoneNew s w.heap (w.heap ++ made ∷ [])
 push_none s w made apart = record {
   was = λ place object stands of_site. elim (push_cases w.heap made place object stands) [
@@ -254,6 +249,9 @@ module _ (x : Subject) (S : Fact → Type 0) (s : Site) (t : Transfer) (laws : I
       (λ object stands. in_longer w.heap (made ∷ []) o object stands) (λ g. refl) (equal_agree l n slots equal)
       (λ object stands. thrown_new o x.program w made (thrown_slot n.op) slots primitive_value contents (slice_get_within w.heap o object stands) none) idle f says
     where
+      others : (object : Object) → Contains (made ∷ []) object → object.site ≢ s
+      others object there e = apart (ap (λ (y : Object). y.site) (contains_only made object there) ∙ e)
+
       none : (place : ℕ) → thrown_value (thrown_slot n.op) slots primitive_value ≢ reference_to place
       none place is = by (thrown_slot n.op) refl
         where
@@ -266,7 +264,7 @@ module _ (x : Subject) (S : Fact → Type 0) (s : Site) (t : Transfer) (laws : I
 
       idle : (g : SiteFact) → IsIdle g → Says s g o w (of_slots slots) → (view : View) → Says s g o (with_object w made) view
       idle g is_idle here view =
-          idle_says s o w (with_object w made) (of_slots slots) view g is_idle (push_longer s o w made apart tracked) (push_none s w made apart)
+          idle_says s o w (with_object w made) (of_slots slots) view g is_idle (longer s o w.heap (made ∷ []) others tracked) (push_none s w made apart)
           (λ some. record { place = some.place; object = some.object; stands = in_longer w.heap (made ∷ []) some.place some.object some.stands; of_site = some.of_site }) here
 
   pub listed_says : (l : LoweredMethod) (n : Node) (handler : Option ℕ) (thrown : ℕ) (f : SiteFact) (w after : World) (made : Object) (slots : List Value) → HasVariables l n → AreEqual l n slots
