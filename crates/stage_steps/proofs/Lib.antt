@@ -1,3 +1,5 @@
+-- Paths and Calm are the base of all. An operation that goes on: Shapes, Slots, then the cells (Roots, Fields, Elements), Born and Operations. Events.
+-- Described methods: Kept and Described. Cells first, and only then the operation, keeps the cases few.
 pub mod Paths
 pub mod Calm
 pub mod Sites

@@ -167,20 +167,6 @@ follows_from heap primitive_value [] o e = absurd (cc e)
 follows_from heap primitive_value (f ∷ fs) o e = absurd (let bad : null_value ≡ reference_to o = sym (follow_null heap fs) ∙ e in cc bad)
 follows_from heap null_value fs o e = absurd (let bad : null_value ≡ reference_to o = sym (follow_null heap fs) ∙ e in cc bad)
 
--- a path with fields that ends in a cell leads on from a reference
-pub ends_from : (heap : List Object) (v : Value) (f : FieldNo) (fs : List FieldNo) (c : Cell) → last_field_cell heap v f fs ≡ Some c → IsReference v
-ends_from heap (reference_to place) f fs c e = record { place = place; is = refl }
-ends_from heap primitive_value f [] c e = absurd (none-some c e)
-ends_from heap null_value f [] c e = absurd (none-some c e)
-ends_from heap primitive_value f (g ∷ fs) c e = absurd (by (ends_from heap null_value g fs c e))
-  where
-    by : IsReference null_value → ⊥
-    by r = let bad = r.is in cc bad
-ends_from heap null_value f (g ∷ fs) c e = absurd (by (ends_from heap null_value g fs c e))
-  where
-    by : IsReference null_value → ⊥
-    by r = let bad = r.is in cc bad
-
 -- ---- the last cell of a path
 
 -- that of a field, or none
@@ -230,15 +216,6 @@ ends_in w view x place g e = by x.fields x.root e
     by : (fs : List FieldNo) (q : Root) → last_cell w view (path q fs) ≡ Some (in_field place g) → EndsIn g fs
     by [] q e = absurd (cc e)
     by (f ∷ fs) q e = last_ends w.heap (root_value w view q) f fs place g e
-
--- its root is a reference
-pub root_refers : (w : World) (view : View) (x : Path) (place : ℕ) (g : FieldNo) → last_cell w view x ≡ Some (in_field place g)
-    → IsReference (root_value w view x.root)
-root_refers w view x place g e = by x.fields x.root e
-  where
-    by : (fs : List FieldNo) (q : Root) → last_cell w view (path q fs) ≡ Some (in_field place g) → IsReference (root_value w view q)
-    by [] q e = absurd (cc e)
-    by (f ∷ fs) q e = ends_from w.heap (root_value w view q) f fs _ e
 
 no_end : (w : World) (view : View) (x : Path) (c : Cell) → ((r : Root) → c ≢ in_root r) → ((place : ℕ) (f : FieldNo) → c ≢ in_field place f)
     → last_cell w view x ≡ Some c → ⊥

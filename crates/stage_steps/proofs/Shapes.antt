@@ -62,9 +62,6 @@ replicated_is {X = X} (suc n) x y there = by (replicated_is n x y) (contains_cas
     by rest (inl e) = e
     by rest (inr later) = rest later
 
-site_of : Dimension → Site
-site_of d = d.site
-
 widened : (outer : Site) (sites : List Site) (first : ℕ) (o : Object) → IsNewArray sites first o → IsNewArray (outer ∷ sites) first o
 widened outer sites first o a = record { among = contains_later outer o.site sites a.among; no_field = a.no_field; beyond = a.beyond }
 

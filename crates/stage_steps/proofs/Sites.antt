@@ -1,4 +1,4 @@
--- Choices between two cases: of two sites whether they are one, of a slot whether it is a target, of a part of the heap whether it was written.
+-- Choices between two cases: whether two sites, or two fields, are one, and whether a slot is a target; and values with another one at a number.
 use Rattle.std.proofs.Common.{◌≡◌, ◌≢◌, ◌⊎◌, inl, inr, ℕ, List, [], ◌∷◌, Option, Some, None, Bool, true, false, cond, eqb, refl, sym, ◌∙◌, ap}
 use Rattle.std.proofs.lemmas.Bool.{cases_eq, eqb-true, eq-eqb}
 use Rattle.std.proofs.lemmas.Option.{same_Some, none-some}
