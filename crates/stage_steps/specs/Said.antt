@@ -1,13 +1,13 @@
 -- Public contracts rest on this module.
 -- What the lemmas on steps speak of: objects that are tracked, slots of one variable, references that are to objects, and what results say.
-use Rattle.std.specs.Prelude.{◌≡◌, ◌≢◌, ◌⊎◌, ℕ, ◌<◌, List, [], length, Option, Some, None, slice_get, Contains}
+use Rattle.std.specs.Prelude.{◌≡◌, ◌⊎◌, ℕ, ◌<◌, List, length, Option, Some, None, slice_get, Contains}
 use Rattle.jvm_model.specs.declared.number.FieldNo.{FieldNo}
 use Rattle.jvm_model.specs.declared.number.MethodNo.{MethodNo}
 use Rattle.jvm_model.specs.declared.site.Site.{Site}
 use Rattle.op_model.specs.declared.lowered.LoweredMethod.{LoweredMethod}
 use Rattle.op_model.specs.declared.node.Node.{Node}
 use Rattle.op_model.specs.declared.op.Call.{Call as NodeCall}
-use Rattle.machine_bytecode.specs.States.{Value, null_value, reference_to, Object, World, slot_at}
+use Rattle.machine_bytecode.specs.States.{Value, reference_to, Object, World, slot_at}
 use Rattle.machine_nodes.specs.Slots.{AreCaught}
 use Rattle.points_to_rules.specs.Facts.{Fact, may_write}
 use Rattle.stage_facts.specs.Facts.{SiteFact, Says}
