@@ -21,8 +21,8 @@ use Rattle.op_model.specs.declared.op.Move.{Move}
 use Rattle.op_model.specs.declared.op.Op.{Op}
 use Rattle.op_model.specs.declared.op.Op.TheVariants.{Assign, Load, Store, LoadElement, StoreElement, LoadStatic, StoreStatic, New, NewArray, Constant, Call, Return, Throw, Cast, Probe}
 use Rattle.op_model.specs.Supplies.{Given, GivenAs, IsMapOf}
-use Rattle.machine_bytecode.specs.Described.{DescribedMethod, Gives, kept_by}
-use Rattle.machine_bytecode.specs.Machine.{ThrowsNew, Throwing, unwound}
+use Rattle.machine_bytecode.specs.Described.{DescribedMethod, Gives}
+use Rattle.machine_bytecode.specs.Machine.{ThrowsNew, unwound}
 use Rattle.machine_bytecode.specs.Objects.{Subject, MakesObject, MakesArrays, IsConstant, ReadsField, ReadsElement}
 use Rattle.machine_bytecode.specs.Start.{arguments_of, boot_classes, IsFirst}
 use Rattle.machine_bytecode.specs.States.{Value, primitive_value, null_value, reference_to, Contents, fields, elements, Object, Frame, Mode, running, throwing, ended, World, State, slot_at, with_kept, runs_on, throws_on, new_object, Dimension, arrays_from}
@@ -45,7 +45,7 @@ use Rattle.coverage.proofs.Units.{IsUnit, of_slot, of_none, unit_is}
 use Rattle.coverage.proofs.Values.{Grows, grows_on, covered_on, covered_by, covered_as, leads_by, leads_from}
 use Rattle.coverage.proofs.Worlds.{events_later}
 use Rattle.coverage.specs.Covering.{IsCoveredWorld, Covers}
-use Rattle.coverage.specs.References.{LeadsTo, IsCovered}
+use Rattle.coverage.specs.References.{IsCovered}
 use Rattle.stage_facts.specs.Values.{Cell, in_root, in_field, in_element, in_kept, cell_value, field_in, element_in, of_slots, without_primitive}
 use Rattle.stage_steps.specs.Said.{IsBounded}
 
