@@ -88,7 +88,8 @@ slots_on old new slots grows c = record { each = λ z. there_on old new (slot_at
 same_slots : (heap : List Object) (before after : List Value) → AreSame before after → AreThere heap before → AreThere heap after
 same_slots heap before after same c = record { each = λ z. there_as heap (slot_at before z) (slot_at after z) (same z) (c.each z) }
 
-left_slots : (heap : List Object) (operands : List ℕ) (target : Option ℕ) (v : Value) (before after : List Value) → AreLeft operands target v before after → IsThere heap v → AreThere heap before
+left_slots : (heap : List Object) (operands : List ℕ) (target : Option ℕ) (v : Value) (before after : List Value) → AreLeft operands target v before after
+    → IsThere heap v → AreThere heap before
     → AreThere heap after
 left_slots heap operands target v before after are new c = record { each = λ z. by z (some_or_not target z) (contained_or_not operands z) }
   where
@@ -106,7 +107,8 @@ moved_slots heap moves before after are c = record { each = λ z. by z (moved_sl
     by z (as_null e) = there_as heap null_value (slot_at after z) e tt
     by z (as_primitive e) = there_as heap primitive_value (slot_at after z) e tt
 
-caught_slots : (heap : List Object) (locals : ℕ) (thrown : Value) (before after : List Value) → AreCaught locals thrown before after → IsThere heap thrown → AreThere heap before → AreThere heap after
+caught_slots : (heap : List Object) (locals : ℕ) (thrown : Value) (before after : List Value) → AreCaught locals thrown before after → IsThere heap thrown
+    → AreThere heap before → AreThere heap after
 caught_slots heap locals thrown before after are new c = record { each = λ z. by z (place_of z) }
   where
     place_of : (z : ℕ) → (z < locals) ⊎ ((locals ≡ z) ⊎ (locals < z))
@@ -162,15 +164,19 @@ grown before after keeps = record {
 object_there : (x : Subject) (site : Site) (before : World) (made : Value) (after : World) → MakesObject x site before made after → IsThere after.heap made
 object_there x site before made after m =
     let o = new_object x.program site x.property.initial in
-    let there : IsThere (before.heap ++ o ∷ []) (reference_to (length before.heap)) = there_at (before.heap ++ o ∷ []) (length before.heap) o (pushed_at before.heap o) in
-    there_as after.heap (reference_to (length before.heap)) made m.made_is (subst (λ (w : World). IsThere w.heap (reference_to (length before.heap))) (sym m.after_is) there)
+    let there : IsThere (before.heap ++ o ∷ []) (reference_to (length before.heap)) =
+    there_at (before.heap ++ o ∷ []) (length before.heap) o (pushed_at before.heap o) in
+    there_as after.heap (reference_to (length before.heap)) made m.made_is
+    (subst (λ (w : World). IsThere w.heap (reference_to (length before.heap))) (sym m.after_is) there)
 
-arrays_there : (x : Subject) (sites : List Site) (before : World) (made : Value) (after : World) → MakesArrays x sites before made after → IsThere after.heap made
+arrays_there : (x : Subject) (sites : List Site) (before : World) (made : Value) (after : World) → MakesArrays x sites before made after
+    → IsThere after.heap made
 arrays_there x sites before made after m =
     there_as after.heap (reference_to (length before.heap)) made m.made_is
     (subst (λ (w : World). IsThere w.heap (reference_to (length before.heap))) (sym m.after_is) (first m.dimensions m.some))
   where
-    first : (ds : List Dimension) → 1 ≤ length ds → IsThere (before.heap ++ arrays_from x.property.initial (length before.heap) 1 ds) (reference_to (length before.heap))
+    first : (ds : List Dimension) → 1 ≤ length ds
+        → IsThere (before.heap ++ arrays_from x.property.initial (length before.heap) 1 ds) (reference_to (length before.heap))
     first [] some = absurd (omega arith)
     first (d ∷ deeper) some =
         let more = arrays_from x.property.initial (length before.heap) 1 (d ∷ deeper) in
@@ -194,7 +200,8 @@ pub record IsBoundedState (s : State) : Type 0 where
 runs_bounded : (t : State) (frames : List Frame) (w : World) → t ≡ runs_on frames w → AreBounded w.heap frames → IsBoundedState t
 runs_bounded t frames w e c = subst (λ (u : State). IsBoundedState u) (sym e) (record { frames = c; mode = tt })
 
-throws_bounded : (t : State) (frames : List Frame) (w : World) (place : ℕ) → t ≡ throws_on frames w place → AreBounded w.heap frames → IsThere w.heap (reference_to place) → IsBoundedState t
+throws_bounded : (t : State) (frames : List Frame) (w : World) (place : ℕ) → t ≡ throws_on frames w place → AreBounded w.heap frames
+    → IsThere w.heap (reference_to place) → IsBoundedState t
 throws_bounded t frames w place e c there = subst (λ (u : State). IsBoundedState u) (sym e) (record { frames = c; mode = there })
 
 -- ---- what values are read of a covered world
@@ -202,7 +209,8 @@ throws_bounded t frames w place e c there = subst (λ (u : State). IsBoundedStat
 module _ (x : Subject) (gives : GivenAs) (S : Fact → Type 0) where
   field_there : (w : World) (object : Value) (number : FieldNo) (v : Value) → IsCoveredWorld x gives S w → ReadsField w object number.0 v → IsThere w.heap v
   field_there w object number v c r =
-      there_as w.heap (r.values number.0) v r.is (loosened _ w.heap (r.values number.0) ((c.objects r.to.place r.to.object r.to.held).in_fields r.values number r.holds))
+      there_as w.heap (r.values number.0) v r.is
+      (loosened _ w.heap (r.values number.0) ((c.objects r.to.place r.to.object r.to.held).in_fields r.values number r.holds))
 
   element_there : (w : World) (array v : Value) → IsCoveredWorld x gives S w → ReadsElement w array v → IsThere w.heap v
   element_there w array v c r =
@@ -210,7 +218,8 @@ module _ (x : Subject) (gives : GivenAs) (S : Fact → Type 0) where
       loosened _ w.heap v ((c.objects a.to.place a.to.object a.to.held).in_elements a.values v a.holds r.among)
 
   constant_there : (w : World) (class : List ℕ) (v : Value) → IsCoveredWorld x gives S w → IsConstant class v → IsThere w.heap v
-  constant_there w class v c k = there_as w.heap (reference_to k.place) v k.is (leads_by _ Any w.heap k.place (λ s e. tt) (c.start.constants k.place class k.stands))
+  constant_there w class v c k =
+      there_as w.heap (reference_to k.place) v k.is (leads_by _ Any w.heap k.place (λ s e. tt) (c.start.constants k.place class k.stands))
 
   -- ---- operations that go on
 
@@ -222,32 +231,41 @@ module _ (x : Subject) (gives : GivenAs) (S : Fact → Type 0) where
   led_by : (before after : World) (left : List Value) → Keeps before after → AreThere before.heap left → IsLed before after left
   led_by before after left keeps c = let grows = grown before after keeps in record { grows = grows; slots = slots_on before.heap after.heap left grows c }
 
-  gets_led : (operands : List ℕ) (target : ℕ) (IsRead : Value → Type 0) (before after : World) (slots left : List Value) → ((v : Value) → IsRead v → IsThere before.heap v)
+  gets_led : (operands : List ℕ) (target : ℕ) (IsRead : Value → Type 0) (before after : World) (slots left : List Value)
+      → ((v : Value) → IsRead v → IsThere before.heap v)
       → GetsValue operands target IsRead before slots left after → AreThere before.heap slots → IsLed before after left
   gets_led operands target IsRead before after slots left read g c =
-      led_by before after left (keeps_same before after g.same) (left_slots before.heap operands (Some target) g.value slots left g.are_left (read g.value g.is_read) c)
+      led_by before after left (keeps_same before after g.same)
+      (left_slots before.heap operands (Some target) g.value slots left g.are_left (read g.value g.is_read) c)
 
-  puts_led : (operands : List ℕ) (before after : World) (slots left : List Value) → Keeps before after → AreLeft operands None primitive_value slots left → AreThere before.heap slots
+  puts_led : (operands : List ℕ) (before after : World) (slots left : List Value) → Keeps before after → AreLeft operands None primitive_value slots left
+      → AreThere before.heap slots
       → IsLed before after left
-  puts_led operands before after slots left keeps are c = led_by before after left keeps (left_slots before.heap operands None primitive_value slots left are tt c)
+  puts_led operands before after slots left keeps are c =
+      led_by before after left keeps (left_slots before.heap operands None primitive_value slots left are tt c)
 
-  made_led : (target : ℕ) (Is : World → Value → World → Type 0) (before after : World) (slots left : List Value) → ((v : Value) → Is before v after → Keeps before after × IsThere after.heap v)
+  made_led : (target : ℕ) (Is : World → Value → World → Type 0) (before after : World) (slots left : List Value)
+      → ((v : Value) → Is before v after → Keeps before after × IsThere after.heap v)
       → GetsMade target Is before slots left after → AreThere before.heap slots → IsLed before after left
   made_led target Is before after slots left makes g c =
       let m = makes g.made g.is_made in
       let grows = grown before after m.0 in
       record { grows = grows; slots = left_slots after.heap [] (Some target) g.made slots left g.are_left m.1 (slots_on before.heap after.heap slots grows c) }
 
-  led : (op : Op) (before after : World) (slots left : List Value) → Leads op x before slots left after → IsCoveredWorld x gives S before → AreThere before.heap slots → IsLed before after left
+  led : (op : Op) (before after : World) (slots left : List Value) → Leads op x before slots left after → IsCoveredWorld x gives S before
+      → AreThere before.heap slots → IsLed before after left
   led (Assign moves) before after slots left l w c = led_by before after left (keeps_same before after l.1) (moved_slots before.heap moves slots left l.0 c)
   led (Load object field target) before after slots left l w c =
       gets_led (object ∷ []) target _ before after slots left (λ v r. field_there before (slot_at slots object) field v w r) l c
-  led (Store object field value) before after slots left l w c = puts_led (object ∷ value ∷ []) before after slots left (keeps_field before _ _ _ after l.0) l.1 c
+  led (Store object field value) before after slots left l w c =
+      puts_led (object ∷ value ∷ []) before after slots left (keeps_field before _ _ _ after l.0) l.1 c
   led (LoadElement array target) before after slots left l w c =
       gets_led (array ∷ []) target _ before after slots left (λ v r. element_there before (slot_at slots array) v w r) l c
-  led (StoreElement array value) before after slots left l w c = puts_led (array ∷ value ∷ []) before after slots left (keeps_element _ before _ _ after l.0) l.1 c
+  led (StoreElement array value) before after slots left l w c =
+      puts_led (array ∷ value ∷ []) before after slots left (keeps_element _ before _ _ after l.0) l.1 c
   led (LoadStatic field target) before after slots left l w c =
-      gets_led [] target _ before after slots left (λ v e. there_as before.heap (before.statics field.0) v e (loosened _ before.heap (before.statics field.0) (w.statics field))) l c
+      gets_led [] target _ before after slots left
+      (λ v e. there_as before.heap (before.statics field.0) v e (loosened _ before.heap (before.statics field.0) (w.statics field))) l c
   led (StoreStatic field value) before after slots left l w c =
       puts_led (value ∷ []) before after slots left (subst (λ (u : World). Keeps before u) (sym l.0) (keeps_static before _ _)) l.1 c
   led (New site target) before after slots left l w c =
@@ -263,7 +281,8 @@ module _ (x : Subject) (gives : GivenAs) (S : Fact → Type 0) where
 
   -- ---- the argument of the entry
 
-  entry_there : (w : World) (m : Method) → slice_get x.program.methods x.entry ≡ Some m → IsCoveredWorld x gives S w → (unit : ℕ) → (b : Bool) → bytes_eq m.signature.descriptor plain_descriptor ≡ b
+  entry_there : (w : World) (m : Method) → slice_get x.program.methods x.entry ≡ Some m → IsCoveredWorld x gives S w → (unit : ℕ) → (b : Bool)
+      → bytes_eq m.signature.descriptor plain_descriptor ≡ b
       → IsThere w.heap (slot_at (cond b [] (reference_to (length (boot_classes x.program)) ∷ [])) unit)
   entry_there w m stands c unit true e = tt
   entry_there w m stands c zero false e =
@@ -278,7 +297,8 @@ module _ (x : Subject) (gives : GivenAs) (S : Fact → Type 0) where
   without_there heap null_value c = tt
   without_there heap (reference_to place) c = c
 
-  index_there : (heap : List Object) (values : List Value) (index : ℕ) → ((v : Value) → Contains values v → IsThere heap v) → IsThere heap (slice_index_or values index null_value)
+  index_there : (heap : List Object) (values : List Value) (index : ℕ) → ((v : Value) → Contains values v → IsThere heap v)
+      → IsThere heap (slice_index_or values index null_value)
   index_there heap [] index each = tt
   index_there heap (v ∷ values) zero each = each v (contains_first v values)
   index_there heap (v ∷ values) (suc index) each = index_there heap values index (λ u there. each u (contains_later v u values there))
@@ -304,11 +324,13 @@ module _ (x : Subject) (gives : GivenAs) (S : Fact → Type 0) where
           without_there w.heap (slice_index_or values index null_value)
           (index_there w.heap values index (λ v there. loosened _ w.heap v ((c.objects place o held).in_elements values v e there)))
 
-  kept_part : (w : World) → IsCoveredWorld x gives S w → (number : ℕ) (o : Option ℕ) → slice_get w.kept number ≡ o → IsThere w.heap (option_map_or reference_to o null_value)
+  kept_part : (w : World) → IsCoveredWorld x gives S w → (number : ℕ) (o : Option ℕ) → slice_get w.kept number ≡ o
+      → IsThere w.heap (option_map_or reference_to o null_value)
   kept_part w c number None e = tt
   kept_part w c number (Some place) e = leads_by _ Any w.heap place (λ s a. tt) (c.kept place (contains_at w.kept number place e))
 
-  cell_bounded : (w : World) (slots : List Value) → IsCoveredWorld x gives S w → ((z place : ℕ) → slot_at slots z ≡ reference_to place → place < length w.heap) → (c : Cell) (place : ℕ)
+  cell_bounded : (w : World) (slots : List Value) → IsCoveredWorld x gives S w → ((z place : ℕ) → slot_at slots z ≡ reference_to place → place < length w.heap)
+      → (c : Cell) (place : ℕ)
       → cell_value w (of_slots slots) c ≡ reference_to place → place < length w.heap
   cell_bounded w slots c own (in_root (Slot z)) place e = own z place e
   cell_bounded w slots c own (in_root (Static f)) place e = there_below w.heap (w.statics f.0) place (loosened _ w.heap (w.statics f.0) (c.statics f)) e
@@ -319,12 +341,14 @@ module _ (x : Subject) (gives : GivenAs) (S : Fact → Type 0) where
   cell_bounded w slots c own (in_kept number) place e = there_below w.heap _ place (kept_part w c number (slice_get w.kept number) refl) e
 
   -- in a covered state, whatever stands in a cell refers to an object that is there, if the slots do
-  pub bounded_of : (s : State) (slots : List Value) → Covers x gives S s → ((z place : ℕ) → slot_at slots z ≡ reference_to place → place < length s.world.heap) → IsBounded s.world slots
+  pub bounded_of : (s : State) (slots : List Value) → Covers x gives S s → ((z place : ℕ) → slot_at slots z ≡ reference_to place → place < length s.world.heap)
+      → IsBounded s.world slots
   bounded_of s slots c own = record { each = λ cell place e. cell_bounded s.world slots c.world own cell place e }
 
 -- ---- what a described method gives
 
-given_there : (x : Subject) (number : ℕ) (d : DescribedMethod x number) (caller : Frame) (units : List Value) (r : StubResult) (before : World) (v : Value) (after : World)
+given_there : (x : Subject) (number : ℕ) (d : DescribedMethod x number) (caller : Frame) (units : List Value) (r : StubResult)
+    (before : World) (v : Value) (after : World)
     → Gives x number d caller units r before v after → AreThere after.heap units → IsThere after.heap v
 given_there x number d caller units results.Primitive before v after g c = there_as after.heap primitive_value v g.0 tt
 given_there x number d caller units results.Void before v after g c = there_as after.heap primitive_value v g.0 tt
@@ -337,13 +361,15 @@ given_there x number d caller units results.Kept before v after g c =
 
 -- ---- steps
 
-throws_new : (x : Subject) (w : World) (f : Frame) (below : List Frame) (class : List ℕ) (t : State) → ThrowsNew x w f below class t → AreBounded w.heap (f ∷ below) → IsBoundedState t
+throws_new : (x : Subject) (w : World) (f : Frame) (below : List Frame) (class : List ℕ) (t : State) → ThrowsNew x w f below class t
+    → AreBounded w.heap (f ∷ below) → IsBoundedState t
 throws_new x w f below class t h c =
     throws_bounded t (f ∷ below) h.world h.thrown h.after (frames_on w.heap h.world.heap (f ∷ below) (grown w h.world (keeps_made x _ w _ h.world h.makes)) c)
     (object_there x _ w (reference_to h.thrown) h.world h.makes)
 
 -- the frame goes
-unwound_bounded : (below : List Frame) (w : World) (place : ℕ) → AreBounded w.heap below → IsThere w.heap (reference_to place) → IsBoundedState (unwound below w place)
+unwound_bounded : (below : List Frame) (w : World) (place : ℕ) → AreBounded w.heap below → IsThere w.heap (reference_to place)
+    → IsBoundedState (unwound below w place)
 unwound_bounded [] w place c there = record { frames = tt; mode = tt }
 unwound_bounded (f ∷ below) w place c there = record { frames = c; mode = there }
 
@@ -360,7 +386,8 @@ module _ (x : Subject) (given : Given) (gives : GivenAs) (S : Fact → Type 0) w
   step_bounded s t (enters at h) c b =
       let heap = h.calls.world.heap in
       let arguments = h.calls.call.arguments in
-      let now = frames_on s.world.heap heap (at.frame ∷ at.below) (after_events s at h.calls c) (frames_as s.world.heap s.frames (at.frame ∷ at.below) at.frames b.frames) in
+      let now = frames_on s.world.heap heap (at.frame ∷ at.below) (after_events s at h.calls c)
+      (frames_as s.world.heap s.frames (at.frame ∷ at.below) at.frames b.frames) in
       runs_bounded t _ h.calls.world h.enters.after (
         same_slots heap (argument_values arguments at.frame.slots) h.enters.slots h.enters.arguments (units_there heap arguments at.frame.slots now.0),
         (left_slots heap (argument_slots arguments) None primitive_value at.frame.slots h.left h.are_left tt now.0, now.1),
@@ -371,7 +398,8 @@ module _ (x : Subject) (given : Given) (gives : GivenAs) (S : Fact → Type 0) w
       let later = grown h.calls.world h.world (keeps_result x _ _ _ h.calls.world h.value h.world h.gives) in
       let grows = grows_on s.world.heap h.calls.world.heap heap (after_events s at h.calls c) later in
       let now = frames_on s.world.heap heap (at.frame ∷ at.below) grows (frames_as s.world.heap s.frames (at.frame ∷ at.below) at.frames b.frames) in
-      let value = given_there x h.calls.target h.gives.called at.frame (argument_values call.arguments at.frame.slots) h.gives.result _ h.value h.world h.gives.gives
+      let value = given_there x h.calls.target h.gives.called at.frame
+      (argument_values call.arguments at.frame.slots) h.gives.result _ h.value h.world h.gives.gives
       (units_there heap call.arguments at.frame.slots now.0) in
       runs_bounded t _ h.world h.after (left_slots heap (argument_slots call.arguments) call.result h.value at.frame.slots h.left h.are_left value now.0, now.1)
   step_bounded s t (gets_exception at h) c b =
@@ -392,8 +420,9 @@ module _ (x : Subject) (given : Given) (gives : GivenAs) (S : Fact → Type 0) w
       let heap = s.world.heap in
       let old = frames_as heap s.frames (at.frame ∷ at.below) at.frames b.frames in
       let below = frames_as heap at.below (h.caller ∷ h.rest) h.below old.1 in
+      let value = returned_there heap h.value at.frame.slots old.0 in
       runs_bounded t _ s.world h.after
-      (left_slots heap [] h.call.result (returned_value h.value at.frame.slots) h.caller.slots h.left h.are_left (returned_there heap h.value at.frame.slots old.0) below.0, below.1)
+      (left_slots heap [] h.call.result (returned_value h.value at.frame.slots) h.caller.slots h.left h.are_left value below.0, below.1)
   step_bounded s t (resumes at h) c b =
       let old = frames_as s.world.heap s.frames (at.frame ∷ at.below) at.frames b.frames in
       runs_bounded t _ s.world h.after (frames_as s.world.heap at.below (h.caller ∷ h.rest) h.below old.1)
@@ -402,7 +431,8 @@ module _ (x : Subject) (given : Given) (gives : GivenAs) (S : Fact → Type 0) w
       throws_new x s.world at.frame at.below h.class t h.throws (frames_as s.world.heap s.frames (at.frame ∷ at.below) at.frames b.frames)
   step_bounded s t (throws at h) c b =
       let to = h.thrown.to in
-      throws_bounded t _ s.world to.place h.after (frames_as s.world.heap s.frames (at.frame ∷ at.below) at.frames b.frames) (there_at s.world.heap to.place to.object to.held)
+      throws_bounded t _ s.world to.place h.after (frames_as s.world.heap s.frames (at.frame ∷ at.below) at.frames b.frames)
+      (there_at s.world.heap to.place to.object to.held)
   step_bounded s t (catches at h) c b =
       let heap = s.world.heap in
       let old = frames_as heap s.frames (at.frame ∷ at.below) at.frames b.frames in
@@ -423,13 +453,18 @@ module _ (x : Subject) (given : Given) (gives : GivenAs) (S : Fact → Type 0) w
 pub first_bounded : (x : Subject) (s : State) → IsFirst x s → IsBoundedState s
 first_bounded x s h = subst (λ (u : State). IsBoundedState u) (sym h.is) (record { frames = (none_there _, tt); mode = tt })
 
-module _ (x : Subject) (given : Given) (gives : GivenAs) (S : Fact → Type 0) (map : IsMapOf given gives) (closed : IsClosedSet (Instance x.program gives (record { 0 = x.entry })) S)
+module _ (x : Subject) (given : Given) (gives : GivenAs) (S : Fact → Type 0) (map : IsMapOf given gives)
+    (closed : IsClosedSet (Instance x.program gives (record { 0 = x.entry })) S)
     (whole : AreWholeMethods x.program gives) (unrefused : HasNoRefusedCall x.program gives S) where
-  steps_bounded : (s : State) (states : List State) → AreNodeSteps x given s states → Covers x gives S s → IsBoundedState s → (t : State) → Contains (s ∷ states) t → IsBoundedState t
-  steps_bounded s [] steps c b t there = elim (contains_cases s t [] there) [ inl e ↦ subst (λ (u : State). IsBoundedState u) e b | inr later ↦ absurd (contains_none t later) ]
+  steps_bounded : (s : State) (states : List State) → AreNodeSteps x given s states → Covers x gives S s → IsBoundedState s → (t : State)
+      → Contains (s ∷ states) t → IsBoundedState t
+  steps_bounded s [] steps c b t there =
+      elim (contains_cases s t [] there) [ inl e ↦ subst (λ (u : State). IsBoundedState u) e b | inr later ↦ absurd (contains_none t later) ]
   steps_bounded s (u ∷ states) steps c b t there = elim (contains_cases s t (u ∷ states) there) [
     | inl e ↦ subst (λ (r : State). IsBoundedState r) e b
-    | inr later ↦ steps_bounded u states steps.1 (step_covers x given gives S map closed whole unrefused s u steps.0 c) (step_bounded x given gives S s u steps.0 c b) t later
+    | inr later ↦ (
+        let covers = step_covers x given gives S map closed whole unrefused s u steps.0 c in
+        steps_bounded u states steps.1 covers (step_bounded x given gives S s u steps.0 c b) t later)
   ]
 
   pub states_bounded : (states : List State) → IsNodeExecution x given states → (state : State) → Contains states state → IsBoundedState state
@@ -438,17 +473,23 @@ module _ (x : Subject) (given : Given) (gives : GivenAs) (S : Fact → Type 0) (
       (subst (λ (ss : List State). Contains ss state) run.begins there)
 
   -- whatever a slot of a frame refers to is there
-  pub frames_bounded : (states : List State) → IsNodeExecution x given states → (state : State) → Contains states state → (f : Frame) → Contains state.frames f → (z place : ℕ)
+  pub frames_bounded : (states : List State) → IsNodeExecution x given states → (state : State) → Contains states state → (f : Frame) → Contains state.frames f
+      → (z place : ℕ)
       → slot_at f.slots z ≡ reference_to place → place < length state.world.heap
   frames_bounded states run state there f among z place e =
-      there_below state.world.heap (slot_at f.slots z) place ((bounded_frame state.world.heap state.frames f (states_bounded states run state there).frames among).each z) e
+      there_below state.world.heap (slot_at f.slots z) place
+      ((bounded_frame state.world.heap state.frames f (states_bounded states run state there).frames among).each z) e
 
   -- and so is what is thrown
-  pub thrown_bounded : (states : List State) → IsNodeExecution x given states → (state : State) → Contains states state → (place : ℕ) → state.mode ≡ throwing place → place < length state.world.heap
+  pub thrown_bounded : (states : List State) → IsNodeExecution x given states → (state : State) → Contains states state → (place : ℕ)
+      → state.mode ≡ throwing place → place < length state.world.heap
   thrown_bounded states run state there place e =
-      there_below state.world.heap (reference_to place) place (subst (λ (m : Mode). IsThrownThere state.world.heap m) e (states_bounded states run state there).mode) refl
+      there_below state.world.heap (reference_to place) place
+      (subst (λ (m : Mode). IsThrownThere state.world.heap m) e (states_bounded states run state there).mode) refl
 
   -- in a frame of any state, whatever stands in a cell refers to an object that is there
-  pub cells_bounded : (states : List State) → IsNodeExecution x given states → (state : State) → Contains states state → (f : Frame) → Contains state.frames f → IsBounded state.world f.slots
+  pub cells_bounded : (states : List State) → IsNodeExecution x given states → (state : State) → Contains states state → (f : Frame) → Contains state.frames f
+      → IsBounded state.world f.slots
   cells_bounded states run state there f among =
-      bounded_of x gives S state f.slots (covers_all x given gives S map closed whole unrefused states run state there) (λ z place e. frames_bounded states run state there f among z place e)
+      bounded_of x gives S state f.slots (covers_all x given gives S map closed whole unrefused states run state there)
+      (λ z place e. frames_bounded states run state there f among z place e)

@@ -1,5 +1,5 @@
--- The methods that a folder's supplier gives as nodes throw plainly: athrow raises NullPointerException alone, and starts no initialisation (JVMS 5.5, 6.5.athrow).
--- And they make no arrays at a site of a class.
+-- The methods that a folder's supplier gives as nodes throw plainly: athrow raises NullPointerException alone, and starts no initialisation
+-- (JVMS 5.5, 6.5.athrow). And they make no arrays at a site of a class.
 use Rattle.std.proofs.Common.{◌≡◌, ◌⊎◌, inl, inr, ℕ, ◌+◌, Bool, true, false, if◌then◌else◌, List, Option, Some, None, Ok, Contains, refl, sym, ap, ◌∙◌, subst, true≢false}
 use Rattle.std.specs.Bool.{MatchBool, IsTrue}
 use Rattle.std.specs.List.{list_all}
@@ -68,7 +68,8 @@ raises_null opcode r of act =
     subst (λ (a : Action). (if throws_object a then list_all is_null_pointer r.raises else true) ≡ true) act (all_at row_raises rows opcode r all_raise of)
 
 -- of an instruction, whose row may have other units than the table's
-raises_only : (opcode : ℕ) (of_opcode r : Row) → row_of opcode ≡ Some of_opcode → r.raises ≡ of_opcode.raises → (r.action ≡ of_opcode.action) ⊎ (r.action ≡ plain) → r.action ≡ throw_object → (raise : Raise)
+raises_only : (opcode : ℕ) (of_opcode r : Row) → row_of opcode ≡ Some of_opcode → r.raises ≡ of_opcode.raises
+    → (r.action ≡ of_opcode.action) ⊎ (r.action ≡ plain) → r.action ≡ throw_object → (raise : Raise)
     → Contains r.raises raise → raise ≡ null_pointer
 raises_only opcode of_opcode r of same (inr moves) act raise there = absurd (false≢true (ap throws_object (sym moves ∙ act)))
 raises_only opcode of_opcode r of same (inl acts) act raise there =
@@ -132,11 +133,14 @@ record StartsNone (trigger : Option ClassNo) (class : Option (List ℕ)) : Type 
   none : trigger ≡ None
   no_class : class ≡ None
 
-starts_none : (i : Placed) (trigger : Option ClassNo) (class : Option (List ℕ)) → i.row.action ≡ throw_object → HasTrigger i trigger class → StartsNone trigger class
+starts_none : (i : Placed) (trigger : Option ClassNo) (class : Option (List ℕ)) → i.row.action ≡ throw_object → HasTrigger i trigger class
+    → StartsNone trigger class
 starts_none i trigger class act (no_trigger is none no_class) = record { none = none; no_class = no_class }
-starts_none i trigger class act (for_class is name number concerned named some some_class) = absurd (false≢true (subst (λ (a : Action). IsTrue (is_trigger a)) act is))
+starts_none i trigger class act (for_class is name number concerned named some some_class) =
+    absurd (false≢true (subst (λ (a : Action). IsTrue (is_trigger a)) act is))
 
-thrown_is : (p : Program) (raises : List Raise) (trigger : Option (List ℕ)) (name : List ℕ) → ((raise : Raise) → Contains raises raise → raise ≡ null_pointer) → trigger ≡ None → IsThrownAt p raises trigger name
+thrown_is : (p : Program) (raises : List Raise) (trigger : Option (List ℕ)) (name : List ℕ) → ((raise : Raise) → Contains raises raise → raise ≡ null_pointer)
+    → trigger ≡ None → IsThrownAt p raises trigger name
     → name ≡ exception_class null_pointer
 thrown_is p raises trigger name only none (raised raise there is) = is ∙ ap exception_class (only raise there)
 thrown_is p raises trigger name only none (initialising class starts has error) = absurd (none-some class (sym none ∙ starts))
@@ -147,7 +151,8 @@ module _ (p : Program) (number : ℕ) (code : Code) (graph : Graph) (l : Lowered
     listed = λ value c class throws there named.
         let only = is.throws.only c there in
         class_is p c class only.0 named only.1
-        ∙ thrown_is p is.instruction.row.raises is.trigger_class only.0 (raises (action value throws)) (starts_none is.instruction n.trigger is.trigger_class (action value throws) is.trigger).no_class only.2;
+        ∙ thrown_is p is.instruction.row.raises is.trigger_class only.0 (raises (action value throws))
+        (starts_none is.instruction n.trigger is.trigger_class (action value throws) is.trigger).no_class only.2;
     untriggered = λ value throws. (starts_none is.instruction n.trigger is.trigger_class (action value throws) is.trigger).none;
   }
     where
@@ -173,7 +178,8 @@ module _ (p : Program) (number : ℕ) (code : Code) (graph : Graph) (l : Lowered
 abbrev ArePlain : Program → LoweredMethod → Type 0
 ArePlain p l = (n : Node) → Contains l.nodes n → ThrowsPlainly p n
 
-plain_by : (p : Program) (number : ℕ) (coded : IsCodedMethod p number) (l : LoweredMethod) → IsSupplyOutcome p number coded.method coded.file coded.place (Ok l) → ArePlain p l
+plain_by : (p : Program) (number : ℕ) (coded : IsCodedMethod p number) (l : LoweredMethod)
+    → IsSupplyOutcome p number coded.method coded.file coded.place (Ok l) → ArePlain p l
 plain_by p number coded l (bad_code fault read r refusal e) = absurd cc
 plain_by p number coded l (bad_flow code read offset reason fault r refusal e) = absurd cc
 plain_by p number coded l (not_lowered code read graph graphed r refusal e) = absurd cc
@@ -185,6 +191,7 @@ pub supplied_throw_plainly : (p : Program) → AreThrownPlainly p (IsSupplied p)
 supplied_throw_plainly p number l n given there = plain_by p number given.coded l given.outcome n there
 
 -- a site of a class is none of an array that they make
-pub supplied_make_no_arrays : (p : Program) (s : Site) → IsClassName s.class → (number : ℕ) (l : LoweredMethod) (n : Node) (sites : List Site) (target : ℕ) → IsSupplied p number (Ok l) → Contains l.nodes n
+pub supplied_make_no_arrays : (p : Program) (s : Site) → IsClassName s.class → (number : ℕ) (l : LoweredMethod) (n : Node) (sites : List Site) (target : ℕ)
+    → IsSupplied p number (Ok l) → Contains l.nodes n
     → n.op ≡ NewArray sites target → Contains sites s → ⊥
 supplied_make_no_arrays p s named number l n sites target given there makes among = supplied_arrays p number l given n sites target there makes s among named
