@@ -22,7 +22,7 @@ use Rattle.machine_bytecode.specs.Start.{boot_site}
 use Rattle.machine_bytecode.specs.States.{reference_to, Object, Frame, Mode, running, State, World, slot_at}
 use Rattle.machine_nodes.specs.Nodes.{AreStartNodes, IsStartCall, IsStartReturn}
 use Rattle.machine_nodes.specs.NodeSteps.{AtNode, NodeStep}
-use Rattle.machine_laws.proofs.NodeSteps.{objects_survive}
+use Rattle.machine_laws.specs.NodeSurvival.{Survives}
 use Rattle.slot_names.specs.Sharing.{ReadsAlike}
 use Rattle.points_to_rules.specs.Facts.{Fact}
 use Rattle.points_to_rules.specs.Rules.{Instance as PointsToInstance, IsNodeOf}
@@ -45,6 +45,7 @@ use Rattle.stage_soundness.proofs.Placed.{number_as, start_method}
 
 pub record Premises (x : Subject) (given : Given) (gives : GivenAs) (S : Fact → Type 0) (s : Site) (t : Transfer) (E : Edge → Type 0) : Type 0 where
   pub program : IsProgram x.program
+  pub survives : (state after : State) → NodeStep x given state after → (place : ℕ) (o : Object) → slice_get state.world.heap place ≡ Some o → Survives x given state after place o
   pub map : IsMapOf given gives
   pub points : IsClosedSet (PointsToInstance x.program gives (number_as x.entry)) S
   pub writes : IsClosedSet (WriteInstance x.program gives) S
@@ -156,7 +157,7 @@ module _ (x : Subject) (given : Given) (gives : GivenAs) (S : Fact → Type 0) (
   -- what is tracked after a step was tracked before
   pub tracked_before : (state after : State) (place : ℕ) → NodeStep x given state after → IsTracked s place after.world.heap → IsTracked s place state.world.heap
   tracked_before state after place step tracked o held =
-      let survives = objects_survive x given state after step place o held in
+      let survives = k.survives state after step place o held in
       sym survives.site ∙ tracked survives.later survives.held
 
   pub tracked_in : (a b : State) (place : ℕ) → a ≡ b → IsTracked s place a.world.heap → IsTracked s place b.world.heap
