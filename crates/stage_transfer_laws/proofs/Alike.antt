@@ -60,3 +60,7 @@ alike_itself w l n z = by (nat_lt z (l.slots + l.stack)) refl
         (in_range 0 (l.slots + l.stack) z (omega arith) (omega (arith, ltb-true z (l.slots + l.stack) below)))
         (is_variable (w.answers.variable_at l n z))
     by false above = contains_first z []
+
+pub alike_back : (l : LoweredMethod) (n : Node) (y z : ℕ) → AreAlike l n y z → AreAlike l n z y
+alike_back l n y z (same e) = same (sym e)
+alike_back l n y z (of_one v first second one other) = of_one v second first other one

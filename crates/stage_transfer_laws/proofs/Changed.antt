@@ -15,6 +15,9 @@ use Rattle.stage_transfer_laws.proofs.Paths.{has_it, in_set, is_root, of_set, ro
 
 -- ---- copies
 
+abbrev pub root_copy : Root → Root → Copy
+root_copy from to = record { from = from; to = to }
+
 pub record IsCopied (copies : List Copy) (set : List Path) (y : Path) : Type 0 where
   pub copy : Copy
   pub made : Contains copies copy

@@ -4,3 +4,6 @@ pub mod Sites
 pub mod Alike
 pub mod Changed
 pub mod Finished
+pub mod CutRelations
+pub mod Operations
+pub mod Loads
