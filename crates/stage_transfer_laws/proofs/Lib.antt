@@ -7,3 +7,5 @@ pub mod Finished
 pub mod CutRelations
 pub mod Operations
 pub mod Loads
+pub mod Stores
+pub mod Exits

@@ -111,7 +111,6 @@ load_found w l n object field target must none x there ends =
 pub load_flows : (w : Setting) → Knows w → (l : LoweredMethod) (n : Node) → HasVariables l n → (object : ℕ) (field : FieldNo) (target : ℕ) (t : Tuple)
     → Flows l n (Load object field target) t (after_load w l n object field target t)
 load_flows w knows l n has object field target t =
-    let op : Op = Load object field target in
     let c : Change = loading w l n object field target in
     let moves = written_moves w knows l n has (Load object field target) (quiet object field target) in
     let clear : (after_load w l n object field target t).may ≡ false → (t.may || list_any (is_lost c (changed_set c t.must)) t.must) ≡ false =
@@ -137,7 +136,12 @@ load_flows w knows l n has object field target t =
               }
               | inr doubled ↦ record { path = path doubled.root x.fields; listed = doubled.has; goes = moves.doubles x.root doubled.root doubled.listed; fields = refl }
             ]));
-        loads = λ other place f is x there ends. ?;
+        loads = λ other place f is x there ends.
+            let same_field : field ≡ f = cc in
+            let same_slot : target ≡ place = cc in
+            subst (λ (z : ℕ). Contains (changed_set c t.must) (bare (Slot z))) same_slot
+            (load_found w l n object field target t.must (or_parts (t.may || list_any (is_lost c (changed_set c t.must)) t.must) (may_be_loaded object field t.must) e).1 x there
+            (subst (λ (g : FieldNo). EndsIn g x.fields) (sym same_field) ends));
         stores = λ other value f is. absurd cc;
         elements = λ array value is. absurd cc;
       };
