@@ -225,3 +225,26 @@ catch_moves w knows l n has offset = catches w l n None offset (Doubles l n (Rai
       | inl stays ↦ unwritten_double w knows l n has (nat_le l.slots) (Raised None (Some offset) l.slots) (local_stays None offset l.slots) r q stays
       | inr caught ↦ caught_doubles l n offset r q caught
     ])
+
+-- What a throw's slot held stands behind the local variables; so, for the definition, does what was thrown into the frame before.
+pub catch_value_moves : (w : Setting) → Knows w → (l : LoweredMethod) (n : Node) → HasVariables l n → (value offset : ℕ)
+    → Moves (Raised (Some value) (Some offset) l.slots) (λ r q. Doubles l n (Raised (Some value) (Some offset) l.slots) r q ⊎ (r ≡ Thrown))
+    (root_copy (Slot value) (Slot l.slots) ∷ []) (catching w l n (Some value))
+catch_value_moves w knows l n has value offset =
+    catches w l n (Some value) offset (λ r q. Doubles l n (Raised (Some value) (Some offset) l.slots) r q ⊎ (r ≡ Thrown)) (λ r q goes. inl (own goes)) doubles
+  where
+    before : (r q : Root) → Contains (cond (same_root Thrown r) (Slot l.slots ∷ []) []) q → r ≡ Thrown
+    before (Slot z) q there = absurd (contains_none q there)
+    before (Static f) q there = absurd (contains_none q there)
+    before Returned q there = absurd (contains_none q there)
+    before Thrown q there = refl
+
+    doubles : (r q : Root) → Contains ((catching w l n (Some value)).doubles r) q → Doubles l n (Raised (Some value) (Some offset) l.slots) r q ⊎ (r ≡ Thrown)
+    doubles r q there =
+        elim (Contains-append_cases (unwritten w l n (nat_le l.slots) r) (moved_to w l n value (Slot l.slots) r ++ (cond (same_root Thrown r) (Slot l.slots ∷ []) [])) q there) [
+          | inl stays ↦ inl (unwritten_double w knows l n has (nat_le l.slots) (Raised (Some value) (Some offset) l.slots) (local_stays (Some value) offset l.slots) r q stays)
+          | inr caught ↦ elim (Contains-append_cases (moved_to w l n value (Slot l.slots) r) (cond (same_root Thrown r) (Slot l.slots ∷ []) []) q caught) [
+            | inl moved ↦ inl (moved_double w knows l n has value (Slot l.slots) (Raised (Some value) (Some offset) l.slots) (Raised.caught_value refl refl) r q moved)
+            | inr thrown ↦ inr (before r q thrown)
+          ]
+        ]

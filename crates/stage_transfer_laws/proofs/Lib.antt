@@ -9,3 +9,5 @@ pub mod Operations
 pub mod Loads
 pub mod Stores
 pub mod Exits
+pub mod Tuples
+pub mod Answered
