@@ -11,3 +11,7 @@ pub mod Stores
 pub mod Exits
 pub mod Tuples
 pub mod Answered
+pub mod Results
+pub mod Next
+pub mod Thrown
+pub mod Described
