@@ -15,3 +15,5 @@ pub mod Results
 pub mod Next
 pub mod Thrown
 pub mod Described
+pub mod Events
+pub mod Entering
