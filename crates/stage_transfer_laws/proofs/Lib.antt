@@ -17,3 +17,5 @@ pub mod Thrown
 pub mod Described
 pub mod Events
 pub mod Entering
+pub mod Leaving
+pub mod Lawful

@@ -21,13 +21,14 @@ use Rattle.stage_transfer.specs.Stages.{finished}
 use Rattle.stage_relations.specs.Laws.{IsIdle, Meets}
 use Rattle.stage_relations.specs.Roots.{Doubles, Exited, HasVariables, Raised, Received}
 use Rattle.stage_relations.specs.Relations.{NoPath, PutsAway, Reroots}
+use Rattle.stage_transfer_laws.specs.Throws.{IsUnthrown}
 use Rattle.stage_transfer_laws.proofs.Alike.{Knows}
 use Rattle.stage_transfer_laws.proofs.Changed.{changed_reroots, root_copy}
 use Rattle.stage_transfer_laws.proofs.CutRelations.{away_cut, reroots_cut}
 use Rattle.stage_transfer_laws.proofs.Exits.{catch_moves, catch_value_moves, receive_moves, result_copies, return_copies, return_moves, throw_moves, unwind_moves}
 use Rattle.stage_transfer_laws.proofs.Finished.{finished_cut}
 use Rattle.stage_transfer_laws.proofs.Results.{idle_stays, meets_only, whole}
-use Rattle.stage_transfer_laws.proofs.Tuples.{away_puts, away_reroots, IsUnthrown, unthrown_reroots}
+use Rattle.stage_transfer_laws.proofs.Tuples.{away_puts, away_reroots, unthrown_reroots}
 
 -- What is rerooted meets a law that asks for it.
 pub rerooted : (w : Setting) (Goes Doubled : Root → Root → Type 0) (Known : Path → Type 0) (u v : Tuple) → Reroots Goes Doubled Known u v

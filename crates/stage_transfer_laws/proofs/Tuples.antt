@@ -8,6 +8,7 @@ use Rattle.access_paths.specs.Paths.{Path, bare, has_path}
 use Rattle.stage_facts.specs.Facts.{Tuple}
 use Rattle.stage_transfer.specs.Operations.{beside_new, puts_away}
 use Rattle.stage_relations.specs.Relations.{HasFields, PutsAway, Reroots, Target}
+use Rattle.stage_transfer_laws.specs.Throws.{IsUnthrown}
 use Rattle.stage_transfer_laws.proofs.Members.{none_passes}
 use Rattle.stage_transfer_laws.proofs.Paths.{it_has, of_with_path}
 
@@ -80,10 +81,7 @@ beside_unique (Some z) u = refl
 
 -- ---- what was thrown before
 
--- No path of fields begins at what was thrown: then it need not be doubled.
-abbrev pub IsUnthrown : Tuple → Type 0
-IsUnthrown t = (x : Path) → Contains t.must x → HasFields x.fields → x.root ≡ Thrown → ⊥
-
+-- Where no path of fields begins at what was thrown, it need not be doubled.
 pub unthrown_reroots : (Goes Doubled : Root → Root → Type 0) (Known : Path → Type 0) (t u : Tuple) → IsUnthrown t
     → Reroots Goes (λ r q. Doubled r q ⊎ (r ≡ Thrown)) Known t u → Reroots Goes Doubled Known t u
 unthrown_reroots Goes Doubled Known t u none r = record {
