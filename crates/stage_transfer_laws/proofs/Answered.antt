@@ -1,5 +1,5 @@
 -- Described methods: the roots that get other values where they give a result.
-use Rattle.std.proofs.Common.{◌≡◌, ◌⊎◌, inl, inr, ℕ, Bool, true, false, List, [], ◌∷◌, ◌++◌, map, Option, Some, None, refl, sym, ◌∙◌, ap, subst}
+use Rattle.std.proofs.Common.{◌≡◌, ◌⊎◌, inl, inr, ℕ, false, List, [], map, Option, refl, sym, subst}
 use Rattle.std.specs.Prelude.{◌≢◌}
 use Rattle.std.specs.List.{Contains, flat_map}
 use Rattle.std.specs.Option.{option_to_list}
@@ -80,7 +80,7 @@ given_moves w knows l n has c z = record {
       elim (Contains-append_cases (unwritten w l n (among (written_by c)) r) (flat_map (λ (y : ℕ). moved_to w l n z (Slot y) r) (option_to_list c.result)) q there) [
         | inl stays ↦ unwritten_double w knows l n has (among (written_by c)) (Answered c (an_argument z)) (slot_answered c (an_argument z)) r q stays
         | inr moved ↦
-          let found = of_flat_map (λ (y : ℕ). moved_to w l n z (Slot y) r) (option_to_list c.result) q moved in
-          moved_double w knows l n has z (Slot found.0) (Answered c (an_argument z)) (Answered.given refl (of_option c.result found.0 found.1)) r q found.2
+            let found = of_flat_map (λ (y : ℕ). moved_to w l n z (Slot y) r) (option_to_list c.result) q moved in
+            moved_double w knows l n has z (Slot found.0) (Answered c (an_argument z)) (Answered.given refl (of_option c.result found.0 found.1)) r q found.2
       ];
 }

@@ -1,15 +1,15 @@
 -- Where roots get other values: what a change gives of a set, and when a tuple is rerooted by it.
-use Rattle.std.proofs.Common.{◌≡◌, ◌⊎◌, inl, inr, Bool, true, false, not, ◌&&◌, ◌||◌, List, [], ◌∷◌, ◌++◌, map, refl, sym, ◌∙◌, ap, subst}
-use Rattle.std.specs.List.{Contains, filter, flat_map, list_any}
-use Rattle.std.proofs.lemmas.Bool.{and_cases, and_parts, false≢true, not-false, not-true, not_from_false, or_parts}
+use Rattle.std.proofs.Common.{◌≡◌, ◌⊎◌, inl, inr, true, false, not, ◌&&◌, List, [], ◌∷◌, ◌++◌, map, refl, sym, ◌∙◌, ap, subst}
+use Rattle.std.specs.List.{Contains, filter, list_any}
+use Rattle.std.proofs.lemmas.Bool.{and_cases, false≢true, not-false, not-true, not_from_false, or_parts}
 use Rattle.std.proofs.lemmas.List.Elements.{Contains-append_cases, Contains-append_left, Contains-append_right}
 use Rattle.list_laws.proofs.Members.{contained_in_map, contains_map}
 use Rattle.jvm_model.specs.declared.number.FieldNo.{FieldNo}
 use Rattle.access_paths.specs.declared.root.Root.{Root}
-use Rattle.access_paths.specs.Paths.{Path, bare, has_path, path_set}
+use Rattle.access_paths.specs.Paths.{Path, bare, has_path}
 use Rattle.stage_facts.specs.Facts.{Tuple}
 use Rattle.stage_transfer.specs.Changes.{Change, Copy, begins_at, changed, changed_set, copied, has_fields, is_doubled, is_lost, with_root}
-use Rattle.stage_relations.specs.Relations.{HasFields, NoPath, Reroots, Source, Target}
+use Rattle.stage_relations.specs.Relations.{HasFields, Reroots, Source, Target}
 use Rattle.stage_transfer_laws.proofs.Members.{in_filter, in_flat_map, none_passes, of_filter, of_flat_map, one_passes}
 use Rattle.stage_transfer_laws.proofs.Paths.{has_it, in_set, is_root, of_set, root_is}
 
@@ -40,7 +40,6 @@ in_copied copies set c x made listed from =
     (contains_map (with_root c.to) (filter (begins_at c.from) set) x (in_filter (begins_at c.from) set x listed (is_root c.from x.root from)))
 
 -- ---- sets
-
 
 pub of_changed : (c : Change) (set : List Path) (y : Path) → Contains (changed_set c set) y → (Contains set y × (c.goes y.root ≡ false)) ⊎ Contains (c.adds set) y
 of_changed c set y there =
@@ -102,14 +101,14 @@ pub source_of : (Goes Doubled : Root → Root → Type 0) (copies : List Copy) (
 source_of Goes Doubled copies c moves set y there = elim (of_changed c set y there) [
   | inl old ↦ record { path = y; listed = old.0; goes = moves.stays y.root old.1; fields = refl }
   | inr new ↦
-    let found = of_copied copies set y (subst (λ (ps : List Path). Contains ps y) (moves.adds set) new) in
-    let goes = moves.copy found.copy found.made in
-    record {
-      path = found.path;
-      listed = found.listed;
-      goes = subst (λ (r : Root). Goes r y.root) found.from (subst (λ (p : Path). Goes found.copy.from p.root) found.is goes);
-      fields = ap (λ (p : Path). p.fields) (sym found.is);
-    }
+      let found = of_copied copies set y (subst (λ (ps : List Path). Contains ps y) (moves.adds set) new) in
+      let goes = moves.copy found.copy found.made in
+      record {
+        path = found.path;
+        listed = found.listed;
+        goes = subst (λ (r : Root). Goes r y.root) found.from (subst (λ (p : Path). Goes found.copy.from p.root) found.is goes);
+        fields = ap (λ (p : Path). p.fields) (sym found.is);
+      }
 ]
 
 pub root_moved : (Goes Doubled : Root → Root → Type 0) (copies : List Copy) (c : Change) → Moves Goes Doubled copies c → (set : List Path) (r q : Root)
@@ -124,7 +123,7 @@ pub target_of_path : (Goes Doubled : Root → Root → Type 0) (copies : List Co
 target_of_path Goes Doubled copies c moves set x none there has = elim (not_lost c (changed_set c set) set x none there has) [
   | inl stays ↦ record { path = x; listed = staying c set x there stays; goes = moves.own x.root x.root (moves.stays x.root stays); fields = refl }
   | inr doubled ↦
-    record { path = with_root doubled.root x; listed = doubled.has; goes = moves.doubles x.root doubled.root doubled.listed; fields = refl }
+      record { path = with_root doubled.root x; listed = doubled.has; goes = moves.doubles x.root doubled.root doubled.listed; fields = refl }
 ]
 
 pub changed_reroots : (Goes Doubled : Root → Root → Type 0) (copies : List Copy) (c : Change) → Moves Goes Doubled copies c → (Known : Path → Type 0) (t : Tuple)

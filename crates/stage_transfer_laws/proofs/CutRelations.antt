@@ -1,7 +1,5 @@
 -- The relations of a stage hold as well where paths are left out.
-use Rattle.std.proofs.Common.{◌≡◌, ◌⊎◌, inl, inr, ℕ, Bool, true, false, List, [], ◌∷◌, Option, Some, refl, sym, ◌∙◌, subst}
-use Rattle.std.specs.List.{Contains}
-use Rattle.jvm_model.specs.declared.number.FieldNo.{FieldNo}
+use Rattle.std.proofs.Common.{◌≡◌, inl, inr, ℕ, Bool, true, false, List, [], Option, sym, ◌∙◌}
 use Rattle.jvm_model.specs.declared.number.MethodNo.{MethodNo}
 use Rattle.op_model.specs.declared.lowered.LoweredMethod.{LoweredMethod}
 use Rattle.op_model.specs.declared.node.Node.{Node}
@@ -10,7 +8,7 @@ use Rattle.points_to_rules.specs.Facts.{Fact}
 use Rattle.access_paths.specs.declared.root.Root.{Root}
 use Rattle.access_paths.specs.Paths.{Path}
 use Rattle.stage_facts.specs.Facts.{SiteFact, Tuple}
-use Rattle.stage_relations.specs.Relations.{Flows, Heir, IsBorn, IsComplete, IsOverwritten, IsPut, Joins, Notes, PutsAway, Reroots, Target}
+use Rattle.stage_relations.specs.Relations.{Flows, IsBorn, IsComplete, Joins, Notes, PutsAway, Reroots, Target}
 use Rattle.stage_transfer_laws.proofs.Finished.{IsCut}
 
 -- what is true of the one that is cut was true before

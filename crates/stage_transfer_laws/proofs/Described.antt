@@ -1,5 +1,5 @@
 -- After a described method, which keeps the objects in some slots and gives a result, the tuple is rerooted.
-use Rattle.std.proofs.Common.{◌≡◌, ℕ, Bool, true, false, cond, List, [], ◌∷◌, map, Option, Some, None, refl, sym, ◌∙◌, ap, subst}
+use Rattle.std.proofs.Common.{◌≡◌, ℕ, Bool, true, false, cond, List, [], ◌∷◌, map, refl, sym, ◌∙◌, ap, subst}
 use Rattle.std.specs.Prelude.{◌≢◌}
 use Rattle.std.specs.List.{Contains}
 use Rattle.std.proofs.lemmas.Bool.{false≢true}
@@ -7,9 +7,6 @@ use Rattle.jvm_model.specs.declared.site.Site.{Site}
 use Rattle.op_model.specs.declared.lowered.LoweredMethod.{LoweredMethod}
 use Rattle.op_model.specs.declared.node.Node.{Node}
 use Rattle.op_model.specs.declared.op.Call.{Call as NodeCall}
-use Rattle.access_paths.specs.declared.root.Root.{Root}
-use Rattle.access_paths.specs.declared.root.Root.TheVariants.{Slot}
-use Rattle.access_paths.specs.Paths.{Path, bare}
 use Rattle.stage_facts.specs.Facts.{Tuple, SiteFact, none_yet, some_yet, of_object}
 use Rattle.stage_transfer.specs.Settings.{Setting, same_site}
 use Rattle.stage_transfer.specs.Calls.{Result, an_argument, a_new_object, another, after_answer, giving, written_by}
@@ -38,11 +35,12 @@ answers : (w : Setting) (l : LoweredMethod) (n : Node) (c : NodeCall) (kept : Li
     → Meets (Answers w l n c kept result u) (map (finished w) (of_object v ∷ []))
 answers w l n c kept result u v r unique =
     let cut = finished_cut w.stage v in
-    meets_only w (Answers w l n c kept result u) v
-    (reroots_cut (Answered c result) (Doubles l n (Answered c result)) (IsNewResult c result) u v (whole w v) cut
-    (away_reroots kept (Answered c result) (Doubles l n (Answered c result)) (IsNewResult c result) u v r),
-     away_cut kept u v (whole w v) cut (away_puts kept (Answered c result) (Doubles l n (Answered c result)) (IsNewResult c result) u v r),
-     λ is. cut.unique ∙ unique is)
+    meets_only w (Answers w l n c kept result u) v (
+      reroots_cut (Answered c result) (Doubles l n (Answered c result)) (IsNewResult c result) u v (whole w v) cut
+          (away_reroots kept (Answered c result) (Doubles l n (Answered c result)) (IsNewResult c result) u v r),
+      away_cut kept u v (whole w v) cut (away_puts kept (Answered c result) (Doubles l n (Answered c result)) (IsNewResult c result) u v r),
+      λ is. cut.unique ∙ unique is,
+    )
 
 -- The slots of the call are written, and no argument is given.
 writes : (w : Setting) → Knows w → (l : LoweredMethod) (n : Node) → HasVariables l n → (c : NodeCall) (kept : List ℕ) (result : Result) → ((z : ℕ) → result ≢ an_argument z)
@@ -69,8 +67,8 @@ new_answers w knows l n has c kept site u = by (same_site site w.site) refl
         (λ same. beside_unique c.result (written w l n c kept u))
     by false is = answers w l n c kept (a_new_object site) u (written w l n c kept u) rerooted
         (λ (same : a_new_object site ≡ a_new_object w.site).
-          let one : site ≡ w.site = cc in
-          absurd (false≢true (sym is ∙ subst (λ (s : Site). same_site s w.site ≡ true) (sym one) (is_site w.site))))
+        let one : site ≡ w.site = cc in
+        absurd (false≢true (sym is ∙ subst (λ (s : Site). same_site s w.site ≡ true) (sym one) (is_site w.site))))
 
 pub answer_meets : (w : Setting) → Knows w → (l : LoweredMethod) (n : Node) → HasVariables l n → (c : NodeCall) (kept : List ℕ) (result : Result) (u : Tuple)
     → Meets (λ v. Reroots (Answered c result) (Doubles l n (Answered c result)) (IsNewResult c result) u v × PutsAway kept u v × (result ≡ a_new_object w.site → v.unique ≡ false))

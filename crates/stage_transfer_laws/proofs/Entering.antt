@@ -1,5 +1,5 @@
 -- Into a method: static fields stay, and the paths of arguments become those of the callee's slots.
-use Rattle.std.proofs.Common.{◌≡◌, ◌⊎◌, inl, inr, ℕ, zero, suc, ◌+◌, Bool, true, false, not, ◌&&◌, ◌||◌, List, [], ◌∷◌, ◌++◌, Option, Some, None, refl, sym, ◌∙◌, ap, subst, arith}
+use Rattle.std.proofs.Common.{◌≡◌, inl, inr, ℕ, zero, suc, ◌+◌, true, false, not, ◌&&◌, List, [], ◌∷◌, ◌++◌, Option, Some, None, refl, sym, ◌∙◌, ap, subst, arith}
 use Rattle.std.specs.Prelude.{slice_get}
 use Rattle.std.specs.List.{Contains, filter, list_any}
 use Rattle.std.specs.Option.{option_to_list}
@@ -12,7 +12,7 @@ use Rattle.jvm_model.specs.declared.number.FieldNo.{FieldNo}
 use Rattle.op_model.specs.declared.op.Call.{Call as NodeCall}
 use Rattle.access_paths.specs.declared.root.Root.{Root}
 use Rattle.access_paths.specs.declared.root.Root.TheVariants.{Slot, Static, Returned, Thrown}
-use Rattle.access_paths.specs.Paths.{Path, bare}
+use Rattle.access_paths.specs.Paths.{Path}
 use Rattle.stage_facts.specs.Facts.{Tuple, SiteFact, none_yet, some_yet, of_object}
 use Rattle.stage_transfer.specs.Settings.{Setting}
 use Rattle.stage_transfer.specs.Calls.{begins_static, by_call, by_trigger, entered, entered_fact, entered_set, Entering, is_passed_on, is_static, passed, passing, passing_from, passing_to}
@@ -21,7 +21,7 @@ use Rattle.stage_transfer.specs.Stages.{finished}
 use Rattle.stage_relations.specs.Laws.{IsIdle, IsOne}
 use Rattle.stage_relations.specs.Roots.{Entered}
 use Rattle.stage_relations.specs.Relations.{HasFields, NoPath, path, Reroots, Source, Target}
-use Rattle.stage_transfer_laws.proofs.Changed.{has_some, in_copied, IsCopied, of_copied, root_copy}
+use Rattle.stage_transfer_laws.proofs.Changed.{has_some, in_copied, of_copied, root_copy}
 use Rattle.stage_transfer_laws.proofs.CutRelations.{reroots_cut}
 use Rattle.stage_transfer_laws.proofs.Finished.{finished_cut}
 use Rattle.stage_transfer_laws.proofs.Members.{in_filter, is_among, none_passes, of_filter, of_flat_map, of_option}
@@ -52,9 +52,9 @@ of_passing unit [] k there = absurd (contains_none k there)
 of_passing unit (a ∷ rest) k there = elim (Contains-append_cases (passing_to unit a) (passing_from (suc unit) rest) k there) [
   | inl first ↦ passing_first unit a rest k first
   | inr later ↦
-    let found = of_passing (suc unit) rest k later in
-    let at : unit + suc found.place ≡ suc unit + found.place = omega arith in
-    record { place = suc found.place; slot = found.slot; stands = found.stands; is = ap (λ (i : ℕ). root_copy (Slot found.slot) (Slot i)) at ∙ found.is }
+      let found = of_passing (suc unit) rest k later in
+      let at : unit + suc found.place ≡ suc unit + found.place = omega arith in
+      record { place = suc found.place; slot = found.slot; stands = found.stands; is = ap (λ (i : ℕ). root_copy (Slot found.slot) (Slot i)) at ∙ found.is }
 ]
 
 in_passing : (unit : ℕ) (arguments : List (Option ℕ)) (place z : ℕ) → slice_get arguments place ≡ Some (Some z)
@@ -108,17 +108,17 @@ of_entered : (by : Entering) (set : List Path) (y : Path) → Contains (entered_
 of_entered by set y there =
     elim (Contains-append_cases (filter begins_static set) (copied (passing by) set) y (of_set (filter begins_static set ++ copied (passing by) set) y there)) [
       | inl old ↦
-        let found = of_filter begins_static set y old in
-        record { path = y; listed = found.0; goes = static_entered by y.root found.1; fields = refl }
+          let found = of_filter begins_static set y old in
+          record { path = y; listed = found.0; goes = static_entered by y.root found.1; fields = refl }
       | inr new ↦
-        let found = of_copied (passing by) set y new in
-        let goes = entered_by by found.copy found.made in
-        record {
-          path = found.path;
-          listed = found.listed;
-          goes = subst (λ (r : Root). Entered by r y.root) found.from (subst (λ (p : Path). Entered by found.copy.from p.root) found.is goes);
-          fields = ap (λ (p : Path). p.fields) (sym found.is);
-        }
+          let found = of_copied (passing by) set y new in
+          let goes = entered_by by found.copy found.made in
+          record {
+            path = found.path;
+            listed = found.listed;
+            goes = subst (λ (r : Root). Entered by r y.root) found.from (subst (λ (p : Path). Entered by found.copy.from p.root) found.is goes);
+            fields = ap (λ (p : Path). p.fields) (sym found.is);
+          }
     ]
 
 static_stays : (by : Entering) (set : List Path) (y : Path) → Contains set y → begins_static y ≡ true → Contains (entered_set by set) y
@@ -150,15 +150,14 @@ passed_on by Thrown is = absurd (false≢true is)
 
 -- ---- tuples
 
-
 path_enters : (by : Entering) (must : List Path) (x : Path) → list_any (λ (x : Path). has_fields x.fields && not (is_passed_on by x.root)) must ≡ false → Contains must x
     → HasFields x.fields → Target (Entered by) x (entered_set by must)
 path_enters by must x none there has =
     elim (and_cases (has_fields x.fields) (not (is_passed_on by x.root)) (none_passes (λ (x : Path). has_fields x.fields && not (is_passed_on by x.root)) must x none there)) [
       | inl without ↦ absurd (false≢true (sym without ∙ has_some x.fields has))
       | inr on ↦
-        let found = passed_on by x.root (not-false (is_passed_on by x.root) on) in
-        record { path = path found.to x.fields; listed = root_enters by must x.root found.to x.fields found.goes there; goes = found.goes; fields = refl }
+          let found = passed_on by x.root (not-false (is_passed_on by x.root) on) in
+          record { path = path found.to x.fields; listed = root_enters by must x.root found.to x.fields found.goes there; goes = found.goes; fields = refl }
     ]
 
 entered_reroots : (by : Entering) (t : Tuple) → Reroots (Entered by) (Entered by) NoPath t (entered by t)

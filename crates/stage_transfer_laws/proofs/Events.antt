@@ -1,18 +1,16 @@
 -- Events of calls: of the object, of another one, or none.
 use Rattle.std.proofs.Common.{◌≡◌, ◌⊎◌, inl, inr, ℕ, nat_eq, Bool, true, false, cond, not, ◌&&◌, ◌||◌, List, [], ◌∷◌, ◌++◌, map, Option, Some, None, refl, sym, ◌∙◌, ap, subst}
-use Rattle.std.specs.Prelude.{◌↔◌, IsTrue, slice_get, slice_index}
+use Rattle.std.specs.Prelude.{slice_get, slice_index}
 use Rattle.std.specs.List.{Contains}
 use Rattle.std.specs.Option.{option_flatten}
 use Rattle.std.proofs.lemmas.Bool.{and_parts, false≢true, not-true, or_cases}
 use Rattle.std.proofs.lemmas.List.Elements.{Contains-append_cases, Contains-append_left}
 use Rattle.list_laws.proofs.Members.{contained_in_map, contains_first, contains_later}
-use Rattle.jvm_model.specs.declared.automaton.Automaton.{Automaton}
 use Rattle.jvm_model.specs.declared.automaton.Event.{Event}
 use Rattle.jvm_model.specs.declared.site.Site.{Site}
 use Rattle.op_model.specs.declared.lowered.LoweredMethod.{LoweredMethod}
 use Rattle.op_model.specs.declared.node.Node.{Node}
 use Rattle.op_model.specs.declared.op.Call.{Call as NodeCall}
-use Rattle.slot_names.specs.declared.variable.Variable.{Variable}
 use Rattle.slot_names.specs.Variables.{AreReachedNodes}
 use Rattle.slot_names.proofs.OneVariable.{one_variable}
 use Rattle.points_to_rules.specs.Facts.{Fact, Holder, may_hold, variable}
@@ -21,10 +19,10 @@ use Rattle.access_paths.specs.declared.root.Root.TheVariants.{Slot}
 use Rattle.access_paths.specs.Paths.{bare, has_path, Path}
 use Rattle.stage_facts.specs.Facts.{Tuple, SiteFact, none_yet, some_yet, of_object}
 use Rattle.stage_transfer.specs.Settings.{alike, AreAnswersOf, Setting}
-use Rattle.stage_transfer.specs.Calls.{after_event, call_facts, either_way, event_at, event_of_call, is_of_others, joined, moved_by_event, not_referring, referring}
+use Rattle.stage_transfer.specs.Calls.{after_event, call_facts, event_at, event_of_call, is_of_others, joined, moved_by_event, not_referring, referring}
 use Rattle.stage_transfer.specs.Stages.{finished}
 use Rattle.stage_relations.specs.Laws.{HoldsNoOther, IsIdle, MayHold, Meets}
-use Rattle.stage_relations.specs.Roots.{AreAlike, HasVariables, of_method}
+use Rattle.stage_relations.specs.Roots.{HasVariables, of_method}
 use Rattle.stage_relations.specs.Relations.{IsReceiver, Notes}
 use Rattle.stage_transfer_laws.proofs.Alike.{Knows, are_alike}
 use Rattle.stage_transfer_laws.proofs.CutRelations.{notes_cut}
@@ -66,8 +64,8 @@ of_joined w knows l n has z set y there =
     elim (Contains-append_cases set (map (λ (k : ℕ). bare (Slot k)) (alike w l n z)) y (of_set (set ++ map (λ (k : ℕ). bare (Slot k)) (alike w l n z)) y there)) [
       | inl old ↦ inl old
       | inr new ↦
-        let found = contained_in_map (λ (k : ℕ). bare (Slot k)) (alike w l n z) y new in
-        inr (record { slot = found.0; alike = are_alike w knows l n z found.0 has found.1; path_is = sym found.2 })
+          let found = contained_in_map (λ (k : ℕ). bare (Slot k)) (alike w l n z) y new in
+          inr (record { slot = found.0; alike = are_alike w knows l n z found.0 has found.1; path_is = sym found.2 })
     ]
 
 in_joined : (slots : List ℕ) (set : List Path) (y : Path) → Contains set y → Contains (joined slots set) y
@@ -213,6 +211,6 @@ event_other S w answers l n c e z u reached stands is receiver apart several =
     meets_event w l n c e z false u.state u is receiver
     (others_one S w answers l n (of_method reached stands) e (variable (w.answers.variable_at l n z)) z u apart
     (λ unique alone. several unique (λ h (slot : IsSlot l n z h) other held.
-      let name : slot.name ≡ w.answers.variable_at l n z =
-          one_variable l n z slot.name (w.answers.variable_at l n z) reached stands slot.named (answers.variables l n z reached stands) in
-      alone other (subst (λ (k : Holder). S (may_hold k other)) (slot.is ∙ ap variable name) held))))
+    let name : slot.name ≡ w.answers.variable_at l n z =
+    one_variable l n z slot.name (w.answers.variable_at l n z) reached stands slot.named (answers.variables l n z reached stands) in
+    alone other (subst (λ (k : Holder). S (may_hold k other)) (slot.is ∙ ap variable name) held))))

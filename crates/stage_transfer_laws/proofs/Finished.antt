@@ -1,10 +1,9 @@
 -- The normal form of a stage and the limit on paths keep what the laws ask for: a path is left out only where other cells are possible, or where it
 -- is known not to refer to the object.
-use Rattle.std.proofs.Common.{◌≡◌, ◌⊎◌, inl, inr, ℕ, ◌≤◌, nat_eq, nat_lt, Bool, true, false, cond, ◌||◌, List, [], ◌∷◌, take, length, refl, sym, ◌∙◌, ap, subst, arith}
+use Rattle.std.proofs.Common.{◌≡◌, ℕ, nat_eq, nat_lt, Bool, true, false, cond, [], length, refl, sym}
 use Rattle.std.specs.List.{Contains}
 use Rattle.std.proofs.lemmas.Bool.{false≢true, ltb-false, or_parts}
 use Rattle.list_laws.proofs.Members.{contains_none}
-use Rattle.access_paths.specs.declared.root.Root.{Root}
 use Rattle.access_paths.specs.Paths.{Path, most_paths}
 use Rattle.stage_facts.specs.Facts.{Tuple}
 use Rattle.stage_transfer.specs.Stages.{limited, normal}

@@ -1,6 +1,5 @@
 -- The transfer of the definitions meets the laws of a stage: one lemma for each law, joined.
 use Rattle.std.proofs.Common.{◌≡◌, ℕ, true, false, Option, Some, None, refl, sym, ◌∙◌, ap, subst}
-use Rattle.std.specs.List.{Contains}
 use Rattle.jvm_model.specs.declared.automaton.Automaton.{Automaton}
 use Rattle.jvm_model.specs.declared.automaton.Event.{Event}
 use Rattle.op_model.specs.declared.lowered.LoweredMethod.{LoweredMethod}

@@ -1,6 +1,5 @@
 -- Back in the frame that waited: what the exit hands on, and what joins it from the frame.
-use Rattle.std.proofs.Common.{◌≡◌, ◌⊎◌, inl, inr, ℕ, Bool, true, false, not, ◌&&◌, ◌||◌, List, [], ◌∷◌, ◌++◌, Option, Some, None, refl, sym, ◌∙◌, ap, subst}
-use Rattle.std.specs.Prelude.{◌↔◌, IsTrue}
+use Rattle.std.proofs.Common.{◌≡◌, ◌⊎◌, inl, inr, ℕ, Bool, true, false, not, ◌&&◌, ◌||◌, List, [], ◌∷◌, ◌++◌, refl, sym, ◌∙◌, ap, subst}
 use Rattle.std.specs.List.{AllByRecursion, Contains, filter, list_any}
 use Rattle.std.proofs.lemmas.Bool.{and_cases, and_from, and_parts, false≢true, not-false, not-true, not_from_false, or_parts, true≢false}
 use Rattle.std.proofs.lemmas.List.Elements.{Contains-append_cases, Contains-append_left, Contains-append_right}
@@ -8,18 +7,17 @@ use Rattle.jvm_model.specs.declared.number.FieldNo.{FieldNo}
 use Rattle.jvm_model.specs.declared.number.MethodNo.{MethodNo}
 use Rattle.op_model.specs.declared.lowered.LoweredMethod.{LoweredMethod}
 use Rattle.op_model.specs.declared.node.Node.{Node}
-use Rattle.op_model.specs.declared.op.Call.{Call as NodeCall}
 use Rattle.points_to_rules.specs.Facts.{Fact, may_write}
 use Rattle.access_paths.specs.declared.root.Root.{Root}
 use Rattle.access_paths.specs.declared.root.Root.TheVariants.{Slot, Static, Returned, Thrown}
 use Rattle.access_paths.specs.Paths.{Path, bare}
 use Rattle.stage_facts.specs.Facts.{Tuple, SiteFact, none_yet, some_yet, of_object}
 use Rattle.stage_transfer.specs.Settings.{among, AreAnswersOf, Setting}
-use Rattle.stage_transfer.specs.Calls.{by_call, by_trigger, Entering, is_dropped, is_handed_on, is_kept, is_left_out, is_slot, joins, left, left_alone, left_by_tuple, left_fact, left_set, passed}
+use Rattle.stage_transfer.specs.Calls.{by_call, by_trigger, Entering, is_dropped, is_handed_on, is_kept, is_left_out, is_slot, joins, left_by_tuple, left_fact, left_set, passed}
 use Rattle.stage_transfer.specs.Stages.{finished}
 use Rattle.stage_relations.specs.Laws.{IsIdle, IsOne}
 use Rattle.stage_relations.specs.Roots.{HandedOn, IsDropped, StaysIn}
-use Rattle.stage_relations.specs.Relations.{HasFields, IsClear, IsSlotRoot, Joined, Joins, must_not_of, must_of, Source, Target}
+use Rattle.stage_relations.specs.Relations.{IsClear, IsSlotRoot, Joined, Joins, must_not_of, must_of, Source}
 use Rattle.stage_transfer_laws.proofs.CutRelations.{joins_cut}
 use Rattle.stage_transfer_laws.proofs.Finished.{finished_cut}
 use Rattle.stage_transfer_laws.proofs.Members.{in_filter, none_among, none_passes, not_among, of_filter}
@@ -80,19 +78,19 @@ of_left S w answers by target caller exit y there =
     elim (Contains-append_cases (filter (λ (x : Path). is_handed_on by x.root) exit) (filter (joins w by target) caller) y
     (of_set (filter (λ (x : Path). is_handed_on by x.root) exit ++ filter (joins w by target) caller) y there)) [
       | inl out ↦
-        let found = of_filter (λ (x : Path). is_handed_on by x.root) exit y out in
-        inl (record { path = y; listed = found.0; goes = handed by y.root found.1; fields = refl })
+          let found = of_filter (λ (x : Path). is_handed_on by x.root) exit y out in
+          inl (record { path = y; listed = found.0; goes = handed by y.root found.1; fields = refl })
       | inr stays ↦
-        let found = of_filter (joins w by target) caller y stays in
-        let parts = and_parts (is_kept by y.root) (not (list_any (w.answers.may_write_field target) y.fields)) found.1 in
-        let kept = kept_slot by y.root parts.0 in
-        inr (record {
-          slot = kept.slot;
-          root_is = kept.root_is;
-          stays = kept.stays;
-          listed = found.0;
-          fields = unwritten_fields S w answers target y.fields (not-true (list_any (w.answers.may_write_field target) y.fields) parts.1);
-        })
+          let found = of_filter (joins w by target) caller y stays in
+          let parts = and_parts (is_kept by y.root) (not (list_any (w.answers.may_write_field target) y.fields)) found.1 in
+          let kept = kept_slot by y.root parts.0 in
+          inr (record {
+            slot = kept.slot;
+            root_is = kept.root_is;
+            stays = kept.stays;
+            listed = found.0;
+            fields = unwritten_fields S w answers target y.fields (not-true (list_any (w.answers.may_write_field target) y.fields) parts.1);
+          })
     ]
 
 out_stays : (w : Setting) (by : Entering) (target : MethodNo) (caller exit : List Path) (y : Path) → Contains exit y → is_handed_on by y.root ≡ true

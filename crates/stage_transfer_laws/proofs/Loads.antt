@@ -1,26 +1,25 @@
 -- The load of a field: the path behind it leads from the target.
-use Rattle.std.proofs.Common.{◌≡◌, ◌⊎◌, inl, inr, ℕ, Bool, true, false, cond, not, ◌&&◌, ◌||◌, List, [], ◌∷◌, nat_eq, refl, sym, ◌∙◌, ap, subst}
+use Rattle.std.proofs.Common.{◌≡◌, inl, inr, ℕ, Bool, true, false, cond, not, ◌||◌, List, [], ◌∷◌, refl, sym, ◌∙◌, ap, subst}
 use Rattle.std.specs.Prelude.{◌≢◌}
-use Rattle.std.specs.List.{Contains, filter, flat_map, list_any}
+use Rattle.std.specs.List.{Contains, filter, list_any}
 use Rattle.std.proofs.lemmas.Bool.{and_cases, eq-eqb, eqb-true, false≢true, not-false, or_parts}
 use Rattle.list_laws.proofs.Members.{contains_first, contains_none, contains_only}
 use Rattle.jvm_model.specs.declared.number.FieldNo.{FieldNo}
 use Rattle.op_model.specs.declared.lowered.LoweredMethod.{LoweredMethod}
 use Rattle.op_model.specs.declared.node.Node.{Node}
-use Rattle.op_model.specs.declared.op.Op.{Op}
 use Rattle.op_model.specs.declared.op.Op.TheVariants.{Load, Store}
 use Rattle.access_paths.specs.declared.root.Root.{Root}
 use Rattle.access_paths.specs.declared.root.Root.TheVariants.{Slot}
 use Rattle.access_paths.specs.Paths.{Path, bare, has_path}
 use Rattle.stage_facts.specs.Facts.{Tuple}
 use Rattle.stage_transfer.specs.Settings.{Setting, among, same_field}
-use Rattle.stage_transfer.specs.Changes.{Change, begins_at, changed_set, is_lost, slots_go, unwritten, writing}
+use Rattle.stage_transfer.specs.Changes.{Change, begins_at, changed_set, is_lost, slots_go, unwritten}
 use Rattle.stage_transfer.specs.Operations.{after_load, ends_in, field_of, loaded, loaded_fields, may_be_loaded}
-use Rattle.stage_relations.specs.Roots.{AreAlike, same, Copied, Doubles, own, HasVariables}
-use Rattle.stage_relations.specs.Relations.{Comes, taken, EndsIn, Flows, Heir, Origin, path, rooted}
-use Rattle.stage_transfer_laws.proofs.Members.{any_passes, in_filter, in_flat_map, none_passes, of_filter, of_flat_map}
+use Rattle.stage_relations.specs.Roots.{same, own, HasVariables}
+use Rattle.stage_relations.specs.Relations.{Comes, taken, EndsIn, Flows, Origin, path}
+use Rattle.stage_transfer_laws.proofs.Members.{in_filter, in_flat_map, none_passes, of_filter, of_flat_map}
 use Rattle.stage_transfer_laws.proofs.Alike.{Knows}
-use Rattle.stage_transfer_laws.proofs.Changed.{added, Moves, not_lost, of_changed, staying}
+use Rattle.stage_transfer_laws.proofs.Changed.{added, not_lost, of_changed, staying}
 use Rattle.stage_transfer_laws.proofs.Operations.{heir_of, IsQuiet, origin_of, quiet_each, quiet_stays, unstored, written_moves}
 use Rattle.stage_transfer_laws.proofs.Paths.{has_it, is_root, root_is}
 
@@ -77,21 +76,21 @@ load_origin : (w : Setting) (l : LoweredMethod) (n : Node) (object : ℕ) (field
     → Contains (changed_set (loading w l n object field target) set) y → Origin l n (Load object field target) set y
 load_origin w l n object field target set y there = elim (of_changed (loading w l n object field target) set y there) [
   | inl old ↦
-    origin_of l n (Load object field target) set y (unstored (Load object field target) (no_store object field target y.fields) y.fields)
-    (record { path = y; listed = old.0; goes = own (quiet_stays (Load object field target) (quiet object field target) y.root old.1); fields = refl })
+      origin_of l n (Load object field target) set y (unstored (Load object field target) (no_store object field target y.fields) y.fields)
+      (record { path = y; listed = old.0; goes = own (quiet_stays (Load object field target) (quiet object field target) y.root old.1); fields = refl })
   | inr new ↦
-    let found = of_flat_map (λ (x : Path). loaded_fields field target x.fields) (filter (begins_at (Slot object)) set) y new in
-    let begins = of_filter (begins_at (Slot object)) set found.0 found.1 in
-    let behind = of_loaded_fields field target found.0.fields y found.2 in
-    let root : Slot object ≡ found.0.root = root_is (Slot object) found.0.root begins.1 in
-    record {
-      path = found.0;
-      listed = begins.0;
-      comes = subst (λ (p : Path). Comes l n (Load object field target) found.0 p) behind.is
-        (subst (λ (r : Root). Comes l n (Load object field target) (path r found.0.fields) (path (Slot target) behind.rest)) root
-        (subst (λ (fs : List FieldNo). Comes l n (Load object field target) (path (Slot object) fs) (path (Slot target) behind.rest)) (sym behind.fields_are)
-        (taken {object = object} {z = object} refl (same refl))));
-    }
+      let found = of_flat_map (λ (x : Path). loaded_fields field target x.fields) (filter (begins_at (Slot object)) set) y new in
+      let begins = of_filter (begins_at (Slot object)) set found.0 found.1 in
+      let behind = of_loaded_fields field target found.0.fields y found.2 in
+      let root : Slot object ≡ found.0.root = root_is (Slot object) found.0.root begins.1 in
+      record {
+        path = found.0;
+        listed = begins.0;
+        comes = subst (λ (p : Path). Comes l n (Load object field target) found.0 p) behind.is
+            (subst (λ (r : Root). Comes l n (Load object field target) (path r found.0.fields) (path (Slot target) behind.rest)) root
+            (subst (λ (fs : List FieldNo). Comes l n (Load object field target) (path (Slot object) fs) (path (Slot target) behind.rest)) (sym behind.fields_are)
+            (taken {object = object} {z = object} refl (same refl))));
+      }
 ]
 
 load_found : (w : Setting) (l : LoweredMethod) (n : Node) (object : ℕ) (field : FieldNo) (target : ℕ) (must : List Path) → may_be_loaded object field must ≡ false
@@ -99,13 +98,13 @@ load_found : (w : Setting) (l : LoweredMethod) (n : Node) (object : ℕ) (field 
 load_found w l n object field target must none x there ends =
     elim (and_cases (not (has_path must (field_of object field))) (list_any (λ (x : Path). ends_in field x.fields) must) none) [
       | inl has ↦
-        let listed = has_it must (field_of object field) (not-false (has_path must (field_of object field)) has) in
-        added (loading w l n object field target) must (bare (Slot target))
-        (in_flat_map (λ (x : Path). loaded_fields field target x.fields) (filter (begins_at (Slot object)) must) (field_of object field) (bare (Slot target))
-        (in_filter (begins_at (Slot object)) must (field_of object field) listed (is_root (Slot object) (Slot object) refl))
-        (in_loaded_fields field target []))
+          let listed = has_it must (field_of object field) (not-false (has_path must (field_of object field)) has) in
+          added (loading w l n object field target) must (bare (Slot target))
+          (in_flat_map (λ (x : Path). loaded_fields field target x.fields) (filter (begins_at (Slot object)) must) (field_of object field) (bare (Slot target))
+          (in_filter (begins_at (Slot object)) must (field_of object field) listed (is_root (Slot object) (Slot object) refl))
+          (in_loaded_fields field target []))
       | inr other ↦
-        absurd (false≢true (sym (none_passes (λ (x : Path). ends_in field x.fields) must x other there) ∙ ends_true field x.fields ends))
+          absurd (false≢true (sym (none_passes (λ (x : Path). ends_in field x.fields) must x other there) ∙ ends_true field x.fields ends))
     ]
 
 pub load_flows : (w : Setting) → Knows w → (l : LoweredMethod) (n : Node) → HasVariables l n → (object : ℕ) (field : FieldNo) (target : ℕ) (t : Tuple)
@@ -114,7 +113,7 @@ load_flows w knows l n has object field target t =
     let c : Change = loading w l n object field target in
     let moves = written_moves w knows l n has (Load object field target) (quiet object field target) in
     let clear : (after_load w l n object field target t).may ≡ false → (t.may || list_any (is_lost c (changed_set c t.must)) t.must) ≡ false =
-        λ e. (or_parts (t.may || list_any (is_lost c (changed_set c t.must)) t.must) (may_be_loaded object field t.must) e).0 in
+    λ e. (or_parts (t.may || list_any (is_lost c (changed_set c t.must)) t.must) (may_be_loaded object field t.must) e).0 in
     record {
       unique = λ e. e;
       state = refl;

@@ -1,5 +1,5 @@
 -- On the way to a successor each operation that goes on gives a tuple that flows, and leaves a fact without an object.
-use Rattle.std.proofs.Common.{◌≡◌, ◌⊎◌, inl, inr, ℕ, Bool, true, false, cond, List, [], ◌∷◌, map, Option, Some, None, refl, sym, ◌∙◌, ap, subst}
+use Rattle.std.proofs.Common.{◌≡◌, ℕ, Bool, true, false, cond, List, [], ◌∷◌, map, Some, refl, sym, ◌∙◌, ap, subst}
 use Rattle.std.specs.Prelude.{◌≢◌}
 use Rattle.std.specs.List.{Contains}
 use Rattle.std.proofs.lemmas.Bool.{false≢true}
@@ -29,7 +29,7 @@ use Rattle.stage_transfer_laws.proofs.Operations.{assigned_moves, IsFieldless, I
 use Rattle.stage_transfer_laws.proofs.Results.{idle_same, idle_stays, meets_only, new_first, new_further, new_some, whole}
 use Rattle.stage_transfer_laws.proofs.Sites.{is_site, site_is}
 use Rattle.stage_transfer_laws.proofs.Stores.{store_flows}
-use Rattle.stage_transfer_laws.proofs.Tuples.{away_puts, away_reroots, beside_reroots, beside_unique}
+use Rattle.stage_transfer_laws.proofs.Tuples.{away_puts, away_reroots, beside_reroots}
 
 -- ---- tuples
 
@@ -66,9 +66,9 @@ put_on w knows l n has array value u =
     (rerooted_flows l n op u v (record { load = λ object f target e. absurd cc; store = λ object f written e. absurd cc })
     (away_reroots (value ∷ []) (Copied op) (Doubles l n (Copied op)) (IsMade op) u v reroots)
     (λ other written (is : StoreElement array value ≡ StoreElement other written).
-      let same : value ≡ written = cc in
-      subst (λ (z : ℕ). v.may ≡ false → (k : ℕ) → Contains (z ∷ []) k → Contains u.must (bare (Slot k)) → ⊥) same
-      (away_puts (value ∷ []) (Copied op) (Doubles l n (Copied op)) (IsMade op) u v reroots)))
+    let same : value ≡ written = cc in
+    subst (λ (z : ℕ). v.may ≡ false → (k : ℕ) → Contains (z ∷ []) k → Contains u.must (bare (Slot k)) → ⊥) same
+    (away_puts (value ∷ []) (Copied op) (Doubles l n (Copied op)) (IsMade op) u v reroots)))
     (λ target is. absurd cc)
 
 -- A new object of the site, or of another one.
@@ -92,16 +92,16 @@ new_on w knows l n has site target u = by (same_site site w.site) refl
         (rerooted_flows l n (New site target) u (beside_new (Some target) (changed (writing w l n (target ∷ [])) u)) free
         (beside_reroots (Some target) (Copied (New site target)) (Doubles l n (Copied (New site target))) (IsMade (New site target)) u (changed (writing w l n (target ∷ [])) u)
         (λ z (same : Some target ≡ Some z).
-          let slot : z ≡ target = cc in
-          record { site = site; target = target; op_is = refl; path_is = ap (λ (y : ℕ). bare (Slot y)) slot })
+        let slot : z ≡ target = cc in
+        record { site = site; target = target; op_is = refl; path_is = ap (λ (y : ℕ). bare (Slot y)) slot })
         (changed_reroots (Copied (New site target)) (Doubles l n (Copied (New site target))) [] (writing w l n (target ∷ []))
         (written_moves w knows l n has (New site target) quiet) (IsMade (New site target)) u))
         (λ array value other. absurd cc))
         (λ other same. refl)
     by false is = writes_on w knows l n has (New site target) u free quiet (λ array value other. absurd cc)
         (λ other (same : New site target ≡ New w.site other).
-          let one : site ≡ w.site = cc in
-          false≢true (sym is ∙ subst (λ (s : Site). same_site s w.site ≡ true) (sym one) (is_site w.site)))
+        let one : site ≡ w.site = cc in
+        false≢true (sym is ∙ subst (λ (s : Site). same_site s w.site ≡ true) (sym one) (is_site w.site)))
 
 -- An operation that copies roots.
 moves_on : (w : Setting) (l : LoweredMethod) (n : Node) (op : Op) (u v : Tuple) → IsFieldless op → Reroots (Copied op) (Doubles l n (Copied op)) (IsMade op) u v

@@ -1,17 +1,16 @@
 -- Operations that go on, but for loads and stores of fields: where roots are rerooted as the operation copies them, its tuple flows.
-use Rattle.std.proofs.Common.{◌≡◌, ◌⊎◌, inl, inr, ℕ, Bool, true, false, not, ◌||◌, List, [], ◌∷◌, ◌++◌, map, Option, Some, None, refl, sym, ◌∙◌, ap, subst}
+use Rattle.std.proofs.Common.{◌≡◌, ◌⊎◌, inl, inr, ℕ, Bool, false, not, ◌||◌, List, [], ◌∷◌, map, refl, sym, ◌∙◌, ap, subst}
 use Rattle.std.specs.Prelude.{◌≢◌}
-use Rattle.std.specs.List.{AllByRecursion, Contains, filter, flat_map}
+use Rattle.std.specs.List.{Contains, filter, flat_map}
 use Rattle.std.proofs.lemmas.Bool.{false≢true, not-true, or_from, or_parts}
-use Rattle.std.proofs.lemmas.List.Elements.{Contains-append_cases, Contains-append_left, Contains-append_right}
-use Rattle.list_laws.proofs.Members.{contained_in_map, contains_first, contains_later, contains_map, contains_none, contains_only}
+use Rattle.std.proofs.lemmas.List.Elements.{Contains-append_cases}
+use Rattle.list_laws.proofs.Members.{contained_in_map, contains_first, contains_none, contains_only}
 use Rattle.jvm_model.specs.declared.number.FieldNo.{FieldNo}
-use Rattle.jvm_model.specs.declared.site.Site.{Site}
 use Rattle.op_model.specs.declared.lowered.LoweredMethod.{LoweredMethod}
 use Rattle.op_model.specs.declared.node.Node.{Node}
 use Rattle.op_model.specs.declared.op.Move.{Move}
 use Rattle.op_model.specs.declared.op.Op.{Op}
-use Rattle.op_model.specs.declared.op.Op.TheVariants.{Assign, Load, Store, LoadElement, StoreElement, LoadStatic, StoreStatic, New, NewArray, Constant, Call, Return, Throw, Cast, Probe}
+use Rattle.op_model.specs.declared.op.Op.TheVariants.{Assign, Load, Store, StoreElement, LoadStatic, StoreStatic}
 use Rattle.op_model.specs.declared.op.Source.{Source}
 use Rattle.op_model.specs.declared.op.Source.TheVariants as sources
 use Rattle.access_paths.specs.declared.root.Root.{Root}
@@ -19,14 +18,14 @@ use Rattle.access_paths.specs.declared.root.Root.TheVariants.{Slot, Static, Retu
 use Rattle.access_paths.specs.Paths.{Path, bare, same_root}
 use Rattle.stage_facts.specs.Facts.{Tuple}
 use Rattle.stage_transfer.specs.Settings.{Setting, alike, among}
-use Rattle.stage_transfer.specs.Changes.{Change, Copy, changed, copied, copying, moved_to, slots_go, unwritten, writing}
+use Rattle.stage_transfer.specs.Changes.{Copy, copying, moved_to, slots_go, unwritten, writing}
 use Rattle.stage_transfer.specs.Operations.{assigning, copies_of, moved_by, storing_static, target_of}
-use Rattle.stage_relations.specs.Roots.{AreAlike, Copied, Doubles, own, shared, HasVariables, gone_slots, kept, moved, loaded, stored, static, returned, thrown}
-use Rattle.stage_relations.specs.Relations.{Comes, rooted, Flows, HasFields, Heir, IsMade, IsUnstored, NoPath, Origin, PutsAway, Reroots, Source as From, Target}
+use Rattle.stage_relations.specs.Roots.{Copied, Doubles, own, shared, HasVariables, gone_slots, kept, moved, loaded, stored, static, returned, thrown}
+use Rattle.stage_relations.specs.Relations.{Comes, rooted, Flows, HasFields, Heir, IsMade, IsUnstored, Origin, PutsAway, Reroots, Source as From, Target}
 use Rattle.stage_transfer_laws.proofs.Members.{is_among, not_among, none_among, of_filter, of_flat_map, in_flat_map}
 use Rattle.stage_transfer_laws.proofs.Alike.{Knows, alike_back, are_alike}
 use Rattle.stage_transfer_laws.proofs.Changed.{Moves, root_copy}
-use Rattle.stage_transfer_laws.proofs.Paths.{is_root, other_root, root_is}
+use Rattle.stage_transfer_laws.proofs.Paths.{is_root, other_root}
 
 -- ---- slots that hold what others held
 
@@ -139,8 +138,8 @@ assigned_moves w knows l n has moves = record {
   doubles = λ r q there. elim (Contains-append_cases (unwritten w l n (among (map target_of moves)) r) (flat_map (λ (m : Move). moved_by w l n r m.source m.target) moves) q there) [
     | inl stays ↦ unwritten_double w knows l n has (among (map target_of moves)) (Copied (Assign moves)) (slot_stays (Assign moves)) r q stays
     | inr goes ↦
-      let found = of_flat_map (λ (m : Move). moved_by w l n r m.source m.target) moves q goes in
-      move_doubles w knows l n has moves found.0 found.1 found.0.source refl r q found.2
+        let found = of_flat_map (λ (m : Move). moved_by w l n r m.source m.target) moves q goes in
+        move_doubles w knows l n has moves found.0 found.1 found.0.source refl r q found.2
   ];
 }
 
@@ -199,9 +198,12 @@ stored_each field value r q (stored {f = f} {y = y} is) =
     inr (subst (λ (g : FieldNo). Contains (root_copy (Slot value) (Static field) ∷ []) (root_copy (Slot y) (Static g))) (sym same_field)
     (subst (λ (z : ℕ). Contains (root_copy (Slot value) (Static field) ∷ []) (root_copy (Slot z) (Static field))) (sym same_slot)
     (contains_first (root_copy (Slot value) (Static field)) [])))
-stored_each field value r q (static {f = f} other) = inl (refl, other_root (Static field) (Static f) (λ (e : Static field ≡ Static f).
-    let same : field ≡ f = cc in
-    other value (ap (λ (g : FieldNo). StoreStatic g value) same)))
+stored_each field value r q (static {f = f} other) = inl (
+  refl,
+  other_root (Static field) (Static f) (λ (e : Static field ≡ Static f).
+      let same : field ≡ f = cc in
+      other value (ap (λ (g : FieldNo). StoreStatic g value) same)),
+)
 stored_each field value r q returned = inl (refl, refl)
 stored_each field value r q thrown = inl (refl, refl)
 

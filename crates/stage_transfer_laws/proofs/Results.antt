@@ -1,5 +1,5 @@
 -- What a stage gives: that some result is related as a law asks for, and that facts without an object stay.
-use Rattle.std.proofs.Common.{◌≡◌, ℕ, Bool, true, false, List, [], ◌∷◌, map, Option, Some, None, refl, sym}
+use Rattle.std.proofs.Common.{ℕ, Bool, true, false, List, [], ◌∷◌, map, Option, refl, sym}
 use Rattle.std.specs.List.{Contains}
 use Rattle.std.specs.Option.{option_to_list}
 use Rattle.list_laws.proofs.Members.{contained_in_map, contains_first, contains_later, contains_map, contains_none}

@@ -1,5 +1,5 @@
 -- The test of sites tells whether they are one.
-use Rattle.std.proofs.Common.{◌≡◌, ℕ, nat_eq, true, ◌&&◌, List, [], ◌∷◌, Option, Some, None, refl, ap}
+use Rattle.std.proofs.Common.{◌≡◌, nat_eq, true, ◌&&◌, [], ◌∷◌, Option, Some, None, refl}
 use Rattle.std.specs.Option.{option_map_or}
 use Rattle.std.specs.Str.{bytes_eq}
 use Rattle.std.proofs.lemmas.Bool.{and_from, and_parts, eq-eqb, eqb-true}
@@ -37,7 +37,7 @@ same_method (Some m) (Some k) e = let first : m.0 ≡ k.0 = cc in λ i. Some (re
 pub site_is : (s r : Site) → same_site s r ≡ true → s ≡ r
 site_is s r is =
     let kinds_and = and_parts (nat_eq (number_of_kind s.kind) (number_of_kind r.kind))
-        (bytes_eq (method_key s) (method_key r) && (nat_eq s.offset r.offset && bytes_eq s.class r.class)) is in
+    (bytes_eq (method_key s) (method_key r) && (nat_eq s.offset r.offset && bytes_eq s.class r.class)) is in
     let methods_and = and_parts (bytes_eq (method_key s) (method_key r)) (nat_eq s.offset r.offset && bytes_eq s.class r.class) kinds_and.1 in
     let offsets_and = and_parts (nat_eq s.offset r.offset) (bytes_eq s.class r.class) methods_and.1 in
     let kind = same_kind s.kind r.kind (eqb-true (number_of_kind s.kind) (number_of_kind r.kind) kinds_and.0) in

@@ -1,13 +1,12 @@
 -- The store to a field: paths that pass the field leave, and those of the value are listed behind the object's slots.
-use Rattle.std.proofs.Common.{◌≡◌, ◌⊎◌, inl, inr, ℕ, Bool, true, false, not, ◌&&◌, ◌||◌, List, [], ◌∷◌, ◌++◌, map, refl, sym, ◌∙◌, ap, subst}
-use Rattle.std.specs.List.{Contains, filter, flat_map, list_any}
+use Rattle.std.proofs.Common.{◌≡◌, ◌⊎◌, inl, inr, ℕ, Bool, true, false, not, ◌&&◌, ◌||◌, List, [], ◌∷◌, ◌++◌, map, refl, sym, ◌∙◌, subst}
+use Rattle.std.specs.List.{Contains, filter, list_any}
 use Rattle.std.proofs.lemmas.Bool.{and_cases, false≢true, not-false, not-true, not_from_false, or_parts}
 use Rattle.std.proofs.lemmas.List.Elements.{Contains-append_cases, Contains-append_left, Contains-append_right}
 use Rattle.list_laws.proofs.Members.{contained_in_map, contains_first, contains_map, contains_none}
 use Rattle.jvm_model.specs.declared.number.FieldNo.{FieldNo}
 use Rattle.op_model.specs.declared.lowered.LoweredMethod.{LoweredMethod}
 use Rattle.op_model.specs.declared.node.Node.{Node}
-use Rattle.op_model.specs.declared.op.Op.{Op}
 use Rattle.op_model.specs.declared.op.Op.TheVariants.{Store}
 use Rattle.access_paths.specs.declared.root.Root.{Root}
 use Rattle.access_paths.specs.declared.root.Root.TheVariants.{Slot}
@@ -15,13 +14,13 @@ use Rattle.access_paths.specs.Paths.{Path, bare}
 use Rattle.stage_facts.specs.Facts.{Tuple}
 use Rattle.stage_transfer.specs.Settings.{Setting, alike, among, same_field}
 use Rattle.stage_transfer.specs.Changes.{Change, begins_at, changed_set, is_lost, slots_go, writing}
-use Rattle.stage_transfer.specs.Operations.{after_store, field_of, is_short, is_stored_field, passes_field, store_loses, stored, stored_set, unstored as unpassed}
-use Rattle.stage_relations.specs.Roots.{AreAlike, same, Copied, Doubles, own, HasVariables}
+use Rattle.stage_transfer.specs.Operations.{after_store, field_of, is_short, is_stored_field, passes_field, stored, stored_set, unstored as unpassed}
+use Rattle.stage_relations.specs.Roots.{same, own, HasVariables}
 use Rattle.stage_relations.specs.Relations.{Comes, put, Flows, HasFields, Heir, IsOverwritten, IsPut, IsUnstored, Origin, path}
 use Rattle.stage_transfer_laws.proofs.Members.{in_filter, in_flat_map, none_passes, not_among, of_filter, of_flat_map}
 use Rattle.stage_transfer_laws.proofs.Alike.{Knows, alike_itself, are_alike}
-use Rattle.stage_transfer_laws.proofs.Changed.{IsDoubled, Moves, not_lost, of_changed, staying}
-use Rattle.stage_transfer_laws.proofs.Loads.{field_is, is_field}
+use Rattle.stage_transfer_laws.proofs.Changed.{not_lost, of_changed, staying}
+use Rattle.stage_transfer_laws.proofs.Loads.{is_field}
 use Rattle.stage_transfer_laws.proofs.Operations.{heir_of, IsQuiet, origin_of, quiet_each, quiet_stays, written_moves}
 use Rattle.stage_transfer_laws.proofs.Paths.{has_it, in_set, is_root, of_set, root_is}
 
@@ -30,11 +29,12 @@ use Rattle.stage_transfer_laws.proofs.Paths.{has_it, in_set, is_root, of_set, ro
 free_fields : (object : ℕ) (field : FieldNo) (value : ℕ) (fields : List FieldNo) → list_any (same_field field) fields ≡ false → IsUnstored (Store object field value) fields
 free_fields object field value [] none = tt
 free_fields object field value (f ∷ fields) none =
-    let parts = or_parts (same_field field f) (list_any (same_field field) fields) none in
-    (λ other written (e : Store object field value ≡ Store other f written).
-      let is : field ≡ f = cc in
-      false≢true (sym parts.0 ∙ subst (λ (g : FieldNo). same_field field g ≡ true) is (is_field field)),
-     free_fields object field value fields parts.1)
+    let parts = or_parts (same_field field f) (list_any (same_field field) fields) none in (
+      λ other written (e : Store object field value ≡ Store other f written).
+          let is : field ≡ f = cc in
+          false≢true (sym parts.0 ∙ subst (λ (g : FieldNo). same_field field g ≡ true) is (is_field field)),
+      free_fields object field value fields parts.1,
+    )
 
 -- ---- what is stored
 
@@ -78,7 +78,7 @@ of_stored_set w l n object field value set y there =
     elim (Contains-append_cases (unpassed field set) more y (of_set (unpassed field set ++ more) y there)) [
       | inl old ↦ inl (of_unpassed field set y old)
       | inr new ↦
-        inr (of_stored w l n object field value (unpassed field set) y (of_filter (is_short w) (stored w l n object field value (unpassed field set)) y new).0)
+          inr (of_stored w l n object field value (unpassed field set) y (of_filter (is_short w) (stored w l n object field value (unpassed field set)) y new).0)
     ]
 
 stays_stored : (w : Setting) (l : LoweredMethod) (n : Node) (object : ℕ) (field : FieldNo) (value : ℕ) (set : List Path) (y : Path) → Contains set y
@@ -122,8 +122,8 @@ store_origin w knows l n has object field value set y there =
           path = new.path_of;
           listed = listed.0;
           comes = subst (λ (p : Path). Comes l n (Store object field value) new.path_of p) new.is
-            (subst (λ (r : Root). Comes l n (Store object field value) (path r new.path_of.fields) (path (Slot new.slot) (field ∷ new.path_of.fields))) new.root
-            (put {object = object} {value = value} {y = value} {z = new.slot} refl (are_alike w knows l n object new.slot has new.alike_is) keeps (same refl)
+              (subst (λ (r : Root). Comes l n (Store object field value) (path r new.path_of.fields) (path (Slot new.slot) (field ∷ new.path_of.fields))) new.root
+              (put {object = object} {value = value} {y = value} {z = new.slot} refl (are_alike w knows l n object new.slot has new.alike_is) keeps (same refl)
               (free_fields object field value new.path_of.fields listed.1)));
         }
 
@@ -152,7 +152,7 @@ store_heir w knows l n has object field value must x none there some other =
     heir_of l n (Store object field value) x (changed_set c must) (free_fields object field value x.fields other) some
     (elim (not_lost c (changed_set c must) must x none there some) [
       | inl stays ↦
-        record { path = x; listed = staying c must x there stays; goes = own (quiet_stays (Store object field value) (quiet object field value) x.root stays); fields = refl }
+          record { path = x; listed = staying c must x there stays; goes = own (quiet_stays (Store object field value) (quiet object field value) x.root stays); fields = refl }
       | inr doubled ↦ record { path = path doubled.root x.fields; listed = doubled.has; goes = moves.doubles x.root doubled.root doubled.listed; fields = refl }
     ])
 
@@ -188,14 +188,14 @@ store_put w knows l n has object field value must short none there =
     (put_stored w l n object field value must short there) tt) [
       | inl stays ↦ absurd (not_among (object ∷ value ∷ []) object stays (contains_first object (value ∷ [])))
       | inr doubled ↦
-        let found = contained_in_map Slot (filter (λ (y : ℕ). not (among (object ∷ value ∷ []) y)) (alike w l n object)) doubled.root doubled.listed in
-        let kept = of_filter (λ (y : ℕ). not (among (object ∷ value ∷ []) y)) (alike w l n object) found.0 found.1 in
-        record {
-          slot = found.0;
-          alike = are_alike w knows l n object found.0 has kept.0;
-          keeps = not_among (object ∷ value ∷ []) found.0 (not-true (among (object ∷ value ∷ []) found.0) kept.1);
-          listed = subst (λ (r : Root). Contains (changed_set c (stored_set w l n object field value must)) (path r (field ∷ []))) (sym found.2) doubled.has;
-        }
+          let found = contained_in_map Slot (filter (λ (y : ℕ). not (among (object ∷ value ∷ []) y)) (alike w l n object)) doubled.root doubled.listed in
+          let kept = of_filter (λ (y : ℕ). not (among (object ∷ value ∷ []) y)) (alike w l n object) found.0 found.1 in
+          record {
+            slot = found.0;
+            alike = are_alike w knows l n object found.0 has kept.0;
+            keeps = not_among (object ∷ value ∷ []) found.0 (not-true (among (object ∷ value ∷ []) found.0) kept.1);
+            listed = subst (λ (r : Root). Contains (changed_set c (stored_set w l n object field value must)) (path r (field ∷ []))) (sym found.2) doubled.has;
+          }
     ]
   where
     c : Change

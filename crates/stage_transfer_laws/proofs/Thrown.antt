@@ -1,6 +1,6 @@
 -- Where methods return, calls have returned, and objects are thrown, the tuple is rerooted.
-use Rattle.std.proofs.Common.{◌≡◌, ℕ, List, [], ◌∷◌, map, Option, Some, None, refl, sym, ◌∙◌, ap, subst}
-use Rattle.std.specs.List.{Contains, flat_map}
+use Rattle.std.proofs.Common.{◌≡◌, ℕ, List, [], ◌∷◌, map, Option, Some, None, sym, ap, subst}
+use Rattle.std.specs.List.{Contains}
 use Rattle.list_laws.proofs.Members.{contains_first}
 use Rattle.op_model.specs.declared.lowered.LoweredMethod.{LoweredMethod}
 use Rattle.op_model.specs.declared.node.Node.{Node}
@@ -105,10 +105,11 @@ excepted : (w : Setting) (l : LoweredMethod) (n : Node) (kept : List ℕ) (handl
     → Meets (Excepted l n kept handler u) (map (finished w) (of_object v ∷ []))
 excepted w l n kept handler u v r =
     let cut = finished_cut w.stage v in
-    meets_only w (Excepted l n kept handler u) v
-    (reroots_cut (Raised None handler l.slots) (Doubles l n (Raised None handler l.slots)) NoPath u v (whole w v) cut
-    (away_reroots kept (Raised None handler l.slots) (Doubles l n (Raised None handler l.slots)) NoPath u v r),
-     away_cut kept u v (whole w v) cut (away_puts kept (Raised None handler l.slots) (Doubles l n (Raised None handler l.slots)) NoPath u v r))
+    meets_only w (Excepted l n kept handler u) v (
+      reroots_cut (Raised None handler l.slots) (Doubles l n (Raised None handler l.slots)) NoPath u v (whole w v) cut
+          (away_reroots kept (Raised None handler l.slots) (Doubles l n (Raised None handler l.slots)) NoPath u v r),
+      away_cut kept u v (whole w v) cut (away_puts kept (Raised None handler l.slots) (Doubles l n (Raised None handler l.slots)) NoPath u v r),
+    )
 
 pub exception_meets : (w : Setting) → Knows w → (l : LoweredMethod) (n : Node) → HasVariables l n → (c : NodeCall) (kept : List ℕ) (handler : Option ℕ) (u : Tuple) → n.op ≡ Call c
     → Meets (λ v. Reroots (Raised None handler l.slots) (Doubles l n (Raised None handler l.slots)) NoPath u v × PutsAway kept u v)

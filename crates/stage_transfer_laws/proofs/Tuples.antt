@@ -1,13 +1,13 @@
 -- Objects that are put away, and objects beside a new one.
-use Rattle.std.proofs.Common.{◌≡◌, ◌⊎◌, inl, inr, ℕ, Bool, true, false, ◌||◌, List, [], ◌∷◌, Option, Some, None, refl, sym, ◌∙◌, subst}
-use Rattle.std.specs.List.{Contains, list_any}
+use Rattle.std.proofs.Common.{◌≡◌, ◌⊎◌, inl, inr, ℕ, Bool, false, List, Option, Some, None, refl, sym, ◌∙◌, subst}
+use Rattle.std.specs.List.{list_any}
 use Rattle.std.proofs.lemmas.Bool.{false≢true, or_parts}
 use Rattle.access_paths.specs.declared.root.Root.{Root}
 use Rattle.access_paths.specs.declared.root.Root.TheVariants.{Slot, Thrown}
 use Rattle.access_paths.specs.Paths.{Path, bare, has_path}
 use Rattle.stage_facts.specs.Facts.{Tuple}
 use Rattle.stage_transfer.specs.Operations.{beside_new, puts_away}
-use Rattle.stage_relations.specs.Relations.{HasFields, PutsAway, Reroots, Target}
+use Rattle.stage_relations.specs.Relations.{PutsAway, Reroots}
 use Rattle.stage_transfer_laws.specs.Throws.{IsUnthrown}
 use Rattle.stage_transfer_laws.proofs.Members.{none_passes}
 use Rattle.stage_transfer_laws.proofs.Paths.{it_has, of_with_path}
