@@ -19,3 +19,4 @@ pub mod Events
 pub mod Entering
 pub mod Leaving
 pub mod Lawful
+pub mod UncaughtThrow
