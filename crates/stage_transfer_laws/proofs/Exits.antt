@@ -16,7 +16,7 @@ use Rattle.stage_transfer.specs.Settings.{Setting, among}
 use Rattle.stage_transfer.specs.Changes.{Copy, moved_to, slots_go, unwritten}
 use Rattle.stage_transfer.specs.Calls.{written_by}
 use Rattle.stage_transfer.specs.Operations.{every_slot, receiving, returning}
-use Rattle.stage_transfer.specs.Exceptions.{catching, thrown_root, unwinding}
+use Rattle.stage_transfer.specs.Exceptions.{catching, caught_from, thrown_root, unwinding}
 use Rattle.stage_relations.specs.Roots.{Doubles, own, HasVariables, Exited, Received, Raised, IsAside}
 use Rattle.stage_transfer_laws.proofs.Members.{in_option, none_among, not_among, of_option}
 use Rattle.stage_transfer_laws.proofs.Alike.{Knows}
@@ -191,59 +191,33 @@ caught_copy : (value : Option ℕ) (offset locals : ℕ) → Raised value (Some 
 caught_copy None offset locals = Raised.caught refl refl
 caught_copy (Some z) offset locals = Raised.caught_value refl refl
 
--- A change that catches what is thrown, if its doubled roots are so.
-catches : (w : Setting) (l : LoweredMethod) (n : Node) (value : Option ℕ) (offset : ℕ) (Doubled : Root → Root → Type 0)
-    → ((r q : Root) → Raised value (Some offset) l.slots r q → Doubled r q) → ((r q : Root) → Contains ((catching w l n value).doubles r) q → Doubled r q)
-    → Moves (Raised value (Some offset) l.slots) Doubled (root_copy (thrown_root value) (Slot l.slots) ∷ []) (catching w l n value)
-catches w l n value offset Doubled own_too doubles = record {
-  adds = λ set. refl;
-  stays = caught_stays value offset l.slots;
-  copy = λ k there.
-      subst (λ (c : Copy). Raised value (Some offset) l.slots c.from c.to) (contains_only (root_copy (thrown_root value) (Slot l.slots)) k there) (caught_copy value offset l.slots);
-  each = caught_each value offset l.slots;
-  own = own_too;
-  doubles = doubles;
-}
-
--- What was thrown into the frame stands behind the local variables.
-caught_doubles : (l : LoweredMethod) (n : Node) (offset : ℕ) (r q : Root) → Contains (cond (same_root Thrown r) (Slot l.slots ∷ []) []) q
-    → Doubles l n (Raised None (Some offset) l.slots) r q
-caught_doubles l n offset (Slot z) q there = absurd (contains_none q there)
-caught_doubles l n offset (Static f) q there = absurd (contains_none q there)
-caught_doubles l n offset Returned q there = absurd (contains_none q there)
-caught_doubles l n offset Thrown q there =
+-- What was thrown stands behind the local variables: what a throw's slot held, or what was thrown into the frame.
+caught_doubles : (w : Setting) → Knows w → (l : LoweredMethod) (n : Node) → HasVariables l n → (value : Option ℕ) (offset : ℕ) (r q : Root)
+    → Contains (caught_from w l n value r) q → Doubles l n (Raised value (Some offset) l.slots) r q
+caught_doubles w knows l n has (Some z) offset r q there =
+    moved_double w knows l n has z (Slot l.slots) (Raised (Some z) (Some offset) l.slots) (Raised.caught_value refl refl) r q there
+caught_doubles w knows l n has None offset (Slot z) q there = absurd (contains_none q there)
+caught_doubles w knows l n has None offset (Static f) q there = absurd (contains_none q there)
+caught_doubles w knows l n has None offset Returned q there = absurd (contains_none q there)
+caught_doubles w knows l n has None offset Thrown q there =
     subst (λ (p : Root). Doubles l n (Raised None (Some offset) l.slots) Thrown p) (contains_only (Slot l.slots) q there) (own (Raised.caught refl refl))
 
 local_stays : (value : Option ℕ) (offset locals : ℕ) (z : ℕ) → nat_le locals z ≡ false → Raised value (Some offset) locals (Slot z) (Slot z)
 local_stays value offset locals z above = Raised.local refl (leb-false locals z above)
 
-pub catch_moves : (w : Setting) → Knows w → (l : LoweredMethod) (n : Node) → HasVariables l n → (offset : ℕ)
-    → Moves (Raised None (Some offset) l.slots) (Doubles l n (Raised None (Some offset) l.slots)) (root_copy Thrown (Slot l.slots) ∷ []) (catching w l n None)
-catch_moves w knows l n has offset = catches w l n None offset (Doubles l n (Raised None (Some offset) l.slots)) (λ r q goes. own goes)
-    (λ r q there. elim (Contains-append_cases (unwritten w l n (nat_le l.slots) r) (cond (same_root Thrown r) (Slot l.slots ∷ []) []) q there) [
-      | inl stays ↦ unwritten_double w knows l n has (nat_le l.slots) (Raised None (Some offset) l.slots) (local_stays None offset l.slots) r q stays
-      | inr caught ↦ caught_doubles l n offset r q caught
-    ])
-
--- What a throw's slot held stands behind the local variables; so, for the definition, does what was thrown into the frame before.
-pub catch_value_moves : (w : Setting) → Knows w → (l : LoweredMethod) (n : Node) → HasVariables l n → (value offset : ℕ)
-    → Moves (Raised (Some value) (Some offset) l.slots) (λ r q. Doubles l n (Raised (Some value) (Some offset) l.slots) r q ⊎ (r ≡ Thrown))
-    (root_copy (Slot value) (Slot l.slots) ∷ []) (catching w l n (Some value))
-catch_value_moves w knows l n has value offset =
-    catches w l n (Some value) offset (λ r q. Doubles l n (Raised (Some value) (Some offset) l.slots) r q ⊎ (r ≡ Thrown)) (λ r q goes. inl (own goes)) doubles
-  where
-    before : (r q : Root) → Contains (cond (same_root Thrown r) (Slot l.slots ∷ []) []) q → r ≡ Thrown
-    before (Slot z) q there = absurd (contains_none q there)
-    before (Static f) q there = absurd (contains_none q there)
-    before Returned q there = absurd (contains_none q there)
-    before Thrown q there = refl
-
-    doubles : (r q : Root) → Contains ((catching w l n (Some value)).doubles r) q → Doubles l n (Raised (Some value) (Some offset) l.slots) r q ⊎ (r ≡ Thrown)
-    doubles r q there =
-        elim (Contains-append_cases (unwritten w l n (nat_le l.slots) r) (moved_to w l n value (Slot l.slots) r ++ (cond (same_root Thrown r) (Slot l.slots ∷ []) [])) q there) [
-          | inl stays ↦ inl (unwritten_double w knows l n has (nat_le l.slots) (Raised (Some value) (Some offset) l.slots) (local_stays (Some value) offset l.slots) r q stays)
-          | inr caught ↦ elim (Contains-append_cases (moved_to w l n value (Slot l.slots) r) (cond (same_root Thrown r) (Slot l.slots ∷ []) []) q caught) [
-            | inl moved ↦ inl (moved_double w knows l n has value (Slot l.slots) (Raised (Some value) (Some offset) l.slots) (Raised.caught_value refl refl) r q moved)
-            | inr thrown ↦ inr (before r q thrown)
-          ]
-        ]
+pub catch_moves : (w : Setting) → Knows w → (l : LoweredMethod) (n : Node) → HasVariables l n → (value : Option ℕ) (offset : ℕ)
+    → Moves (Raised value (Some offset) l.slots) (Doubles l n (Raised value (Some offset) l.slots)) (root_copy (thrown_root value) (Slot l.slots) ∷ [])
+    (catching w l n value)
+catch_moves w knows l n has value offset = record {
+  adds = λ set. refl;
+  stays = caught_stays value offset l.slots;
+  copy = λ k there.
+      subst (λ (c : Copy). Raised value (Some offset) l.slots c.from c.to) (contains_only (root_copy (thrown_root value) (Slot l.slots)) k there)
+      (caught_copy value offset l.slots);
+  each = caught_each value offset l.slots;
+  own = λ r q goes. own goes;
+  doubles = λ r q there. elim (Contains-append_cases (unwritten w l n (nat_le l.slots) r) (caught_from w l n value r) q there) [
+    | inl stays ↦ unwritten_double w knows l n has (nat_le l.slots) (Raised value (Some offset) l.slots) (local_stays value offset l.slots) r q stays
+    | inr caught ↦ caught_doubles w knows l n has value offset r q caught
+  ];
+}

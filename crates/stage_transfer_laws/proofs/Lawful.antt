@@ -1,5 +1,5 @@
 -- The transfer of the definitions meets the laws of a stage: one lemma for each law, joined.
-use Rattle.std.proofs.Common.{◌≡◌, ℕ, true, false, Option, Some, None, refl, sym, ◌∙◌, ap, subst}
+use Rattle.std.proofs.Common.{◌≡◌, ℕ, true, false, Option, Some, None, ◌∙◌, ap, subst}
 use Rattle.jvm_model.specs.declared.automaton.Automaton.{Automaton}
 use Rattle.jvm_model.specs.declared.automaton.Event.{Event}
 use Rattle.op_model.specs.declared.lowered.LoweredMethod.{LoweredMethod}
@@ -7,50 +7,25 @@ use Rattle.op_model.specs.declared.node.Node.{Node}
 use Rattle.op_model.specs.declared.op.Call.{Call as NodeCall}
 use Rattle.machine_bytecode.specs.Objects.{Subject}
 use Rattle.points_to_rules.specs.Facts.{Fact}
-use Rattle.stage_facts.specs.Facts.{none_yet, of_object, some_yet, Tuple}
+use Rattle.stage_facts.specs.Facts.{none_yet, some_yet}
 use Rattle.stage_transfer.specs.Calls.{a_new_object, event_of_call}
-use Rattle.stage_transfer.specs.Exceptions.{thrown_slot}
 use Rattle.stage_transfer.specs.Settings.{AreAnswersOf, Setting}
 use Rattle.stage_transfer.specs.Stages.{transfer_of}
 use Rattle.stage_relations.specs.Laws.{IsStage, Meets}
 use Rattle.stage_relations.specs.Relations.{IsBorn}
-use Rattle.stage_relations.specs.Roots.{HasVariables}
-use Rattle.stage_transfer_laws.specs.Throws.{CatchesThrows, IsCaught, IsUnthrown}
-use Rattle.stage_transfer_laws.proofs.Alike.{Knows}
 use Rattle.stage_transfer_laws.proofs.Described.{answer_first, answer_further, answer_idle, answer_meets, answer_some}
 use Rattle.stage_transfer_laws.proofs.Entering.{enter_idle, enter_is}
 use Rattle.stage_transfer_laws.proofs.Events.{event_idle, event_its, event_none, event_other}
 use Rattle.stage_transfer_laws.proofs.Leaving.{leave_idle, leave_is}
 use Rattle.stage_transfer_laws.proofs.Next.{next_first, next_further, next_idle, next_meets, next_some}
-use Rattle.stage_transfer_laws.proofs.Thrown.{caught_meets, exception_idle, exception_meets, IsFit, raise_idle, RaisedTo, receive_meets, return_meets, unwound_meets}
-
--- ---- objects that are thrown
-
-raise_meets : (w : Setting) → Knows w → CatchesThrows w → (l : LoweredMethod) (n : Node) (handler : Option ℕ) (u : Tuple) → HasVariables l n
-    → Meets (RaisedTo l n (thrown_slot n.op) handler u) ((transfer_of w).raise l n handler (of_object u))
-raise_meets w knows catches l n None u has = unwound_meets w l n u
-raise_meets w knows catches l n (Some offset) u has = by (thrown_slot n.op) refl
-  where
-    by : (value : Option ℕ) → thrown_slot n.op ≡ value → Meets (RaisedTo l n (thrown_slot n.op) (Some offset) u) ((transfer_of w).raise l n (Some offset) (of_object u))
-    by None is = caught_meets w knows l n has offset u (subst (λ (v : Option ℕ). IsFit v u) (sym is) tt)
-    by (Some value) is =
-        subst (λ (v : Option ℕ). Meets (RaisedTo l n v (Some offset) u) ((transfer_of w).raise l n (Some offset) (of_object u))) (sym is) (catches l n value offset u has is)
-
--- Where nothing was thrown before, what is thrown is caught.
-pub throw_is_caught : (w : Setting) → Knows w → (l : LoweredMethod) (n : Node) (value offset : ℕ) (u : Tuple) → HasVariables l n → thrown_slot n.op ≡ Some value → IsUnthrown u
-    → IsCaught w l n value offset u
-throw_is_caught w knows l n value offset u has is unthrown =
-    subst (λ (v : Option ℕ). Meets (RaisedTo l n v (Some offset) u) ((transfer_of w).raise l n (Some offset) (of_object u))) is
-    (caught_meets w knows l n has offset u (subst (λ (v : Option ℕ). IsFit v u) (sym is) unthrown))
-
--- ---- the laws
+use Rattle.stage_transfer_laws.proofs.Thrown.{exception_idle, exception_meets, raise_idle, raise_meets, receive_meets, return_meets}
 
 -- The event by the subject's property is that by the setting's.
 own_event : (x : Subject) (w : Setting) → w.property ≡ x.property → (c : NodeCall) (e : Option Event) → event_of_call x.property c ≡ e → event_of_call w.property c ≡ e
 own_event x w same c e is = ap (λ (a : Automaton). event_of_call a c) same ∙ is
 
-pub lawful : (x : Subject) (S : Fact → Type 0) (w : Setting) → w.property ≡ x.property → AreAnswersOf S w.answers → CatchesThrows w → IsStage x S w.site (transfer_of w)
-lawful x S w same answers catches =
+pub lawful : (x : Subject) (S : Fact → Type 0) (w : Setting) → w.property ≡ x.property → AreAnswersOf S w.answers → IsStage x S w.site (transfer_of w)
+lawful x S w same answers =
     let knows = answers.variables in
     record {
       next = λ l n u has plain. next_meets w knows l n has n.op u plain;
@@ -62,7 +37,7 @@ lawful x S w same answers catches =
           subst (λ (a : Automaton). Meets (IsBorn (Some target) false a.initial) ((transfer_of w).next l n some_yet)) same (next_further w l n n.op target is);
       return = λ l n value u is. return_meets w l n n.op value u is;
       receive = λ l n c u has is. receive_meets w knows l n has n.op c u is;
-      raise = λ l n handler u has. raise_meets w knows catches l n handler u has;
+      raise = λ l n handler u has. raise_meets w knows l n has handler u;
       raise_idle = λ l n handler f idle. raise_idle w l n handler f idle;
       event_idle = λ l n c f idle. event_idle w l n c f idle;
       event_none = λ l n c u none. event_none w l n c u (own_event x w same c None none);

@@ -19,4 +19,3 @@ pub mod Events
 pub mod Entering
 pub mod Leaving
 pub mod Lawful
-pub mod UncaughtThrow

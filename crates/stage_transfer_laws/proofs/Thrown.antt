@@ -15,20 +15,19 @@ use Rattle.stage_facts.specs.Facts.{Tuple, SiteFact, none_yet, some_yet, of_obje
 use Rattle.stage_transfer.specs.Settings.{Setting}
 use Rattle.stage_transfer.specs.Calls.{after_exception}
 use Rattle.stage_transfer.specs.Changes.{changed}
-use Rattle.stage_transfer.specs.Exceptions.{after_raise, catching, thrown_slot, unwinding}
+use Rattle.stage_transfer.specs.Exceptions.{after_raise, catching, thrown_root, thrown_slot, unwinding}
 use Rattle.stage_transfer.specs.Operations.{after_operation, puts_away, receiving, returning}
 use Rattle.stage_transfer.specs.Stages.{finished}
 use Rattle.stage_relations.specs.Laws.{IsIdle, Meets}
 use Rattle.stage_relations.specs.Roots.{Doubles, Exited, HasVariables, Raised, Received}
 use Rattle.stage_relations.specs.Relations.{NoPath, PutsAway, Reroots}
-use Rattle.stage_transfer_laws.specs.Throws.{IsUnthrown}
 use Rattle.stage_transfer_laws.proofs.Alike.{Knows}
 use Rattle.stage_transfer_laws.proofs.Changed.{changed_reroots, root_copy}
 use Rattle.stage_transfer_laws.proofs.CutRelations.{away_cut, reroots_cut}
-use Rattle.stage_transfer_laws.proofs.Exits.{catch_moves, catch_value_moves, receive_moves, result_copies, return_copies, return_moves, throw_moves, unwind_moves}
+use Rattle.stage_transfer_laws.proofs.Exits.{catch_moves, receive_moves, result_copies, return_copies, return_moves, throw_moves, unwind_moves}
 use Rattle.stage_transfer_laws.proofs.Finished.{finished_cut}
 use Rattle.stage_transfer_laws.proofs.Results.{idle_stays, meets_only, whole}
-use Rattle.stage_transfer_laws.proofs.Tuples.{away_puts, away_reroots, unthrown_reroots}
+use Rattle.stage_transfer_laws.proofs.Tuples.{away_puts, away_reroots}
 
 -- What is rerooted meets a law that asks for it.
 pub rerooted : (w : Setting) (Goes Doubled : Root → Root → Type 0) (Known : Path → Type 0) (u v : Tuple) → Reroots Goes Doubled Known u v
@@ -62,35 +61,24 @@ unwind_reroots l n (Some value) u =
     changed_reroots (Raised (Some value) None l.slots) (Doubles l n (Raised (Some value) None l.slots)) (root_copy (Slot value) Thrown ∷ []) (unwinding (Some value))
     (throw_moves l n value) NoPath u
 
--- At a throw no path of fields may begin at what was thrown into the frame before.
-abbrev pub IsFit : Option ℕ → Tuple → Type 0
-IsFit None u = Unit {0}
-IsFit (Some value) u = IsUnthrown u
-
-catch_reroots : (w : Setting) → Knows w → (l : LoweredMethod) (n : Node) → HasVariables l n → (value : Option ℕ) (offset : ℕ) (u : Tuple) → IsFit value u
+catch_reroots : (w : Setting) → Knows w → (l : LoweredMethod) (n : Node) → HasVariables l n → (value : Option ℕ) (offset : ℕ) (u : Tuple)
     → Reroots (Raised value (Some offset) l.slots) (Doubles l n (Raised value (Some offset) l.slots)) NoPath u (changed (catching w l n value) u)
-catch_reroots w knows l n has None offset u fit =
-    changed_reroots (Raised None (Some offset) l.slots) (Doubles l n (Raised None (Some offset) l.slots)) (root_copy Thrown (Slot l.slots) ∷ []) (catching w l n None)
-    (catch_moves w knows l n has offset) NoPath u
-catch_reroots w knows l n has (Some value) offset u fit =
-    unthrown_reroots (Raised (Some value) (Some offset) l.slots) (Doubles l n (Raised (Some value) (Some offset) l.slots)) NoPath u (changed (catching w l n (Some value)) u) fit
-    (changed_reroots _ _ _ (catching w l n (Some value)) (catch_value_moves w knows l n has value offset) NoPath u)
+catch_reroots w knows l n has value offset u =
+    changed_reroots (Raised value (Some offset) l.slots) (Doubles l n (Raised value (Some offset) l.slots)) (root_copy (thrown_root value) (Slot l.slots) ∷ [])
+    (catching w l n value) (catch_moves w knows l n has value offset) NoPath u
 
 -- What the law asks for where a value is thrown.
 abbrev pub RaisedTo : LoweredMethod → Node → Option ℕ → Option ℕ → Tuple → Tuple → Type 0
 RaisedTo l n value handler u v = Reroots (Raised value handler l.slots) (Doubles l n (Raised value handler l.slots)) NoPath u v
 
-pub unwound_meets : (w : Setting) (l : LoweredMethod) (n : Node) (u : Tuple)
-    → Meets (RaisedTo l n (thrown_slot n.op) None u) (map (finished w) (after_raise w l n None (of_object u)))
-unwound_meets w l n u =
+pub raise_meets : (w : Setting) → Knows w → (l : LoweredMethod) (n : Node) → HasVariables l n → (handler : Option ℕ) (u : Tuple)
+    → Meets (RaisedTo l n (thrown_slot n.op) handler u) (map (finished w) (after_raise w l n handler (of_object u)))
+raise_meets w knows l n has None u =
     rerooted w (Raised (thrown_slot n.op) None l.slots) (Doubles l n (Raised (thrown_slot n.op) None l.slots)) NoPath u (changed (unwinding (thrown_slot n.op)) u)
     (unwind_reroots l n (thrown_slot n.op) u)
-
-pub caught_meets : (w : Setting) → Knows w → (l : LoweredMethod) (n : Node) → HasVariables l n → (offset : ℕ) (u : Tuple) → IsFit (thrown_slot n.op) u
-    → Meets (RaisedTo l n (thrown_slot n.op) (Some offset) u) (map (finished w) (after_raise w l n (Some offset) (of_object u)))
-caught_meets w knows l n has offset u fit =
+raise_meets w knows l n has (Some offset) u =
     rerooted w (Raised (thrown_slot n.op) (Some offset) l.slots) (Doubles l n (Raised (thrown_slot n.op) (Some offset) l.slots)) NoPath u
-    (changed (catching w l n (thrown_slot n.op)) u) (catch_reroots w knows l n has (thrown_slot n.op) offset u fit)
+    (changed (catching w l n (thrown_slot n.op)) u) (catch_reroots w knows l n has (thrown_slot n.op) offset u)
 
 pub raise_idle : (w : Setting) (l : LoweredMethod) (n : Node) (handler : Option ℕ) (f : SiteFact) → IsIdle f → Contains (map (finished w) (after_raise w l n handler f)) f
 raise_idle w l n None f idle = idle_stays w (changed (unwinding (thrown_slot n.op))) f idle
@@ -121,7 +109,7 @@ exception_meets w knows l n has c kept None u is =
 exception_meets w knows l n has c kept (Some offset) u is =
     excepted w l n kept (Some offset) u (changed (catching w l n (thrown_slot n.op)) (puts_away kept u))
     (subst (λ (o : Option ℕ). RaisedTo l n o (Some offset) (puts_away kept u) (changed (catching w l n (thrown_slot n.op)) (puts_away kept u))) (ap thrown_slot is)
-    (catch_reroots w knows l n has (thrown_slot n.op) offset (puts_away kept u) (subst (λ (o : Option ℕ). IsFit o (puts_away kept u)) (sym (ap thrown_slot is)) tt)))
+    (catch_reroots w knows l n has (thrown_slot n.op) offset (puts_away kept u)))
 
 pub exception_idle : (w : Setting) (l : LoweredMethod) (n : Node) (kept : List ℕ) (handler : Option ℕ) (f : SiteFact) → IsIdle f
     → Contains (map (finished w) (after_exception w l n kept handler f)) f

@@ -8,7 +8,6 @@ use Rattle.access_paths.specs.Paths.{Path, bare, has_path}
 use Rattle.stage_facts.specs.Facts.{Tuple}
 use Rattle.stage_transfer.specs.Operations.{beside_new, puts_away}
 use Rattle.stage_relations.specs.Relations.{PutsAway, Reroots}
-use Rattle.stage_transfer_laws.specs.Throws.{IsUnthrown}
 use Rattle.stage_transfer_laws.proofs.Members.{none_passes}
 use Rattle.stage_transfer_laws.proofs.Paths.{it_has, of_with_path}
 
@@ -78,23 +77,3 @@ beside_reroots (Some z) Goes Doubled Known t u made r = record {
 pub beside_unique : (target : Option ℕ) (u : Tuple) → (beside_new target u).unique ≡ false
 beside_unique None u = refl
 beside_unique (Some z) u = refl
-
--- ---- what was thrown before
-
--- Where no path of fields begins at what was thrown, it need not be doubled.
-pub unthrown_reroots : (Goes Doubled : Root → Root → Type 0) (Known : Path → Type 0) (t u : Tuple) → IsUnthrown t
-    → Reroots Goes (λ r q. Doubled r q ⊎ (r ≡ Thrown)) Known t u → Reroots Goes Doubled Known t u
-unthrown_reroots Goes Doubled Known t u none r = record {
-  unique = r.unique;
-  state = r.state;
-  must = r.must;
-  must_not = r.must_not;
-  may = r.may;
-  roots = r.roots;
-  fields = λ e x there has.
-      let target = r.fields e x there has in
-      elim (target.goes) [
-        | inl doubled ↦ record { path = target.path; listed = target.listed; goes = doubled; fields = target.fields }
-        | inr thrown ↦ absurd (none x there has thrown)
-      ];
-}
