@@ -18,7 +18,7 @@ use Rattle.stage_transfer_laws.proofs.Members.{in_option, of_flat_map, of_option
 use Rattle.stage_transfer_laws.proofs.Alike.{Knows}
 use Rattle.stage_transfer_laws.proofs.Changed.{Moves, root_copy}
 use Rattle.stage_transfer_laws.proofs.Exits.{aside_stays, is_aside}
-use Rattle.stage_transfer_laws.proofs.Operations.{moved_double, unwritten_double}
+use Rattle.stage_transfer_laws.proofs.Doubles.{moved_double, unwritten_double}
 
 answered_stays : (c : NodeCall) (result : Result) (r : Root) → slots_go (among (written_by c)) r ≡ false → Answered c result r r
 answered_stays c result (Slot z) stays = Answered.kept (is_aside c z stays)

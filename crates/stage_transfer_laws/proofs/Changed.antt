@@ -1,5 +1,5 @@
 -- Where roots get other values: what a change gives of a set, and when a tuple is rerooted by it.
-use Rattle.std.proofs.Common.{◌≡◌, ◌⊎◌, inl, inr, true, false, not, ◌&&◌, List, [], ◌∷◌, ◌++◌, map, refl, sym, ◌∙◌, ap, subst}
+use Rattle.std.proofs.Common.{Bool, ◌≡◌, ◌⊎◌, inl, inr, true, false, not, ◌&&◌, List, [], ◌∷◌, ◌++◌, map, refl, sym, ◌∙◌, ap, subst}
 use Rattle.std.specs.List.{Contains, filter, list_any}
 use Rattle.std.proofs.lemmas.Bool.{and_cases, false≢true, not-false, not-true, not_from_false, or_parts}
 use Rattle.std.proofs.lemmas.List.Elements.{Contains-append_cases, Contains-append_left, Contains-append_right}
@@ -96,9 +96,9 @@ pub record Moves (Goes Doubled : Root → Root → Type 0) (copies : List Copy) 
   pub own : (r q : Root) → Goes r q → Doubled r q
   pub doubles : (r q : Root) → Contains (c.doubles r) q → Doubled r q
 
-pub source_of : (Goes Doubled : Root → Root → Type 0) (copies : List Copy) (c : Change) → Moves Goes Doubled copies c → (set : List Path) (y : Path)
+pub source_of : {Goes Doubled : Root → Root → Type 0} {copies : List Copy} {c : Change} → Moves Goes Doubled copies c → (set : List Path) (y : Path)
     → Contains (changed_set c set) y → Source Goes set y
-source_of Goes Doubled copies c moves set y there = elim (of_changed c set y there) [
+source_of {Goes} {Doubled} {copies} {c} moves set y there = elim (of_changed c set y there) [
   | inl old ↦ record { path = y; listed = old.0; goes = moves.stays y.root old.1; fields = refl }
   | inr new ↦
       let found = of_copied copies set y (subst (λ (ps : List Path). Contains ps y) (moves.adds set) new) in
@@ -111,29 +111,33 @@ source_of Goes Doubled copies c moves set y there = elim (of_changed c set y the
       }
 ]
 
-pub root_moved : (Goes Doubled : Root → Root → Type 0) (copies : List Copy) (c : Change) → Moves Goes Doubled copies c → (set : List Path) (r q : Root)
+pub root_moved : {Goes Doubled : Root → Root → Type 0} {copies : List Copy} {c : Change} → Moves Goes Doubled copies c → (set : List Path) (r q : Root)
     → Goes r q → Contains set (bare r) → Contains (changed_set c set) (bare q)
-root_moved Goes Doubled copies c moves set r q goes there = elim (moves.each r q goes) [
+root_moved {copies = copies} {c = c} moves set r q goes there = elim (moves.each r q goes) [
   | inl stays ↦ subst (λ (s : Root). Contains (changed_set c set) (bare s)) stays.0 (staying c set (bare r) there stays.1)
-  | inr made ↦ added c set (bare q) (subst (λ (ps : List Path). Contains ps (bare q)) (sym (moves.adds set)) (in_copied copies set (record { from = r; to = q }) (bare r) made there refl))
+  | inr made ↦
+      added c set (bare q)
+      (subst (λ (ps : List Path). Contains ps (bare q)) (sym (moves.adds set)) (in_copied copies set (root_copy r q) (bare r) made there refl))
 ]
 
-pub target_of_path : (Goes Doubled : Root → Root → Type 0) (copies : List Copy) (c : Change) → Moves Goes Doubled copies c → (set : List Path) (x : Path)
+pub target_of_path : {Goes Doubled : Root → Root → Type 0} {copies : List Copy} {c : Change} → Moves Goes Doubled copies c → (set : List Path) (x : Path)
     → list_any (is_lost c (changed_set c set)) set ≡ false → Contains set x → HasFields x.fields → Target Doubled x (changed_set c set)
-target_of_path Goes Doubled copies c moves set x none there has = elim (not_lost c (changed_set c set) set x none there has) [
+target_of_path {c = c} moves set x none there has = elim (not_lost c (changed_set c set) set x none there has) [
   | inl stays ↦ record { path = x; listed = staying c set x there stays; goes = moves.own x.root x.root (moves.stays x.root stays); fields = refl }
   | inr doubled ↦
       record { path = with_root doubled.root x; listed = doubled.has; goes = moves.doubles x.root doubled.root doubled.listed; fields = refl }
 ]
 
-pub changed_reroots : (Goes Doubled : Root → Root → Type 0) (copies : List Copy) (c : Change) → Moves Goes Doubled copies c → (Known : Path → Type 0) (t : Tuple)
+pub changed_reroots : {Goes Doubled : Root → Root → Type 0} {copies : List Copy} {c : Change} → Moves Goes Doubled copies c → (Known : Path → Type 0) (t : Tuple)
     → Reroots Goes Doubled Known t (changed c t)
-changed_reroots Goes Doubled copies c moves Known t = record {
-  unique = λ e. e;
-  state = refl;
-  must = source_of Goes Doubled copies c moves t.must;
-  must_not = λ y there. inl (source_of Goes Doubled copies c moves t.must_not y there);
-  may = λ e. (or_parts t.may (list_any (is_lost c (changed_set c t.must)) t.must) e).0;
-  roots = λ e r q goes there. root_moved Goes Doubled copies c moves t.must r q goes there;
-  fields = λ e x there has. target_of_path Goes Doubled copies c moves t.must x (or_parts t.may (list_any (is_lost c (changed_set c t.must)) t.must) e).1 there has;
-}
+changed_reroots {c = c} moves Known t =
+    let lost : Bool = list_any (is_lost c (changed_set c t.must)) t.must in
+    record {
+      unique = λ e. e;
+      state = refl;
+      must = source_of moves t.must;
+      must_not = λ y there. inl (source_of moves t.must_not y there);
+      may = λ e. (or_parts t.may lost e).0;
+      roots = λ e r q goes there. root_moved moves t.must r q goes there;
+      fields = λ e x there has. target_of_path moves t.must x (or_parts t.may lost e).1 there has;
+    }

@@ -26,7 +26,7 @@ use Rattle.stage_transfer_laws.proofs.CutRelations.{reroots_cut}
 use Rattle.stage_transfer_laws.proofs.Finished.{finished_cut}
 use Rattle.stage_transfer_laws.proofs.Members.{in_filter, is_among, none_passes, of_filter, of_flat_map, of_option}
 use Rattle.stage_transfer_laws.proofs.Paths.{in_set, of_set}
-use Rattle.stage_transfer_laws.proofs.Results.{is_only, whole}
+use Rattle.stage_transfer_laws.proofs.Results.{is_only}
 
 -- ---- arguments
 
@@ -174,7 +174,7 @@ entered_reroots by t = record {
 pub enter_is : (w : Setting) (by : Entering) (u : Tuple) → IsOne (Reroots (Entered by) (Entered by) NoPath u) (finished w (entered_fact by (of_object u)))
 enter_is w by u =
     is_only w (Reroots (Entered by) (Entered by) NoPath u) (entered by u)
-    (reroots_cut (Entered by) (Entered by) NoPath u (entered by u) (whole w (entered by u)) (finished_cut w.stage (entered by u)) (entered_reroots by u))
+    (reroots_cut (finished_cut w.stage (entered by u)) (entered_reroots by u))
 
 pub enter_idle : (w : Setting) (by : Entering) (f : SiteFact) → IsIdle f → finished w (entered_fact by f) ≡ f
 enter_idle w by none_yet idle = refl

@@ -28,7 +28,7 @@ use Rattle.stage_transfer_laws.proofs.Alike.{Knows, are_alike}
 use Rattle.stage_transfer_laws.proofs.CutRelations.{notes_cut}
 use Rattle.stage_transfer_laws.proofs.Finished.{finished_cut}
 use Rattle.stage_transfer_laws.proofs.Paths.{has_it, in_set, it_has, of_set}
-use Rattle.stage_transfer_laws.proofs.Results.{idle_same, meets_some, whole}
+use Rattle.stage_transfer_laws.proofs.Results.{idle_same, meets_some}
 
 -- ---- no event
 
@@ -54,7 +54,7 @@ event_none w l n c u none =
     subst (λ (e : Option Event). Meets (λ v. (z : ℕ) → Notes l n z false u.state u v)
     (map (finished w) (map of_object (event_at w l n e (option_flatten (slice_get c.arguments 0)) u)))) (sym none)
     (meets_some w (λ v. (z : ℕ) → Notes l n z false u.state u v) (u ∷ []) u (contains_first u [])
-    (λ z. notes_cut l n z false u.state u u (whole w u) (finished_cut w.stage u) (notes_same l n z false u.state u u refl refl refl refl refl)))
+    (λ z. notes_cut (finished_cut w.stage u) (notes_same l n z false u.state u u refl refl refl refl refl)))
 
 -- ---- slots that are noted
 
@@ -105,7 +105,7 @@ meets_one : (w : Setting) (l : LoweredMethod) (n : Node) (z : ℕ) (is_its : Boo
     → Meets (Notes l n z is_its after u) (map (finished w) (map of_object us))
 meets_one w l n z is_its after u us one =
     meets_some w (Notes l n z is_its after u) us one.tuple one.listed
-    (notes_cut l n z is_its after u one.tuple (whole w one.tuple) (finished_cut w.stage one.tuple) one.related)
+    (notes_cut (finished_cut w.stage one.tuple) one.related)
 
 -- The event of a call on the slot.
 meets_event : (w : Setting) (l : LoweredMethod) (n : Node) (c : NodeCall) (e : Event) (z : ℕ) (is_its : Bool) (after : ℕ) (u : Tuple) → event_of_call w.property c ≡ Some e

@@ -1,5 +1,5 @@
 -- Ways out of a method and into a handler: returns, results of calls, and objects that are thrown.
-use Rattle.std.proofs.Common.{◌≡◌, ◌⊎◌, inl, inr, ℕ, nat_le, false, cond, ◌||◌, List, [], ◌∷◌, ◌++◌, map, Option, Some, None, refl, sym, subst}
+use Rattle.std.proofs.Common.{◌≡◌, ◌⊎◌, inl, inr, ℕ, nat_le, false, cond, ◌||◌, List, [], ◌∷◌, map, Option, Some, None, refl, sym, subst}
 use Rattle.std.specs.List.{Contains}
 use Rattle.std.specs.Option.{option_to_list}
 use Rattle.std.proofs.lemmas.Bool.{false≢true, leb-false, lt-leb, or_from, or_parts}
@@ -13,7 +13,7 @@ use Rattle.access_paths.specs.declared.root.Root.{Root}
 use Rattle.access_paths.specs.declared.root.Root.TheVariants.{Slot, Static, Returned, Thrown}
 use Rattle.access_paths.specs.Paths.{same_root}
 use Rattle.stage_transfer.specs.Settings.{Setting, among}
-use Rattle.stage_transfer.specs.Changes.{Copy, moved_to, slots_go, unwritten}
+use Rattle.stage_transfer.specs.Changes.{Copy, slots_go, unwritten}
 use Rattle.stage_transfer.specs.Calls.{written_by}
 use Rattle.stage_transfer.specs.Operations.{every_slot, receiving, returning}
 use Rattle.stage_transfer.specs.Exceptions.{catching, caught_from, thrown_root, unwinding}
@@ -21,7 +21,7 @@ use Rattle.stage_relations.specs.Roots.{Doubles, own, HasVariables, Exited, Rece
 use Rattle.stage_transfer_laws.proofs.Members.{in_option, none_among, not_among, of_option}
 use Rattle.stage_transfer_laws.proofs.Alike.{Knows}
 use Rattle.stage_transfer_laws.proofs.Changed.{Moves, root_copy}
-use Rattle.stage_transfer_laws.proofs.Operations.{moved_double, unwritten_double}
+use Rattle.stage_transfer_laws.proofs.Doubles.{moved_double, unwritten_double}
 
 -- ---- returns
 

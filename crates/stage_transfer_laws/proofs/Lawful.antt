@@ -1,9 +1,7 @@
 -- The transfer of the definitions meets the laws of a stage: one lemma for each law, joined.
-use Rattle.std.proofs.Common.{◌≡◌, ℕ, true, false, Option, Some, None, ◌∙◌, ap, subst}
+use Rattle.std.proofs.Common.{◌≡◌, true, false, Option, Some, None, ◌∙◌, ap, subst}
 use Rattle.jvm_model.specs.declared.automaton.Automaton.{Automaton}
 use Rattle.jvm_model.specs.declared.automaton.Event.{Event}
-use Rattle.op_model.specs.declared.lowered.LoweredMethod.{LoweredMethod}
-use Rattle.op_model.specs.declared.node.Node.{Node}
 use Rattle.op_model.specs.declared.op.Call.{Call as NodeCall}
 use Rattle.machine_bytecode.specs.Objects.{Subject}
 use Rattle.points_to_rules.specs.Facts.{Fact}

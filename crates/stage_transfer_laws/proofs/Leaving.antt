@@ -22,7 +22,7 @@ use Rattle.stage_transfer_laws.proofs.CutRelations.{joins_cut}
 use Rattle.stage_transfer_laws.proofs.Finished.{finished_cut}
 use Rattle.stage_transfer_laws.proofs.Members.{in_filter, none_among, none_passes, not_among, of_filter}
 use Rattle.stage_transfer_laws.proofs.Paths.{in_set, of_set}
-use Rattle.stage_transfer_laws.proofs.Results.{is_only, whole}
+use Rattle.stage_transfer_laws.proofs.Results.{is_only}
 
 -- ---- roots
 
@@ -189,8 +189,7 @@ pub leave_is : (S : Fact → Type 0) (w : Setting) → AreAnswersOf S w.answers 
 leave_is S w answers l n by target sent out =
     let u = left_by_tuple w l n by target sent out in
     is_only w (Joins S target (HandedOn by) (StaysIn by) (IsDropped by) sent out) u
-    (joins_cut S target (HandedOn by) (StaysIn by) (IsDropped by) sent out u (whole w u) (finished_cut w.stage u)
-    (left_joins S w answers by target sent out u (left_is w l n by target sent out)))
+    (joins_cut (finished_cut w.stage u) (left_joins S w answers by target sent out u (left_is w l n by target sent out)))
 
 pub leave_idle : (w : Setting) (l : LoweredMethod) (n : Node) (by : Entering) (target : MethodNo) (sent f : SiteFact) → IsIdle f
     → finished w (left_fact w l n by target sent f) ≡ f

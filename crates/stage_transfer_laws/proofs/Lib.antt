@@ -5,7 +5,10 @@ pub mod Alike
 pub mod Changed
 pub mod Finished
 pub mod CutRelations
+pub mod Shapes
+pub mod Doubles
 pub mod Operations
+pub mod Flowing
 pub mod Loads
 pub mod Stores
 pub mod Exits

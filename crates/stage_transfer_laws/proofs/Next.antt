@@ -19,138 +19,137 @@ use Rattle.stage_transfer.specs.Operations.{after_load, after_new, after_operati
 use Rattle.stage_transfer.specs.Stages.{finished}
 use Rattle.stage_relations.specs.Laws.{IsIdle, IsPlain, Meets}
 use Rattle.stage_relations.specs.Roots.{Copied, Doubles, gone_slots, HasVariables}
-use Rattle.stage_relations.specs.Relations.{Flows, IsBorn, IsMade, Reroots}
+use Rattle.stage_relations.specs.Relations.{Flows, IsBorn, IsMade, PutsAway, Reroots}
 use Rattle.stage_transfer_laws.proofs.Alike.{Knows}
 use Rattle.stage_transfer_laws.proofs.Changed.{changed_reroots}
 use Rattle.stage_transfer_laws.proofs.CutRelations.{flows_cut}
 use Rattle.stage_transfer_laws.proofs.Finished.{finished_cut}
 use Rattle.stage_transfer_laws.proofs.Loads.{load_flows}
-use Rattle.stage_transfer_laws.proofs.Operations.{assigned_moves, IsFieldless, IsQuiet, loaded_moves, rerooted_flows, same_reroots, stored_moves, written_moves}
-use Rattle.stage_transfer_laws.proofs.Results.{idle_same, idle_stays, meets_only, new_first, new_further, new_some, whole}
+use Rattle.stage_transfer_laws.proofs.Flowing.{rerooted_flows, same_reroots}
+use Rattle.stage_transfer_laws.proofs.Operations.{assigned_moves, loaded_moves, stored_moves, written_moves}
+use Rattle.stage_transfer_laws.proofs.Shapes.{copies_roots, follows_field, makes_object, puts_object, shape, writes_slots}
+use Rattle.stage_transfer_laws.proofs.Results.{idle_same, idle_stays, meets_only, new_first, new_further, new_some}
 use Rattle.stage_transfer_laws.proofs.Sites.{is_site, site_is}
 use Rattle.stage_transfer_laws.proofs.Stores.{store_flows}
 use Rattle.stage_transfer_laws.proofs.Tuples.{away_puts, away_reroots, beside_reroots}
 
 -- ---- tuples
 
--- What the law asks for of a result.
-abbrev GoesOn : Setting → LoweredMethod → Node → Op → Tuple → Tuple → Type 0
-GoesOn w l n op u v = Flows l n op u v × ((target : ℕ) → op ≡ New w.site target → v.unique ≡ false)
+module _ (w : Setting) (knows : Knows w) (l : LoweredMethod) (n : Node) (has : HasVariables l n) where
+  -- What the law asks for of a result.
+  abbrev GoesOn : Op → Tuple → Tuple → Type 0
+  GoesOn op u v = Flows l n op u v × ((target : ℕ) → op ≡ New w.site target → v.unique ≡ false)
 
-goes_on : (w : Setting) (l : LoweredMethod) (n : Node) (op : Op) (u v : Tuple) → Flows l n op u v → ((target : ℕ) → op ≡ New w.site target → v.unique ≡ false)
-    → Meets (GoesOn w l n op u) (map (finished w) (of_object v ∷ []))
-goes_on w l n op u v flows unique =
-    meets_only w (GoesOn w l n op u) v
-    (flows_cut l n op u v (whole w v) (finished_cut w.stage v) flows, λ target is. (finished_cut w.stage v).unique ∙ unique target is)
+  goes_on : (op : Op) (u v : Tuple) → Flows l n op u v → ((target : ℕ) → op ≡ New w.site target → v.unique ≡ false)
+      → Meets (GoesOn op u) (map (finished w) (of_object v ∷ []))
+  goes_on op u v flows unique =
+      let cut = finished_cut w.stage v in
+      meets_only w (GoesOn op u) v (flows_cut cut flows, λ target is. cut.unique ∙ unique target is)
 
--- An operation that writes slots and copies nothing.
-writes_on : (w : Setting) → Knows w → (l : LoweredMethod) (n : Node) → HasVariables l n → (op : Op) (u : Tuple) → IsFieldless op → IsQuiet op
-    → ((array value : ℕ) → op ≢ StoreElement array value) → ((target : ℕ) → op ≢ New w.site target)
-    → Meets (GoesOn w l n op u) (map (finished w) (of_object (changed (writing w l n (gone_slots op)) u) ∷ []))
-writes_on w knows l n has op u free quiet no_element no_new =
-    goes_on w l n op u (changed (writing w l n (gone_slots op)) u)
-    (rerooted_flows l n op u (changed (writing w l n (gone_slots op)) u) free
-    (changed_reroots (Copied op) (Doubles l n (Copied op)) [] (writing w l n (gone_slots op)) (written_moves w knows l n has op quiet) (IsMade op) u)
-    (λ array value is. absurd (no_element array value is)))
-    (λ target is. absurd (no_new target is))
+  -- An operation that copies roots.
+  copies_on : (op : Op) (u v : Tuple) → shape op ≡ copies_roots → Reroots (Copied op) (Doubles l n (Copied op)) (IsMade op) u v
+      → Meets (GoesOn op u) (map (finished w) (of_object v ∷ []))
+  copies_on op u v is reroots =
+      goes_on op u v
+      (rerooted_flows (λ (e : shape op ≡ follows_field). absurd cc) reroots
+      (λ array value e. let other : shape op ≡ puts_object = ap shape e in absurd cc))
+      (λ target e. let other : shape op ≡ makes_object = ap shape e in absurd cc)
 
--- What is put into an array.
-put_on : (w : Setting) → Knows w → (l : LoweredMethod) (n : Node) → HasVariables l n → (array value : ℕ) (u : Tuple)
-    → Meets (GoesOn w l n (StoreElement array value) u) (map (finished w) (of_object (changed (writing w l n (array ∷ value ∷ [])) (puts_away (value ∷ []) u)) ∷ []))
-put_on w knows l n has array value u =
-    let op : Op = StoreElement array value in
-    let v : Tuple = changed (writing w l n (array ∷ value ∷ [])) (puts_away (value ∷ []) u) in
-    let quiet : IsQuiet (StoreElement array value) = record { assign = λ moves e. absurd cc; load = λ f z e. absurd cc; store = λ f y e. absurd cc } in
-    let reroots = changed_reroots (Copied op) (Doubles l n (Copied op)) [] (writing w l n (array ∷ value ∷ [])) (written_moves w knows l n has op quiet) (IsMade op) (puts_away (value ∷ []) u) in
-    goes_on w l n op u v
-    (rerooted_flows l n op u v (record { load = λ object f target e. absurd cc; store = λ object f written e. absurd cc })
-    (away_reroots (value ∷ []) (Copied op) (Doubles l n (Copied op)) (IsMade op) u v reroots)
-    (λ other written (is : StoreElement array value ≡ StoreElement other written).
-    let same : value ≡ written = cc in
-    subst (λ (z : ℕ). v.may ≡ false → (k : ℕ) → Contains (z ∷ []) k → Contains u.must (bare (Slot k)) → ⊥) same
-    (away_puts (value ∷ []) (Copied op) (Doubles l n (Copied op)) (IsMade op) u v reroots)))
-    (λ target is. absurd cc)
+  -- The slots that it writes are rerooted, if it copies none.
+  writes : (op : Op) (t : Tuple) → shape op ≢ copies_roots
+      → Reroots (Copied op) (Doubles l n (Copied op)) (IsMade op) t (changed (writing w l n (gone_slots op)) t)
+  writes op t quiet = changed_reroots (written_moves w knows l n has op quiet) (IsMade op) t
 
--- A new object of the site, or of another one.
-new_on : (w : Setting) → Knows w → (l : LoweredMethod) (n : Node) → HasVariables l n → (site : Site) (target : ℕ) (u : Tuple)
-    → Meets (GoesOn w l n (New site target) u) (map (finished w) (after_operation w l n (New site target) (of_object u)))
-new_on w knows l n has site target u = by (same_site site w.site) refl
-  where
-    quiet : IsQuiet (New site target)
-    quiet = record { assign = λ moves e. absurd cc; load = λ f z e. absurd cc; store = λ f y e. absurd cc }
+  -- An operation that writes slots alone.
+  writes_on : (op : Op) (u : Tuple) → shape op ≡ writes_slots
+      → Meets (GoesOn op u) (map (finished w) (of_object (changed (writing w l n (gone_slots op)) u) ∷ []))
+  writes_on op u is =
+      goes_on op u (changed (writing w l n (gone_slots op)) u)
+      (rerooted_flows (λ (e : shape op ≡ follows_field). absurd cc) (writes op u (λ (e : shape op ≡ copies_roots). absurd cc))
+      (λ array value e. let other : shape op ≡ puts_object = ap shape e in absurd cc))
+      (λ target e. let other : shape op ≡ makes_object = ap shape e in absurd cc)
 
-    free : IsFieldless (New site target)
-    free = record { load = λ object f z e. absurd cc; store = λ object f z e. absurd cc }
+  -- What is put into an array.
+  put_on : (array value : ℕ) (u : Tuple) → Meets (GoesOn (StoreElement array value) u) (map (finished w) (after_operation w l n (StoreElement array value) (of_object u)))
+  put_on array value u =
+      let op : Op = StoreElement array value in
+      let v : Tuple = changed (writing w l n (array ∷ value ∷ [])) (puts_away (value ∷ []) u) in
+      let reroots = writes op (puts_away (value ∷ []) u) (λ e. absurd cc) in
+      goes_on op u v
+      (rerooted_flows (λ e. absurd cc) (away_reroots (value ∷ []) u reroots)
+      (λ other written (is : StoreElement array value ≡ StoreElement other written).
+      let same : value ≡ written = cc in
+      subst (λ (z : ℕ). PutsAway (z ∷ []) u v) same (away_puts (value ∷ []) u reroots)))
+      (λ target is. absurd cc)
 
-    v : Tuple
-    v = changed (writing w l n (target ∷ [])) u
+  -- The slot of a new object is written.
+  abbrev made_at : ℕ → Tuple → Tuple
+  made_at target t = changed (writing w l n (target ∷ [])) t
 
-    by : (b : Bool) → same_site site w.site ≡ b → Meets (GoesOn w l n (New site target) u)
-        (map (finished w) (cond b (after_new w (Some target) (changed (writing w l n (target ∷ []))) (of_object u)) (on_tuples (changed (writing w l n (target ∷ []))) (of_object u))))
-    by true is =
-        goes_on w l n (New site target) u (beside_new (Some target) (changed (writing w l n (target ∷ [])) u))
-        (rerooted_flows l n (New site target) u (beside_new (Some target) (changed (writing w l n (target ∷ [])) u)) free
-        (beside_reroots (Some target) (Copied (New site target)) (Doubles l n (Copied (New site target))) (IsMade (New site target)) u (changed (writing w l n (target ∷ [])) u)
-        (λ z (same : Some target ≡ Some z).
-        let slot : z ≡ target = cc in
-        record { site = site; target = target; op_is = refl; path_is = ap (λ (y : ℕ). bare (Slot y)) slot })
-        (changed_reroots (Copied (New site target)) (Doubles l n (Copied (New site target))) [] (writing w l n (target ∷ []))
-        (written_moves w knows l n has (New site target) quiet) (IsMade (New site target)) u))
-        (λ array value other. absurd cc))
-        (λ other same. refl)
-    by false is = writes_on w knows l n has (New site target) u free quiet (λ array value other. absurd cc)
-        (λ other (same : New site target ≡ New w.site other).
-        let one : site ≡ w.site = cc in
-        false≢true (sym is ∙ subst (λ (s : Site). same_site s w.site ≡ true) (sym one) (is_site w.site)))
+  -- A new object of the site, or of another one.
+  new_on : (site : Site) (target : ℕ) (u : Tuple) → Meets (GoesOn (New site target) u) (map (finished w) (after_operation w l n (New site target) (of_object u)))
+  new_on site target u = by (same_site site w.site) refl
+    where
+      free : shape (New site target) ≢ follows_field
+      free e = absurd cc
 
--- An operation that copies roots.
-moves_on : (w : Setting) (l : LoweredMethod) (n : Node) (op : Op) (u v : Tuple) → IsFieldless op → Reroots (Copied op) (Doubles l n (Copied op)) (IsMade op) u v
-    → ((array value : ℕ) → op ≢ StoreElement array value) → ((target : ℕ) → op ≢ New w.site target) → Meets (GoesOn w l n op u) (map (finished w) (of_object v ∷ []))
-moves_on w l n op u v free reroots no_element no_new =
-    goes_on w l n op u v (rerooted_flows l n op u v free reroots (λ array value is. absurd (no_element array value is))) (λ target is. absurd (no_new target is))
+      made : (z : ℕ) → Some target ≡ Some z → IsMade (New site target) (bare (Slot z))
+      made z same =
+          let slot : z ≡ target = cc in
+          record { site = site; target = target; op_is = refl; path_is = ap (λ (y : ℕ). bare (Slot y)) slot }
 
-pub next_meets : (w : Setting) → Knows w → (l : LoweredMethod) (n : Node) → HasVariables l n → (op : Op) (u : Tuple) → IsPlain op
-    → Meets (λ v. Flows l n op u v × ((target : ℕ) → op ≡ New w.site target → v.unique ≡ false)) (map (finished w) (after_operation w l n op (of_object u)))
-next_meets w knows l n has (Assign moves) u plain =
-    moves_on w l n (Assign moves) u (changed (assigning w l n moves) u) (record { load = λ object f z e. absurd cc; store = λ object f z e. absurd cc })
-    (changed_reroots _ _ _ (assigning w l n moves) (assigned_moves w knows l n has moves) (IsMade (Assign moves)) u) (λ array value e. absurd cc) (λ target e. absurd cc)
-next_meets w knows l n has (Load object field target) u plain =
-    goes_on w l n (Load object field target) u (after_load w l n object field target u) (load_flows w knows l n has object field target u) (λ other e. absurd cc)
-next_meets w knows l n has (Store object field value) u plain =
-    goes_on w l n (Store object field value) u (after_store w l n object field value u) (store_flows w knows l n has object field value u) (λ other e. absurd cc)
-next_meets w knows l n has (LoadElement array target) u plain =
-    writes_on w knows l n has (LoadElement array target) u (record { load = λ object f z e. absurd cc; store = λ object f z e. absurd cc })
-    (record { assign = λ moves e. absurd cc; load = λ f z e. absurd cc; store = λ f y e. absurd cc }) (λ other value e. absurd cc) (λ other e. absurd cc)
-next_meets w knows l n has (StoreElement array value) u plain = put_on w knows l n has array value u
-next_meets w knows l n has (LoadStatic field target) u plain =
-    moves_on w l n (LoadStatic field target) u (after_static_load w l n field target u) (record { load = λ object f z e. absurd cc; store = λ object f z e. absurd cc })
-    (changed_reroots _ _ _ _ (loaded_moves w knows l n has field target) (IsMade (LoadStatic field target)) u) (λ array value e. absurd cc) (λ other e. absurd cc)
-next_meets w knows l n has (StoreStatic field value) u plain =
-    moves_on w l n (StoreStatic field value) u (changed (storing_static w l n field value) u) (record { load = λ object f z e. absurd cc; store = λ object f z e. absurd cc })
-    (changed_reroots _ _ _ (storing_static w l n field value) (stored_moves w knows l n has field value) (IsMade (StoreStatic field value)) u) (λ array other e. absurd cc) (λ other e. absurd cc)
-next_meets w knows l n has (New site target) u plain = new_on w knows l n has site target u
-next_meets w knows l n has (NewArray sites target) u plain =
-    writes_on w knows l n has (NewArray sites target) u (record { load = λ object f z e. absurd cc; store = λ object f z e. absurd cc })
-    (record { assign = λ moves e. absurd cc; load = λ f z e. absurd cc; store = λ f y e. absurd cc }) (λ other value e. absurd cc) (λ other e. absurd cc)
-next_meets w knows l n has (Constant site target) u plain =
-    writes_on w knows l n has (Constant site target) u (record { load = λ object f z e. absurd cc; store = λ object f z e. absurd cc })
-    (record { assign = λ moves e. absurd cc; load = λ f z e. absurd cc; store = λ f y e. absurd cc }) (λ other value e. absurd cc) (λ other e. absurd cc)
-next_meets w knows l n has (Call call) u plain = absurd plain
-next_meets w knows l n has (Return value) u plain = absurd plain
-next_meets w knows l n has (Throw value) u plain = absurd plain
-next_meets w knows l n has (Cast class z) u plain =
-    moves_on w l n (Cast class z) u u (record { load = λ object f y e. absurd cc; store = λ object f y e. absurd cc })
-    (same_reroots l n (Cast class z) u (record { assign = λ moves e. absurd cc; load = λ f y e. absurd cc; store = λ f y e. absurd cc }) (none_go))
-    (λ other value e. absurd cc) (λ other e. absurd cc)
-  where
-    none_go : (r : Root) → slots_go (among []) r ≡ false
-    none_go (Slot y) = refl
-    none_go (Static f) = refl
-    none_go Returned = refl
-    none_go Thrown = refl
-next_meets w knows l n has (Probe z) u plain =
-    writes_on w knows l n has (Probe z) u (record { load = λ object f y e. absurd cc; store = λ object f y e. absurd cc })
-    (record { assign = λ moves e. absurd cc; load = λ f y e. absurd cc; store = λ f y e. absurd cc }) (λ other value e. absurd cc) (λ other e. absurd cc)
+      by : (b : Bool) → same_site site w.site ≡ b
+          → Meets (GoesOn (New site target) u) (map (finished w) (cond b (after_new w (Some target) (made_at target) (of_object u)) (on_tuples (made_at target) (of_object u))))
+      by true is =
+          goes_on (New site target) u (beside_new (Some target) (made_at target u))
+          (rerooted_flows free (beside_reroots (Some target) made (writes (New site target) u (λ e. absurd cc))) (λ array value other. absurd cc))
+          (λ other same. refl)
+      by false is =
+          goes_on (New site target) u (made_at target u) (rerooted_flows free (writes (New site target) u (λ e. absurd cc)) (λ array value other. absurd cc))
+          (λ other (same : New site target ≡ New w.site other).
+          let one : site ≡ w.site = cc in
+          absurd (false≢true (sym is ∙ subst (λ (s : Site). same_site s w.site ≡ true) (sym one) (is_site w.site))))
+
+  -- A cast changes nothing.
+  none_go : (r : Root) → slots_go (among []) r ≡ false
+  none_go (Slot y) = refl
+  none_go (Static f) = refl
+  none_go Returned = refl
+  none_go Thrown = refl
+
+  cast_on : (op : Op) (u : Tuple) → shape op ≡ writes_slots → gone_slots op ≡ [] → Meets (GoesOn op u) (map (finished w) (of_object u ∷ []))
+  cast_on op u is none =
+      goes_on op u u
+      (rerooted_flows (λ (e : shape op ≡ follows_field). absurd cc)
+      (same_reroots l n op u (λ (e : shape op ≡ copies_roots). absurd cc)
+      (λ r. subst (λ (zs : List ℕ). slots_go (among zs) r ≡ false) (sym none) (none_go r)))
+      (λ array value e. let other : shape op ≡ puts_object = ap shape e in absurd cc))
+      (λ target e. let other : shape op ≡ makes_object = ap shape e in absurd cc)
+
+  pub next_meets : (op : Op) (u : Tuple) → IsPlain op
+      → Meets (λ v. Flows l n op u v × ((target : ℕ) → op ≡ New w.site target → v.unique ≡ false)) (map (finished w) (after_operation w l n op (of_object u)))
+  next_meets (Assign moves) u plain =
+      copies_on (Assign moves) u (changed (assigning w l n moves) u) refl (changed_reroots (assigned_moves w knows l n has moves) (IsMade (Assign moves)) u)
+  next_meets (Load object field target) u plain =
+      goes_on (Load object field target) u (after_load w l n object field target u) (load_flows w knows l n has object field target u) (λ other e. absurd cc)
+  next_meets (Store object field value) u plain =
+      goes_on (Store object field value) u (after_store w l n object field value u) (store_flows w knows l n has object field value u) (λ other e. absurd cc)
+  next_meets (LoadElement array target) u plain = writes_on (LoadElement array target) u refl
+  next_meets (StoreElement array value) u plain = put_on array value u
+  next_meets (LoadStatic field target) u plain =
+      copies_on (LoadStatic field target) u (after_static_load w l n field target u) refl
+      (changed_reroots (loaded_moves w knows l n has field target) (IsMade (LoadStatic field target)) u)
+  next_meets (StoreStatic field value) u plain =
+      copies_on (StoreStatic field value) u (changed (storing_static w l n field value) u) refl
+      (changed_reroots (stored_moves w knows l n has field value) (IsMade (StoreStatic field value)) u)
+  next_meets (New site target) u plain = new_on site target u
+  next_meets (NewArray sites target) u plain = writes_on (NewArray sites target) u refl
+  next_meets (Constant site target) u plain = writes_on (Constant site target) u refl
+  next_meets (Call call) u plain = absurd plain
+  next_meets (Return value) u plain = absurd plain
+  next_meets (Throw value) u plain = absurd plain
+  next_meets (Cast class z) u plain = cast_on (Cast class z) u refl refl
+  next_meets (Probe z) u plain = writes_on (Probe z) u refl
 
 -- ---- facts without an object
 

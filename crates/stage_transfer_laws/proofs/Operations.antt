@@ -1,75 +1,45 @@
--- Operations that go on, but for loads and stores of fields: where roots are rerooted as the operation copies them, its tuple flows.
-use Rattle.std.proofs.Common.{◌≡◌, ◌⊎◌, inl, inr, ℕ, Bool, false, not, ◌||◌, List, [], ◌∷◌, map, refl, sym, ◌∙◌, ap, subst}
+-- Operations that go on: which roots are copied, which go, and which hold what those held that go.
+use Rattle.std.proofs.Common.{◌≡◌, ◌⊎◌, inl, inr, ℕ, false, ◌||◌, List, [], ◌∷◌, map, refl, sym, ◌∙◌, ap, subst}
 use Rattle.std.specs.Prelude.{◌≢◌}
-use Rattle.std.specs.List.{Contains, filter, flat_map}
-use Rattle.std.proofs.lemmas.Bool.{false≢true, not-true, or_from, or_parts}
+use Rattle.std.specs.List.{Contains, flat_map}
+use Rattle.std.proofs.lemmas.Bool.{false≢true, or_from, or_parts}
 use Rattle.std.proofs.lemmas.List.Elements.{Contains-append_cases}
-use Rattle.list_laws.proofs.Members.{contained_in_map, contains_first, contains_none, contains_only}
+use Rattle.list_laws.proofs.Members.{contains_first, contains_none, contains_only}
 use Rattle.jvm_model.specs.declared.number.FieldNo.{FieldNo}
 use Rattle.op_model.specs.declared.lowered.LoweredMethod.{LoweredMethod}
 use Rattle.op_model.specs.declared.node.Node.{Node}
 use Rattle.op_model.specs.declared.op.Move.{Move}
 use Rattle.op_model.specs.declared.op.Op.{Op}
-use Rattle.op_model.specs.declared.op.Op.TheVariants.{Assign, Load, Store, StoreElement, LoadStatic, StoreStatic}
+use Rattle.op_model.specs.declared.op.Op.TheVariants.{Assign, LoadStatic, StoreStatic}
 use Rattle.op_model.specs.declared.op.Source.{Source}
 use Rattle.op_model.specs.declared.op.Source.TheVariants as sources
 use Rattle.access_paths.specs.declared.root.Root.{Root}
 use Rattle.access_paths.specs.declared.root.Root.TheVariants.{Slot, Static, Returned, Thrown}
-use Rattle.access_paths.specs.Paths.{Path, bare, same_root}
-use Rattle.stage_facts.specs.Facts.{Tuple}
-use Rattle.stage_transfer.specs.Settings.{Setting, alike, among}
-use Rattle.stage_transfer.specs.Changes.{Copy, copying, moved_to, slots_go, unwritten, writing}
+use Rattle.access_paths.specs.Paths.{same_root}
+use Rattle.stage_transfer.specs.Settings.{Setting, among}
+use Rattle.stage_transfer.specs.Changes.{Copy, copying, slots_go, unwritten, writing}
 use Rattle.stage_transfer.specs.Operations.{assigning, copies_of, moved_by, storing_static, target_of}
-use Rattle.stage_relations.specs.Roots.{Copied, Doubles, own, shared, HasVariables, gone_slots, kept, moved, loaded, stored, static, returned, thrown}
-use Rattle.stage_relations.specs.Relations.{Comes, rooted, Flows, HasFields, Heir, IsMade, IsUnstored, Origin, PutsAway, Reroots, Source as From, Target}
-use Rattle.stage_transfer_laws.proofs.Members.{is_among, not_among, none_among, of_filter, of_flat_map, in_flat_map}
-use Rattle.stage_transfer_laws.proofs.Alike.{Knows, alike_back, are_alike}
+use Rattle.stage_relations.specs.Roots.{Copied, Doubles, own, HasVariables, gone_slots, kept, moved, loaded, stored, static, returned, thrown}
+use Rattle.stage_transfer_laws.proofs.Shapes.{copies_roots, shape}
+use Rattle.stage_transfer_laws.proofs.Members.{not_among, none_among, of_flat_map, in_flat_map}
+use Rattle.stage_transfer_laws.proofs.Alike.{Knows}
 use Rattle.stage_transfer_laws.proofs.Changed.{Moves, root_copy}
+use Rattle.stage_transfer_laws.proofs.Doubles.{moved_double, unwritten_double}
 use Rattle.stage_transfer_laws.proofs.Paths.{is_root, other_root}
-
--- ---- slots that hold what others held
-
--- The value of a slot that is unwritten stands there still.
-pub unwritten_double : (w : Setting) → Knows w → (l : LoweredMethod) (n : Node) → HasVariables l n → (written : ℕ → Bool) (Goes : Root → Root → Type 0)
-    → ((z : ℕ) → written z ≡ false → Goes (Slot z) (Slot z)) → (r q : Root) → Contains (unwritten w l n written r) q → Doubles l n Goes r q
-unwritten_double w knows l n has written Goes stays (Slot z) q there =
-    let found = contained_in_map Slot (filter (λ (y : ℕ). not (written y)) (alike w l n z)) q there in
-    let kept = of_filter (λ (y : ℕ). not (written y)) (alike w l n z) found.0 found.1 in
-    subst (λ (p : Root). Doubles l n Goes (Slot z) p) found.2
-    (shared {y = found.0} {z = z} {q = Slot found.0} (alike_back l n found.0 z (are_alike w knows l n z found.0 has kept.0)) (stays found.0 (not-true (written found.0) kept.1)))
-unwritten_double w knows l n has written Goes stays (Static f) q there = absurd (contains_none q there)
-unwritten_double w knows l n has written Goes stays Returned q there = absurd (contains_none q there)
-unwritten_double w knows l n has written Goes stays Thrown q there = absurd (contains_none q there)
-
--- So does that of a slot that was moved.
-pub moved_double : (w : Setting) → Knows w → (l : LoweredMethod) (n : Node) → HasVariables l n → (from : ℕ) (to : Root) (Goes : Root → Root → Type 0)
-    → Goes (Slot from) to → (r q : Root) → Contains (moved_to w l n from to r) q → Doubles l n Goes r q
-moved_double w knows l n has from to Goes goes (Slot z) q there =
-    let found = of_filter (λ (r : Root). among (alike w l n z) from) (to ∷ []) q there in
-    subst (λ (p : Root). Doubles l n Goes (Slot z) p) (contains_only to q found.0)
-    (shared {y = from} {z = z} {q = to} (alike_back l n from z (are_alike w knows l n z from has (is_among (alike w l n z) from found.1))) goes)
-moved_double w knows l n has from to Goes goes (Static f) q there = absurd (contains_none q there)
-moved_double w knows l n has from to Goes goes Returned q there = absurd (contains_none q there)
-moved_double w knows l n has from to Goes goes Thrown q there = absurd (contains_none q there)
 
 -- ---- operations that write slots and copy nothing
 
-pub record IsQuiet (op : Op) : Type 0 where
-  pub assign : (moves : List Move) → op ≢ Assign moves
-  pub load : (f : FieldNo) (z : ℕ) → op ≢ LoadStatic f z
-  pub store : (f : FieldNo) (y : ℕ) → op ≢ StoreStatic f y
-
-pub quiet_stays : (op : Op) → IsQuiet op → (r : Root) → slots_go (among (gone_slots op)) r ≡ false → Copied op r r
+pub quiet_stays : (op : Op) → shape op ≢ copies_roots → (r : Root) → slots_go (among (gone_slots op)) r ≡ false → Copied op r r
 quiet_stays op quiet (Slot z) stays = kept (not_among (gone_slots op) z stays)
-quiet_stays op quiet (Static f) stays = static (quiet.store f)
+quiet_stays op quiet (Static f) stays = static (λ y is. quiet (ap shape is))
 quiet_stays op quiet Returned stays = returned
 quiet_stays op quiet Thrown stays = thrown
 
-pub quiet_each : (op : Op) → IsQuiet op → (r q : Root) → Copied op r q → (r ≡ q) × (slots_go (among (gone_slots op)) r ≡ false)
+pub quiet_each : (op : Op) → shape op ≢ copies_roots → (r q : Root) → Copied op r q → (r ≡ q) × (slots_go (among (gone_slots op)) r ≡ false)
 quiet_each op quiet r q (kept {z = z} keeps) = (refl, none_among (gone_slots op) z keeps)
-quiet_each op quiet r q (moved {moves = moves} is there source) = absurd (quiet.assign moves is)
-quiet_each op quiet r q (loaded {f = f} {z = z} is) = absurd (quiet.load f z is)
-quiet_each op quiet r q (stored {f = f} {y = y} is) = absurd (quiet.store f y is)
+quiet_each op quiet r q (moved is there source) = absurd (quiet (ap shape is))
+quiet_each op quiet r q (loaded is) = absurd (quiet (ap shape is))
+quiet_each op quiet r q (stored is) = absurd (quiet (ap shape is))
 quiet_each op quiet r q (static other) = (refl, refl)
 quiet_each op quiet r q returned = (refl, refl)
 quiet_each op quiet r q thrown = (refl, refl)
@@ -78,7 +48,7 @@ quiet_each op quiet r q thrown = (refl, refl)
 slot_stays : (op : Op) (z : ℕ) → among (gone_slots op) z ≡ false → Copied op (Slot z) (Slot z)
 slot_stays op z stays = kept (not_among (gone_slots op) z stays)
 
-pub written_moves : (w : Setting) → Knows w → (l : LoweredMethod) (n : Node) → HasVariables l n → (op : Op) → IsQuiet op
+pub written_moves : (w : Setting) → Knows w → (l : LoweredMethod) (n : Node) → HasVariables l n → (op : Op) → shape op ≢ copies_roots
     → Moves (Copied op) (Doubles l n (Copied op)) [] (writing w l n (gone_slots op))
 written_moves w knows l n has op quiet = record {
   adds = λ set. refl;
@@ -217,70 +187,4 @@ stored_moves w knows l n has field value = record {
   each = stored_each field value;
   own = λ r q copied. own copied;
   doubles = unwritten_double w knows l n has (among (value ∷ [])) (Copied (StoreStatic field value)) (slot_stays (StoreStatic field value));
-}
-
--- ---- tuples
-
--- No field is loaded or stored to.
-pub record IsFieldless (op : Op) : Type 0 where
-  pub load : (object : ℕ) (f : FieldNo) (target : ℕ) → op ≢ Load object f target
-  pub store : (object : ℕ) (f : FieldNo) (value : ℕ) → op ≢ Store object f value
-
-pub unstored : (op : Op) → ((object : ℕ) (f : FieldNo) (value : ℕ) → op ≢ Store object f value) → (fields : List FieldNo) → IsUnstored op fields
-unstored op other [] = tt
-unstored op other (f ∷ fields) = (λ object value. other object f value, unstored op other fields)
-
--- A source is an origin.
-pub origin_of : (l : LoweredMethod) (n : Node) (op : Op) (old : List Path) (y : Path) → IsUnstored op y.fields → From (Doubles l n (Copied op)) old y → Origin l n op old y
-origin_of l n op old y free source = record {
-  path = source.path;
-  listed = source.listed;
-  comes = subst (λ (fs : List FieldNo). Comes l n op (record { root = source.path.root; fields = fs }) y) source.fields (rooted source.goes free);
-}
-
-own_source : (l : LoweredMethod) (n : Node) (op : Op) (old : List Path) (y : Path) → From (Copied op) old y → From (Doubles l n (Copied op)) old y
-own_source l n op old y source = record { path = source.path; listed = source.listed; goes = own source.goes; fields = source.fields }
-
--- A target is an heir.
-pub heir_of : (l : LoweredMethod) (n : Node) (op : Op) (x : Path) (new : List Path) → IsUnstored op x.fields → HasFields x.fields → Target (Doubles l n (Copied op)) x new
-    → Heir l n op x new
-heir_of l n op x new free has target = record {
-  path = target.path;
-  listed = target.listed;
-  comes = subst (λ (fs : List FieldNo). Comes l n op x (record { root = target.path.root; fields = fs })) (sym target.fields) (rooted target.goes free);
-  fields = subst (λ (fs : List FieldNo). HasFields fs) (sym target.fields) has;
-}
-
--- What is rerooted flows.
-pub rerooted_flows : (l : LoweredMethod) (n : Node) (op : Op) (t u : Tuple) → IsFieldless op → Reroots (Copied op) (Doubles l n (Copied op)) (IsMade op) t u
-    → ((array value : ℕ) → op ≡ StoreElement array value → PutsAway (value ∷ []) t u) → Flows l n op t u
-rerooted_flows l n op t u free r puts = record {
-  unique = r.unique;
-  state = r.state;
-  must = λ y there. origin_of l n op t.must y (unstored op free.store y.fields) (own_source l n op t.must y (r.must y there));
-  must_not = λ y there. elim (r.must_not y there) [
-    | inl source ↦ inl (origin_of l n op t.must_not y (unstored op free.store y.fields) (own_source l n op t.must_not y source))
-    | inr made ↦ inr made
-  ];
-  may = r.may;
-  complete = λ e. record {
-    roots = r.roots e;
-    fields = λ x there has. inr (heir_of l n op x u.must (unstored op free.store x.fields) has (r.fields e x there has));
-    loads = λ object target field is. absurd (free.load object field target is);
-    stores = λ object value field is. absurd (free.store object field value is);
-    elements = λ array value is. puts array value is e value (contains_first value []);
-  };
-}
-
--- A tuple that stays flows where nothing is copied or written.
-pub same_reroots : (l : LoweredMethod) (n : Node) (op : Op) (t : Tuple) → IsQuiet op → ((r : Root) → slots_go (among (gone_slots op)) r ≡ false)
-    → Reroots (Copied op) (Doubles l n (Copied op)) (IsMade op) t t
-same_reroots l n op t quiet stays = record {
-  unique = λ e. e;
-  state = refl;
-  must = λ y there. record { path = y; listed = there; goes = quiet_stays op quiet y.root (stays y.root); fields = refl };
-  must_not = λ y there. inl (record { path = y; listed = there; goes = quiet_stays op quiet y.root (stays y.root); fields = refl });
-  may = λ e. e;
-  roots = λ e r q copied there. subst (λ (p : Root). Contains t.must (bare p)) (quiet_each op quiet r q copied).0 there;
-  fields = λ e x there has. record { path = x; listed = there; goes = own (quiet_stays op quiet x.root (stays x.root)); fields = refl };
 }

@@ -69,12 +69,12 @@ pub new_first : (w : Setting) (target : Option ℕ) (written : Tuple → Tuple) 
 new_first w target written = record {
   tuple = whole w (new_tuple w target true);
   listed = contains_later some_yet (of_object (whole w (new_tuple w target true))) (of_object (whole w (new_tuple w target true)) ∷ []) (contains_first (of_object (whole w (new_tuple w target true))) []);
-  related = born_cut target true w.property.initial (new_tuple w target true) (whole w (new_tuple w target true)) (finished_cut w.stage (new_tuple w target true)) (born w target true);
+  related = born_cut (finished_cut w.stage (new_tuple w target true)) (born w target true);
 }
 
 pub new_further : (w : Setting) (target : Option ℕ) (written : Tuple → Tuple) → Meets (IsBorn target false w.property.initial) (map (finished w) (after_new w target written some_yet))
 new_further w target written = record {
   tuple = whole w (new_tuple w target false);
   listed = contains_later some_yet (of_object (whole w (new_tuple w target false))) (of_object (whole w (new_tuple w target false)) ∷ []) (contains_first (of_object (whole w (new_tuple w target false))) []);
-  related = born_cut target false w.property.initial (new_tuple w target false) (whole w (new_tuple w target false)) (finished_cut w.stage (new_tuple w target false)) (born w target false);
+  related = born_cut (finished_cut w.stage (new_tuple w target false)) (born w target false);
 }

@@ -1,9 +1,9 @@
 -- Objects that are put away, and objects beside a new one.
-use Rattle.std.proofs.Common.{◌≡◌, ◌⊎◌, inl, inr, ℕ, Bool, false, List, Option, Some, None, refl, sym, ◌∙◌, subst}
+use Rattle.std.proofs.Common.{◌≡◌, inl, inr, ℕ, Bool, false, List, Option, Some, None, refl, sym, ◌∙◌, subst}
 use Rattle.std.specs.List.{list_any}
 use Rattle.std.proofs.lemmas.Bool.{false≢true, or_parts}
 use Rattle.access_paths.specs.declared.root.Root.{Root}
-use Rattle.access_paths.specs.declared.root.Root.TheVariants.{Slot, Thrown}
+use Rattle.access_paths.specs.declared.root.Root.TheVariants.{Slot}
 use Rattle.access_paths.specs.Paths.{Path, bare, has_path}
 use Rattle.stage_facts.specs.Facts.{Tuple}
 use Rattle.stage_transfer.specs.Operations.{beside_new, puts_away}
@@ -17,9 +17,9 @@ use Rattle.stage_transfer_laws.proofs.Paths.{it_has, of_with_path}
 abbrev held : List ℕ → Tuple → Bool
 held values t = list_any (λ (z : ℕ). has_path t.must (bare (Slot z))) values
 
-pub away_reroots : (values : List ℕ) (Goes Doubled : Root → Root → Type 0) (Known : Path → Type 0) (t u : Tuple) → Reroots Goes Doubled Known (puts_away values t) u
-    → Reroots Goes Doubled Known t u
-away_reroots values Goes Doubled Known t u r = record {
+pub away_reroots : (values : List ℕ) (t : Tuple) {Goes Doubled : Root → Root → Type 0} {Known : Path → Type 0} {u : Tuple}
+    → Reroots Goes Doubled Known (puts_away values t) u → Reroots Goes Doubled Known t u
+away_reroots values t r = record {
   unique = r.unique;
   state = r.state;
   must = r.must;
@@ -29,29 +29,17 @@ away_reroots values Goes Doubled Known t u r = record {
   fields = r.fields;
 }
 
-pub away_puts : (values : List ℕ) (Goes Doubled : Root → Root → Type 0) (Known : Path → Type 0) (t u : Tuple) → Reroots Goes Doubled Known (puts_away values t) u
-    → PutsAway values t u
-away_puts values Goes Doubled Known t u r = λ e z there listed.
+pub away_puts : (values : List ℕ) (t : Tuple) {Goes Doubled : Root → Root → Type 0} {Known : Path → Type 0} {u : Tuple}
+    → Reroots Goes Doubled Known (puts_away values t) u → PutsAway values t u
+away_puts values t r = λ e z there listed.
     false≢true (sym (none_passes (λ (y : ℕ). has_path t.must (bare (Slot y))) values z (or_parts t.may (held values t) (r.may e)).1 there)
     ∙ it_has t.must (bare (Slot z)) listed)
 
 -- ---- beside a new object
 
-pub known_more : (Goes Doubled : Root → Root → Type 0) (Known Further : Path → Type 0) (t u : Tuple) → ((y : Path) → Known y → Further y)
-    → Reroots Goes Doubled Known t u → Reroots Goes Doubled Further t u
-known_more Goes Doubled Known Further t u weaker r = record {
-  unique = r.unique;
-  state = r.state;
-  must = r.must;
-  must_not = λ y there. elim (r.must_not y there) [ inl source ↦ inl source | inr known ↦ inr (weaker y known) ];
-  may = r.may;
-  roots = r.roots;
-  fields = r.fields;
-}
-
-pub beside_reroots : (target : Option ℕ) (Goes Doubled : Root → Root → Type 0) (Known : Path → Type 0) (t u : Tuple)
+pub beside_reroots : (target : Option ℕ) {Goes Doubled : Root → Root → Type 0} {Known : Path → Type 0} {t u : Tuple}
     → ((z : ℕ) → target ≡ Some z → Known (bare (Slot z))) → Reroots Goes Doubled Known t u → Reroots Goes Doubled Known t (beside_new target u)
-beside_reroots None Goes Doubled Known t u made r = record {
+beside_reroots None made r = record {
   unique = λ e. absurd (false≢true e);
   state = r.state;
   must = r.must;
@@ -60,7 +48,7 @@ beside_reroots None Goes Doubled Known t u made r = record {
   roots = r.roots;
   fields = r.fields;
 }
-beside_reroots (Some z) Goes Doubled Known t u made r = record {
+beside_reroots (Some z) {Known = Known} {u = u} made r = record {
   unique = λ e. absurd (false≢true e);
   state = r.state;
   must = r.must;
