@@ -1,5 +1,5 @@
 -- The slots that the transfer takes for those of one variable are alike.
-use Rattle.std.proofs.Common.{◌≡◌, ℕ, ◌+◌, nat_eq, nat_lt, Bool, true, false, cond, ◌&&◌, [], ◌∷◌, refl, sym, subst, arith}
+use Rattle.std.proofs.Common.{List, ◌≡◌, ℕ, ◌+◌, nat_eq, nat_lt, Bool, true, false, cond, ◌&&◌, [], ◌∷◌, refl, sym, subst, arith}
 use Rattle.std.specs.List.{Contains, filter, range_with_len}
 use Rattle.std.proofs.lemmas.Bool.{and_from, and_parts, eq-eqb, eqb-true, false≢true, ltb-true}
 use Rattle.list_laws.proofs.Members.{contains_first, contains_only}
@@ -38,27 +38,34 @@ is_variable (At m offset y) =
     and_from (nat_eq m.0 m.0) (nat_eq offset offset && nat_eq y y) (eq-eqb m.0 m.0 refl)
     (and_from (nat_eq offset offset) (nat_eq y y) (eq-eqb offset offset refl) (eq-eqb y y refl))
 
+-- The test whether a slot has the variable of another one, and the slots of the method.
+abbrev like : Setting → LoweredMethod → Node → ℕ → ℕ → Bool
+like w l n z y = same_variable (w.answers.variable_at l n y) (w.answers.variable_at l n z)
+
+abbrev slots_of : LoweredMethod → List ℕ
+slots_of l = range_with_len 0 (l.slots + l.stack)
+
 pub are_alike : (w : Setting) → Knows w → (l : LoweredMethod) (n : Node) (z y : ℕ) → HasVariables l n → Contains (alike w l n z) y → AreAlike l n y z
 are_alike w knows l n z y has there = by (nat_lt z (l.slots + l.stack)) refl there has
   where
-    by : (b : Bool) → nat_lt z (l.slots + l.stack) ≡ b
-        → Contains (cond b (filter (λ (k : ℕ). same_variable (w.answers.variable_at l n k) (w.answers.variable_at l n z)) (range_with_len 0 (l.slots + l.stack))) (z ∷ [])) y
-        → HasVariables l n → AreAlike l n y z
+    by : (b : Bool) → nat_lt z (l.slots + l.stack) ≡ b → Contains (cond b (filter (λ (k : ℕ). like w l n z k) (slots_of l)) (z ∷ [])) y → HasVariables l n
+        → AreAlike l n y z
     by true below there (of_method reached stands) =
-        let found = of_filter (λ (k : ℕ). same_variable (w.answers.variable_at l n k) (w.answers.variable_at l n z)) (range_with_len 0 (l.slots + l.stack)) y there in
-        let named = subst (λ (v : Variable). IsVariable l n y v) (variable_is (w.answers.variable_at l n y) (w.answers.variable_at l n z) found.1) (knows l n y reached stands) in
-        of_one (w.answers.variable_at l n z) (omega (arith, of_range 0 (l.slots + l.stack) y found.0)) (ltb-true z (l.slots + l.stack) below) named (knows l n z reached stands)
+        let found = of_filter (λ (k : ℕ). like w l n z k) (slots_of l) y there in
+        let one = variable_is (w.answers.variable_at l n y) (w.answers.variable_at l n z) found.1 in
+        let inside = of_range 0 (l.slots + l.stack) y found.0 in
+        of_one (w.answers.variable_at l n z) (omega (arith, inside)) (ltb-true z (l.slots + l.stack) below)
+        (subst (λ (v : Variable). IsVariable l n y v) one (knows l n y reached stands)) (knows l n z reached stands)
     by true below there (of_start slots stack) = absurd (omega (arith, ltb-true z (l.slots + l.stack) below, slots, stack))
     by false above there has = same (sym (contains_only z y there))
 
 pub alike_itself : (w : Setting) (l : LoweredMethod) (n : Node) (z : ℕ) → Contains (alike w l n z) z
 alike_itself w l n z = by (nat_lt z (l.slots + l.stack)) refl
   where
-    by : (b : Bool) → nat_lt z (l.slots + l.stack) ≡ b
-        → Contains (cond b (filter (λ (k : ℕ). same_variable (w.answers.variable_at l n k) (w.answers.variable_at l n z)) (range_with_len 0 (l.slots + l.stack))) (z ∷ [])) z
-    by true below = in_filter (λ (k : ℕ). same_variable (w.answers.variable_at l n k) (w.answers.variable_at l n z)) (range_with_len 0 (l.slots + l.stack)) z
-        (in_range 0 (l.slots + l.stack) z (omega arith) (omega (arith, ltb-true z (l.slots + l.stack) below)))
-        (is_variable (w.answers.variable_at l n z))
+    by : (b : Bool) → nat_lt z (l.slots + l.stack) ≡ b → Contains (cond b (filter (λ (k : ℕ). like w l n z k) (slots_of l)) (z ∷ [])) z
+    by true below =
+        in_filter (λ (k : ℕ). like w l n z k) (slots_of l) z
+        (in_range 0 (l.slots + l.stack) z (omega arith) (omega (arith, ltb-true z (l.slots + l.stack) below))) (is_variable (w.answers.variable_at l n z))
     by false above = contains_first z []
 
 pub alike_back : (l : LoweredMethod) (n : Node) (y z : ℕ) → AreAlike l n y z → AreAlike l n z y

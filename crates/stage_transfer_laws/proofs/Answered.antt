@@ -39,7 +39,8 @@ other_each c result other r q Answered.static = inl (refl, refl)
 other_each c result other r q Answered.returned = inl (refl, refl)
 other_each c result other r q Answered.thrown = inl (refl, refl)
 
-pub other_moves : (w : Setting) → Knows w → (l : LoweredMethod) (n : Node) → HasVariables l n → (c : NodeCall) (result : Result) → ((z : ℕ) → result ≢ an_argument z)
+pub other_moves : (w : Setting) → Knows w → (l : LoweredMethod) (n : Node) → HasVariables l n → (c : NodeCall) (result : Result)
+    → ((z : ℕ) → result ≢ an_argument z)
     → Moves (Answered c result) (Doubles l n (Answered c result)) [] (writing w l n (written_by c))
 other_moves w knows l n has c result other = record {
   adds = λ set. refl;
@@ -77,7 +78,8 @@ given_moves w knows l n has c z = record {
   each = given_each c z;
   own = λ r q goes. own goes;
   doubles = λ r q there.
-      elim (Contains-append_cases (unwritten w l n (among (written_by c)) r) (flat_map (λ (y : ℕ). moved_to w l n z (Slot y) r) (option_to_list c.result)) q there) [
+      let moves = flat_map (λ (y : ℕ). moved_to w l n z (Slot y) r) (option_to_list c.result) in
+      elim (Contains-append_cases (unwritten w l n (among (written_by c)) r) moves q there) [
         | inl stays ↦ unwritten_double w knows l n has (among (written_by c)) (Answered c (an_argument z)) (slot_answered c (an_argument z)) r q stays
         | inr moved ↦
             let found = of_flat_map (λ (y : ℕ). moved_to w l n z (Slot y) r) (option_to_list c.result) q moved in

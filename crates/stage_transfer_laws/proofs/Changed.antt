@@ -41,22 +41,27 @@ in_copied copies set c x made listed from =
 
 -- ---- sets
 
-pub of_changed : (c : Change) (set : List Path) (y : Path) → Contains (changed_set c set) y → (Contains set y × (c.goes y.root ≡ false)) ⊎ Contains (c.adds set) y
-of_changed c set y there =
-    elim (Contains-append_cases (filter (λ (x : Path). not (c.goes x.root)) set) (c.adds set) y (of_set (filter (λ (x : Path). not (c.goes x.root)) set ++ c.adds set) y there)) [
-      | inl stays ↦ let found = of_filter (λ (x : Path). not (c.goes x.root)) set y stays in inl (found.0, not-true (c.goes y.root) found.1)
-      | inr added ↦ inr added
-    ]
+-- The paths whose root does not go.
+abbrev left_of : Change → List Path → List Path
+left_of c set = filter (λ (x : Path). not (c.goes x.root)) set
+
+pub of_changed : (c : Change) (set : List Path) (y : Path) → Contains (changed_set c set) y
+    → (Contains set y × (c.goes y.root ≡ false)) ⊎ Contains (c.adds set) y
+of_changed c set y there = elim (Contains-append_cases (left_of c set) (c.adds set) y (of_set (left_of c set ++ c.adds set) y there)) [
+  | inl stays ↦
+      let found = of_filter (λ (x : Path). not (c.goes x.root)) set y stays in
+      inl (found.0, not-true (c.goes y.root) found.1)
+  | inr new ↦ inr new
+]
 
 pub staying : (c : Change) (set : List Path) (y : Path) → Contains set y → c.goes y.root ≡ false → Contains (changed_set c set) y
 staying c set y there stays =
-    in_set (filter (λ (x : Path). not (c.goes x.root)) set ++ c.adds set) y (Contains-append_left (filter (λ (x : Path). not (c.goes x.root)) set) (c.adds set) y
+    in_set (left_of c set ++ c.adds set) y
+    (Contains-append_left (left_of c set) (c.adds set) y
     (in_filter (λ (x : Path). not (c.goes x.root)) set y there (not_from_false (c.goes y.root) stays)))
 
 pub added : (c : Change) (set : List Path) (y : Path) → Contains (c.adds set) y → Contains (changed_set c set) y
-added c set y there =
-    in_set (filter (λ (x : Path). not (c.goes x.root)) set ++ c.adds set) y
-    (Contains-append_right (filter (λ (x : Path). not (c.goes x.root)) set) (c.adds set) y there)
+added c set y there = in_set (left_of c set ++ c.adds set) y (Contains-append_right (left_of c set) (c.adds set) y there)
 
 -- ---- paths that are not lost
 
@@ -128,7 +133,8 @@ target_of_path {c = c} moves set x none there has = elim (not_lost c (changed_se
       record { path = with_root doubled.root x; listed = doubled.has; goes = moves.doubles x.root doubled.root doubled.listed; fields = refl }
 ]
 
-pub changed_reroots : {Goes Doubled : Root → Root → Type 0} {copies : List Copy} {c : Change} → Moves Goes Doubled copies c → (Known : Path → Type 0) (t : Tuple)
+pub changed_reroots : {Goes Doubled : Root → Root → Type 0} {copies : List Copy} {c : Change} → Moves Goes Doubled copies c
+    → (Known : Path → Type 0) (t : Tuple)
     → Reroots Goes Doubled Known t (changed c t)
 changed_reroots {c = c} moves Known t =
     let lost : Bool = list_any (is_lost c (changed_set c t.must)) t.must in

@@ -51,7 +51,8 @@ module _ (w : Setting) (knows : Knows w) (l : LoweredMethod) (n : Node) (has : H
   others : (result : Result) → ((z : ℕ) → result ≢ an_argument z) → (u : Tuple) → Given result (puts_away kept u) (written w l n c kept u)
   others result other u = changed_reroots (other_moves w knows l n has c result other) (IsNewResult c result) (puts_away kept u)
 
-  new_answers : (site : Site) (u : Tuple) → Meets (Answers (a_new_object site) u) (map (finished w) (after_answer w l n c kept (a_new_object site) (of_object u)))
+  new_answers : (site : Site) (u : Tuple)
+      → Meets (Answers (a_new_object site) u) (map (finished w) (after_answer w l n c kept (a_new_object site) (of_object u)))
   new_answers site u = by (same_site site w.site) refl
     where
       rerooted : Given (a_new_object site) (puts_away kept u) (written w l n c kept u)
@@ -84,7 +85,8 @@ module _ (w : Setting) (knows : Knows w) (l : LoweredMethod) (n : Node) (has : H
 
 -- ---- facts without an object
 
-pub answer_idle : (w : Setting) (l : LoweredMethod) (n : Node) (c : NodeCall) (kept : List ℕ) (result : Result) (f : SiteFact) → IsIdle f → result ≢ a_new_object w.site
+pub answer_idle : (w : Setting) (l : LoweredMethod) (n : Node) (c : NodeCall) (kept : List ℕ) (result : Result) (f : SiteFact) → IsIdle f
+    → result ≢ a_new_object w.site
     → Contains (map (finished w) (after_answer w l n c kept result f)) f
 answer_idle w l n c kept (an_argument z) f idle other = idle_stays w (λ t. changed (giving w l n c z) (puts_away kept t)) f idle
 answer_idle w l n c kept (a_new_object site) f idle other = by (same_site site w.site) refl

@@ -21,7 +21,8 @@ module _ (w : Setting) (knows : Knows w) (l : LoweredMethod) (n : Node) (has : H
       let found = contained_in_map Slot (filter (λ (y : ℕ). not (written y)) (alike w l n z)) q there in
       let kept = of_filter (λ (y : ℕ). not (written y)) (alike w l n z) found.0 found.1 in
       subst (λ (p : Root). Doubles l n Goes (Slot z) p) found.2
-      (shared {y = found.0} {z = z} {q = Slot found.0} (alike_back l n found.0 z (are_alike w knows l n z found.0 has kept.0)) (stays found.0 (not-true (written found.0) kept.1)))
+      (shared {y = found.0} {z = z} {q = Slot found.0} (alike_back l n found.0 z (are_alike w knows l n z found.0 has kept.0))
+      (stays found.0 (not-true (written found.0) kept.1)))
   unwritten_double written Goes stays (Static f) q there = absurd (contains_none q there)
   unwritten_double written Goes stays Returned q there = absurd (contains_none q there)
   unwritten_double written Goes stays Thrown q there = absurd (contains_none q there)

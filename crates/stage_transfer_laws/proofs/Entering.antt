@@ -1,5 +1,5 @@
 -- Into a method: static fields stay, and the paths of arguments become those of the callee's slots.
-use Rattle.std.proofs.Common.{◌≡◌, inl, inr, ℕ, zero, suc, ◌+◌, true, false, not, ◌&&◌, List, [], ◌∷◌, ◌++◌, Option, Some, None, refl, sym, ◌∙◌, ap, subst, arith}
+use Rattle.std.proofs.Common.{Bool, ◌≡◌, inl, inr, ℕ, zero, suc, ◌+◌, true, false, not, ◌&&◌, List, [], ◌∷◌, ◌++◌, Option, Some, None, refl, sym, ◌∙◌, ap, subst, arith}
 use Rattle.std.specs.Prelude.{slice_get}
 use Rattle.std.specs.List.{Contains, filter, list_any}
 use Rattle.std.specs.Option.{option_to_list}
@@ -79,7 +79,8 @@ entered_by (by_call c) k there =
     (subst (λ (i : ℕ). Entered (by_call c) (Slot found.slot) (Slot i)) (sym at) (Entered.argument refl found.stands))
 entered_by by_trigger k there = absurd (contains_none k there)
 
-passed_copy : (by : Entering) (c : NodeCall) (unit z : ℕ) → by ≡ by_call c → slice_get c.arguments unit ≡ Some (Some z) → Contains (passing by) (root_copy (Slot z) (Slot unit))
+passed_copy : (by : Entering) (c : NodeCall) (unit z : ℕ) → by ≡ by_call c → slice_get c.arguments unit ≡ Some (Some z)
+    → Contains (passing by) (root_copy (Slot z) (Slot unit))
 passed_copy by c unit z is stands =
     let at : 0 + unit ≡ unit = omega arith in
     subst (λ (b : Entering). Contains (passing b) (root_copy (Slot z) (Slot unit))) (sym is)
@@ -133,8 +134,10 @@ argument_enters by set c unit z x is stands there root =
     (Contains-append_right (filter begins_static set) (copied (passing by) set) (path (Slot unit) x.fields)
     (in_copied (passing by) set (root_copy (Slot z) (Slot unit)) x (passed_copy by c unit z is stands) there root))
 
-root_enters : (by : Entering) (set : List Path) (r q : Root) (fields : List FieldNo) → Entered by r q → Contains set (path r fields) → Contains (entered_set by set) (path q fields)
-root_enters by set r q fields (Entered.argument {c = c} {unit = unit} {z = z} is stands) there = argument_enters by set c unit z (path (Slot z) fields) is stands there refl
+root_enters : (by : Entering) (set : List Path) (r q : Root) (fields : List FieldNo) → Entered by r q → Contains set (path r fields)
+    → Contains (entered_set by set) (path q fields)
+root_enters by set r q fields (Entered.argument {c = c} {unit = unit} {z = z} is stands) there =
+    argument_enters by set c unit z (path (Slot z) fields) is stands there refl
 root_enters by set r q fields (Entered.static {f = f}) there = static_stays by set (path (Static f) fields) there refl
 
 -- A root that is passed on has one in the callee.
@@ -150,10 +153,16 @@ passed_on by Thrown is = absurd (false≢true is)
 
 -- ---- tuples
 
-path_enters : (by : Entering) (must : List Path) (x : Path) → list_any (λ (x : Path). has_fields x.fields && not (is_passed_on by x.root)) must ≡ false → Contains must x
+-- A path of fields goes where its root is not passed on.
+abbrev is_cut_off : Entering → Path → Bool
+is_cut_off by x = has_fields x.fields && not (is_passed_on by x.root)
+
+path_enters : (by : Entering) (must : List Path) (x : Path) → list_any (λ (x : Path). is_cut_off by x) must ≡ false
+    → Contains must x
     → HasFields x.fields → Target (Entered by) x (entered_set by must)
 path_enters by must x none there has =
-    elim (and_cases (has_fields x.fields) (not (is_passed_on by x.root)) (none_passes (λ (x : Path). has_fields x.fields && not (is_passed_on by x.root)) must x none there)) [
+    let stays = none_passes (λ (x : Path). is_cut_off by x) must x none there in
+    elim (and_cases (has_fields x.fields) (not (is_passed_on by x.root)) stays) [
       | inl without ↦ absurd (false≢true (sym without ∙ has_some x.fields has))
       | inr on ↦
           let found = passed_on by x.root (not-false (is_passed_on by x.root) on) in
@@ -166,9 +175,10 @@ entered_reroots by t = record {
   state = refl;
   must = of_entered by t.must;
   must_not = λ y there. inl (of_entered by t.must_not y there);
-  may = λ e. (or_parts t.may (list_any (λ (x : Path). has_fields x.fields && not (is_passed_on by x.root)) t.must) e).0;
+  may = λ e. (or_parts t.may (list_any (λ (x : Path). is_cut_off by x) t.must) e).0;
   roots = λ e r q goes there. root_enters by t.must r q [] goes there;
-  fields = λ e x there has. path_enters by t.must x (or_parts t.may (list_any (λ (x : Path). has_fields x.fields && not (is_passed_on by x.root)) t.must) e).1 there has;
+  fields = λ e x there has. path_enters by t.must x
+      (or_parts t.may (list_any (λ (x : Path). is_cut_off by x) t.must) e).1 there has;
 }
 
 pub enter_is : (w : Setting) (by : Entering) (u : Tuple) → IsOne (Reroots (Entered by) (Entered by) NoPath u) (finished w (entered_fact by (of_object u)))

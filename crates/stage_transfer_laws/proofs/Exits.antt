@@ -77,7 +77,8 @@ result_copies result = map (λ (z : ℕ). record { from = Returned; to = Slot z 
 
 received_each : (c : NodeCall) (r q : Root) → Received c r q
     → ((r ≡ q) × ((slots_go (among (written_by c)) r || same_root Returned r) ≡ false)) ⊎ Contains (result_copies c.result) (root_copy r q)
-received_each c r q (Received.result {z = z} is) = inr (contains_map (λ (y : ℕ). root_copy Returned (Slot y)) (option_to_list c.result) z (in_option c.result z is))
+received_each c r q (Received.result {z = z} is) =
+    inr (contains_map (λ (y : ℕ). root_copy Returned (Slot y)) (option_to_list c.result) z (in_option c.result z is))
 received_each c r q (Received.kept {z = z} aside) = inl (refl, or_from (among (written_by c) z) (same_root Returned (Slot z)) (aside_stays c z aside) refl)
 received_each c r q Received.static = inl (refl, refl)
 received_each c r q Received.thrown = inl (refl, refl)
@@ -149,7 +150,8 @@ thrown_each value locals r q (Raised.caught_value at is) = absurd cc
 thrown_each value locals r q (Raised.caught at is) = absurd cc
 thrown_each value locals r q (Raised.thrown_value {z = z} at is) =
     let same : z ≡ value = cc in
-    inr (subst (λ (y : ℕ). Contains (root_copy (Slot value) Thrown ∷ []) (root_copy (Slot y) Thrown)) (sym same) (contains_first (root_copy (Slot value) Thrown) []))
+    inr (subst (λ (y : ℕ). Contains (root_copy (Slot value) Thrown ∷ []) (root_copy (Slot y) Thrown)) (sym same)
+    (contains_first (root_copy (Slot value) Thrown) []))
 thrown_each value locals r q (Raised.thrown at is) = absurd cc
 thrown_each value locals r q Raised.static = inl (refl, refl)
 thrown_each value locals r q Raised.returned = inl (refl, refl)
@@ -159,7 +161,8 @@ pub throw_moves : (l : LoweredMethod) (n : Node) (value : ℕ)
 throw_moves l n value = record {
   adds = λ set. refl;
   stays = thrown_stays value l.slots;
-  copy = λ k there. subst (λ (c : Copy). Raised (Some value) None l.slots c.from c.to) (contains_only (root_copy (Slot value) Thrown) k there) (Raised.thrown_value refl refl);
+  copy = λ k there. subst (λ (c : Copy). Raised (Some value) None l.slots c.from c.to) (contains_only (root_copy (Slot value) Thrown) k there)
+      (Raised.thrown_value refl refl);
   each = thrown_each value l.slots;
   own = λ r q goes. own goes;
   doubles = λ r q there. absurd (contains_none q there);
@@ -167,7 +170,8 @@ throw_moves l n value = record {
 
 -- ---- objects that are thrown, into a handler
 
-caught_stays : (value : Option ℕ) (offset locals : ℕ) (r : Root) → (slots_go (nat_le locals) r || same_root Thrown r) ≡ false → Raised value (Some offset) locals r r
+caught_stays : (value : Option ℕ) (offset locals : ℕ) (r : Root) → (slots_go (nat_le locals) r || same_root Thrown r) ≡ false
+    → Raised value (Some offset) locals r r
 caught_stays value offset locals (Slot z) stays = Raised.local refl (leb-false locals z (or_parts (nat_le locals z) (same_root Thrown (Slot z)) stays).0)
 caught_stays value offset locals (Static f) stays = Raised.static
 caught_stays value offset locals Returned stays = Raised.returned
@@ -175,7 +179,8 @@ caught_stays value offset locals Thrown stays = absurd (false≢true (sym stays)
 
 caught_each : (value : Option ℕ) (offset locals : ℕ) (r q : Root) → Raised value (Some offset) locals r q
     → ((r ≡ q) × ((slots_go (nat_le locals) r || same_root Thrown r) ≡ false)) ⊎ Contains (root_copy (thrown_root value) (Slot locals) ∷ []) (root_copy r q)
-caught_each value offset locals r q (Raised.local {z = z} at below) = inl (refl, or_from (nat_le locals z) (same_root Thrown (Slot z)) (lt-leb locals z below) refl)
+caught_each value offset locals r q (Raised.local {z = z} at below) =
+    inl (refl, or_from (nat_le locals z) (same_root Thrown (Slot z)) (lt-leb locals z below) refl)
 caught_each value offset locals r q (Raised.caught_value {z = z} at is) =
     inr (subst (λ (v : Option ℕ). Contains (root_copy (thrown_root v) (Slot locals) ∷ []) (root_copy (Slot z) (Slot locals))) (sym is)
     (contains_first (root_copy (Slot z) (Slot locals)) []))

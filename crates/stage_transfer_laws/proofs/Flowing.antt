@@ -46,7 +46,8 @@ heir_of {l} {n} {op} {x} {new} free has target = record {
 
 -- What is rerooted flows.
 pub rerooted_flows : {l : LoweredMethod} {n : Node} {op : Op} {t u : Tuple} → shape op ≢ follows_field
-    → Reroots (Copied op) (Doubles l n (Copied op)) (IsMade op) t u → ((array value : ℕ) → op ≡ StoreElement array value → PutsAway (value ∷ []) t u) → Flows l n op t u
+    → Reroots (Copied op) (Doubles l n (Copied op)) (IsMade op) t u → ((array value : ℕ) → op ≡ StoreElement array value → PutsAway (value ∷ []) t u)
+    → Flows l n op t u
 rerooted_flows {op = op} free r puts = record {
   unique = r.unique;
   state = r.state;

@@ -19,7 +19,8 @@ use Rattle.stage_transfer_laws.proofs.Next.{next_first, next_further, next_idle,
 use Rattle.stage_transfer_laws.proofs.Thrown.{exception_idle, exception_meets, raise_idle, raise_meets, receive_meets, return_meets}
 
 -- The event by the subject's property is that by the setting's.
-own_event : (x : Subject) (w : Setting) → w.property ≡ x.property → (c : NodeCall) (e : Option Event) → event_of_call x.property c ≡ e → event_of_call w.property c ≡ e
+own_event : (x : Subject) (w : Setting) → w.property ≡ x.property → (c : NodeCall) (e : Option Event) → event_of_call x.property c ≡ e
+    → event_of_call w.property c ≡ e
 own_event x w same c e is = ap (λ (a : Automaton). event_of_call a c) same ∙ is
 
 pub lawful : (x : Subject) (S : Fact → Type 0) (w : Setting) → w.property ≡ x.property → AreAnswersOf S w.answers → IsStage x S w.site (transfer_of w)
@@ -40,16 +41,18 @@ lawful x S w same answers =
       event_idle = λ l n c f idle. event_idle w l n c f idle;
       event_none = λ l n c u none. event_none w l n c u (own_event x w same c None none);
       event_its = λ l n c e z u reached stands is receiver holds apart clear.
-          event_its S w answers l n c e z u reached stands (own_event x w same c (Some e) is) receiver holds apart clear;
+          event_its S w answers l n reached stands e z u c (own_event x w same c (Some e) is) receiver holds apart clear;
       event_other = λ l n c e z u reached stands is receiver apart several.
-          event_other S w answers l n c e z u reached stands (own_event x w same c (Some e) is) receiver apart several;
+          event_other S w answers l n reached stands e z u c (own_event x w same c (Some e) is) receiver apart several;
       answer = λ l n c kept result u has. answer_meets w knows l n has c kept result u;
       answer_idle = λ l n c kept result f idle other. answer_idle w l n c kept result f idle other;
       answer_some = λ l n c kept f idle. answer_some w l n c kept f idle;
       answer_first = λ l n c kept.
-          subst (λ (a : Automaton). Meets (IsBorn c.result true a.initial) ((transfer_of w).answer l n c kept (a_new_object w.site) none_yet)) same (answer_first w l n c kept);
+          subst (λ (a : Automaton). Meets (IsBorn c.result true a.initial) ((transfer_of w).answer l n c kept (a_new_object w.site) none_yet)) same
+          (answer_first w l n c kept);
       answer_further = λ l n c kept.
-          subst (λ (a : Automaton). Meets (IsBorn c.result false a.initial) ((transfer_of w).answer l n c kept (a_new_object w.site) some_yet)) same (answer_further w l n c kept);
+          subst (λ (a : Automaton). Meets (IsBorn c.result false a.initial) ((transfer_of w).answer l n c kept (a_new_object w.site) some_yet)) same
+          (answer_further w l n c kept);
       exception = λ l n c kept handler u has is. exception_meets w knows l n has c kept handler u is;
       exception_idle = λ l n kept handler f idle. exception_idle w l n kept handler f idle;
       enter = λ by u. enter_is w by u;

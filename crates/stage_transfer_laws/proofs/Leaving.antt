@@ -124,7 +124,8 @@ record IsLeft (w : Setting) (by : Entering) (target : MethodNo) (sent : SiteFact
   clear : u.may ≡ false → IsClear sent
   handed_on : u.may ≡ false → list_any (is_dropped by) out.must ≡ false
 
-left_joins : (S : Fact → Type 0) (w : Setting) → AreAnswersOf S w.answers → (by : Entering) (target : MethodNo) (sent : SiteFact) (out u : Tuple) → IsLeft w by target sent out u
+left_joins : (S : Fact → Type 0) (w : Setting) → AreAnswersOf S w.answers → (by : Entering) (target : MethodNo) (sent : SiteFact) (out u : Tuple)
+    → IsLeft w by target sent out u
     → Left S by target sent out u
 left_joins S w answers by target sent out u is = record {
   unique = λ e. sym is.unique ∙ e;
@@ -184,7 +185,8 @@ left_is w l n by target (of_object t) out =
       handed_on = λ e. (or_parts dropped left_out (or_parts t.may (dropped || left_out) (or_parts out.may (t.may || (dropped || left_out)) e).1).1).0;
     }
 
-pub leave_is : (S : Fact → Type 0) (w : Setting) → AreAnswersOf S w.answers → (l : LoweredMethod) (n : Node) (by : Entering) (target : MethodNo) (sent : SiteFact) (out : Tuple)
+pub leave_is : (S : Fact → Type 0) (w : Setting) → AreAnswersOf S w.answers
+    → (l : LoweredMethod) (n : Node) (by : Entering) (target : MethodNo) (sent : SiteFact) (out : Tuple)
     → IsOne (Joins S target (HandedOn by) (StaysIn by) (IsDropped by) sent out) (finished w (left_fact w l n by target sent (of_object out)))
 leave_is S w answers l n by target sent out =
     let u = left_by_tuple w l n by target sent out in

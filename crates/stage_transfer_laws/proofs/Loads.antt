@@ -39,7 +39,8 @@ record IsBehind (field : FieldNo) (target : ℕ) (fields : List FieldNo) (y : Pa
   fields_are : fields ≡ field ∷ rest
   is : path (Slot target) rest ≡ y
 
-of_loaded_fields : (field : FieldNo) (target : ℕ) (fields : List FieldNo) (y : Path) → Contains (loaded_fields field target fields) y → IsBehind field target fields y
+of_loaded_fields : (field : FieldNo) (target : ℕ) (fields : List FieldNo) (y : Path) → Contains (loaded_fields field target fields) y
+    → IsBehind field target fields y
 of_loaded_fields field target [] y there = absurd (contains_none y there)
 of_loaded_fields field target (f ∷ rest) y there = by (same_field field f) refl there
   where
@@ -100,15 +101,17 @@ module _ (w : Setting) (knows : Knows w) (l : LoweredMethod) (n : Node) (has : H
 
   load_found : (must : List Path) → may_be_loaded object field must ≡ false → (x : Path) → Contains must x → EndsIn field x.fields
       → Contains (changed_set change must) (bare (Slot target))
-  load_found must none x there ends = elim (and_cases (not (has_path must (field_of object field))) (list_any (λ (x : Path). ends_in field x.fields) must) none) [
-    | inl has ↦
-        let listed = has_it must (field_of object field) (not-false (has_path must (field_of object field)) has) in
-        added change must (bare (Slot target))
-        (in_flat_map (λ (x : Path). loaded_fields field target x.fields) (filter (begins_at (Slot object)) must) (field_of object field) (bare (Slot target))
-        (in_filter (begins_at (Slot object)) must (field_of object field) listed (is_root (Slot object) (Slot object) refl))
-        (in_loaded_fields field target []))
-    | inr other ↦ absurd (false≢true (sym (none_passes (λ (x : Path). ends_in field x.fields) must x other there) ∙ ends_true field x.fields ends))
-  ]
+  load_found must none x there ends =
+      let paths = filter (begins_at (Slot object)) must in
+      elim (and_cases (not (has_path must (field_of object field))) (list_any (λ (x : Path). ends_in field x.fields) must) none) [
+        | inl has ↦
+            let listed = has_it must (field_of object field) (not-false (has_path must (field_of object field)) has) in
+            added change must (bare (Slot target))
+            (in_flat_map (λ (x : Path). loaded_fields field target x.fields) paths (field_of object field) (bare (Slot target))
+            (in_filter (begins_at (Slot object)) must (field_of object field) listed (is_root (Slot object) (Slot object) refl))
+            (in_loaded_fields field target []))
+        | inr other ↦ absurd (false≢true (sym (none_passes (λ (x : Path). ends_in field x.fields) must x other there) ∙ ends_true field x.fields ends))
+      ]
 
   load_target : (must : List Path) → list_any (is_lost change (changed_set change must)) must ≡ false → (x : Path) → Contains must x → HasFields x.fields
       → Target (Doubles l n (Copied op)) x (changed_set change must)

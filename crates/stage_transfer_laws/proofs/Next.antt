@@ -70,7 +70,8 @@ module _ (w : Setting) (knows : Knows w) (l : LoweredMethod) (n : Node) (has : H
       (λ target e. let other : shape op ≡ makes_object = ap shape e in absurd cc)
 
   -- What is put into an array.
-  put_on : (array value : ℕ) (u : Tuple) → Meets (GoesOn (StoreElement array value) u) (map (finished w) (after_operation w l n (StoreElement array value) (of_object u)))
+  put_on : (array value : ℕ) (u : Tuple)
+      → Meets (GoesOn (StoreElement array value) u) (map (finished w) (after_operation w l n (StoreElement array value) (of_object u)))
   put_on array value u =
       let op : Op = StoreElement array value in
       let v : Tuple = changed (writing w l n (array ∷ value ∷ [])) (puts_away (value ∷ []) u) in
@@ -87,7 +88,8 @@ module _ (w : Setting) (knows : Knows w) (l : LoweredMethod) (n : Node) (has : H
   made_at target t = changed (writing w l n (target ∷ [])) t
 
   -- A new object of the site, or of another one.
-  new_on : (site : Site) (target : ℕ) (u : Tuple) → Meets (GoesOn (New site target) u) (map (finished w) (after_operation w l n (New site target) (of_object u)))
+  new_on : (site : Site) (target : ℕ) (u : Tuple)
+      → Meets (GoesOn (New site target) u) (map (finished w) (after_operation w l n (New site target) (of_object u)))
   new_on site target u = by (same_site site w.site) refl
     where
       free : shape (New site target) ≢ follows_field
@@ -99,7 +101,8 @@ module _ (w : Setting) (knows : Knows w) (l : LoweredMethod) (n : Node) (has : H
           record { site = site; target = target; op_is = refl; path_is = ap (λ (y : ℕ). bare (Slot y)) slot }
 
       by : (b : Bool) → same_site site w.site ≡ b
-          → Meets (GoesOn (New site target) u) (map (finished w) (cond b (after_new w (Some target) (made_at target) (of_object u)) (on_tuples (made_at target) (of_object u))))
+          → Meets (GoesOn (New site target) u)
+          (map (finished w) (cond b (after_new w (Some target) (made_at target) (of_object u)) (on_tuples (made_at target) (of_object u))))
       by true is =
           goes_on (New site target) u (beside_new (Some target) (made_at target u))
           (rerooted_flows free (beside_reroots (Some target) made (writes (New site target) u (λ e. absurd cc))) (λ array value other. absurd cc))
@@ -153,21 +156,25 @@ module _ (w : Setting) (knows : Knows w) (l : LoweredMethod) (n : Node) (has : H
 
 -- ---- facts without an object
 
-pub next_idle : (w : Setting) (l : LoweredMethod) (n : Node) (op : Op) (f : SiteFact) → IsIdle f → ((value : ℕ) → op ≢ Throw value) → ((target : ℕ) → op ≢ New w.site target)
+pub next_idle : (w : Setting) (l : LoweredMethod) (n : Node) (op : Op) (f : SiteFact) → IsIdle f → ((value : ℕ) → op ≢ Throw value)
+    → ((target : ℕ) → op ≢ New w.site target)
     → Contains (map (finished w) (after_operation w l n op f)) f
 next_idle w l n (Assign moves) f idle no_throw no_new = idle_stays w (changed (assigning w l n moves)) f idle
 next_idle w l n (Load object field target) f idle no_throw no_new = idle_stays w (after_load w l n object field target) f idle
 next_idle w l n (Store object field value) f idle no_throw no_new = idle_stays w (after_store w l n object field value) f idle
 next_idle w l n (LoadElement array target) f idle no_throw no_new = idle_stays w (changed (writing w l n (array ∷ target ∷ []))) f idle
-next_idle w l n (StoreElement array value) f idle no_throw no_new = idle_stays w (λ t. changed (writing w l n (array ∷ value ∷ [])) (puts_away (value ∷ []) t)) f idle
+next_idle w l n (StoreElement array value) f idle no_throw no_new = idle_stays w
+    (λ t. changed (writing w l n (array ∷ value ∷ [])) (puts_away (value ∷ []) t)) f idle
 next_idle w l n (LoadStatic field target) f idle no_throw no_new = idle_stays w (after_static_load w l n field target) f idle
 next_idle w l n (StoreStatic field value) f idle no_throw no_new = idle_stays w (changed (storing_static w l n field value)) f idle
 next_idle w l n (New site target) f idle no_throw no_new = by (same_site site w.site) refl
   where
-    by : (b : Bool) → same_site site w.site ≡ b
-        → Contains (map (finished w) (cond b (after_new w (Some target) (changed (writing w l n (target ∷ []))) f) (on_tuples (changed (writing w l n (target ∷ []))) f))) f
+    written : Tuple → Tuple
+    written t = changed (writing w l n (target ∷ [])) t
+
+    by : (b : Bool) → same_site site w.site ≡ b → Contains (map (finished w) (cond b (after_new w (Some target) written f) (on_tuples written f))) f
     by true is = absurd (no_new target (ap (λ (s : Site). New s target) (site_is site w.site is)))
-    by false is = idle_stays w (changed (writing w l n (target ∷ []))) f idle
+    by false is = idle_stays w written f idle
 next_idle w l n (NewArray sites target) f idle no_throw no_new = idle_stays w (changed (writing w l n (target ∷ []))) f idle
 next_idle w l n (Constant site target) f idle no_throw no_new = idle_stays w (changed (writing w l n (target ∷ []))) f idle
 next_idle w l n (Call call) f idle no_throw no_new = idle_stays w (changed (receiving w l n (argument_slots call.arguments) call.result)) f idle
@@ -181,7 +188,8 @@ new_is : (w : Setting) (l : LoweredMethod) (n : Node) (op : Op) (target : ℕ) (
     → after_operation w l n op f ≡ after_new w (Some target) (changed (writing w l n (target ∷ []))) f
 new_is w l n op target f is =
     ap (λ (o : Op). after_operation w l n o f) is
-    ∙ ap (λ (b : Bool). cond b (after_new w (Some target) (changed (writing w l n (target ∷ []))) f) (on_tuples (changed (writing w l n (target ∷ []))) f)) (is_site w.site)
+    ∙ ap (λ (b : Bool). cond b (after_new w (Some target) (changed (writing w l n (target ∷ []))) f) (on_tuples (changed (writing w l n (target ∷ []))) f))
+    (is_site w.site)
 
 pub next_some : (w : Setting) (l : LoweredMethod) (n : Node) (op : Op) (f : SiteFact) (target : ℕ) → IsIdle f → op ≡ New w.site target
     → Contains (map (finished w) (after_operation w l n op f)) some_yet

@@ -105,12 +105,13 @@ assigned_moves w knows l n has moves = record {
       copy_moves moves found.0 found.1 found.0.source refl k found.2;
   each = assigned_each moves;
   own = λ r q copied. own copied;
-  doubles = λ r q there. elim (Contains-append_cases (unwritten w l n (among (map target_of moves)) r) (flat_map (λ (m : Move). moved_by w l n r m.source m.target) moves) q there) [
-    | inl stays ↦ unwritten_double w knows l n has (among (map target_of moves)) (Copied (Assign moves)) (slot_stays (Assign moves)) r q stays
-    | inr goes ↦
-        let found = of_flat_map (λ (m : Move). moved_by w l n r m.source m.target) moves q goes in
-        move_doubles w knows l n has moves found.0 found.1 found.0.source refl r q found.2
-  ];
+  doubles = λ r q there. elim
+      (Contains-append_cases (unwritten w l n (among (map target_of moves)) r) (flat_map (λ (m : Move). moved_by w l n r m.source m.target) moves) q there) [
+        | inl stays ↦ unwritten_double w knows l n has (among (map target_of moves)) (Copied (Assign moves)) (slot_stays (Assign moves)) r q stays
+        | inr goes ↦
+            let found = of_flat_map (λ (m : Move). moved_by w l n r m.source m.target) moves q goes in
+            move_doubles w knows l n has moves found.0 found.1 found.0.source refl r q found.2
+      ];
 }
 
 -- ---- static fields
@@ -142,13 +143,15 @@ pub loaded_moves : (w : Setting) → Knows w → (l : LoweredMethod) (n : Node) 
 loaded_moves w knows l n has field target = record {
   adds = λ set. refl;
   stays = loaded_stays field target;
-  copy = λ k there. subst (λ (c : Copy). Copied (LoadStatic field target) c.from c.to) (contains_only (root_copy (Static field) (Slot target)) k there) (loaded refl);
+  copy = λ k there. subst (λ (c : Copy). Copied (LoadStatic field target) c.from c.to) (contains_only (root_copy (Static field) (Slot target)) k there)
+      (loaded refl);
   each = loaded_each field target;
   own = λ r q copied. own copied;
   doubles = unwritten_double w knows l n has (among (target ∷ [])) (Copied (LoadStatic field target)) (slot_stays (LoadStatic field target));
 }
 
-stored_stays : (field : FieldNo) (value : ℕ) (r : Root) → (slots_go (among (value ∷ [])) r || same_root (Static field) r) ≡ false → Copied (StoreStatic field value) r r
+stored_stays : (field : FieldNo) (value : ℕ) (r : Root) → (slots_go (among (value ∷ [])) r || same_root (Static field) r) ≡ false
+    → Copied (StoreStatic field value) r r
 stored_stays field value (Slot z) stays = kept (not_among (value ∷ []) z (or_parts (among (value ∷ []) z) (same_root (Static field) (Slot z)) stays).0)
 stored_stays field value (Static f) stays = static (λ y (e : StoreStatic field value ≡ StoreStatic f y).
     let same : field ≡ f = cc in
@@ -159,7 +162,8 @@ stored_stays field value Thrown stays = thrown
 stored_each : (field : FieldNo) (value : ℕ) (r q : Root) → Copied (StoreStatic field value) r q
     → ((r ≡ q) × ((slots_go (among (value ∷ [])) r || same_root (Static field) r) ≡ false))
     ⊎ Contains (root_copy (Slot value) (Static field) ∷ []) (root_copy r q)
-stored_each field value r q (kept {z = z} keeps) = inl (refl, or_from (among (value ∷ []) z) (same_root (Static field) (Slot z)) (none_among (value ∷ []) z keeps) refl)
+stored_each field value r q (kept {z = z} keeps) =
+    inl (refl, or_from (among (value ∷ []) z) (same_root (Static field) (Slot z)) (none_among (value ∷ []) z keeps) refl)
 stored_each field value r q (moved is there source) = absurd cc
 stored_each field value r q (loaded is) = absurd cc
 stored_each field value r q (stored {f = f} {y = y} is) =
@@ -183,7 +187,8 @@ pub stored_moves : (w : Setting) → Knows w → (l : LoweredMethod) (n : Node) 
 stored_moves w knows l n has field value = record {
   adds = λ set. refl;
   stays = stored_stays field value;
-  copy = λ k there. subst (λ (c : Copy). Copied (StoreStatic field value) c.from c.to) (contains_only (root_copy (Slot value) (Static field)) k there) (stored refl);
+  copy = λ k there. subst (λ (c : Copy). Copied (StoreStatic field value) c.from c.to) (contains_only (root_copy (Slot value) (Static field)) k there)
+      (stored refl);
   each = stored_each field value;
   own = λ r q copied. own copied;
   doubles = unwritten_double w knows l n has (among (value ∷ [])) (Copied (StoreStatic field value)) (slot_stays (StoreStatic field value));

@@ -49,7 +49,8 @@ idle_same w (of_object t) idle = absurd idle
 
 -- ---- new objects
 
-pub new_some : (w : Setting) (target : Option ℕ) (written : Tuple → Tuple) (f : SiteFact) → IsIdle f → Contains (map (finished w) (after_new w target written f)) some_yet
+pub new_some : (w : Setting) (target : Option ℕ) (written : Tuple → Tuple) (f : SiteFact) → IsIdle f
+    → Contains (map (finished w) (after_new w target written f)) some_yet
 new_some w target written none_yet idle = contains_first some_yet (of_object (whole w (new_tuple w target true)) ∷ [])
 new_some w target written some_yet idle = contains_first some_yet (of_object (whole w (new_tuple w target false)) ∷ [])
 new_some w target written (of_object t) idle = absurd idle
@@ -65,16 +66,20 @@ born w target first = record {
   held = λ e z is. contains_map (λ (y : ℕ). bare (Slot y)) (option_to_list target) z (in_option target z is);
 }
 
-pub new_first : (w : Setting) (target : Option ℕ) (written : Tuple → Tuple) → Meets (IsBorn target true w.property.initial) (map (finished w) (after_new w target written none_yet))
+pub new_first : (w : Setting) (target : Option ℕ) (written : Tuple → Tuple)
+    → Meets (IsBorn target true w.property.initial) (map (finished w) (after_new w target written none_yet))
 new_first w target written = record {
   tuple = whole w (new_tuple w target true);
-  listed = contains_later some_yet (of_object (whole w (new_tuple w target true))) (of_object (whole w (new_tuple w target true)) ∷ []) (contains_first (of_object (whole w (new_tuple w target true))) []);
+  listed = contains_later some_yet (of_object (whole w (new_tuple w target true))) (of_object (whole w (new_tuple w target true)) ∷ [])
+      (contains_first (of_object (whole w (new_tuple w target true))) []);
   related = born_cut (finished_cut w.stage (new_tuple w target true)) (born w target true);
 }
 
-pub new_further : (w : Setting) (target : Option ℕ) (written : Tuple → Tuple) → Meets (IsBorn target false w.property.initial) (map (finished w) (after_new w target written some_yet))
+pub new_further : (w : Setting) (target : Option ℕ) (written : Tuple → Tuple)
+    → Meets (IsBorn target false w.property.initial) (map (finished w) (after_new w target written some_yet))
 new_further w target written = record {
   tuple = whole w (new_tuple w target false);
-  listed = contains_later some_yet (of_object (whole w (new_tuple w target false))) (of_object (whole w (new_tuple w target false)) ∷ []) (contains_first (of_object (whole w (new_tuple w target false))) []);
+  listed = contains_later some_yet (of_object (whole w (new_tuple w target false))) (of_object (whole w (new_tuple w target false)) ∷ [])
+      (contains_first (of_object (whole w (new_tuple w target false))) []);
   related = born_cut (finished_cut w.stage (new_tuple w target false)) (born w target false);
 }

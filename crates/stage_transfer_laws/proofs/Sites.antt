@@ -48,7 +48,8 @@ site_is s r is =
 
 pub is_site : (s : Site) → same_site s s ≡ true
 is_site s =
-    and_from (nat_eq (number_of_kind s.kind) (number_of_kind s.kind)) (bytes_eq (method_key s) (method_key s) && (nat_eq s.offset s.offset && bytes_eq s.class s.class))
+    and_from (nat_eq (number_of_kind s.kind) (number_of_kind s.kind))
+    (bytes_eq (method_key s) (method_key s) && (nat_eq s.offset s.offset && bytes_eq s.class s.class))
     (eq-eqb (number_of_kind s.kind) (number_of_kind s.kind) refl)
     (and_from (bytes_eq (method_key s) (method_key s)) (nat_eq s.offset s.offset && bytes_eq s.class s.class) (bytes_same (method_key s) (method_key s) refl)
     (and_from (nat_eq s.offset s.offset) (bytes_eq s.class s.class) (eq-eqb s.offset s.offset refl) (bytes_same s.class s.class refl)))

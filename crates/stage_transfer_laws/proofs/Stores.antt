@@ -100,7 +100,8 @@ module _ (w : Setting) (knows : Knows w) (l : LoweredMethod) (n : Node) (has : H
   of_put : (set : List Path) (y : Path) → Contains (put_in set) y
       → (Contains set y × (passes_field field y ≡ false)) ⊎ IsStored w l n object field value (unpassed field set) y
   of_put set y there =
-      elim (Contains-append_cases (unpassed field set) (filter (is_short w) (more set)) y (of_set (unpassed field set ++ filter (is_short w) (more set)) y there)) [
+      let short = filter (is_short w) (more set) in
+      elim (Contains-append_cases (unpassed field set) short y (of_set (unpassed field set ++ short) y there)) [
         | inl old ↦ inl (of_unpassed field set y old)
         | inr new ↦ inr (of_stored (unpassed field set) y (of_filter (is_short w) (more set) y new).0)
       ]

@@ -60,7 +60,8 @@ module _ (w : Setting) (knows : Knows w) (l : LoweredMethod) (n : Node) (has : H
   catch_reroots : (value : Option ℕ) (offset : ℕ) (u : Tuple) → RaisedTo l n value (Some offset) u (changed (catching w l n value) u)
   catch_reroots value offset u = changed_reroots (catch_moves w knows l n has value offset) NoPath u
 
-  pub raise_meets : (handler : Option ℕ) (u : Tuple) → Meets (RaisedTo l n (thrown_slot n.op) handler u) (map (finished w) (after_raise w l n handler (of_object u)))
+  pub raise_meets : (handler : Option ℕ) (u : Tuple)
+      → Meets (RaisedTo l n (thrown_slot n.op) handler u) (map (finished w) (after_raise w l n handler (of_object u)))
   raise_meets None u = rerooted w (unwind_reroots l n (thrown_slot n.op) u)
   raise_meets (Some offset) u = rerooted w (catch_reroots (thrown_slot n.op) offset u)
 
