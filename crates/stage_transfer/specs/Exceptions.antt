@@ -37,9 +37,9 @@ abbrev pub thrown_root : Option ℕ → Root
 thrown_root None = Thrown
 thrown_root (Some value) = Slot value
 
--- The slot that the handler gets is one of those that hold what a throw's slot held.
+-- The slot that the handler gets holds what a throw's slot held; at another node, what was thrown into the frame.
 abbrev pub caught_from : Setting → LoweredMethod → Node → Option ℕ → Root → List Root
-caught_from w l n None r = []
+caught_from w l n None r = if same_root Thrown r then Slot l.slots ∷ [] else []
 caught_from w l n (Some value) r = moved_to w l n value (Slot l.slots) r
 
 -- Into a handler: the operand stack goes, and its first unit gets the object. What was thrown into the frame goes, too.
@@ -47,8 +47,7 @@ abbrev pub catching : Setting → LoweredMethod → Node → Option ℕ → Chan
 catching w l n value = record {
   adds = copied (record { from = thrown_root value; to = Slot l.slots } ∷ []);
   goes = λ r. slots_go (nat_le l.slots) r || same_root Thrown r;
-  doubles = λ r.
-      unwritten w l n (nat_le l.slots) r ++ (caught_from w l n value r ++ (if same_root Thrown r then Slot l.slots ∷ [] else []));
+  doubles = λ r. unwritten w l n (nat_le l.slots) r ++ caught_from w l n value r;
 }
 
 -- Out of the method: all slots go. What was thrown into the frame stays thrown; at a throw the object takes its place.
