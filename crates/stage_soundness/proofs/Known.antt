@@ -45,6 +45,7 @@ use Rattle.stage_soundness.proofs.Placed.{number_as, start_method}
 
 pub record Premises (x : Subject) (given : Given) (gives : GivenAs) (S : Fact → Type 0) (s : Site) (t : Transfer) (E : Edge → Type 0) : Type 0 where
   pub program : IsProgram x.program
+  pub start : (nodes : List Node) × AreStartNodes x nodes
   pub survives : (state after : State) → NodeStep x given state after → (place : ℕ) (o : Object) → slice_get state.world.heap place ≡ Some o → Survives x given state after place o
   pub map : IsMapOf given gives
   pub points : IsClosedSet (PointsToInstance x.program gives (number_as x.entry)) S

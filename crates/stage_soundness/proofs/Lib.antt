@@ -2,4 +2,10 @@ pub mod Bounded
 pub mod PlainThrows
 pub mod Placed
 pub mod Known
+pub mod Alike
 pub mod Waiting
+pub mod Running
+pub mod Returning
+pub mod Thrown
+pub mod Failing
+pub mod Described
