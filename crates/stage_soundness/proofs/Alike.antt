@@ -1,5 +1,5 @@
 -- A node that was recorded for a frame, and the one at which a step finds the frame: they are one, or both are nodes of the program's start.
-use Rattle.std.proofs.Common.{◌≡◌, ◌⊎◌, inl, inr, ℕ, List, [], Option, Some, None, Ok, Contains, refl, sym, ap, ◌∙◌, subst}
+use Rattle.std.proofs.Common.{◌≡◌, inl, inr, ℕ, List, [], Option, Some, None, Ok, Contains, refl, sym, ap, ◌∙◌, subst}
 use Rattle.std.specs.Option.{option_map}
 use Rattle.std.proofs.lemmas.Option.{same_Some, none-some}
 use Rattle.list_laws.proofs.Members.{contains_none}
@@ -38,7 +38,8 @@ alike_self p n = record { op = refl; successors = refl; handlers = refl; throws 
 -- the call of the program's entry
 abbrev entry_call : Subject → Method → Op
 entry_call x entry =
-    Call (record { kind = Static; resolved = record { 0 = x.entry }; chosen = Some (record { 0 = x.entry }); name = entry.signature.name; descriptor = entry.signature.descriptor; arguments = []; result = None })
+    Call (record { kind = Static; resolved = record { 0 = x.entry }; chosen = Some (record { 0 = x.entry }); name = entry.signature.name;
+        descriptor = entry.signature.descriptor; arguments = []; result = None })
 
 alike_calls : (x : Subject) (n m : Node) → IsStartCall x n → IsStartCall x m → IsAlikeNode x.program n m
 alike_calls x n m first second =
@@ -66,7 +67,8 @@ alike_start x n m (inr first) (inr second) e = alike_returns x.program n m first
 alike_start x n m (inl first) (inr second) e = absurd (let bad : 0 ≡ 1 = sym first.offset ∙ e ∙ second.offset in cc bad)
 alike_start x n m (inr first) (inl second) e = absurd (let bad : 1 ≡ 0 = sym first.offset ∙ e ∙ second.offset in cc bad)
 
-module _ (x : Subject) (given : Given) (gives : GivenAs) (S : Fact → Type 0) (s : Site) (t : Transfer) (E : Edge → Type 0) (k : Premises x given gives S s t E) where
+module _ (x : Subject) (given : Given) (gives : GivenAs) (S : Fact → Type 0) (s : Site) (t : Transfer) (E : Edge → Type 0)
+    (k : Premises x given gives S s t E) where
   -- the nodes of the start, as a method
   record IsStart (l : LoweredMethod) : Type 0 where
     pub are : AreStartNodes x l.nodes
@@ -91,7 +93,8 @@ module _ (x : Subject) (given : Given) (gives : GivenAs) (S : Fact → Type 0) (
           let none : method_of f ≡ None = ap (option_map number_as) no_method in
           let first = start_of l (method_of f) none is.method in
           let second = start_of placed.lowered (method_of f) none placed.is_node.method in
-          (alike_start x n now.node (start_node x gives l.nodes n first.are is.stands) (start_node x gives placed.lowered.nodes now.node second.are placed.is_node.stands) offsets, count ∙ sym first.slots)
+          (alike_start x n now.node (start_node x gives l.nodes n first.are is.stands) (start_node x gives placed.lowered.nodes now.node second.are
+              placed.is_node.stands) offsets, count ∙ sym first.slots)
       by (of_method number m in_method is_given nodes count) =
           let some = method_as f number in_method in
           let first = given_of x gives l (method_of f) (number_as number) some is.method in

@@ -31,7 +31,7 @@ use Rattle.stage_soundness.proofs.Known.{described_as, Described, IsKnown, Premi
 use Rattle.stage_soundness.proofs.Returning.{ends_good, enters_entry_good, resumes_good, returns_good, starts_good}
 use Rattle.stage_soundness.proofs.Running.{advances_good, enters_good, gets_result_good}
 use Rattle.stage_soundness.proofs.Thrown.{catches_good, raises_good, throws_good, unwinds_good, wraps_good}
-use Rattle.stage_soundness.proofs.Failing.{gets_exception_good}
+use Rattle.stage_soundness.proofs.Failing.{described_throws_good}
 
 -- what is there from the start has sites of a kind of its own
 arguments_boot : (x : Subject) (objects : List Object) (b : Bool) → MatchBool b (objects ≡ []) (IsArgumentArray x objects) → (place : ℕ) (o : Object) → slice_get objects place ≡ Some o
@@ -56,7 +56,7 @@ module _ (x : Subject) (given : Given) (gives : GivenAs) (S : Fact → Type 0) (
   step_good state after (advances at a) known later place tracked d = advances_good x given gives S s t E k state after at a known place tracked d
   step_good state after (enters at a) known later place tracked d = enters_good x given gives S s t E k state after at a known later place d
   step_good state after (gets_result at a) known later place tracked d = gets_result_good x given gives S s t E k state after at a known place tracked d
-  step_good state after (gets_exception at a) known later place tracked d = gets_exception_good x given gives S s t E k state after at a known place tracked d
+  step_good state after (gets_exception at a) known later place tracked d = described_throws_good x given gives S s t E k state after at a known place tracked d
   step_good state after (enters_entry at a) known later place tracked d =
       enters_entry_good x given gives S s t E k state after at a known place (tracked_before x given gives S s t E k state after place (enters_entry at a) tracked) d
   step_good state after (returns at a) known later place tracked d = returns_good x given gives S s t E k state after at a place d

@@ -9,3 +9,4 @@ pub mod Returning
 pub mod Thrown
 pub mod Failing
 pub mod Described
+pub mod Errors

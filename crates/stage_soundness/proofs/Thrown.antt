@@ -1,5 +1,5 @@
 -- Steps of frames that throw: a new object or one of a slot is thrown, a handler takes it, or the frame goes.
-use Rattle.std.proofs.Common.{codes, ◌≡◌, ◌≢◌, ◌⊎◌, inl, inr, ℕ, Bool, true, false, List, [], ◌∷◌, ◌++◌, length, Option, Some, None, Ok, Contains, refl, sym, ap, ◌∙◌, subst}
+use Rattle.std.proofs.Common.{codes, ◌≡◌, ◌≢◌, inl, inr, ℕ, Bool, false, List, [], ◌∷◌, ◌++◌, length, Option, Some, None, Contains, refl, sym, ap, ◌∙◌, subst}
 use Rattle.std.specs.Prelude.{slice_get}
 use Rattle.std.proofs.lemmas.Bool.{false≢true}
 use Rattle.std.proofs.lemmas.Option.{same_Some, none-some}
@@ -24,7 +24,8 @@ use Rattle.op_model.specs.Supplies.{Given, GivenAs}
 use Rattle.machine_bytecode.specs.Described.{kept_by, ThrowsListed}
 use Rattle.machine_bytecode.specs.Machine.{exception_class, Throwing, ThrowsNew, unwound}
 use Rattle.machine_bytecode.specs.Objects.{Subject}
-use Rattle.machine_bytecode.specs.States.{Value, null_value, reference_to, Object, Frame, running, throwing, State, World, new_object, site_at, slot_at, with_kept, with_object}
+use Rattle.machine_bytecode.specs.States.{Value, null_value, reference_to, Object, Frame, running, throwing, State}
+use Rattle.machine_bytecode.specs.States.{World, new_object, site_at, slot_at, with_kept, with_object}
 use Rattle.machine_nodes.specs.Nodes.{IsClassNumber, StandsAt}
 use Rattle.machine_nodes.specs.NodeSteps.{AtNode, Catches, GetsException, IsFirstTaking, Raises, Takes, Throws, Unwinds, Wraps}
 use Rattle.machine_nodes.specs.Slots.{AreCaught}
@@ -51,7 +52,8 @@ use Rattle.stage_steps.proofs.Paths.{default_field, part_push, same_place, Uncha
 use Rattle.stage_steps.proofs.Raising.{listed_says, raised_says, throw_says}
 use Rattle.stage_soundness.specs.Describing.{AreWaiting, IsRunning, IsThrowing, Lands, method_of, Waits, waits_so}
 use Rattle.stage_soundness.proofs.Alike.{alike_node}
-use Rattle.stage_soundness.proofs.Known.{Described, described_as, described_in, edge_before, IsKnown, IsOfMethod, method_is, method_or_start, not_thrown, Premises, start_throws_not, tracked_in, variables_of}
+use Rattle.stage_soundness.proofs.Known.{Described, described_as, described_in, edge_before, IsKnown, IsOfMethod, method_is}
+use Rattle.stage_soundness.proofs.Known.{method_or_start, not_thrown, Premises, start_throws_not, tracked_in, variables_of}
 use Rattle.stage_soundness.proofs.Placed.{IsPlaced, number_as, placed_of}
 use Rattle.stage_soundness.proofs.Waiting.{no_changes, waiting_on}
 
@@ -61,26 +63,30 @@ throws_slot (Throw value) z e = ap Throw (same_Some _ _ e)
 throws_slot _ z e = absurd (none-some z e)
 
 -- the way of an object depends on its class and on the node's handlers alone
-goes_as : (x : Subject) (n m : Node) (a b : List ℕ) (handler : Option ℕ) (spot : Spot) → m.handlers ≡ n.handlers → a ≡ b → GoesTo x m a handler spot → GoesTo x n b handler spot
+goes_as : (x : Subject) (n m : Node) (a b : List ℕ) (handler : Option ℕ) (spot : Spot) → m.handlers ≡ n.handlers → a ≡ b → GoesTo x m a handler spot
+    → GoesTo x n b handler spot
 goes_as x n m a b handler spot same class (GoesTo.caught h first) =
     GoesTo.caught h
     (subst (λ (hs : List NodeHandler). IsFirstTaking x.program b hs h) same (subst (λ (c : List ℕ). IsFirstTaking x.program c m.handlers h) class first))
 goes_as x n m a b handler spot same class (GoesTo.uncaught none) =
     GoesTo.uncaught (λ h there takes.
-        none h (subst (λ (hs : List NodeHandler). Contains hs h) (sym same) there) (subst (λ (c : List ℕ). Takes x.program h c) (sym class) takes))
+    none h (subst (λ (hs : List NodeHandler). Contains hs h) (sym same) there) (subst (λ (c : List ℕ). Takes x.program h c) (sym class) takes))
 
-module _ (x : Subject) (given : Given) (gives : GivenAs) (S : Fact → Type 0) (s : Site) (t : Transfer) (E : Edge → Type 0) (k : Premises x given gives S s t E) where
+module _ (x : Subject) (given : Given) (gives : GivenAs) (S : Fact → Type 0) (s : Site) (t : Transfer) (E : Edge → Type 0)
+    (k : Premises x given gives S s t E) where
   -- ---- nodes that throw
 
   -- a throw raises for null alone, and starts no initialisation
-  listed_plainly : (o : Option MethodNo) (l : LoweredMethod) (n : Node) → IsNode x gives o l n → (value : ℕ) (c : ClassNo) (class : List ℕ) → n.op ≡ Throw value → Contains n.throws c
+  listed_plainly : (o : Option MethodNo) (l : LoweredMethod) (n : Node) → IsNode x gives o l n → (value : ℕ) (c : ClassNo) (class : List ℕ)
+      → n.op ≡ Throw value → Contains n.throws c
       → IsClassNumber x.program c class → class ≡ exception_class null_pointer
   listed_plainly o l n is value c class op there is_class = elim (method_or_start x gives o l n is) [
     | inl m ↦ (k.plain m.method.0 l n m.given is.stands).listed value c class op there is_class
     | inr start ↦ absurd (start_throws_not x n value start op)
   ]
 
-  throws_untriggered : (o : Option MethodNo) (l : LoweredMethod) (n : Node) → IsNode x gives o l n → (value : ℕ) (c : ClassNo) → n.op ≡ Throw value → n.trigger ≡ Some c → ⊥
+  throws_untriggered : (o : Option MethodNo) (l : LoweredMethod) (n : Node) → IsNode x gives o l n → (value : ℕ) (c : ClassNo) → n.op ≡ Throw value
+      → n.trigger ≡ Some c → ⊥
   throws_untriggered o l n is value c op trigger = elim (method_or_start x gives o l n is) [
     | inl m ↦ none-some c (sym ((k.plain m.method.0 l n m.given is.stands).untriggered value op) ∙ trigger)
     | inr start ↦ start_throws_not x n value start op
@@ -109,9 +115,12 @@ module _ (x : Subject) (given : Given) (gives : GivenAs) (S : Fact → Type 0) (
   push_unchanged : (w : World) (f : Frame) (class : List ℕ) (g : FieldNo) → Unchanged w.heap (with_object w (made_by f class)).heap g
   push_unchanged w f class g place = part_push (field_in g) w.heap (made_by f class) place (default_field x.program g)
 
-  throws_new_good : (w : World) (f : Frame) (below : List Frame) (class : List ℕ) (after : State) (throws : ThrowsNew x w f below class after) (l : LoweredMethod) (n : Node)
-      → IsNode x gives (method_of f) l n → n.offset ≡ f.offset → (entry fact : SiteFact) → E (edge (method_of f) entry (before n) fact) → AreEqual l n f.slots → (number : ClassNo)
-      → Contains n.throws number → IsClassNumber x.program number class → ((z : ℕ) → n.op ≡ Throw z → slot_at f.slots z ≡ null_value) → (place : ℕ) → IsTracked s place after.world.heap
+  throws_new_good : (w : World) (f : Frame) (below : List Frame) (class : List ℕ) (after : State) (throws : ThrowsNew x w f below class after)
+      (l : LoweredMethod) (n : Node)
+      → IsNode x gives (method_of f) l n → n.offset ≡ f.offset → (entry fact : SiteFact) → E (edge (method_of f) entry (before n) fact)
+          → AreEqual l n f.slots → (number : ClassNo)
+      → Contains n.throws number → IsClassNumber x.program number class → ((z : ℕ) → n.op ≡ Throw z → slot_at f.slots z ≡ null_value) → (place : ℕ)
+          → IsTracked s place after.world.heap
       → Says s fact place w (of_slots f.slots) → AreWaiting x gives S s t E w place below (method_of f) entry → Described x given gives S s t E k place after
   throws_new_good w f below class after throws l n is at entry fact held equal number there is_class of_null place tracked says waiting =
       let after_is : throws.world ≡ with_object w (made_by f class) = throws.makes.after_is in
@@ -122,30 +131,38 @@ module _ (x : Subject) (given : Given) (gives : GivenAs) (S : Fact → Type 0) (
         is_node = is;
         at = at;
         object = made_by f class;
-        stands = ap (λ (y : World). slice_get y.heap throws.thrown) after_is ∙ ap (slice_get (w.heap ++ made_by f class ∷ [])) thrown_is ∙ pushed_at w.heap (made_by f class);
+        stands = ap (λ (y : World). slice_get y.heap throws.thrown) after_is ∙ ap (slice_get (w.heap ++ made_by f class ∷ [])) thrown_is ∙ pushed_at w.heap
+            (made_by f class);
         entry = entry;
         lands = λ handler spot goes.
-            let r = listed_says x S s t k.laws place l n handler throws.thrown fact w throws.world (made_by f class) f.slots (variables_of x gives k.whole (method_of f) l n is) equal after_is thrown_is
+            let r = listed_says x S s t k.laws place l n handler throws.thrown fact w throws.world (made_by f class) f.slots (variables_of x gives k.whole
+            (method_of f) l n is) equal after_is thrown_is
             (not_made f class) refl of_null (tracked_in x given gives S s t E k after _ place throws.after tracked) says in
             record {
               fact = r.fact;
-              held = k.edges _ _ (Instance.raises (method_of f) l n entry fact r.fact class handler spot is (ThrowsClass.listed number there is_class) goes r.listed) (held, tt);
+              held = k.edges _ _ (Instance.raises (method_of f) l n entry fact r.fact class handler spot is (ThrowsClass.listed number there is_class) goes
+                  r.listed) (held, tt);
               says = r.says;
             };
         waiting = waiting_on x given gives S s t E k place w throws.world below (method_of f) entry
-            (λ m e. no_changes S m w.heap throws.world.heap (λ g. subst (λ (y : World). Unchanged w.heap y.heap g) (sym after_is) (push_unchanged w f class g))) waiting;
+            (λ m e. no_changes S m w.heap throws.world.heap (λ g. subst (λ (y : World). Unchanged w.heap y.heap g) (sym after_is) (push_unchanged w f class
+                g))) waiting;
       })
 
-  pub raises_good : (state after : State) (at : AtNode x given state) → Raises x given state after at → IsKnown x given gives S state → (place : ℕ) → IsTracked s place after.world.heap
+  pub raises_good : (state after : State) (at : AtNode x given state) → Raises x given state after at → IsKnown x given gives S state → (place : ℕ)
+      → IsTracked s place after.world.heap
       → Described x given gives S s t E k place state → Described x given gives S s t E k place after
   raises_good state after at a known place tracked d =
       let f = at.frame in
       let n = at.now.node in
       let p = placed_of x given gives k.map k.whole f at.now in
-      let here : IsRunning x gives S s t E state.world place f at.below = described_in x given gives S s t E k place state running f at.below at.runs at.frames d in
+      let here : IsRunning x gives S s t E state.world place f at.below = described_in x given gives S s t E k place state running f at.below at.runs
+      at.frames d in
       throws_new_good state.world f at.below a.class after a.throws p.lowered n p.is_node p.at here.entry here.fact
-      (edge_before x given gives S s t E k (method_of f) here.entry here.fact n f.offset p.at here.held) (p.equal (known.alike at.runs f at.below at.frames)) a.number a.listed a.is_class
-      (λ z op. a.of_null z op (listed_plainly (method_of f) p.lowered n p.is_node z a.number a.class op a.listed a.is_class)) place tracked here.says here.waiting
+      (edge_before x given gives S s t E k (method_of f) here.entry here.fact n f.offset p.at here.held) (p.equal (known.alike at.runs f at.below at.frames))
+          a.number a.listed a.is_class
+      (λ z op. a.of_null z op (listed_plainly (method_of f) p.lowered n p.is_node z a.number a.class op a.listed a.is_class)) place tracked here.says
+          here.waiting
 
   -- ---- an object that a slot holds
 
@@ -173,20 +190,24 @@ module _ (x : Subject) (given : Given) (gives : GivenAs) (S : Fact → Type 0) (
           let here : StandsIn gives f m.method p.lowered n =
           record { in_method = method_is f m.method m.is; node = record { given = m.given; stands = p.is_node.stands }; at = p.at } in
           let frames = frames_are x gives S heap state.frames at.below f at.frames covers.frames in
-          let o = operand_of x gives S k.points k.whole m.method p.lowered n (Throw a.value) a.value heap f.slots here.node a.is_throw (contains_first a.value [])
+          let o = operand_of x gives S k.points k.whole m.method p.lowered n (Throw a.value) a.value heap f.slots here.node a.is_throw
+          (contains_first a.value [])
           (slots_here x given gives S k.map k.points k.whole heap f m.method p.lowered n here frames.0) in
-          ThrowsClass.held a.value o.holder to.object.site a.is_throw o.slot (among_from (MayHold S o.holder) heap (slot_at f.slots a.value) to.place to.object o.covered to.is to.held)
+          ThrowsClass.held a.value o.holder to.object.site a.is_throw o.slot (among_from (MayHold S o.holder) heap (slot_at f.slots a.value) to.place
+              to.object o.covered to.is to.held)
           (fits_at x gives S state.world covers.world (codes "java/lang/Throwable") (slot_at f.slots a.value) a.thrown to.place to.object to.is to.held)
           (covers.world.objects to.place to.object to.held).of_class
 
-  pub throws_good : (state after : State) (at : AtNode x given state) → Throws x given state after at → IsKnown x given gives S state → (place : ℕ) → IsTracked s place after.world.heap
+  pub throws_good : (state after : State) (at : AtNode x given state) → Throws x given state after at → IsKnown x given gives S state → (place : ℕ)
+      → IsTracked s place after.world.heap
       → Described x given gives S s t E k place state → Described x given gives S s t E k place after
   throws_good state after at a known place tracked d =
       let f = at.frame in
       let n = at.now.node in
       let to = a.thrown.to in
       let p = placed_of x given gives k.map k.whole f at.now in
-      let here : IsRunning x gives S s t E state.world place f at.below = described_in x given gives S s t E k place state running f at.below at.runs at.frames d in
+      let here : IsRunning x gives S s t E state.world place f at.below = described_in x given gives S s t E k place state running f at.below at.runs
+      at.frames d in
       let held = edge_before x given gives S s t E k (method_of f) here.entry here.fact n f.offset p.at here.held in
       described_as x given gives S s t E k place after _ a.after (record {
         lowered = p.lowered;
@@ -197,11 +218,13 @@ module _ (x : Subject) (given : Given) (gives : GivenAs) (S : Fact → Type 0) (
         stands = to.held;
         entry = here.entry;
         lands = λ handler spot goes.
-            let r = throw_says x S s t k.laws place p.lowered n a.value handler to.place here.fact state.world f.slots p.variables (p.equal (known.alike at.runs f at.below at.frames)) a.is_throw to.is
+            let r = throw_says x S s t k.laws place p.lowered n a.value handler to.place here.fact state.world f.slots p.variables
+            (p.equal (known.alike at.runs f at.below at.frames)) a.is_throw to.is
             here.says in
             record {
               fact = r.fact;
-              held = k.edges _ _ (Instance.raises (method_of f) p.lowered n here.entry here.fact r.fact to.object.class handler spot p.is_node (class_thrown state after at a known.covers p) goes r.listed)
+              held = k.edges _ _ (Instance.raises (method_of f) p.lowered n here.entry here.fact r.fact to.object.class handler spot p.is_node
+                  (class_thrown state after at a known.covers p) goes r.listed)
                   (held, tt);
               says = r.says;
             };
@@ -237,7 +260,8 @@ module _ (x : Subject) (given : Given) (gives : GivenAs) (S : Fact → Type 0) (
       → IsThrowing x gives S s t E state.world place at.place at.frame at.below
   throwing_here state at place d = described_in x given gives S s t E k place state (throwing at.place) at.frame at.below at.throws at.frames d
 
-  pub catches_good : (state after : State) (at : Throwing state) → Catches x given state after at → IsKnown x given gives S state → (place : ℕ) → IsTracked s place after.world.heap
+  pub catches_good : (state after : State) (at : Throwing state) → Catches x given state after at → IsKnown x given gives S state → (place : ℕ)
+      → IsTracked s place after.world.heap
       → Described x given gives S s t E k place state → Described x given gives S s t E k place after
   catches_good state after at a known place tracked d = caught_here state at place (throwing_here state at place d) after a
 
@@ -245,12 +269,13 @@ module _ (x : Subject) (given : Given) (gives : GivenAs) (S : Fact → Type 0) (
 
   -- what leaves a method that has no handler for it
   may_throw : (state : State) (at : Throwing state) (now : StandsAt x given at.frame) → Covers x gives S state
-      → ((h : NodeHandler) → Contains now.node.handlers h → Takes x.program h at.object.class → ⊥) → (called : MethodNo) → method_of at.frame ≡ Some called → MayThrow S called at.object.class
+      → ((h : NodeHandler) → Contains now.node.handlers h → Takes x.program h at.object.class → ⊥) → (called : MethodNo) → method_of at.frame ≡ Some called
+          → MayThrow S called at.object.class
   may_throw state at now covers none called is =
       let in_method = method_is at.frame called is in
       let i = inside_of x given gives S k.map k.points k.whole at.frame now called.0 in_method in
-      let held = thrown_at x given gives S k.map k.points k.whole state at covers i.method i.lowered now.node (thrown_by i.method) i.here (LandsIn.uncaught none refl) in
-      (
+      let held = thrown_at x given gives S k.map k.points k.whole state at covers i.method i.lowered now.node (thrown_by i.method) i.here
+      (LandsIn.uncaught none refl) in (
         at.object.site,
         subst (λ (m : MethodNo). S (may_hold (thrown_by m) at.object.site)) (same_method at.frame.method i.method called i.here.in_method in_method) held,
         (covers.world.objects at.place at.object at.held).of_class,
@@ -275,32 +300,40 @@ module _ (x : Subject) (given : Given) (gives : GivenAs) (S : Fact → Type 0) (
   exit_edge o called entry entered fact is same held =
       subst (λ (e : SiteFact). E (edge (Some called) e spots.Thrown fact)) same (subst (λ (m : Option MethodNo). E (edge m entry spots.Thrown fact)) is held)
 
-  module _ (now : World) (place thrown : ℕ) (class : List ℕ) (caller : Frame) (called : MethodNo) (entry out : SiteFact) (w : Waits x gives S s t E now place caller called entry)
-      (held : E (edge (Some called) (t.enter w.by w.sent) spots.Thrown out)) (says : Says s out place now (of_throw thrown)) (throws : MayThrow S called class) where
-    caller_lands : (handler : Option ℕ) (spot : Spot) → GoesTo x w.node class handler spot → Lands s E now place thrown caller w.lowered.slots w.own handler spot
+  module _ (now : World) (place thrown : ℕ) (class : List ℕ) (caller : Frame) (called : MethodNo) (entry out : SiteFact)
+      (w : Waits x gives S s t E now place caller called entry)
+      (held : E (edge (Some called) (t.enter w.by w.sent) spots.Thrown out)) (says : Says s out place now (of_throw thrown))
+      (throws : MayThrow S called class) where
+    caller_lands : (handler : Option ℕ) (spot : Spot) → GoesTo x w.node class handler spot
+        → Lands s E now place thrown caller w.lowered.slots w.own handler spot
     caller_lands handler spot goes =
         let l = w.lowered in
         let n = w.node in
         let o = method_of caller in
         let behind = behind_of now place caller called entry w in
         let left = left_exception_says x S s t k.laws place l n w.by called w.sent now caller.slots behind thrown out says in
-        let r = raised_says x S s t k.laws place l n handler thrown (t.leave l n w.by called w.sent out) now caller.slots (variables_of x gives k.whole o l n w.is_node)
-        (waiting_agree S s place now w.by called w.sent caller.slots l n behind w.alike) (enters_slotless o l n called w.fact w.sent w.by w.is_node w.enters) left in
+        let r = raised_says x S s t k.laws place l n handler thrown (t.leave l n w.by called w.sent out) now caller.slots (variables_of x gives k.whole o l n
+        w.is_node)
+        (waiting_agree S s place now w.by called w.sent caller.slots l n behind w.alike) (enters_slotless o l n called w.fact w.sent w.by w.is_node w.enters)
+            left in
         record {
           fact = r.fact;
-          held = k.edges _ _ (Instance.unwinds o l n w.own w.fact w.sent out r.fact called w.by class handler spot w.is_node w.enters throws goes r.listed) (w.held, (held, tt));
+          held = k.edges _ _ (Instance.unwinds o l n w.own w.fact w.sent out r.fact called w.by class handler spot w.is_node w.enters throws goes r.listed)
+              (w.held, (held, tt));
           says = r.says;
         }
 
   unwound_good : (state : State) (at : Throwing state) (now : StandsAt x given at.frame) (place : ℕ) → Covers x gives S state
-      → ((h : NodeHandler) → Contains now.node.handlers h → Takes x.program h at.object.class → ⊥) → (entry out : SiteFact) → E (edge (method_of at.frame) entry spots.Thrown out)
+      → ((h : NodeHandler) → Contains now.node.handlers h → Takes x.program h at.object.class → ⊥) → (entry out : SiteFact)
+          → E (edge (method_of at.frame) entry spots.Thrown out)
       → Says s out place state.world (of_throw at.place) → (below : List Frame) → AreWaiting x gives S s t E state.world place below (method_of at.frame) entry
       → Described x given gives S s t E k place (unwound below state.world at.place)
   unwound_good state at now place covers none entry out held says [] waiting = record {
     spot = spots.Thrown;
     exit = tt;
     fact = out;
-    held = subst (λ (e : SiteFact). E (edge None e spots.Thrown out)) waiting.1 (subst (λ (m : Option MethodNo). E (edge m entry spots.Thrown out)) waiting.0 held);
+    held = subst (λ (e : SiteFact). E (edge None e spots.Thrown out)) waiting.1 (subst (λ (m : Option MethodNo). E (edge m entry spots.Thrown out)) waiting.0
+        held);
     says = inr (at.place, says);
   }
   unwound_good state at now place covers none entry out held says (caller ∷ rest) waiting =
@@ -314,13 +347,15 @@ module _ (x : Subject) (given : Given) (gives : GivenAs) (S : Fact → Type 0) (
         stands = at.held;
         entry = w.own;
         lands = λ handler spot goes.
-            let lands = caller_lands state.world place at.place at.object.class caller waiting.called entry out w (exit_edge (method_of at.frame) waiting.called entry (t.enter w.by w.sent) out waiting.is_called w.entered held)
+            let lands = caller_lands state.world place at.place at.object.class caller waiting.called entry out w (exit_edge (method_of at.frame)
+            waiting.called entry (t.enter w.by w.sent) out waiting.is_called w.entered held)
             says (may_throw state at now covers none waiting.called waiting.is_called) handler spot goes in
             record { fact = lands.fact; held = lands.held; says = lands.says };
         waiting = waiting.rest;
       }
 
-  pub unwinds_good : (state after : State) (at : Throwing state) → Unwinds x given state after at → IsKnown x given gives S state → (place : ℕ) → IsTracked s place after.world.heap
+  pub unwinds_good : (state after : State) (at : Throwing state) → Unwinds x given state after at → IsKnown x given gives S state → (place : ℕ)
+      → IsTracked s place after.world.heap
       → Described x given gives S s t E k place state → Described x given gives S s t E k place after
   unwinds_good state after at a known place tracked d =
       let h = throwing_here state at place d in
@@ -339,14 +374,17 @@ module _ (x : Subject) (given : Given) (gives : GivenAs) (S : Fact → Type 0) (
     pub starts : StartsAt x.program n target
     pub same : sent ≡ fact
 
-  triggered_by : (o : Option MethodNo) (l : LoweredMethod) (n : Node) (target : MethodNo) (fact sent : SiteFact) (by : Entering) → by ≡ by_trigger → Enters x S t o l n target fact by sent
+  triggered_by : (o : Option MethodNo) (l : LoweredMethod) (n : Node) (target : MethodNo) (fact sent : SiteFact) (by : Entering) → by ≡ by_trigger
+      → Enters x S t o l n target fact by sent
       → IsTriggered n target fact sent
   triggered_by o l n target fact sent by is (Enters.called c u op goes file listed) = absurd (let bad : by_call c ≡ by_trigger = is in cc bad)
   triggered_by o l n target fact sent by is (Enters.triggered starts) = record { starts = starts; same = refl }
 
-  module _ (now : World) (place thrown : ℕ) (caller : Frame) (rest : List Frame) (called : MethodNo) (entry out : SiteFact) (w : Waits x gives S s t E now place caller called entry)
+  module _ (now : World) (place thrown : ℕ) (caller : Frame) (rest : List Frame) (called : MethodNo) (entry out : SiteFact)
+      (w : Waits x gives S s t E now place caller called entry)
       (held : E (edge (Some called) (t.enter w.by w.sent) spots.Thrown out)) (says : Says s out place now (of_throw thrown)) where
-    wrapped_good : (after : State) (caller_at : StandsAt x given caller) (number : ClassNo) (class : List ℕ) → caller.waits ≡ false → Contains caller_at.node.throws number
+    wrapped_good : (after : State) (caller_at : StandsAt x given caller) (number : ClassNo) (class : List ℕ) → caller.waits ≡ false
+        → Contains caller_at.node.throws number
         → IsClassNumber x.program number class → ThrowsNew x (with_kept now (thrown ∷ [])) caller rest class after → IsTracked s place after.world.heap
         → AreWaiting x gives S s t E now place rest (method_of caller) w.own → Described x given gives S s t E k place after
     wrapped_good after caller_at number class awake listed is_class throws tracked waiting =
@@ -356,23 +394,26 @@ module _ (x : Subject) (given : Given) (gives : GivenAs) (S : Fact → Type 0) (
         let kept = with_kept now (thrown ∷ []) in
         let by_is : w.by ≡ by_trigger = waits_for_trigger caller.waits w.by awake w.waits in
         let triggered = triggered_by o l n called w.fact w.sent w.by by_is w.enters in
-        let entered : t.enter w.by w.sent ≡ t.enter by_trigger w.fact = ap (λ (b : Entering). t.enter b w.sent) by_is ∙ ap (t.enter by_trigger) triggered.same in
+        let entered : t.enter w.by w.sent ≡ t.enter by_trigger w.fact = ap (λ (b : Entering). t.enter b w.sent) by_is ∙ ap (t.enter by_trigger)
+        triggered.same in
         let left : t.leave l n w.by called w.sent out ≡ t.leave l n by_trigger called w.fact out =
         ap (λ (b : Entering). t.leave l n b called w.sent out) by_is ∙ ap (λ (g : SiteFact). t.leave l n by_trigger called g out) triggered.same in
         let out_held = subst (λ (e : SiteFact). E (edge (Some called) e spots.Thrown out)) entered held in
         let alike = (alike_node x given gives S s t E k caller caller_at l n w.is_node w.at).0 in
         throws_new_good kept caller rest class after throws l n w.is_node w.at w.own (t.leave l n by_trigger called w.fact out)
         (k.edges _ _ (Instance.resumes o l n w.own w.fact out called spots.Thrown w.is_node triggered.starts tt) (w.held, (out_held, tt)))
-        (λ y z same. w.stays y (stays_all y by_is) ∙ w.alike y z same ∙ sym (w.stays z (stays_all z by_is))) number (alike.throws number class listed is_class) is_class
+        (λ y z same. w.stays y (stays_all y by_is) ∙ w.alike y z same ∙ sym (w.stays z (stays_all z by_is))) number (alike.throws number class listed
+            is_class) is_class
         (λ z op. absurd (throws_untriggered o l n w.is_node z triggered.starts.trigger op triggered.starts.is_trigger)) place tracked
         (subst (λ (g : SiteFact). Says s g place kept (of_slots caller.slots)) left
-            (left_kept_says x S s t k.laws place l n w.by called w.sent now caller.slots (behind_of now place caller called entry w) by_is thrown out says))
+        (left_kept_says x S s t k.laws place l n w.by called w.sent now caller.slots (behind_of now place caller called entry w) by_is thrown out says))
         (waiting_on x given gives S s t E k place now kept rest o w.own (λ m e. no_changes S m now.heap kept.heap (λ g p. refl)) waiting)
       where
         stays_all : (z : ℕ) → w.by ≡ by_trigger → StaysIn w.by z
         stays_all z e = subst (λ (b : Entering). StaysIn b z) (sym e) (contains_none z)
 
-  pub wraps_good : (state after : State) (at : Throwing state) → Wraps x given state after at → IsKnown x given gives S state → (place : ℕ) → IsTracked s place after.world.heap
+  pub wraps_good : (state after : State) (at : Throwing state) → Wraps x given state after at → IsKnown x given gives S state → (place : ℕ)
+      → IsTracked s place after.world.heap
       → Described x given gives S s t E k place state → Described x given gives S s t E k place after
   wraps_good state after at a known place tracked d =
       let h = throwing_here state at place d in
@@ -381,7 +422,8 @@ module _ (x : Subject) (given : Given) (gives : GivenAs) (S : Fact → Type 0) (
       let b : AreWaiting x gives S s t E state.world place (a.caller ∷ a.rest) (method_of f) h.entry =
       subst (λ (fs : List Frame). AreWaiting x gives S s t E state.world place fs (method_of f) h.entry) a.below h.waiting in
       let w = b.first in
-      wrapped_good state.world place at.place a.caller a.rest b.called h.entry out.fact w (exit_edge (method_of f) b.called h.entry (t.enter w.by w.sent) out.fact b.is_called w.entered out.held) out.says
+      wrapped_good state.world place at.place a.caller a.rest b.called h.entry out.fact w (exit_edge (method_of f) b.called h.entry (t.enter w.by w.sent)
+          out.fact b.is_called w.entered out.held) out.says
       after a.caller_at a.number _ a.triggered a.listed a.is_class a.throws tracked b.rest
 
   -- ---- described methods that throw
@@ -394,10 +436,12 @@ module _ (x : Subject) (given : Given) (gives : GivenAs) (S : Fact → Type 0) (
     pub class : List ℕ
     pub listed : Contains stub.throws class
     pub stands : slice_get after.heap thrown ≡ Some (made_by frame class)
-    pub results : (handler : Option ℕ) → Results (t.exception l n (kept_slots c stub parameters) handler sent) (λ g. SaysCaught s g place after frame.slots l.slots thrown handler)
+    pub results : (handler : Option ℕ)
+        → Results (t.exception l n (kept_slots c stub parameters) handler sent) (λ g. SaysCaught s g place after frame.slots l.slots thrown handler)
 
   -- what a described method keeps and throws changes no field
-  exception_unchanged : (w after : World) (f : Frame) (target thrown : ℕ) (units : List Value) → ThrowsListed x target f units w thrown after → (g : FieldNo) → Unchanged w.heap after.heap g
+  exception_unchanged : (w after : World) (f : Frame) (target thrown : ℕ) (units : List Value) → ThrowsListed x target f units w thrown after → (g : FieldNo)
+      → Unchanged w.heap after.heap g
   exception_unchanged w after f target thrown units throws g =
       subst (λ (y : World). Unchanged w.heap y.heap g) (sym throws.makes.after_is) (push_unchanged (kept_by x target throws.called units w) f throws.class g)
 
@@ -423,11 +467,12 @@ module _ (x : Subject) (given : Given) (gives : GivenAs) (S : Fact → Type 0) (
             let g = is.results handler in
             record {
               fact = g.fact;
-              held = k.edges _ _ (Instance.described_raises (method_of f) p.lowered n here.entry here.fact r.fact g.fact c (number_as a.calls.target) is.stub is.parameters is.class handler spot p.is_node
+              held = k.edges _ _ (Instance.described_raises (method_of f) p.lowered n here.entry here.fact r.fact g.fact c (number_as a.calls.target) is.stub
+                  is.parameters is.class handler spot p.is_node
                   a.calls.is_call goes is.is_stub is.listed way r.listed g.listed) (held, tt);
               says = g.says;
             };
         waiting = waiting_on x given gives S s t E k place state.world a.world at.below (method_of f) here.entry
             (λ m e. no_changes S m state.world.heap a.world.heap
-                (λ g q. exception_unchanged a.calls.world a.world f a.calls.target a.thrown _ a.throws g q ∙ quiet g q)) here.waiting;
+            (λ g q. exception_unchanged a.calls.world a.world f a.calls.target a.thrown _ a.throws g q ∙ quiet g q)) here.waiting;
       })
