@@ -10,3 +10,5 @@ pub mod Thrown
 pub mod Failing
 pub mod Described
 pub mod Errors
+pub mod Ends
+pub mod Theorems

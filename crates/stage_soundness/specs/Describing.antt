@@ -7,6 +7,7 @@ use Rattle.jvm_model.specs.declared.number.FieldNo.{FieldNo}
 use Rattle.jvm_model.specs.declared.number.MethodNo.{MethodNo}
 use Rattle.jvm_model.specs.declared.site.Site.{Site}
 use Rattle.jvm_model.specs.declared.site.SiteKind.TheVariants as kinds
+use Rattle.jvm_model.specs.Names.{IsClassName}
 use Rattle.jvm_model.specs.Programs.{Program}
 use Rattle.jvm_model.specs.Soundness.{is_array}
 use Rattle.jvm_model.specs.Subtypes.{IsSubtype}
@@ -19,7 +20,7 @@ use Rattle.op_model.specs.declared.op.Op.TheVariants.{NewArray, Throw}
 use Rattle.op_model.specs.Supplies.{Given, GivenAs}
 use Rattle.machine_bytecode.specs.Machine.{exception_class}
 use Rattle.machine_bytecode.specs.Objects.{Subject}
-use Rattle.machine_bytecode.specs.States.{Value, reference_to, Object, Frame, Mode, running, throwing, ended, World, State, slot_at}
+use Rattle.machine_bytecode.specs.States.{Value, primitive_value, reference_to, Object, Frame, Mode, running, throwing, ended, World, State, slot_at}
 use Rattle.machine_nodes.specs.Nodes.{IsClassNumber}
 use Rattle.machine_nodes.specs.NodeExecutions.{IsNodeExecution}
 use Rattle.machine_nodes.specs.Slots.{AreCaught}
@@ -41,6 +42,13 @@ pub record IsTrackable (x : Subject) (gives : GivenAs) (s : Site) : Type 0 where
   pub observed : IsSubtype x.program x.property.class_name s.class
   pub no_arrays_there : (number : ℕ) (l : LoweredMethod) (n : Node) (sites : List Site) (target : ℕ) → gives number (Ok l) → Contains l.nodes n
       → n.op ≡ NewArray sites target → Contains sites s → ⊥
+
+-- The site is one of the program's own: its objects are made by an instruction or by a described method, and are of the property's class or of one below it.
+pub record IsOwnSite (x : Subject) (s : Site) : Type 0 where
+  pub made : (s.kind ≡ kinds.New) ⊎ (s.kind ≡ kinds.Result)
+  pub named : IsClassName s.class
+  pub no_array : is_array s.class ≡ false
+  pub observed : IsSubtype x.program x.property.class_name s.class
 
 -- A throw raises NullPointerException alone, and starts no initialisation (JVMS 5.5, 6.5.athrow).
 pub record ThrowsPlainly (p : Program) (n : Node) : Type 0 where
@@ -168,3 +176,25 @@ pub record ErrsOnNodes (x : Subject) (given : Given) (site : Site) : Type 0 wher
   pub lives : Contains state.world.heap object
   pub of_site : object.site ≡ site
   pub in_error : object.automaton ≡ x.property.error
+
+-- ---- ends
+
+-- The program's start has returned from its call of the entry.
+pub record HasReturned (state : State) : Type 0 where
+  pub frame : Frame
+  pub below : List Frame
+  pub runs : state.mode ≡ running
+  pub frames : state.frames ≡ frame ∷ below
+  pub no_method : frame.method ≡ None
+  pub stands : frame.offset ≡ 1
+
+-- An edge of its return says of the place what holds.
+pub record EndsAt (s : Site) (E : Edge → Type 0) (now : World) (place : ℕ) : Type 0 where
+  pub fact : SiteFact
+  pub held : E (edge None none_yet spots.Returned fact)
+  pub says : Says s fact place now (of_return primitive_value)
+
+abbrev pub DescribesEnds : Subject → Given → Site → (Edge → Type 0) → Type 0
+DescribesEnds x given s E =
+    (states : List State) → IsNodeExecution x given states → (state : State) → Contains states state → HasReturned state → (place : ℕ) → IsTracked s place state.world.heap
+    → EndsAt s E state.world place

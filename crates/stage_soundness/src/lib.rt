@@ -4,3 +4,5 @@
 //! The verdicts of the stages after the first, and what an accepted certificate claims, rest on what `closed_edges_describe` says.
 //! Begin with specs/Describing.antt.
 #![tactic(auto)]
+
+pub mod laws;
