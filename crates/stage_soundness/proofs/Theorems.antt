@@ -1,8 +1,11 @@
 -- The theorems on path edges and executions, from what their clauses have as premises.
-use Rattle.std.proofs.Common.{◌≡◌, ◌⊎◌, inl, inr, ℕ, List, [], ◌∷◌, Some, Ok, Contains, refl, sym, ap, ◌∙◌, subst}
+use Rattle.std.proofs.Common.{◌≡◌, ◌⊎◌, inl, inr, ℕ, Bool, true, false, List, [], ◌∷◌, Some, Ok, Contains, refl, sym, ap, ◌∙◌, subst}
 use Rattle.std.specs.Prelude.{slice_get}
+use Rattle.std.proofs.lemmas.Bool.{cases_Bool}
 use Rattle.jvm_model.specs.declared.site.Site.{Site}
 use Rattle.jvm_model.specs.LinkedPrograms.{IsProgram}
+use Rattle.jvm_model.specs.Names.{IsClassName}
+use Rattle.jvm_model.specs.Soundness.{is_array}
 use Rattle.least_sets.specs.Rules.{IsClosedSet}
 use Rattle.op_model.specs.declared.lowered.LoweredMethod.{LoweredMethod}
 use Rattle.op_model.specs.Supplies.{Given, GivenAs, IsMapOf}
@@ -22,6 +25,7 @@ use Rattle.points_to_rules.specs.Refusals.{IsUnrefused}
 use Rattle.points_to_rules.specs.WholeMethods.{AreWholeMethods}
 use Rattle.points_to_rules.specs.Writes.{AnyInstance}
 use Rattle.coverage.proofs.Refused.{calls_unrefused}
+use Rattle.simulation.proofs.ArrayNames.{array_no_class}
 use Rattle.simulation.proofs.CoveredExecutions.{executions_covered}
 use Rattle.simulation.proofs.Supplied.{supplied_runs}
 use Rattle.simulation.proofs.Whole.{supplied_whole}
@@ -83,6 +87,10 @@ module _ (share : Share) (survive : Survive) (x : Subject) (given : Given) (give
 
 -- ---- programs of a folder
 
+-- the name of a class is no array's
+plain_name : (class : List ℕ) → IsClassName class → is_array class ≡ false
+plain_name class named = elim (cases_Bool (is_array class)) [ inl array ↦ absurd (array_no_class class array named) | inr plain ↦ plain ]
+
 pub stages_never_err : Share → Survive → (x : Subject) (facts : List Fact) (w : Setting) (E : Edge → Type 0) → IsProgram x.program → HasExceptions x.program → HasEntry x
     → IsClosedSet (AnyInstance x.program (IsSupplied x.program) (number_as x.entry)) (Contains facts) → IsUnrefused x.program (IsSupplied x.program) (Contains facts) → IsOwnSite x w.site
     → w.property ≡ x.property → AreAnswersOf (Contains facts) w.answers → IsClosedSet (StageInstance x (IsSupplied x.program) (Contains facts) w) E → AreErrorFree x E → Errs x w.site → ⊥
@@ -94,7 +102,7 @@ stages_never_err share survive x facts w E program exceptions entry closed unref
     let points = λ premises fact instance hold. closed premises fact (inl instance) hold in
     let all = executions_covered x m.0 gives S run m.1 (λ number coded. each_answer x.program number program coded) (supplied_whole x.program) points unrefused e.states e.execution in
     edges_never_err share survive x m.0 gives m.1 S w.site (transfer_of w) E program (supplied_whole x.program) (supplied_throw_plainly x.program) closed unrefused
-    (record { made = own.made; no_array = own.no_array; observed = own.observed; no_arrays_there = supplied_make_no_arrays x.program w.site own.named })
+    (record { made = own.made; no_array = plain_name w.site.class own.named; observed = own.observed; no_arrays_there = supplied_make_no_arrays x.program w.site own.named })
     (lawful x S w property answers) edges free
     (record { states = e.states; execution = all.1; state = e.state; reached = e.reached; object = e.object; lives = e.lives; of_site = e.of_site; in_error = e.in_error })
 

@@ -47,7 +47,6 @@ pub record IsTrackable (x : Subject) (gives : GivenAs) (s : Site) : Type 0 where
 pub record IsOwnSite (x : Subject) (s : Site) : Type 0 where
   pub made : (s.kind ≡ kinds.New) ⊎ (s.kind ≡ kinds.Result)
   pub named : IsClassName s.class
-  pub no_array : is_array s.class ≡ false
   pub observed : IsSubtype x.program x.property.class_name s.class
 
 -- A throw raises NullPointerException alone, and starts no initialisation (JVMS 5.5, 6.5.athrow).

@@ -3,13 +3,9 @@
 use machine_laws::node_survival::objects_survive;
 use slot_names::slots_of_one_variable;
 
-ghost use Rattle.std.specs.Prelude.{◌≡◌, ◌⊎◌, ℕ, Bool, false, List, Contains, IsTrue};
+ghost use Rattle.std.specs.Prelude.{◌≡◌, ℕ, Bool, List, Contains, IsTrue};
 ghost use Rattle.jvm_model.specs.declared.site.Site.{Site};
-ghost use Rattle.jvm_model.specs.declared.site.SiteKind.TheVariants as kinds;
 ghost use Rattle.jvm_model.specs.LinkedPrograms.{IsProgram};
-ghost use Rattle.jvm_model.specs.Names.{IsClassName};
-ghost use Rattle.jvm_model.specs.Soundness.{is_array};
-ghost use Rattle.jvm_model.specs.Subtypes.{IsSubtype};
 ghost use Rattle.least_sets.specs.Rules.{IsClosedSet};
 ghost use Rattle.op_model.specs.Supplies.{Given};
 ghost use Rattle.machine_bytecode.specs.Executions.{Errs};
