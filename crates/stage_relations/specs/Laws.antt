@@ -97,7 +97,7 @@ pub record IsStage (x : Subject) (S : Fact → Type 0) (s : Site) (t : Transfer)
   -- After a described method, which keeps the objects in some slots, and gives a result or throws.
   pub answer : (l : LoweredMethod) (n : Node) (c : NodeCall) (kept : List ℕ) (result : Result) (u : Tuple) → HasVariables l n
       → Meets (λ v. Reroots (Answered c result) (Doubles l n (Answered c result)) (IsNewResult c result) u v × PutsAway kept u v
-          × (result ≡ a_new_object s → v.unique ≡ false)) (t.answer l n c kept result (of_object u))
+      × (result ≡ a_new_object s → v.unique ≡ false)) (t.answer l n c kept result (of_object u))
   pub answer_idle : (l : LoweredMethod) (n : Node) (c : NodeCall) (kept : List ℕ) (result : Result) (f : SiteFact) → IsIdle f → result ≢ a_new_object s
       → Contains (t.answer l n c kept result f) f
   pub answer_some : (l : LoweredMethod) (n : Node) (c : NodeCall) (kept : List ℕ) (f : SiteFact) → IsIdle f → Contains (t.answer l n c kept (a_new_object s) f) some_yet

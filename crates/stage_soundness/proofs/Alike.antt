@@ -38,8 +38,15 @@ alike_self p n = record { op = refl; successors = refl; handlers = refl; throws 
 -- the call of the program's entry
 abbrev entry_call : Subject → Method → Op
 entry_call x entry =
-    Call (record { kind = Static; resolved = record { 0 = x.entry }; chosen = Some (record { 0 = x.entry }); name = entry.signature.name;
-        descriptor = entry.signature.descriptor; arguments = []; result = None })
+    Call (record {
+      kind = Static;
+      resolved = record { 0 = x.entry };
+      chosen = Some (record { 0 = x.entry });
+      name = entry.signature.name;
+      descriptor = entry.signature.descriptor;
+      arguments = [];
+      result = None;
+    })
 
 alike_calls : (x : Subject) (n m : Node) → IsStartCall x n → IsStartCall x m → IsAlikeNode x.program n m
 alike_calls x n m first second =
@@ -92,9 +99,11 @@ module _ (x : Subject) (given : Given) (gives : GivenAs) (S : Fact → Type 0) (
       by (of_start no_method are count) =
           let none : method_of f ≡ None = ap (option_map number_as) no_method in
           let first = start_of l (method_of f) none is.method in
-          let second = start_of placed.lowered (method_of f) none placed.is_node.method in
-          (alike_start x n now.node (start_node x gives l.nodes n first.are is.stands) (start_node x gives placed.lowered.nodes now.node second.are
-              placed.is_node.stands) offsets, count ∙ sym first.slots)
+          let second = start_of placed.lowered (method_of f) none placed.is_node.method in (
+            alike_start x n now.node (start_node x gives l.nodes n first.are is.stands) (start_node x gives placed.lowered.nodes now.node second.are
+                placed.is_node.stands) offsets,
+            count ∙ sym first.slots,
+          )
       by (of_method number m in_method is_given nodes count) =
           let some = method_as f number in_method in
           let first = given_of x gives l (method_of f) (number_as number) some is.method in

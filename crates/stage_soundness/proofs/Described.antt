@@ -93,12 +93,12 @@ module _ (x : Subject) (given : Given) (gives : GivenAs) (S : Fact → Type 0) (
       let other : (q : ℕ) (o : Object) → slice_get heap q ≡ Some o → o.site ≡ s → ⊥ = λ q o stands is. not_boot_kind (sym (ap (λ (r : Site). r.kind) is) ∙ boot q o stands) in
       let free : IsTracked s place heap = subst (λ (u : State). IsTracked s place u.world.heap) first.is tracked in
       described_as x given gives S s t E k place state _ first.is (record {
-    entry = none_yet;
-    fact = none_yet;
-    held = k.edges _ _ Instance.start tt;
-    says = (elim (slice_get_cases heap place).1 [ inl (o, less, at, same) ↦ absurd (other place o at (free o at)) | inr (past, none) ↦ past ], record { none = λ some. other some.place some.object some.stands some.of_site });
-    waiting = (refl, refl);
-  })
+        entry = none_yet;
+        fact = none_yet;
+        held = k.edges _ _ Instance.start tt;
+        says = (elim (slice_get_cases heap place).1 [ inl (o, less, at, same) ↦ absurd (other place o at (free o at)) | inr (past, none) ↦ past ], record { none = λ some. other some.place some.object some.stands some.of_site });
+        waiting = (refl, refl);
+      })
 
   pub described_all : VariablesHaveValues x given → (states : List State) → IsNodeExecution x given states → (state : State) → Contains states state → Good state
   described_all share states run state there =

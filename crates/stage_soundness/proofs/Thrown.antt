@@ -118,9 +118,9 @@ module _ (x : Subject) (given : Given) (gives : GivenAs) (S : Fact → Type 0) (
   throws_new_good : (w : World) (f : Frame) (below : List Frame) (class : List ℕ) (after : State) (throws : ThrowsNew x w f below class after)
       (l : LoweredMethod) (n : Node)
       → IsNode x gives (method_of f) l n → n.offset ≡ f.offset → (entry fact : SiteFact) → E (edge (method_of f) entry (before n) fact)
-          → AreEqual l n f.slots → (number : ClassNo)
+      → AreEqual l n f.slots → (number : ClassNo)
       → Contains n.throws number → IsClassNumber x.program number class → ((z : ℕ) → n.op ≡ Throw z → slot_at f.slots z ≡ null_value) → (place : ℕ)
-          → IsTracked s place after.world.heap
+      → IsTracked s place after.world.heap
       → Says s fact place w (of_slots f.slots) → AreWaiting x gives S s t E w place below (method_of f) entry → Described x given gives S s t E k place after
   throws_new_good w f below class after throws l n is at entry fact held equal number there is_class of_null place tracked says waiting =
       let after_is : throws.world ≡ with_object w (made_by f class) = throws.makes.after_is in
@@ -146,7 +146,7 @@ module _ (x : Subject) (given : Given) (gives : GivenAs) (S : Fact → Type 0) (
             };
         waiting = waiting_on x given gives S s t E k place w throws.world below (method_of f) entry
             (λ m e. no_changes S m w.heap throws.world.heap (λ g. subst (λ (y : World). Unchanged w.heap y.heap g) (sym after_is) (push_unchanged w f class
-                g))) waiting;
+            g))) waiting;
       })
 
   pub raises_good : (state after : State) (at : AtNode x given state) → Raises x given state after at → IsKnown x given gives S state → (place : ℕ)
@@ -160,9 +160,9 @@ module _ (x : Subject) (given : Given) (gives : GivenAs) (S : Fact → Type 0) (
       at.frames d in
       throws_new_good state.world f at.below a.class after a.throws p.lowered n p.is_node p.at here.entry here.fact
       (edge_before x given gives S s t E k (method_of f) here.entry here.fact n f.offset p.at here.held) (p.equal (known.alike at.runs f at.below at.frames))
-          a.number a.listed a.is_class
+      a.number a.listed a.is_class
       (λ z op. a.of_null z op (listed_plainly (method_of f) p.lowered n p.is_node z a.number a.class op a.listed a.is_class)) place tracked here.says
-          here.waiting
+      here.waiting
 
   -- ---- an object that a slot holds
 
@@ -194,7 +194,7 @@ module _ (x : Subject) (given : Given) (gives : GivenAs) (S : Fact → Type 0) (
           (contains_first a.value [])
           (slots_here x given gives S k.map k.points k.whole heap f m.method p.lowered n here frames.0) in
           ThrowsClass.held a.value o.holder to.object.site a.is_throw o.slot (among_from (MayHold S o.holder) heap (slot_at f.slots a.value) to.place
-              to.object o.covered to.is to.held)
+          to.object o.covered to.is to.held)
           (fits_at x gives S state.world covers.world (codes "java/lang/Throwable") (slot_at f.slots a.value) a.thrown to.place to.object to.is to.held)
           (covers.world.objects to.place to.object to.held).of_class
 
@@ -270,7 +270,7 @@ module _ (x : Subject) (given : Given) (gives : GivenAs) (S : Fact → Type 0) (
   -- what leaves a method that has no handler for it
   may_throw : (state : State) (at : Throwing state) (now : StandsAt x given at.frame) → Covers x gives S state
       → ((h : NodeHandler) → Contains now.node.handlers h → Takes x.program h at.object.class → ⊥) → (called : MethodNo) → method_of at.frame ≡ Some called
-          → MayThrow S called at.object.class
+      → MayThrow S called at.object.class
   may_throw state at now covers none called is =
       let in_method = method_is at.frame called is in
       let i = inside_of x given gives S k.map k.points k.whole at.frame now called.0 in_method in
@@ -315,7 +315,7 @@ module _ (x : Subject) (given : Given) (gives : GivenAs) (S : Fact → Type 0) (
         let r = raised_says x S s t k.laws place l n handler thrown (t.leave l n w.by called w.sent out) now caller.slots (variables_of x gives k.whole o l n
         w.is_node)
         (waiting_agree S s place now w.by called w.sent caller.slots l n behind w.alike) (enters_slotless o l n called w.fact w.sent w.by w.is_node w.enters)
-            left in
+        left in
         record {
           fact = r.fact;
           held = k.edges _ _ (Instance.unwinds o l n w.own w.fact w.sent out r.fact called w.by class handler spot w.is_node w.enters throws goes r.listed)
@@ -325,7 +325,7 @@ module _ (x : Subject) (given : Given) (gives : GivenAs) (S : Fact → Type 0) (
 
   unwound_good : (state : State) (at : Throwing state) (now : StandsAt x given at.frame) (place : ℕ) → Covers x gives S state
       → ((h : NodeHandler) → Contains now.node.handlers h → Takes x.program h at.object.class → ⊥) → (entry out : SiteFact)
-          → E (edge (method_of at.frame) entry spots.Thrown out)
+      → E (edge (method_of at.frame) entry spots.Thrown out)
       → Says s out place state.world (of_throw at.place) → (below : List Frame) → AreWaiting x gives S s t E state.world place below (method_of at.frame) entry
       → Described x given gives S s t E k place (unwound below state.world at.place)
   unwound_good state at now place covers none entry out held says [] waiting = record {
@@ -403,7 +403,7 @@ module _ (x : Subject) (given : Given) (gives : GivenAs) (S : Fact → Type 0) (
         throws_new_good kept caller rest class after throws l n w.is_node w.at w.own (t.leave l n by_trigger called w.fact out)
         (k.edges _ _ (Instance.resumes o l n w.own w.fact out called spots.Thrown w.is_node triggered.starts tt) (w.held, (out_held, tt)))
         (λ y z same. w.stays y (stays_all y by_is) ∙ w.alike y z same ∙ sym (w.stays z (stays_all z by_is))) number (alike.throws number class listed
-            is_class) is_class
+        is_class) is_class
         (λ z op. absurd (throws_untriggered o l n w.is_node z triggered.starts.trigger op triggered.starts.is_trigger)) place tracked
         (subst (λ (g : SiteFact). Says s g place kept (of_slots caller.slots)) left
         (left_kept_says x S s t k.laws place l n w.by called w.sent now caller.slots (behind_of now place caller called entry w) by_is thrown out says))
@@ -423,7 +423,7 @@ module _ (x : Subject) (given : Given) (gives : GivenAs) (S : Fact → Type 0) (
       subst (λ (fs : List Frame). AreWaiting x gives S s t E state.world place fs (method_of f) h.entry) a.below h.waiting in
       let w = b.first in
       wrapped_good state.world place at.place a.caller a.rest b.called h.entry out.fact w (exit_edge (method_of f) b.called h.entry (t.enter w.by w.sent)
-          out.fact b.is_called w.entered out.held) out.says
+      out.fact b.is_called w.entered out.held) out.says
       after a.caller_at a.number _ a.triggered a.listed a.is_class a.throws tracked b.rest
 
   -- ---- described methods that throw

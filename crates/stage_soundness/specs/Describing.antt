@@ -109,12 +109,12 @@ AreWaiting x gives S s t E now place (f ∷ below) above entry = record {
 
 -- It runs, at an edge whose fact says of the place what holds.
 pub record IsRunning (x : Subject) (gives : GivenAs) (S : Fact → Type 0) (s : Site) (t : Transfer) (E : Edge → Type 0) (now : World) (place : ℕ) (f : Frame) (below : List Frame) : Type 0
-    where
-  pub entry : SiteFact
-  pub fact : SiteFact
-  pub held : E (edge (method_of f) entry (spots.Node f.offset) fact)
-  pub says : Says s fact place now (of_slots f.slots)
-  pub waiting : AreWaiting x gives S s t E now place below (method_of f) entry
+  where
+    pub entry : SiteFact
+    pub fact : SiteFact
+    pub held : E (edge (method_of f) entry (spots.Node f.offset) fact)
+    pub says : Says s fact place now (of_slots f.slots)
+    pub waiting : AreWaiting x gives S s t E now place below (method_of f) entry
 
 -- Where it goes there is such an edge.
 pub record Lands (s : Site) (E : Edge → Type 0) (now : World) (place thrown : ℕ) (f : Frame) (locals : ℕ) (entry : SiteFact) (handler : Option ℕ) (spot : Spot) : Type 0 where

@@ -1,8 +1,5 @@
 //! Laws of path edges and executions.
 
-use machine_laws::node_survival::objects_survive;
-use slot_names::slots_of_one_variable;
-
 ghost use Rattle.std.specs.Prelude.{◌≡◌, ℕ, Bool, List, Contains, IsTrue};
 ghost use Rattle.jvm_model.specs.declared.site.Site.{Site};
 ghost use Rattle.jvm_model.specs.LinkedPrograms.{IsProgram};
@@ -22,6 +19,9 @@ ghost use Rattle.stage_edges.specs.Edges.{IsSafeBelow, StageInstance};
 ghost use Rattle.stage_edges.specs.Rules.{Edge, Instance};
 ghost use Rattle.stage_relations.specs.Laws.{IsStage};
 ghost use Rattle.stage_soundness.specs.Describing.{AreErrorFree, AreThrownPlainly, DescribesAll, DescribesEnds, ErrsOnNodes, IsOwnSite, IsTrackable};
+
+use machine_laws::node_survival::objects_survive;
+use slot_names::slots_of_one_variable;
 
 /// Path edges that are closed under the rules, of a stage with its laws, over closed facts without a refusal, describe every execution on nodes: each
 /// object of the site, and each that is not allocated yet, in each state.
