@@ -22,6 +22,7 @@ use Rattle.lowering_supply.specs.Supplied.{IsSupplied}
 use Rattle.slot_names.specs.Sharing.{AreReachedMethods, VariablesHaveValues}
 use Rattle.points_to_rules.specs.Facts.{Fact}
 use Rattle.points_to_rules.specs.Refusals.{IsUnrefused}
+use Rattle.points_to_rules.specs.Rules.{Instance as PointsToInstance}
 use Rattle.points_to_rules.specs.WholeMethods.{AreWholeMethods}
 use Rattle.points_to_rules.specs.Writes.{AnyInstance}
 use Rattle.coverage.proofs.Refused.{calls_unrefused}
@@ -99,7 +100,7 @@ stages_never_err share survive x facts w E program exceptions entry closed unref
     let S = Contains facts in
     let m = is_map x.program program in
     let run = supplied_runs x m.0 program exceptions entry m.1 in
-    let points = λ premises fact instance hold. closed premises fact (inl instance) hold in
+    let points : IsClosedSet (PointsToInstance x.program gives (number_as x.entry)) S = λ premises fact instance hold. closed premises fact (inl instance) hold in
     let all = executions_covered x m.0 gives S run m.1 (λ number coded. each_answer x.program number program coded) (supplied_whole x.program) points unrefused e.states e.execution in
     edges_never_err share survive x m.0 gives m.1 S w.site (transfer_of w) E program (supplied_whole x.program) (supplied_throw_plainly x.program) closed unrefused
     (record { made = own.made; no_array = plain_name w.site.class own.named; observed = own.observed; no_arrays_there = supplied_make_no_arrays x.program w.site own.named })
