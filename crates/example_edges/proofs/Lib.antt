@@ -1,2 +1,4 @@
 pub mod Finite
 pub mod ReadingNodes
+pub mod ReadingClosed
+pub mod ReadingDerived

@@ -71,7 +71,7 @@ abbrev pub start : MethodNo → ClassNo → LoweredMethod
 start k c = record { method = k; slots = 0; stack = 0; params = 0; nodes = start_call c ∷ ends 1 ∷ [] }
 
 -- It throws nothing.
-nothing_thrown : (class name : List ℕ) → IsThrownAt program [] (Some class) name → ⊥
+pub nothing_thrown : (class name : List ℕ) → IsThrownAt program [] (Some class) name → ⊥
 nothing_thrown class name (raised raise there is) = absurd (contains_none raise there)
 nothing_thrown class name (initialising above is has error) = not_coded above has.number has.initialiser
 

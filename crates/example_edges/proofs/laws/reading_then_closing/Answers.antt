@@ -1,0 +1,5 @@
+use Rattle.example_edges.proofs.ReadingDerived.{are_path_edges}
+use Rattle.example_edges.proofs.laws.reading_then_closing.Goals as goal
+
+pub returns-clause-are : goal.returns-clause-are
+returns-clause-are c = are_path_edges
