@@ -1,5 +1,5 @@
 -- The list of path edges is a derivation: each edge follows from those before it. None stands there twice.
-use Rattle.std.proofs.Common.{codes, ◌≡◌, ◌≢◌, ℕ, ◌+◌, ◌*◌, nat_eq, Bool, true, false, true≢false, List, [], ◌∷◌, ◌++◌, map, Option, Some, None, Ok, refl, sym, ◌∙◌, ap, if◌then◌else◌}
+use Rattle.std.proofs.Common.{codes, ◌≡◌, ◌≢◌, ℕ, ◌+◌, ◌*◌, nat_eq, Bool, true, false, true≢false, List, [], ◌∷◌, map, take, Option, Some, None, Ok, refl, sym, ◌∙◌, ap, if◌then◌else◌}
 use Rattle.std.specs.List.{slice_get, Contains}
 use Rattle.jvm_model.specs.declared.number.ClassNo.{ClassNo}
 use Rattle.jvm_model.specs.declared.number.MethodNo.{MethodNo}
@@ -18,6 +18,7 @@ use Rattle.least_sets.specs.Rules.{Follows, IsDerivation, IsWithoutDoubles}
 use Rattle.points_to_rules.specs.Calls.{IsOfFile}
 use Rattle.stage_facts.specs.Facts.{SiteFact, none_yet, some_yet, of_object}
 use Rattle.stage_transfer.specs.Calls.{by_call}
+use Rattle.stage_transfer.specs.Stages.{Transfer, transfer_of}
 use Rattle.stage_edges.specs.Rules.{Edge, edge, IsMethod, of_file, of_start, IsNode, called, start, goes_on, returns, enters, call_returns}
 use Rattle.stage_edges.specs.Edges.{ArePathEdges, StageInstance}
 use Rattle.least_sets.proofs.Derivations.{All-derivable}
@@ -25,6 +26,9 @@ use Rattle.example_edges.specs.Reading.{branches, calling, calls, close_number, 
 use Rattle.example_edges.proofs.Finite.{EachFollows, apart, goes_on as derivation_goes_on, nothing_derived}
 use Rattle.example_edges.proofs.ReadingNodes.{nothing_thrown, start as start_nodes, start_call}
 use Rattle.example_edges.proofs.ReadingClosed.{closed}
+
+abbrev t : Transfer
+t = transfer_of setting
 
 -- ---- methods and nodes
 
@@ -73,19 +77,19 @@ is_start = of_start (record {
 }) refl refl refl
 
 at_call : IsNode subject gives None the_start the_call
-at_call = record { method = is_start; stands = contains_at _ 0 _ refl }
+at_call = record { method = is_start; stands = contains_at the_start.nodes 0 _ refl }
 
 at_end : IsNode subject gives None the_start (ends 1)
-at_end = record { method = is_start; stands = contains_at _ 1 _ refl }
+at_end = record { method = is_start; stands = contains_at the_start.nodes 1 _ refl }
 
 in_main_at : (k : ℕ) (n : Node) → slice_get main.nodes k ≡ Some n → IsNode subject gives (Some main_number) main n
 in_main_at k n e = record { method = of_file main_number refl; stands = contains_at main.nodes k n e }
 
 in_read : IsNode subject gives (Some read_number) (only_returns read_number) (ends 0)
-in_read = record { method = of_file read_number refl; stands = contains_at _ 0 _ refl }
+in_read = record { method = of_file read_number refl; stands = contains_at (only_returns read_number).nodes 0 _ refl }
 
 in_close : IsNode subject gives (Some close_number) (only_returns close_number) (ends 0)
-in_close = record { method = of_file close_number refl; stands = contains_at _ 0 _ refl }
+in_close = record { method = of_file close_number refl; stands = contains_at (only_returns close_number).nodes 0 _ refl }
 
 abbrev is_call : Op → Bool
 is_call (Assign moves) = false
@@ -115,29 +119,29 @@ branching_is_no_call c is = true≢false (sym (ap is_call is))
 each_follows : EachFollows (StageInstance subject gives known setting) [] edges
 each_follows =
     (record { premises = []; instance = start; hold = tt },
-    (record { premises = _; instance = enters None the_start the_call none_yet none_yet none_yet main_number (by_call entry_call) at_call (called entry_call none_yet refl (contains_at calls 0 _ refl) (main_there) (contains_at _ 0 _ refl)); hold = (contains_at _ 0 _ refl, tt) },
-    (record { premises = _; instance = goes_on (Some main_number) main makes none_yet none_yet some_yet 1 (in_main_at 0 _ refl) making_is_no_call (contains_at _ 0 _ refl) (contains_at _ 0 _ refl); hold = (contains_at _ 1 _ refl, tt) },
-    (record { premises = _; instance = goes_on (Some main_number) main makes none_yet none_yet (only 0) 1 (in_main_at 0 _ refl) making_is_no_call (contains_at _ 0 _ refl) (contains_at _ 1 _ refl); hold = (contains_at _ 1 _ refl, tt) },
-    (record { premises = _; instance = enters (Some main_number) main reads none_yet some_yet some_yet read_number (by_call (calling (codes "read") read_number)) (in_main_at 1 _ refl) (called (calling (codes "read") read_number) some_yet refl (contains_at calls 1 _ refl) (read_there) (contains_at _ 0 _ refl)); hold = (contains_at _ 2 _ refl, tt) },
-    (record { premises = _; instance = enters (Some main_number) main reads none_yet (only 0) (only 0) read_number (by_call (calling (codes "read") read_number)) (in_main_at 1 _ refl) (called (calling (codes "read") read_number) (only 0) refl (contains_at calls 1 _ refl) (read_there) (contains_at _ 0 _ refl)); hold = (contains_at _ 3 _ refl, tt) },
-    (record { premises = _; instance = returns (Some read_number) (only_returns read_number) (ends 0) some_yet some_yet some_yet None in_read refl (contains_at _ 0 _ refl); hold = (contains_at _ 4 _ refl, tt) },
-    (record { premises = _; instance = returns (Some read_number) (only_returns read_number) (ends 0) (only 0) (only 0) (only 0) None in_read refl (contains_at _ 0 _ refl); hold = (contains_at _ 5 _ refl, tt) },
-    (record { premises = _; instance = call_returns (Some main_number) main reads none_yet some_yet some_yet some_yet some_yet read_number (calling (codes "read") read_number) 2 (in_main_at 1 _ refl) (called (calling (codes "read") read_number) some_yet refl (contains_at calls 1 _ refl) (read_there) (contains_at _ 0 _ refl)) (contains_at _ 0 _ refl) (contains_at _ 0 _ refl); hold = (contains_at _ 2 _ refl, (contains_at _ 6 _ refl, tt)) },
-    (record { premises = _; instance = call_returns (Some main_number) main reads none_yet (only 0) (only 0) (only 0) (only 0) read_number (calling (codes "read") read_number) 2 (in_main_at 1 _ refl) (called (calling (codes "read") read_number) (only 0) refl (contains_at calls 1 _ refl) (read_there) (contains_at _ 0 _ refl)) (contains_at _ 0 _ refl) (contains_at _ 0 _ refl); hold = (contains_at _ 3 _ refl, (contains_at _ 7 _ refl, tt)) },
-    (record { premises = _; instance = goes_on (Some main_number) main branches none_yet some_yet some_yet 3 (in_main_at 2 _ refl) branching_is_no_call (contains_at _ 1 _ refl) (contains_at _ 0 _ refl); hold = (contains_at _ 8 _ refl, tt) },
-    (record { premises = _; instance = goes_on (Some main_number) main branches none_yet (only 0) (only 0) 3 (in_main_at 2 _ refl) branching_is_no_call (contains_at _ 1 _ refl) (contains_at _ 0 _ refl); hold = (contains_at _ 9 _ refl, tt) },
-    (record { premises = _; instance = enters (Some main_number) main closes none_yet some_yet some_yet close_number (by_call (calling (codes "close") close_number)) (in_main_at 3 _ refl) (called (calling (codes "close") close_number) some_yet refl (contains_at calls 2 _ refl) (close_there) (contains_at _ 0 _ refl)); hold = (contains_at _ 10 _ refl, tt) },
-    (record { premises = _; instance = enters (Some main_number) main closes none_yet (only 0) (only 1) close_number (by_call (calling (codes "close") close_number)) (in_main_at 3 _ refl) (called (calling (codes "close") close_number) (only 1) refl (contains_at calls 2 _ refl) (close_there) (contains_at _ 0 _ refl)); hold = (contains_at _ 11 _ refl, tt) },
-    (record { premises = _; instance = returns (Some close_number) (only_returns close_number) (ends 0) some_yet some_yet some_yet None in_close refl (contains_at _ 0 _ refl); hold = (contains_at _ 12 _ refl, tt) },
-    (record { premises = _; instance = returns (Some close_number) (only_returns close_number) (ends 0) (only 1) (only 1) (only 1) None in_close refl (contains_at _ 0 _ refl); hold = (contains_at _ 13 _ refl, tt) },
-    (record { premises = _; instance = call_returns (Some main_number) main closes none_yet some_yet some_yet some_yet some_yet close_number (calling (codes "close") close_number) 4 (in_main_at 3 _ refl) (called (calling (codes "close") close_number) some_yet refl (contains_at calls 2 _ refl) (close_there) (contains_at _ 0 _ refl)) (contains_at _ 0 _ refl) (contains_at _ 0 _ refl); hold = (contains_at _ 10 _ refl, (contains_at _ 14 _ refl, tt)) },
-    (record { premises = _; instance = call_returns (Some main_number) main closes none_yet (only 0) (only 1) (only 1) (only 1) close_number (calling (codes "close") close_number) 4 (in_main_at 3 _ refl) (called (calling (codes "close") close_number) (only 1) refl (contains_at calls 2 _ refl) (close_there) (contains_at _ 0 _ refl)) (contains_at _ 0 _ refl) (contains_at _ 0 _ refl); hold = (contains_at _ 11 _ refl, (contains_at _ 15 _ refl, tt)) },
-    (record { premises = _; instance = returns (Some main_number) main (ends 4) none_yet some_yet some_yet None (in_main_at 4 _ refl) refl (contains_at _ 0 _ refl); hold = (contains_at _ 16 _ refl, tt) },
-    (record { premises = _; instance = returns (Some main_number) main (ends 4) none_yet (only 1) (only 1) None (in_main_at 4 _ refl) refl (contains_at _ 0 _ refl); hold = (contains_at _ 17 _ refl, tt) },
-    (record { premises = _; instance = call_returns None the_start the_call none_yet none_yet none_yet some_yet some_yet main_number entry_call 1 at_call (called entry_call none_yet refl (contains_at calls 0 _ refl) (main_there) (contains_at _ 0 _ refl)) (contains_at _ 0 _ refl) (contains_at _ 0 _ refl); hold = (contains_at _ 0 _ refl, (contains_at _ 18 _ refl, tt)) },
-    (record { premises = _; instance = call_returns None the_start the_call none_yet none_yet none_yet (only 1) (only 1) main_number entry_call 1 at_call (called entry_call none_yet refl (contains_at calls 0 _ refl) (main_there) (contains_at _ 0 _ refl)) (contains_at _ 0 _ refl) (contains_at _ 0 _ refl); hold = (contains_at _ 0 _ refl, (contains_at _ 19 _ refl, tt)) },
-    (record { premises = _; instance = returns None the_start (ends 1) none_yet some_yet some_yet None at_end refl (contains_at _ 0 _ refl); hold = (contains_at _ 20 _ refl, tt) },
-    (record { premises = _; instance = returns None the_start (ends 1) none_yet (only 1) (only 1) None at_end refl (contains_at _ 0 _ refl); hold = (contains_at _ 21 _ refl, tt) },
+    (record { premises = _; instance = enters None the_start the_call none_yet none_yet none_yet main_number (by_call entry_call) at_call (called entry_call none_yet refl (contains_at calls 0 _ refl) (main_there) (contains_at (t.event the_start the_call entry_call none_yet) 0 _ refl)); hold = (contains_at (take 1 edges) 0 _ refl, tt) },
+    (record { premises = _; instance = goes_on (Some main_number) main makes none_yet none_yet some_yet 1 (in_main_at 0 _ refl) making_is_no_call (contains_at makes.successors 0 _ refl) (contains_at (t.next main makes none_yet) 0 _ refl); hold = (contains_at (take 2 edges) 1 _ refl, tt) },
+    (record { premises = _; instance = goes_on (Some main_number) main makes none_yet none_yet (only 0) 1 (in_main_at 0 _ refl) making_is_no_call (contains_at makes.successors 0 _ refl) (contains_at (t.next main makes none_yet) 1 _ refl); hold = (contains_at (take 3 edges) 1 _ refl, tt) },
+    (record { premises = _; instance = enters (Some main_number) main reads none_yet some_yet some_yet read_number (by_call (calling (codes "read") read_number)) (in_main_at 1 _ refl) (called (calling (codes "read") read_number) some_yet refl (contains_at calls 1 _ refl) (read_there) (contains_at (t.event main reads (calling (codes "read") read_number) some_yet) 0 _ refl)); hold = (contains_at (take 4 edges) 2 _ refl, tt) },
+    (record { premises = _; instance = enters (Some main_number) main reads none_yet (only 0) (only 0) read_number (by_call (calling (codes "read") read_number)) (in_main_at 1 _ refl) (called (calling (codes "read") read_number) (only 0) refl (contains_at calls 1 _ refl) (read_there) (contains_at (t.event main reads (calling (codes "read") read_number) (only 0)) 0 _ refl)); hold = (contains_at (take 5 edges) 3 _ refl, tt) },
+    (record { premises = _; instance = returns (Some read_number) (only_returns read_number) (ends 0) some_yet some_yet some_yet None in_read refl (contains_at (t.next (only_returns read_number) (ends 0) some_yet) 0 _ refl); hold = (contains_at (take 6 edges) 4 _ refl, tt) },
+    (record { premises = _; instance = returns (Some read_number) (only_returns read_number) (ends 0) (only 0) (only 0) (only 0) None in_read refl (contains_at (t.next (only_returns read_number) (ends 0) (only 0)) 0 _ refl); hold = (contains_at (take 7 edges) 5 _ refl, tt) },
+    (record { premises = _; instance = call_returns (Some main_number) main reads none_yet some_yet some_yet some_yet some_yet read_number (calling (codes "read") read_number) 2 (in_main_at 1 _ refl) (called (calling (codes "read") read_number) some_yet refl (contains_at calls 1 _ refl) (read_there) (contains_at (t.event main reads (calling (codes "read") read_number) some_yet) 0 _ refl)) (contains_at reads.successors 0 _ refl) (contains_at (t.next main reads (t.leave main reads (by_call (calling (codes "read") read_number)) read_number some_yet some_yet)) 0 _ refl); hold = (contains_at (take 8 edges) 2 _ refl, (contains_at (take 8 edges) 6 _ refl, tt)) },
+    (record { premises = _; instance = call_returns (Some main_number) main reads none_yet (only 0) (only 0) (only 0) (only 0) read_number (calling (codes "read") read_number) 2 (in_main_at 1 _ refl) (called (calling (codes "read") read_number) (only 0) refl (contains_at calls 1 _ refl) (read_there) (contains_at (t.event main reads (calling (codes "read") read_number) (only 0)) 0 _ refl)) (contains_at reads.successors 0 _ refl) (contains_at (t.next main reads (t.leave main reads (by_call (calling (codes "read") read_number)) read_number (only 0) (only 0))) 0 _ refl); hold = (contains_at (take 9 edges) 3 _ refl, (contains_at (take 9 edges) 7 _ refl, tt)) },
+    (record { premises = _; instance = goes_on (Some main_number) main branches none_yet some_yet some_yet 3 (in_main_at 2 _ refl) branching_is_no_call (contains_at branches.successors 1 _ refl) (contains_at (t.next main branches some_yet) 0 _ refl); hold = (contains_at (take 10 edges) 8 _ refl, tt) },
+    (record { premises = _; instance = goes_on (Some main_number) main branches none_yet (only 0) (only 0) 3 (in_main_at 2 _ refl) branching_is_no_call (contains_at branches.successors 1 _ refl) (contains_at (t.next main branches (only 0)) 0 _ refl); hold = (contains_at (take 11 edges) 9 _ refl, tt) },
+    (record { premises = _; instance = enters (Some main_number) main closes none_yet some_yet some_yet close_number (by_call (calling (codes "close") close_number)) (in_main_at 3 _ refl) (called (calling (codes "close") close_number) some_yet refl (contains_at calls 2 _ refl) (close_there) (contains_at (t.event main closes (calling (codes "close") close_number) some_yet) 0 _ refl)); hold = (contains_at (take 12 edges) 10 _ refl, tt) },
+    (record { premises = _; instance = enters (Some main_number) main closes none_yet (only 0) (only 1) close_number (by_call (calling (codes "close") close_number)) (in_main_at 3 _ refl) (called (calling (codes "close") close_number) (only 1) refl (contains_at calls 2 _ refl) (close_there) (contains_at (t.event main closes (calling (codes "close") close_number) (only 0)) 0 _ refl)); hold = (contains_at (take 13 edges) 11 _ refl, tt) },
+    (record { premises = _; instance = returns (Some close_number) (only_returns close_number) (ends 0) some_yet some_yet some_yet None in_close refl (contains_at (t.next (only_returns close_number) (ends 0) some_yet) 0 _ refl); hold = (contains_at (take 14 edges) 12 _ refl, tt) },
+    (record { premises = _; instance = returns (Some close_number) (only_returns close_number) (ends 0) (only 1) (only 1) (only 1) None in_close refl (contains_at (t.next (only_returns close_number) (ends 0) (only 1)) 0 _ refl); hold = (contains_at (take 15 edges) 13 _ refl, tt) },
+    (record { premises = _; instance = call_returns (Some main_number) main closes none_yet some_yet some_yet some_yet some_yet close_number (calling (codes "close") close_number) 4 (in_main_at 3 _ refl) (called (calling (codes "close") close_number) some_yet refl (contains_at calls 2 _ refl) (close_there) (contains_at (t.event main closes (calling (codes "close") close_number) some_yet) 0 _ refl)) (contains_at closes.successors 0 _ refl) (contains_at (t.next main closes (t.leave main closes (by_call (calling (codes "close") close_number)) close_number some_yet some_yet)) 0 _ refl); hold = (contains_at (take 16 edges) 10 _ refl, (contains_at (take 16 edges) 14 _ refl, tt)) },
+    (record { premises = _; instance = call_returns (Some main_number) main closes none_yet (only 0) (only 1) (only 1) (only 1) close_number (calling (codes "close") close_number) 4 (in_main_at 3 _ refl) (called (calling (codes "close") close_number) (only 1) refl (contains_at calls 2 _ refl) (close_there) (contains_at (t.event main closes (calling (codes "close") close_number) (only 0)) 0 _ refl)) (contains_at closes.successors 0 _ refl) (contains_at (t.next main closes (t.leave main closes (by_call (calling (codes "close") close_number)) close_number (only 1) (only 1))) 0 _ refl); hold = (contains_at (take 17 edges) 11 _ refl, (contains_at (take 17 edges) 15 _ refl, tt)) },
+    (record { premises = _; instance = returns (Some main_number) main (ends 4) none_yet some_yet some_yet None (in_main_at 4 _ refl) refl (contains_at (t.next main (ends 4) some_yet) 0 _ refl); hold = (contains_at (take 18 edges) 16 _ refl, tt) },
+    (record { premises = _; instance = returns (Some main_number) main (ends 4) none_yet (only 1) (only 1) None (in_main_at 4 _ refl) refl (contains_at (t.next main (ends 4) (only 1)) 0 _ refl); hold = (contains_at (take 19 edges) 17 _ refl, tt) },
+    (record { premises = _; instance = call_returns None the_start the_call none_yet none_yet none_yet some_yet some_yet main_number entry_call 1 at_call (called entry_call none_yet refl (contains_at calls 0 _ refl) (main_there) (contains_at (t.event the_start the_call entry_call none_yet) 0 _ refl)) (contains_at the_call.successors 0 _ refl) (contains_at (t.next the_start the_call (t.leave the_start the_call (by_call entry_call) main_number none_yet some_yet)) 0 _ refl); hold = (contains_at (take 20 edges) 0 _ refl, (contains_at (take 20 edges) 18 _ refl, tt)) },
+    (record { premises = _; instance = call_returns None the_start the_call none_yet none_yet none_yet (only 1) (only 1) main_number entry_call 1 at_call (called entry_call none_yet refl (contains_at calls 0 _ refl) (main_there) (contains_at (t.event the_start the_call entry_call none_yet) 0 _ refl)) (contains_at the_call.successors 0 _ refl) (contains_at (t.next the_start the_call (t.leave the_start the_call (by_call entry_call) main_number none_yet (only 1))) 0 _ refl); hold = (contains_at (take 21 edges) 0 _ refl, (contains_at (take 21 edges) 19 _ refl, tt)) },
+    (record { premises = _; instance = returns None the_start (ends 1) none_yet some_yet some_yet None at_end refl (contains_at (t.next the_start (ends 1) some_yet) 0 _ refl); hold = (contains_at (take 22 edges) 20 _ refl, tt) },
+    (record { premises = _; instance = returns None the_start (ends 1) none_yet (only 1) (only 1) None at_end refl (contains_at (t.next the_start (ends 1) (only 1)) 0 _ refl); hold = (contains_at (take 23 edges) 21 _ refl, tt) },
     tt))))))))))))))))))))))))
 
 derived : IsDerivation (StageInstance subject gives known setting) edges
