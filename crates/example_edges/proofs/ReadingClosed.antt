@@ -1,5 +1,5 @@
 -- The list of path edges is closed under each rule: node by node, each edge leads to edges of the list alone.
-use Rattle.std.proofs.Common.{codes, ◌≡◌, ◌≢◌, ℕ, Bool, true, false, ◌&&◌, nat_eq, eq-eqb, List, [], ◌∷◌, filter, Option, Some, None, refl, sym, ◌∙◌, ap, subst}
+use Rattle.std.proofs.Common.{◌≡◌, ◌≢◌, ℕ, Bool, true, false, ◌&&◌, nat_eq, eq-eqb, List, filter, Option, Some, None, refl, subst}
 use Rattle.std.specs.List.{slice_get, AllByRecursion, Contains}
 use Rattle.jvm_model.specs.declared.number.ClassNo.{ClassNo}
 use Rattle.jvm_model.specs.declared.number.MethodNo.{MethodNo}
@@ -16,11 +16,11 @@ use Rattle.list_laws.proofs.Places.{contains_at}
 use Rattle.least_sets.specs.Rules.{IsClosed}
 use Rattle.points_to_rules.specs.Facts.{Fact, may_hold, may_run, may_call, may_write}
 use Rattle.stage_facts.specs.Facts.{SiteFact, none_yet, some_yet, of_object}
-use Rattle.stage_transfer.specs.Calls.{Entering, by_call, by_trigger}
+use Rattle.stage_transfer.specs.Calls.{Entering, by_call}
 use Rattle.stage_transfer.specs.Stages.{Transfer, transfer_of}
 use Rattle.stage_edges.specs.Rules.{Edge, edge, Enters, called, triggered, start, goes_on, returns, raises, answers, described_raises, enters, call_returns, resumes, unwinds, IsNode, node_at, before, ThrowsClass, listed, held}
 use Rattle.stage_edges.specs.Edges.{StageInstance}
-use Rattle.example_edges.specs.Reading.{calls, closes, edges, gives, known, main, main_number, reads, setting, subject}
+use Rattle.example_edges.specs.Reading.{calls, closes, copies_again, edges, first_copies, gives, known, main, main_number, makes, reads, setting, subject}
 use Rattle.example_edges.proofs.Finite.{found}
 use Rattle.example_edges.proofs.ReadingNodes.{at_node, Everywhere, describes_nothing, holds_nothing, start as start_nodes, start_call, starts_nothing, throws_nothing}
 
@@ -161,18 +161,21 @@ AtReturn P (Probe z) = Unit {0}
 abbrev GoesOn : Option MethodNo → LoweredMethod → Node → Type 0
 GoesOn m l n = ((c : NodeCall) → n.op ≢ Call c) → AtPlace m (before n) (λ d. AreAfter m d.entry n.successors (t.next l n d.fact))
 
+makes_goes_on : GoesOn (Some main_number) main makes
+makes_goes_on = λ no_call. (((at 2 _ refl, (at 3 _ refl, tt)), tt), tt)
+
+first_goes_on : GoesOn (Some main_number) main first_copies
+first_goes_on = λ no_call. (((at 4 _ refl, tt), tt), (((at 5 _ refl, tt), tt), tt))
+
+again_goes_on : GoesOn (Some main_number) main copies_again
+again_goes_on = λ no_call. (((at 4 _ refl, tt), ((at 12 _ refl, tt), tt)), (((at 5 _ refl, tt), ((at 13 _ refl, tt), tt)), tt))
+
 nodes_go_on : Everywhere GoesOn
 nodes_go_on = record {
-  of_start = λ k c. ((λ no_call. absurd (no_call _ refl)), ((λ no_call. (tt, (tt, tt))), tt));
-  of_main = (
-    (λ no_call. (((at 2 _ refl, (at 3 _ refl, tt)), tt), tt)),
-    ((λ no_call. absurd (no_call _ refl)),
-    ((λ no_call. (((at 2 _ refl, tt), ((at 10 _ refl, tt), tt)), (((at 3 _ refl, tt), ((at 11 _ refl, tt), tt)), tt))),
-    ((λ no_call. absurd (no_call _ refl)),
-    ((λ no_call. (tt, (tt, tt))),
-    tt)))));
-  of_read = ((λ no_call. (tt, (tt, tt))), tt);
-  of_close = ((λ no_call. (tt, (tt, tt))), tt);
+  of_start = λ k c. (λ no_call. absurd (no_call _ refl), (λ no_call. (tt, (tt, tt)), tt));
+  of_main = (makes_goes_on, (first_goes_on, (λ no_call. absurd (no_call _ refl), (again_goes_on, (λ no_call. absurd (no_call _ refl), (λ no_call. (tt, (tt, tt)), tt))))));
+  of_read = (λ no_call. (tt, (tt, tt)), tt);
+  of_close = (λ no_call. (tt, (tt, tt)), tt);
 }
 
 -- A return leads to edges of the list.
@@ -181,10 +184,10 @@ Returns m l n = AtReturn (AtPlace m (before n) (λ d. Are m d.entry spots.Return
 
 nodes_return : Everywhere Returns
 nodes_return = record {
-  of_start = λ k c. (tt, (((at 22 _ refl, tt), ((at 23 _ refl, tt), tt)), tt));
-  of_main = (tt, (tt, (tt, (tt, (((at 18 _ refl, tt), ((at 19 _ refl, tt), tt)), tt)))));
-  of_read = (((at 6 _ refl, tt), ((at 7 _ refl, tt), tt)), tt);
-  of_close = (((at 14 _ refl, tt), ((at 15 _ refl, tt), tt)), tt);
+  of_start = λ k c. (tt, (((at 24 _ refl, tt), ((at 25 _ refl, tt), tt)), tt));
+  of_main = (tt, (tt, (tt, (tt, (tt, (((at 20 _ refl, tt), ((at 21 _ refl, tt), tt)), tt))))));
+  of_read = (((at 8 _ refl, tt), ((at 9 _ refl, tt), tt)), tt);
+  of_close = (((at 16 _ refl, tt), ((at 17 _ refl, tt), tt)), tt);
 }
 
 -- ---- calls
@@ -217,18 +220,18 @@ Sends m l n = AtCall (λ c. AtPlace m (before n) (λ d. AtTargets (node_at m n) 
     AllByRecursion (λ (sent : SiteFact). IsSent m l n c d.entry target sent) (t.event l n c d.fact)))) n.op
 
 start_sends : (k : MethodNo) (c : ClassNo) → Sends None (start_nodes k c) (start_call c)
-start_sends k c = ((((at 1 _ refl, (((at 20 _ refl, tt), tt), (((at 21 _ refl, tt), tt), tt))), tt), tt), tt)
+start_sends k c = ((((at 1 _ refl, (((at 22 _ refl, tt), tt), (((at 23 _ refl, tt), tt), tt))), tt), tt), tt)
 
 read_is_sent : Sends (Some main_number) main reads
-read_is_sent = ((((at 4 _ refl, (((at 8 _ refl, tt), tt), tt)), tt), tt), ((((at 5 _ refl, (((at 9 _ refl, tt), tt), tt)), tt), tt), tt))
+read_is_sent = ((((at 6 _ refl, (((at 10 _ refl, tt), tt), tt)), tt), tt), ((((at 7 _ refl, (((at 11 _ refl, tt), tt), tt)), tt), tt), tt))
 
 close_is_sent : Sends (Some main_number) main closes
-close_is_sent = ((((at 12 _ refl, (((at 16 _ refl, tt), tt), tt)), tt), tt), ((((at 13 _ refl, (((at 17 _ refl, tt), tt), tt)), tt), tt), tt))
+close_is_sent = ((((at 14 _ refl, (((at 18 _ refl, tt), tt), tt)), tt), tt), ((((at 15 _ refl, (((at 19 _ refl, tt), tt), tt)), tt), tt), tt))
 
 nodes_send : Everywhere Sends
 nodes_send = record {
   of_start = λ k c. (start_sends k c, (tt, tt));
-  of_main = (tt, (read_is_sent, (tt, (close_is_sent, (tt, tt)))));
+  of_main = (tt, (tt, (read_is_sent, (tt, (close_is_sent, (tt, tt))))));
   of_read = (tt, tt);
   of_close = (tt, tt);
 }
@@ -241,9 +244,9 @@ entered : (m : Option MethodNo) (l : LoweredMethod) (n : Node) (e f sent : SiteF
     → IsSent m l n c e target sent
 entered m l n e f sent c target node is there call event =
     let at_edges = subst (AtCall (λ (k : NodeCall). AtPlace m (before n) (λ (d : Edge). AtTargets (node_at m n) (λ (g : MethodNo).
-        AllByRecursion (λ (s : SiteFact). IsSent m l n k d.entry g s) (t.event l n k d.fact))))) is (at_node Sends nodes_send m l n node) in
+    AllByRecursion (λ (s : SiteFact). IsSent m l n k d.entry g s) (t.event l n k d.fact))))) is (at_node Sends nodes_send m l n node) in
     let at_targets = at_place m (before n) (λ (d : Edge). AtTargets (node_at m n) (λ (g : MethodNo).
-        AllByRecursion (λ (s : SiteFact). IsSent m l n c d.entry g s) (t.event l n c d.fact))) at_edges e f there in
+    AllByRecursion (λ (s : SiteFact). IsSent m l n c d.entry g s) (t.event l n c d.fact))) at_edges e f there in
     let at_facts = at_target (node_at m n) (λ (g : MethodNo). AllByRecursion (λ (s : SiteFact). IsSent m l n c e g s) (t.event l n c f)) at_targets target call in
     each_contained (λ (s : SiteFact). IsSent m l n c e target s) (t.event l n c f) sent at_facts event
 
@@ -255,7 +258,7 @@ left m l n e sent out g c target offset is there leads after =
     let entry = t.enter (by_call c) sent in
     let passes = both _ _ (stands_itself (Some target) spots.Returned) (kind_itself entry) in
     let all = found (λ (d : Edge). AreAfter m e n.successors (t.next l n (t.leave l n (by_call c) target sent d.fact))) (leaves_at target entry) edges
-        (edge (Some target) entry spots.Returned out) passes is.1 there in
+    (edge (Some target) entry spots.Returned out) passes is.1 there in
     are_after m e n.successors _ all offset leads g after
 
 -- A call enters by its event, and no initialiser is entered.

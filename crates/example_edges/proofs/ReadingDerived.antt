@@ -1,5 +1,5 @@
 -- The list of path edges is a derivation: each edge follows from those before it. None stands there twice.
-use Rattle.std.proofs.Common.{codes, ◌≡◌, ◌≢◌, ℕ, ◌+◌, ◌*◌, nat_eq, Bool, true, false, true≢false, List, [], ◌∷◌, map, take, Option, Some, None, Ok, refl, sym, ◌∙◌, ap, if◌then◌else◌}
+use Rattle.std.proofs.Common.{codes, ◌≡◌, ◌≢◌, ℕ, ◌+◌, ◌*◌, nat_eq, Bool, true, false, true≢false, List, [], ◌∷◌, map, take, Option, Some, None, refl, sym, ap, if◌then◌else◌}
 use Rattle.std.specs.List.{slice_get, Contains}
 use Rattle.jvm_model.specs.declared.number.ClassNo.{ClassNo}
 use Rattle.jvm_model.specs.declared.number.MethodNo.{MethodNo}
@@ -12,17 +12,17 @@ use Rattle.op_model.specs.declared.op.CallKind.TheVariants.{Static}
 use Rattle.op_model.specs.declared.op.Op.{Op}
 use Rattle.op_model.specs.declared.op.Op.TheVariants.{Assign, Load, Store, LoadElement, StoreElement, LoadStatic, StoreStatic, New, NewArray, Constant, Call, Return, Throw, Cast, Probe}
 use Rattle.machine_nodes.specs.Nodes.{AreThrownAt}
-use Rattle.list_laws.proofs.Members.{contains_none}
+use Rattle.list_laws.proofs.Members.{contains_none, each_contained}
 use Rattle.list_laws.proofs.Places.{contains_at}
-use Rattle.least_sets.specs.Rules.{Follows, IsDerivation, IsWithoutDoubles}
+use Rattle.least_sets.specs.Rules.{IsDerivation, IsWithoutDoubles}
 use Rattle.points_to_rules.specs.Calls.{IsOfFile}
 use Rattle.stage_facts.specs.Facts.{SiteFact, none_yet, some_yet, of_object}
 use Rattle.stage_transfer.specs.Calls.{by_call}
 use Rattle.stage_transfer.specs.Stages.{Transfer, transfer_of}
-use Rattle.stage_edges.specs.Rules.{Edge, edge, IsMethod, of_file, of_start, IsNode, called, start, goes_on, returns, enters, call_returns}
-use Rattle.stage_edges.specs.Edges.{ArePathEdges, StageInstance}
+use Rattle.stage_edges.specs.Rules.{Edge, IsMethod, of_file, of_start, IsNode, called, start, goes_on, returns, enters, call_returns}
+use Rattle.stage_edges.specs.Edges.{ArePathEdges, IsError, StageInstance}
 use Rattle.least_sets.proofs.Derivations.{All-derivable}
-use Rattle.example_edges.specs.Reading.{branches, calling, calls, close_number, closes, edges, ends, gives, known, main, main_number, makes, member, file, method, only, only_returns, program, read_number, reads, setting, subject}
+use Rattle.example_edges.specs.Reading.{calling, calls, close_number, closes, copies_again, edges, ends, first_copies, gives, known, main, main_number, makes, member, file, method, only, only_returns, program, property, read_number, reads, setting, subject}
 use Rattle.example_edges.proofs.Finite.{EachFollows, apart, goes_on as derivation_goes_on, nothing_derived}
 use Rattle.example_edges.proofs.ReadingNodes.{nothing_thrown, start as start_nodes, start_call}
 use Rattle.example_edges.proofs.ReadingClosed.{closed}
@@ -111,38 +111,91 @@ is_call (Probe z) = false
 making_is_no_call : (c : NodeCall) → makes.op ≢ Call c
 making_is_no_call c is = true≢false (sym (ap is_call is))
 
-branching_is_no_call : (c : NodeCall) → branches.op ≢ Call c
-branching_is_no_call c is = true≢false (sym (ap is_call is))
+copying_is_no_call : (c : NodeCall) → first_copies.op ≢ Call c
+copying_is_no_call c is = true≢false (sym (ap is_call is))
 
 -- ---- the derivation
 
 each_follows : EachFollows (StageInstance subject gives known setting) [] edges
-each_follows =
-    (record { premises = []; instance = start; hold = tt },
-    (record { premises = _; instance = enters None the_start the_call none_yet none_yet none_yet main_number (by_call entry_call) at_call (called entry_call none_yet refl (contains_at calls 0 _ refl) (main_there) (contains_at (t.event the_start the_call entry_call none_yet) 0 _ refl)); hold = (contains_at (take 1 edges) 0 _ refl, tt) },
-    (record { premises = _; instance = goes_on (Some main_number) main makes none_yet none_yet some_yet 1 (in_main_at 0 _ refl) making_is_no_call (contains_at makes.successors 0 _ refl) (contains_at (t.next main makes none_yet) 0 _ refl); hold = (contains_at (take 2 edges) 1 _ refl, tt) },
-    (record { premises = _; instance = goes_on (Some main_number) main makes none_yet none_yet (only 0) 1 (in_main_at 0 _ refl) making_is_no_call (contains_at makes.successors 0 _ refl) (contains_at (t.next main makes none_yet) 1 _ refl); hold = (contains_at (take 3 edges) 1 _ refl, tt) },
-    (record { premises = _; instance = enters (Some main_number) main reads none_yet some_yet some_yet read_number (by_call (calling (codes "read") read_number)) (in_main_at 1 _ refl) (called (calling (codes "read") read_number) some_yet refl (contains_at calls 1 _ refl) (read_there) (contains_at (t.event main reads (calling (codes "read") read_number) some_yet) 0 _ refl)); hold = (contains_at (take 4 edges) 2 _ refl, tt) },
-    (record { premises = _; instance = enters (Some main_number) main reads none_yet (only 0) (only 0) read_number (by_call (calling (codes "read") read_number)) (in_main_at 1 _ refl) (called (calling (codes "read") read_number) (only 0) refl (contains_at calls 1 _ refl) (read_there) (contains_at (t.event main reads (calling (codes "read") read_number) (only 0)) 0 _ refl)); hold = (contains_at (take 5 edges) 3 _ refl, tt) },
-    (record { premises = _; instance = returns (Some read_number) (only_returns read_number) (ends 0) some_yet some_yet some_yet None in_read refl (contains_at (t.next (only_returns read_number) (ends 0) some_yet) 0 _ refl); hold = (contains_at (take 6 edges) 4 _ refl, tt) },
-    (record { premises = _; instance = returns (Some read_number) (only_returns read_number) (ends 0) (only 0) (only 0) (only 0) None in_read refl (contains_at (t.next (only_returns read_number) (ends 0) (only 0)) 0 _ refl); hold = (contains_at (take 7 edges) 5 _ refl, tt) },
-    (record { premises = _; instance = call_returns (Some main_number) main reads none_yet some_yet some_yet some_yet some_yet read_number (calling (codes "read") read_number) 2 (in_main_at 1 _ refl) (called (calling (codes "read") read_number) some_yet refl (contains_at calls 1 _ refl) (read_there) (contains_at (t.event main reads (calling (codes "read") read_number) some_yet) 0 _ refl)) (contains_at reads.successors 0 _ refl) (contains_at (t.next main reads (t.leave main reads (by_call (calling (codes "read") read_number)) read_number some_yet some_yet)) 0 _ refl); hold = (contains_at (take 8 edges) 2 _ refl, (contains_at (take 8 edges) 6 _ refl, tt)) },
-    (record { premises = _; instance = call_returns (Some main_number) main reads none_yet (only 0) (only 0) (only 0) (only 0) read_number (calling (codes "read") read_number) 2 (in_main_at 1 _ refl) (called (calling (codes "read") read_number) (only 0) refl (contains_at calls 1 _ refl) (read_there) (contains_at (t.event main reads (calling (codes "read") read_number) (only 0)) 0 _ refl)) (contains_at reads.successors 0 _ refl) (contains_at (t.next main reads (t.leave main reads (by_call (calling (codes "read") read_number)) read_number (only 0) (only 0))) 0 _ refl); hold = (contains_at (take 9 edges) 3 _ refl, (contains_at (take 9 edges) 7 _ refl, tt)) },
-    (record { premises = _; instance = goes_on (Some main_number) main branches none_yet some_yet some_yet 3 (in_main_at 2 _ refl) branching_is_no_call (contains_at branches.successors 1 _ refl) (contains_at (t.next main branches some_yet) 0 _ refl); hold = (contains_at (take 10 edges) 8 _ refl, tt) },
-    (record { premises = _; instance = goes_on (Some main_number) main branches none_yet (only 0) (only 0) 3 (in_main_at 2 _ refl) branching_is_no_call (contains_at branches.successors 1 _ refl) (contains_at (t.next main branches (only 0)) 0 _ refl); hold = (contains_at (take 11 edges) 9 _ refl, tt) },
-    (record { premises = _; instance = enters (Some main_number) main closes none_yet some_yet some_yet close_number (by_call (calling (codes "close") close_number)) (in_main_at 3 _ refl) (called (calling (codes "close") close_number) some_yet refl (contains_at calls 2 _ refl) (close_there) (contains_at (t.event main closes (calling (codes "close") close_number) some_yet) 0 _ refl)); hold = (contains_at (take 12 edges) 10 _ refl, tt) },
-    (record { premises = _; instance = enters (Some main_number) main closes none_yet (only 0) (only 1) close_number (by_call (calling (codes "close") close_number)) (in_main_at 3 _ refl) (called (calling (codes "close") close_number) (only 1) refl (contains_at calls 2 _ refl) (close_there) (contains_at (t.event main closes (calling (codes "close") close_number) (only 0)) 0 _ refl)); hold = (contains_at (take 13 edges) 11 _ refl, tt) },
-    (record { premises = _; instance = returns (Some close_number) (only_returns close_number) (ends 0) some_yet some_yet some_yet None in_close refl (contains_at (t.next (only_returns close_number) (ends 0) some_yet) 0 _ refl); hold = (contains_at (take 14 edges) 12 _ refl, tt) },
-    (record { premises = _; instance = returns (Some close_number) (only_returns close_number) (ends 0) (only 1) (only 1) (only 1) None in_close refl (contains_at (t.next (only_returns close_number) (ends 0) (only 1)) 0 _ refl); hold = (contains_at (take 15 edges) 13 _ refl, tt) },
-    (record { premises = _; instance = call_returns (Some main_number) main closes none_yet some_yet some_yet some_yet some_yet close_number (calling (codes "close") close_number) 4 (in_main_at 3 _ refl) (called (calling (codes "close") close_number) some_yet refl (contains_at calls 2 _ refl) (close_there) (contains_at (t.event main closes (calling (codes "close") close_number) some_yet) 0 _ refl)) (contains_at closes.successors 0 _ refl) (contains_at (t.next main closes (t.leave main closes (by_call (calling (codes "close") close_number)) close_number some_yet some_yet)) 0 _ refl); hold = (contains_at (take 16 edges) 10 _ refl, (contains_at (take 16 edges) 14 _ refl, tt)) },
-    (record { premises = _; instance = call_returns (Some main_number) main closes none_yet (only 0) (only 1) (only 1) (only 1) close_number (calling (codes "close") close_number) 4 (in_main_at 3 _ refl) (called (calling (codes "close") close_number) (only 1) refl (contains_at calls 2 _ refl) (close_there) (contains_at (t.event main closes (calling (codes "close") close_number) (only 0)) 0 _ refl)) (contains_at closes.successors 0 _ refl) (contains_at (t.next main closes (t.leave main closes (by_call (calling (codes "close") close_number)) close_number (only 1) (only 1))) 0 _ refl); hold = (contains_at (take 17 edges) 11 _ refl, (contains_at (take 17 edges) 15 _ refl, tt)) },
-    (record { premises = _; instance = returns (Some main_number) main (ends 4) none_yet some_yet some_yet None (in_main_at 4 _ refl) refl (contains_at (t.next main (ends 4) some_yet) 0 _ refl); hold = (contains_at (take 18 edges) 16 _ refl, tt) },
-    (record { premises = _; instance = returns (Some main_number) main (ends 4) none_yet (only 1) (only 1) None (in_main_at 4 _ refl) refl (contains_at (t.next main (ends 4) (only 1)) 0 _ refl); hold = (contains_at (take 19 edges) 17 _ refl, tt) },
-    (record { premises = _; instance = call_returns None the_start the_call none_yet none_yet none_yet some_yet some_yet main_number entry_call 1 at_call (called entry_call none_yet refl (contains_at calls 0 _ refl) (main_there) (contains_at (t.event the_start the_call entry_call none_yet) 0 _ refl)) (contains_at the_call.successors 0 _ refl) (contains_at (t.next the_start the_call (t.leave the_start the_call (by_call entry_call) main_number none_yet some_yet)) 0 _ refl); hold = (contains_at (take 20 edges) 0 _ refl, (contains_at (take 20 edges) 18 _ refl, tt)) },
-    (record { premises = _; instance = call_returns None the_start the_call none_yet none_yet none_yet (only 1) (only 1) main_number entry_call 1 at_call (called entry_call none_yet refl (contains_at calls 0 _ refl) (main_there) (contains_at (t.event the_start the_call entry_call none_yet) 0 _ refl)) (contains_at the_call.successors 0 _ refl) (contains_at (t.next the_start the_call (t.leave the_start the_call (by_call entry_call) main_number none_yet (only 1))) 0 _ refl); hold = (contains_at (take 21 edges) 0 _ refl, (contains_at (take 21 edges) 19 _ refl, tt)) },
-    (record { premises = _; instance = returns None the_start (ends 1) none_yet some_yet some_yet None at_end refl (contains_at (t.next the_start (ends 1) some_yet) 0 _ refl); hold = (contains_at (take 22 edges) 20 _ refl, tt) },
-    (record { premises = _; instance = returns None the_start (ends 1) none_yet (only 1) (only 1) None at_end refl (contains_at (t.next the_start (ends 1) (only 1)) 0 _ refl); hold = (contains_at (take 23 edges) 21 _ refl, tt) },
-    tt))))))))))))))))))))))))
+each_follows = (
+  record { premises = []; instance = start; hold = tt },
+  (
+    record { premises = _; instance = enters None the_start the_call none_yet none_yet none_yet main_number (by_call entry_call) at_call (called entry_call none_yet refl (contains_at calls 0 _ refl) (main_there) (contains_at (t.event the_start the_call entry_call none_yet) 0 _ refl)); hold = (contains_at (take 1 edges) 0 _ refl, tt) },
+    (
+      record { premises = _; instance = goes_on (Some main_number) main makes none_yet none_yet some_yet 1 (in_main_at 0 _ refl) making_is_no_call (contains_at makes.successors 0 _ refl) (contains_at (t.next main makes none_yet) 0 _ refl); hold = (contains_at (take 2 edges) 1 _ refl, tt) },
+      (
+        record { premises = _; instance = goes_on (Some main_number) main makes none_yet none_yet (only 0) 1 (in_main_at 0 _ refl) making_is_no_call (contains_at makes.successors 0 _ refl) (contains_at (t.next main makes none_yet) 1 _ refl); hold = (contains_at (take 3 edges) 1 _ refl, tt) },
+        (
+          record { premises = _; instance = goes_on (Some main_number) main first_copies none_yet some_yet some_yet 2 (in_main_at 1 _ refl) copying_is_no_call (contains_at first_copies.successors 0 _ refl) (contains_at (t.next main first_copies some_yet) 0 _ refl); hold = (contains_at (take 4 edges) 2 _ refl, tt) },
+          (
+            record { premises = _; instance = goes_on (Some main_number) main first_copies none_yet (only 0) (only 0) 2 (in_main_at 1 _ refl) copying_is_no_call (contains_at first_copies.successors 0 _ refl) (contains_at (t.next main first_copies (only 0)) 0 _ refl); hold = (contains_at (take 5 edges) 3 _ refl, tt) },
+            (
+              record { premises = _; instance = enters (Some main_number) main reads none_yet some_yet some_yet read_number (by_call (calling (codes "read") read_number)) (in_main_at 2 _ refl) (called (calling (codes "read") read_number) some_yet refl (contains_at calls 1 _ refl) (read_there) (contains_at (t.event main reads (calling (codes "read") read_number) some_yet) 0 _ refl)); hold = (contains_at (take 6 edges) 4 _ refl, tt) },
+              (
+                record { premises = _; instance = enters (Some main_number) main reads none_yet (only 0) (only 0) read_number (by_call (calling (codes "read") read_number)) (in_main_at 2 _ refl) (called (calling (codes "read") read_number) (only 0) refl (contains_at calls 1 _ refl) (read_there) (contains_at (t.event main reads (calling (codes "read") read_number) (only 0)) 0 _ refl)); hold = (contains_at (take 7 edges) 5 _ refl, tt) },
+                (
+                  record { premises = _; instance = returns (Some read_number) (only_returns read_number) (ends 0) some_yet some_yet some_yet None in_read refl (contains_at (t.next (only_returns read_number) (ends 0) some_yet) 0 _ refl); hold = (contains_at (take 8 edges) 6 _ refl, tt) },
+                  (
+                    record { premises = _; instance = returns (Some read_number) (only_returns read_number) (ends 0) (only 0) (only 0) (only 0) None in_read refl (contains_at (t.next (only_returns read_number) (ends 0) (only 0)) 0 _ refl); hold = (contains_at (take 9 edges) 7 _ refl, tt) },
+                    (
+                      record { premises = _; instance = call_returns (Some main_number) main reads none_yet some_yet some_yet some_yet some_yet read_number (calling (codes "read") read_number) 3 (in_main_at 2 _ refl) (called (calling (codes "read") read_number) some_yet refl (contains_at calls 1 _ refl) (read_there) (contains_at (t.event main reads (calling (codes "read") read_number) some_yet) 0 _ refl)) (contains_at reads.successors 0 _ refl) (contains_at (t.next main reads (t.leave main reads (by_call (calling (codes "read") read_number)) read_number some_yet some_yet)) 0 _ refl); hold = (contains_at (take 10 edges) 4 _ refl, (contains_at (take 10 edges) 8 _ refl, tt)) },
+                      (
+                        record { premises = _; instance = call_returns (Some main_number) main reads none_yet (only 0) (only 0) (only 0) (only 0) read_number (calling (codes "read") read_number) 3 (in_main_at 2 _ refl) (called (calling (codes "read") read_number) (only 0) refl (contains_at calls 1 _ refl) (read_there) (contains_at (t.event main reads (calling (codes "read") read_number) (only 0)) 0 _ refl)) (contains_at reads.successors 0 _ refl) (contains_at (t.next main reads (t.leave main reads (by_call (calling (codes "read") read_number)) read_number (only 0) (only 0))) 0 _ refl); hold = (contains_at (take 11 edges) 5 _ refl, (contains_at (take 11 edges) 9 _ refl, tt)) },
+                        (
+                          record { premises = _; instance = goes_on (Some main_number) main copies_again none_yet some_yet some_yet 4 (in_main_at 3 _ refl) copying_is_no_call (contains_at copies_again.successors 1 _ refl) (contains_at (t.next main copies_again some_yet) 0 _ refl); hold = (contains_at (take 12 edges) 10 _ refl, tt) },
+                          (
+                            record { premises = _; instance = goes_on (Some main_number) main copies_again none_yet (only 0) (only 0) 4 (in_main_at 3 _ refl) copying_is_no_call (contains_at copies_again.successors 1 _ refl) (contains_at (t.next main copies_again (only 0)) 0 _ refl); hold = (contains_at (take 13 edges) 11 _ refl, tt) },
+                            (
+                              record { premises = _; instance = enters (Some main_number) main closes none_yet some_yet some_yet close_number (by_call (calling (codes "close") close_number)) (in_main_at 4 _ refl) (called (calling (codes "close") close_number) some_yet refl (contains_at calls 2 _ refl) (close_there) (contains_at (t.event main closes (calling (codes "close") close_number) some_yet) 0 _ refl)); hold = (contains_at (take 14 edges) 12 _ refl, tt) },
+                              (
+                                record { premises = _; instance = enters (Some main_number) main closes none_yet (only 0) (only 1) close_number (by_call (calling (codes "close") close_number)) (in_main_at 4 _ refl) (called (calling (codes "close") close_number) (only 1) refl (contains_at calls 2 _ refl) (close_there) (contains_at (t.event main closes (calling (codes "close") close_number) (only 0)) 0 _ refl)); hold = (contains_at (take 15 edges) 13 _ refl, tt) },
+                                (
+                                  record { premises = _; instance = returns (Some close_number) (only_returns close_number) (ends 0) some_yet some_yet some_yet None in_close refl (contains_at (t.next (only_returns close_number) (ends 0) some_yet) 0 _ refl); hold = (contains_at (take 16 edges) 14 _ refl, tt) },
+                                  (
+                                    record { premises = _; instance = returns (Some close_number) (only_returns close_number) (ends 0) (only 1) (only 1) (only 1) None in_close refl (contains_at (t.next (only_returns close_number) (ends 0) (only 1)) 0 _ refl); hold = (contains_at (take 17 edges) 15 _ refl, tt) },
+                                    (
+                                      record { premises = _; instance = call_returns (Some main_number) main closes none_yet some_yet some_yet some_yet some_yet close_number (calling (codes "close") close_number) 5 (in_main_at 4 _ refl) (called (calling (codes "close") close_number) some_yet refl (contains_at calls 2 _ refl) (close_there) (contains_at (t.event main closes (calling (codes "close") close_number) some_yet) 0 _ refl)) (contains_at closes.successors 0 _ refl) (contains_at (t.next main closes (t.leave main closes (by_call (calling (codes "close") close_number)) close_number some_yet some_yet)) 0 _ refl); hold = (contains_at (take 18 edges) 12 _ refl, (contains_at (take 18 edges) 16 _ refl, tt)) },
+                                      (
+                                        record { premises = _; instance = call_returns (Some main_number) main closes none_yet (only 0) (only 1) (only 1) (only 1) close_number (calling (codes "close") close_number) 5 (in_main_at 4 _ refl) (called (calling (codes "close") close_number) (only 1) refl (contains_at calls 2 _ refl) (close_there) (contains_at (t.event main closes (calling (codes "close") close_number) (only 0)) 0 _ refl)) (contains_at closes.successors 0 _ refl) (contains_at (t.next main closes (t.leave main closes (by_call (calling (codes "close") close_number)) close_number (only 1) (only 1))) 0 _ refl); hold = (contains_at (take 19 edges) 13 _ refl, (contains_at (take 19 edges) 17 _ refl, tt)) },
+                                        (
+                                          record { premises = _; instance = returns (Some main_number) main (ends 5) none_yet some_yet some_yet None (in_main_at 5 _ refl) refl (contains_at (t.next main (ends 5) some_yet) 0 _ refl); hold = (contains_at (take 20 edges) 18 _ refl, tt) },
+                                          (
+                                            record { premises = _; instance = returns (Some main_number) main (ends 5) none_yet (only 1) (only 1) None (in_main_at 5 _ refl) refl (contains_at (t.next main (ends 5) (only 1)) 0 _ refl); hold = (contains_at (take 21 edges) 19 _ refl, tt) },
+                                            (
+                                              record { premises = _; instance = call_returns None the_start the_call none_yet none_yet none_yet some_yet some_yet main_number entry_call 1 at_call (called entry_call none_yet refl (contains_at calls 0 _ refl) (main_there) (contains_at (t.event the_start the_call entry_call none_yet) 0 _ refl)) (contains_at the_call.successors 0 _ refl) (contains_at (t.next the_start the_call (t.leave the_start the_call (by_call entry_call) main_number none_yet some_yet)) 0 _ refl); hold = (contains_at (take 22 edges) 0 _ refl, (contains_at (take 22 edges) 20 _ refl, tt)) },
+                                              (
+                                                record { premises = _; instance = call_returns None the_start the_call none_yet none_yet none_yet (only 1) (only 1) main_number entry_call 1 at_call (called entry_call none_yet refl (contains_at calls 0 _ refl) (main_there) (contains_at (t.event the_start the_call entry_call none_yet) 0 _ refl)) (contains_at the_call.successors 0 _ refl) (contains_at (t.next the_start the_call (t.leave the_start the_call (by_call entry_call) main_number none_yet (only 1))) 0 _ refl); hold = (contains_at (take 23 edges) 0 _ refl, (contains_at (take 23 edges) 21 _ refl, tt)) },
+                                                (
+                                                  record { premises = _; instance = returns None the_start (ends 1) none_yet some_yet some_yet None at_end refl (contains_at (t.next the_start (ends 1) some_yet) 0 _ refl); hold = (contains_at (take 24 edges) 22 _ refl, tt) },
+                                                  (
+                                                    record { premises = _; instance = returns None the_start (ends 1) none_yet (only 1) (only 1) None at_end refl (contains_at (t.next the_start (ends 1) (only 1)) 0 _ refl); hold = (contains_at (take 25 edges) 23 _ refl, tt) },
+                                                    tt,
+                                                  ),
+                                                ),
+                                              ),
+                                            ),
+                                          ),
+                                        ),
+                                      ),
+                                    ),
+                                  ),
+                                ),
+                              ),
+                            ),
+                          ),
+                        ),
+                      ),
+                    ),
+                  ),
+                ),
+              ),
+            ),
+          ),
+        ),
+      ),
+    ),
+  ),
+)
 
 derived : IsDerivation (StageInstance subject gives known setting) edges
 derived = derivation_goes_on (StageInstance subject gives known setting) [] edges (nothing_derived (StageInstance subject gives known setting)) each_follows
@@ -175,7 +228,21 @@ abbrev place : Edge → ℕ
 place d = place_in (map key edges) (key d)
 
 pub without_doubles : IsWithoutDoubles edges
-without_doubles = apart place edges (refl, (refl, (refl, (refl, (refl, (refl, (refl, (refl, (refl, (refl, (refl, (refl, (refl, (refl, (refl, (refl, (refl, (refl, (refl, (refl, (refl, (refl, (refl, (refl, tt))))))))))))))))))))))))
+without_doubles = apart place edges (refl, (refl, (refl, (refl, (refl, (refl, (refl, (refl, (refl, (refl, (refl, (refl, (refl, (refl, (refl, (refl, (refl, (refl, (refl, (refl, (refl, (refl, (refl, (refl, (refl, (refl, tt))))))))))))))))))))))))))
+
+-- ---- the error state
+
+never : IsError property none_yet → ⊥
+never error = error
+
+opened : IsError property (only 0) → ⊥
+opened error = true≢false (ap (nat_eq 0) error)
+
+shut : IsError property (only 1) → ⊥
+shut error = true≢false (ap (nat_eq 1) error)
+
+pub no_error : (e : Edge) → Contains edges e → IsError property e.fact → ⊥
+no_error e there = each_contained (λ (d : Edge). IsError property d.fact → ⊥) edges e (never, (never, (never, (opened, (never, (opened, (never, (opened, (never, (opened, (never, (opened, (never, (opened, (never, (shut, (never, (shut, (never, (shut, (never, (shut, (never, (shut, (never, (shut, tt)))))))))))))))))))))))))) there
 
 pub are_path_edges : ArePathEdges subject gives known setting edges
 are_path_edges = record { least = record { closed = closed; derivable = All-derivable (StageInstance subject gives known setting) edges derived }; apart = without_doubles }

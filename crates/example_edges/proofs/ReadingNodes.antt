@@ -11,8 +11,8 @@ use Rattle.jvm_model.specs.Programs.{Body, Method, in_file, described, is_class_
 use Rattle.op_model.specs.declared.lowered.LoweredMethod.{LoweredMethod}
 use Rattle.op_model.specs.declared.node.Node.{Node}
 use Rattle.op_model.specs.declared.op.CallKind.TheVariants.{Static}
-use Rattle.op_model.specs.declared.op.Op.TheVariants.{Call, Return}
-use Rattle.machine_nodes.specs.Nodes.{AreStartNodes, IsClassNumber, IsCodedInitialiser, IsStartCall, IsStartReturn, IsThrownAt, raised, initialising}
+use Rattle.op_model.specs.declared.op.Op.TheVariants.{Call}
+use Rattle.machine_nodes.specs.Nodes.{IsClassNumber, IsCodedInitialiser, IsStartCall, IsStartReturn, IsThrownAt, raised, initialising}
 use Rattle.list_laws.proofs.Members.{contains_first, contains_none, each_contained}
 use Rattle.list_laws.proofs.Places.{contains_at}
 use Rattle.points_to_rules.specs.Calls.{IsDescribedBy}
@@ -28,7 +28,7 @@ not_coded : (class : List ℕ) (number : ℕ) → IsCodedInitialiser program cla
 not_coded class number is =
     let named : is_class_initialiser is.method.signature ≡ true = ap is_class_initialiser is.named in
     let other : is_class_initialiser is.method.signature ≡ false =
-        each_contained (λ (m : Method). is_class_initialiser m.signature ≡ false) program.methods is.method (refl, (refl, (refl, tt))) (contains_at program.methods number is.method is.stands) in
+    each_contained (λ (m : Method). is_class_initialiser m.signature ≡ false) program.methods is.method (refl, (refl, (refl, tt))) (contains_at program.methods number is.method is.stands) in
     true≢false (sym named ∙ other)
 
 pub starts_nothing : (n : Node) (i : MethodNo) → StartsAt program n i → ⊥
@@ -42,7 +42,7 @@ is_of_file (described s) = false
 pub describes_nothing : (target : MethodNo) (stub : StubMethod) → IsDescribedBy program target stub → ⊥
 describes_nothing target stub is =
     let file : is_of_file is.method.body ≡ true =
-        each_contained (λ (m : Method). is_of_file m.body ≡ true) program.methods is.method (refl, (refl, (refl, tt))) (contains_at program.methods target.0 is.method is.stands) in
+    each_contained (λ (m : Method). is_of_file m.body ≡ true) program.methods is.method (refl, (refl, (refl, tt))) (contains_at program.methods target.0 is.method is.stands) in
     true≢false (sym file ∙ ap is_of_file is.of_stub)
 
 -- Nothing is known to be held.
@@ -137,7 +137,7 @@ method_cases Q of_none of_main of_read of_close _ l (of_start are slots stack pa
     let no_stack = sym stack in
     let no_params = sym params in
     let same : start l.method call.0 ≡ l =
-        λ i. record { method = l.method; slots = no_slots i; stack = no_stack i; params = no_params i; nodes = nodes i } in
+    λ i. record { method = l.method; slots = no_slots i; stack = no_stack i; params = no_params i; nodes = nodes i } in
     subst (λ (k : LoweredMethod). Q None k) same (of_none l.method call.0)
 
 -- ---- nodes
@@ -152,14 +152,14 @@ pub record Everywhere (P : Option MethodNo → LoweredMethod → Node → Type 0
 pub at_node : (P : Option MethodNo → LoweredMethod → Node → Type 0) → Everywhere P → (m : Option MethodNo) (l : LoweredMethod) (n : Node) → IsNode subject gives m l n → P m l n
 at_node P all m l n is =
     let of_method : AllByRecursion (P m l) l.nodes =
-        method_cases (λ (k : Option MethodNo) (j : LoweredMethod). AllByRecursion (P k j) j.nodes) all.of_start all.of_main all.of_read all.of_close m l is.method in
+    method_cases (λ (k : Option MethodNo) (j : LoweredMethod). AllByRecursion (P k j) j.nodes) all.of_start all.of_main all.of_read all.of_close m l is.method in
     each_contained (P m l) l.nodes n of_method is.stands
 
 -- Nothing is thrown.
 pub throws_nothing : (m : Option MethodNo) (l : LoweredMethod) (n : Node) → IsNode subject gives m l n → n.throws ≡ []
 throws_nothing = at_node (λ m l n. n.throws ≡ []) (record {
   of_start = λ k c. (refl, (refl, tt));
-  of_main = (refl, (refl, (refl, (refl, (refl, tt)))));
+  of_main = (refl, (refl, (refl, (refl, (refl, (refl, tt))))));
   of_read = (refl, tt);
   of_close = (refl, tt);
 })

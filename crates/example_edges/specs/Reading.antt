@@ -1,11 +1,10 @@
 -- Public contracts rest on this module.
 -- A program that makes a file, reads it in a loop, and closes it: its nodes, what the points-to analysis says of its calls, the setting of the
 -- second stage, and its path edges.
-use Rattle.std.specs.Prelude.{codes, ◌≡◌, ℕ, true, false, List, [], ◌∷◌, Option, Some, None, Result, Ok, slice_get, Contains}
+use Rattle.std.specs.Prelude.{codes, ◌≡◌, ℕ, true, false, List, [], ◌∷◌, Some, None, Result, Ok, slice_get, Contains}
 use Rattle.jvm_model.specs.declared.automaton.Automaton.{Automaton}
 use Rattle.jvm_model.specs.declared.class_file.ClassFile.{ClassFile}
 use Rattle.jvm_model.specs.declared.class_file.Member.{Member}
-use Rattle.jvm_model.specs.declared.number.ClassNo.{ClassNo}
 use Rattle.jvm_model.specs.declared.number.MethodNo.{MethodNo}
 use Rattle.jvm_model.specs.declared.reason.Refusal.{Refusal}
 use Rattle.jvm_model.specs.declared.site.Site.{Site}
@@ -17,9 +16,10 @@ use Rattle.op_model.specs.declared.node.NodeRef.{NodeRef}
 use Rattle.op_model.specs.declared.node.Spot.{Spot}
 use Rattle.op_model.specs.declared.node.Spot.TheVariants as spots
 use Rattle.op_model.specs.declared.op.Call.{Call as NodeCall}
-use Rattle.op_model.specs.declared.op.CallKind.TheVariants.{Static, Virtual}
+use Rattle.op_model.specs.declared.op.CallKind.TheVariants.{Virtual}
 use Rattle.op_model.specs.declared.op.Op.{Op}
 use Rattle.op_model.specs.declared.op.Op.TheVariants.{Assign, Call, New, Return}
+use Rattle.op_model.specs.declared.op.Source.TheVariants as sources
 use Rattle.op_model.specs.Supplies.{GivenAs}
 use Rattle.machine_bytecode.specs.Objects.{Subject}
 use Rattle.slot_names.specs.declared.variable.Variable.TheVariants.{At}
@@ -88,29 +88,35 @@ site = record { kind = kinds.New; method = Some main_number; offset = 0; class =
 abbrev pub node : (offset : ℕ) → Op → (successors : List ℕ) → Node
 node offset op successors = record { offset = offset; op = op; successors = successors; handlers = []; trigger = None; throws = [] }
 
--- A call on the object in the first slot.
+-- The file stands in a local variable. For a call it is copied to the operand stack, from where the call takes it.
+abbrev pub copies : (offset : ℕ) → (successors : List ℕ) → Node
+copies offset successors = node offset (Assign (record { source = sources.Slot 0; target = 1 } ∷ [])) successors
+
 abbrev pub calling : (name : List ℕ) → MethodNo → NodeCall
 calling name number =
-    record { kind = Virtual; resolved = number; chosen = None; name = name; descriptor = codes "()V"; arguments = Some 0 ∷ []; result = None }
+    record { kind = Virtual; resolved = number; chosen = None; name = name; descriptor = codes "()V"; arguments = Some 1 ∷ []; result = None }
 
 abbrev pub makes : Node
 makes = node 0 (New site 0) (1 ∷ [])
 
-abbrev pub reads : Node
-reads = node 1 (Call (calling (codes "read") read_number)) (2 ∷ [])
+abbrev pub first_copies : Node
+first_copies = copies 1 (2 ∷ [])
 
--- A branch back to the call, or on.
-abbrev pub branches : Node
-branches = node 2 (Assign []) (1 ∷ 3 ∷ [])
+abbrev pub reads : Node
+reads = node 2 (Call (calling (codes "read") read_number)) (3 ∷ [])
+
+-- Back to the call, or on.
+abbrev pub copies_again : Node
+copies_again = copies 3 (2 ∷ 4 ∷ [])
 
 abbrev pub closes : Node
-closes = node 3 (Call (calling (codes "close") close_number)) (4 ∷ [])
+closes = node 4 (Call (calling (codes "close") close_number)) (5 ∷ [])
 
 abbrev pub ends : ℕ → Node
 ends offset = node offset (Return None) []
 
 abbrev pub main : LoweredMethod
-main = record { method = main_number; slots = 1; stack = 0; params = 0; nodes = makes ∷ reads ∷ branches ∷ closes ∷ ends 4 ∷ [] }
+main = record { method = main_number; slots = 1; stack = 1; params = 0; nodes = makes ∷ first_copies ∷ reads ∷ copies_again ∷ closes ∷ ends 5 ∷ [] }
 
 -- A method that only returns.
 abbrev pub only_returns : MethodNo → LoweredMethod
@@ -129,7 +135,7 @@ in_main offset = record { method = Some main_number; offset = offset }
 
 -- What the points-to analysis says of the calls: nothing is thrown.
 abbrev pub calls : List Fact
-calls = may_call (record { method = None; offset = 0 }) main_number ∷ may_call (in_main 1) read_number ∷ may_call (in_main 3) close_number ∷ []
+calls = may_call (record { method = None; offset = 0 }) main_number ∷ may_call (in_main 2) read_number ∷ may_call (in_main 4) close_number ∷ []
 
 abbrev pub known : Fact → Type 0
 known fact = Contains calls fact
@@ -171,24 +177,26 @@ edges =
     ∷ within (spots.Node 0) none_yet  -- 1
     ∷ within (spots.Node 1) some_yet  -- 2
     ∷ within (spots.Node 1) (only 0)  -- 3
-    ∷ through read_number some_yet (spots.Node 0)  -- 4
-    ∷ through read_number (only 0) (spots.Node 0)  -- 5
-    ∷ through read_number some_yet spots.Returned  -- 6
-    ∷ through read_number (only 0) spots.Returned  -- 7
-    ∷ within (spots.Node 2) some_yet  -- 8
-    ∷ within (spots.Node 2) (only 0)  -- 9
+    ∷ within (spots.Node 2) some_yet  -- 4
+    ∷ within (spots.Node 2) (only 0)  -- 5
+    ∷ through read_number some_yet (spots.Node 0)  -- 6
+    ∷ through read_number (only 0) (spots.Node 0)  -- 7
+    ∷ through read_number some_yet spots.Returned  -- 8
+    ∷ through read_number (only 0) spots.Returned  -- 9
     ∷ within (spots.Node 3) some_yet  -- 10
     ∷ within (spots.Node 3) (only 0)  -- 11
-    ∷ through close_number some_yet (spots.Node 0)  -- 12
-    ∷ through close_number (only 1) (spots.Node 0)  -- 13
-    ∷ through close_number some_yet spots.Returned  -- 14
-    ∷ through close_number (only 1) spots.Returned  -- 15
-    ∷ within (spots.Node 4) some_yet  -- 16
-    ∷ within (spots.Node 4) (only 1)  -- 17
-    ∷ within spots.Returned some_yet  -- 18
-    ∷ within spots.Returned (only 1)  -- 19
-    ∷ starting (spots.Node 1) some_yet  -- 20
-    ∷ starting (spots.Node 1) (only 1)  -- 21
-    ∷ starting spots.Returned some_yet  -- 22
-    ∷ starting spots.Returned (only 1)  -- 23
+    ∷ within (spots.Node 4) some_yet  -- 12
+    ∷ within (spots.Node 4) (only 0)  -- 13
+    ∷ through close_number some_yet (spots.Node 0)  -- 14
+    ∷ through close_number (only 1) (spots.Node 0)  -- 15
+    ∷ through close_number some_yet spots.Returned  -- 16
+    ∷ through close_number (only 1) spots.Returned  -- 17
+    ∷ within (spots.Node 5) some_yet  -- 18
+    ∷ within (spots.Node 5) (only 1)  -- 19
+    ∷ within spots.Returned some_yet  -- 20
+    ∷ within spots.Returned (only 1)  -- 21
+    ∷ starting (spots.Node 1) some_yet  -- 22
+    ∷ starting (spots.Node 1) (only 1)  -- 23
+    ∷ starting spots.Returned some_yet  -- 24
+    ∷ starting spots.Returned (only 1)  -- 25
     ∷ []
