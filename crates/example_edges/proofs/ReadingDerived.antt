@@ -1,5 +1,5 @@
 -- The list of path edges is a derivation: each edge follows from those before it. None stands there twice.
-use Rattle.std.proofs.Common.{codes, ◌≡◌, ◌≢◌, ℕ, ◌+◌, ◌*◌, nat_eq, Bool, true, false, true≢false, List, [], ◌∷◌, map, take, Option, Some, None, refl, sym, ap, if◌then◌else◌}
+use Rattle.std.proofs.Common.{codes, ◌≡◌, ◌≢◌, ℕ, ◌+◌, ◌*◌, nat_eq, Bool, true, false, true≢false, List, [], ◌∷◌, map, drop, take, Option, Some, None, refl, sym, ap, if◌then◌else◌}
 use Rattle.std.specs.List.{slice_get, Contains}
 use Rattle.jvm_model.specs.declared.number.ClassNo.{ClassNo}
 use Rattle.jvm_model.specs.declared.number.MethodNo.{MethodNo}
@@ -14,12 +14,13 @@ use Rattle.op_model.specs.declared.op.Op.TheVariants.{Assign, Load, Store, LoadE
 use Rattle.machine_nodes.specs.Nodes.{AreThrownAt}
 use Rattle.list_laws.proofs.Members.{contains_none, each_contained}
 use Rattle.list_laws.proofs.Places.{contains_at}
-use Rattle.least_sets.specs.Rules.{IsDerivation, IsWithoutDoubles}
+use Rattle.least_sets.specs.Rules.{Follows, IsDerivation, IsWithoutDoubles}
 use Rattle.points_to_rules.specs.Calls.{IsOfFile}
+use Rattle.points_to_rules.specs.Facts.{may_call}
 use Rattle.stage_facts.specs.Facts.{SiteFact, none_yet, some_yet, of_object}
 use Rattle.stage_transfer.specs.Calls.{by_call}
 use Rattle.stage_transfer.specs.Stages.{Transfer, transfer_of}
-use Rattle.stage_edges.specs.Rules.{Edge, IsMethod, of_file, of_start, IsNode, called, start, goes_on, returns, enters, call_returns}
+use Rattle.stage_edges.specs.Rules.{Edge, edge, node_at, before, IsMethod, of_file, of_start, IsNode, called, start, goes_on, returns, enters, call_returns}
 use Rattle.stage_edges.specs.Edges.{ArePathEdges, IsError, StageInstance}
 use Rattle.least_sets.proofs.Derivations.{All-derivable}
 use Rattle.example_edges.specs.Reading.{calling, calls, close_number, closes, copies_again, edges, ends, first_copies, gives, known, main, main_number, makes, member, file, method, only, only_returns, program, property, read_number, reads, setting, subject}
@@ -114,80 +115,83 @@ making_is_no_call c is = true≢false (sym (ap is_call is))
 copying_is_no_call : (c : NodeCall) → first_copies.op ≢ Call c
 copying_is_no_call c is = true≢false (sym (ap is_call is))
 
+-- ---- the rules, by places in lists
+
+abbrev read_call : NodeCall
+read_call = calling (codes "read") read_number
+
+abbrev close_call : NodeCall
+close_call = calling (codes "close") close_number
+
+abbrev rules : List Edge → Edge → Type 0
+rules = StageInstance subject gives known setting
+
+-- A node of main goes on.
+main_goes : (i k place p q : ℕ) (n : Node) (f g : SiteFact) (offset : ℕ) → slice_get main.nodes place ≡ Some n → ((c : NodeCall) → n.op ≢ Call c)
+    → slice_get n.successors p ≡ Some offset → slice_get (t.next main n f) q ≡ Some g
+    → slice_get (take i edges) k ≡ Some (edge (Some main_number) none_yet (before n) f)
+    → Follows rules (take i edges) (edge (Some main_number) none_yet (spots.Node offset) g)
+main_goes i k place p q n f g offset is no_call leads after there = record {
+  premises = _;
+  instance = goes_on (Some main_number) main n none_yet f g offset (in_main_at place n is) no_call (contains_at _ p offset leads) (contains_at _ q g after);
+  hold = (contains_at _ k _ there, tt);
+}
+
+-- A method returns.
+returns_from : (i k : ℕ) (m : Option MethodNo) (l : LoweredMethod) (n : Node) (e f : SiteFact) → IsNode subject gives m l n → n.op ≡ Return None
+    → slice_get (t.next l n f) 0 ≡ Some f → slice_get (take i edges) k ≡ Some (edge m e (before n) f)
+    → Follows rules (take i edges) (edge m e spots.Returned f)
+returns_from i k m l n e f node is after there = record {
+  premises = _;
+  instance = returns m l n e f f None node is (contains_at _ 0 f after);
+  hold = (contains_at _ k _ there, tt);
+}
+
+-- A call enters its target.
+enters_by_call : (i k p : ℕ) (m : Option MethodNo) (l : LoweredMethod) (n : Node) (e f sent : SiteFact) (c : NodeCall) (target : MethodNo)
+    → IsNode subject gives m l n → n.op ≡ Call c → slice_get calls p ≡ Some (may_call (node_at m n) target) → IsOfFile program target
+    → slice_get (t.event l n c f) 0 ≡ Some sent → slice_get (take i edges) k ≡ Some (edge m e (before n) f)
+    → Follows rules (take i edges) (edge (Some target) (t.enter (by_call c) sent) (spots.Node 0) (t.enter (by_call c) sent))
+enters_by_call i k p m l n e f sent c target node is call written event there = record {
+  premises = _;
+  instance = enters m l n e f sent target (by_call c) node (called c sent is (contains_at calls p _ call) written (contains_at _ 0 sent event));
+  hold = (contains_at _ k _ there, tt);
+}
+
+-- The caller goes on.
+comes_back : (i k j p : ℕ) (m : Option MethodNo) (l : LoweredMethod) (n : Node) (e f sent g : SiteFact) (c : NodeCall) (target : MethodNo) (offset : ℕ)
+    → IsNode subject gives m l n → n.op ≡ Call c → slice_get calls p ≡ Some (may_call (node_at m n) target) → IsOfFile program target
+    → slice_get (t.event l n c f) 0 ≡ Some sent → slice_get n.successors 0 ≡ Some offset
+    → slice_get (t.next l n (t.leave l n (by_call c) target sent g)) 0 ≡ Some g → slice_get (take i edges) k ≡ Some (edge m e (before n) f)
+    → slice_get (take i edges) j ≡ Some (edge (Some target) (t.enter (by_call c) sent) spots.Returned g)
+    → Follows rules (take i edges) (edge m e (spots.Node offset) g)
+comes_back i k j p m l n e f sent g c target offset node is call written event leads after there out = record {
+  premises = _;
+  instance = call_returns m l n e f sent g g target c offset node (called c sent is (contains_at calls p _ call) written (contains_at _ 0 sent event))
+      (contains_at _ 0 offset leads) (contains_at _ 0 g after);
+  hold = (contains_at _ k _ there, (contains_at _ j _ out, tt));
+}
+
 -- ---- the derivation
 
-each_follows : EachFollows (StageInstance subject gives known setting) [] edges
-each_follows = (
-  record { premises = []; instance = start; hold = tt },
+the_rest_ends : EachFollows rules (take 18 edges) (drop 18 edges)
+the_rest_ends = (
+  comes_back 18 12 16 2 (Some main_number) main closes none_yet some_yet some_yet some_yet close_call close_number 5 (in_main_at 4 _ refl) refl refl close_there refl refl refl refl refl,
   (
-    record { premises = _; instance = enters None the_start the_call none_yet none_yet none_yet main_number (by_call entry_call) at_call (called entry_call none_yet refl (contains_at calls 0 _ refl) (main_there) (contains_at (t.event the_start the_call entry_call none_yet) 0 _ refl)); hold = (contains_at (take 1 edges) 0 _ refl, tt) },
+    comes_back 19 13 17 2 (Some main_number) main closes none_yet (only 0) (only 1) (only 1) close_call close_number 5 (in_main_at 4 _ refl) refl refl close_there refl refl refl refl refl,
     (
-      record { premises = _; instance = goes_on (Some main_number) main makes none_yet none_yet some_yet 1 (in_main_at 0 _ refl) making_is_no_call (contains_at makes.successors 0 _ refl) (contains_at (t.next main makes none_yet) 0 _ refl); hold = (contains_at (take 2 edges) 1 _ refl, tt) },
+      returns_from 20 18 (Some main_number) main (ends 5) none_yet some_yet (in_main_at 5 _ refl) refl refl refl,
       (
-        record { premises = _; instance = goes_on (Some main_number) main makes none_yet none_yet (only 0) 1 (in_main_at 0 _ refl) making_is_no_call (contains_at makes.successors 0 _ refl) (contains_at (t.next main makes none_yet) 1 _ refl); hold = (contains_at (take 3 edges) 1 _ refl, tt) },
+        returns_from 21 19 (Some main_number) main (ends 5) none_yet (only 1) (in_main_at 5 _ refl) refl refl refl,
         (
-          record { premises = _; instance = goes_on (Some main_number) main first_copies none_yet some_yet some_yet 2 (in_main_at 1 _ refl) copying_is_no_call (contains_at first_copies.successors 0 _ refl) (contains_at (t.next main first_copies some_yet) 0 _ refl); hold = (contains_at (take 4 edges) 2 _ refl, tt) },
+          comes_back 22 0 20 0 None the_start the_call none_yet none_yet none_yet some_yet entry_call main_number 1 at_call refl refl main_there refl refl refl refl refl,
           (
-            record { premises = _; instance = goes_on (Some main_number) main first_copies none_yet (only 0) (only 0) 2 (in_main_at 1 _ refl) copying_is_no_call (contains_at first_copies.successors 0 _ refl) (contains_at (t.next main first_copies (only 0)) 0 _ refl); hold = (contains_at (take 5 edges) 3 _ refl, tt) },
+            comes_back 23 0 21 0 None the_start the_call none_yet none_yet none_yet (only 1) entry_call main_number 1 at_call refl refl main_there refl refl refl refl refl,
             (
-              record { premises = _; instance = enters (Some main_number) main reads none_yet some_yet some_yet read_number (by_call (calling (codes "read") read_number)) (in_main_at 2 _ refl) (called (calling (codes "read") read_number) some_yet refl (contains_at calls 1 _ refl) (read_there) (contains_at (t.event main reads (calling (codes "read") read_number) some_yet) 0 _ refl)); hold = (contains_at (take 6 edges) 4 _ refl, tt) },
+              returns_from 24 22 None the_start (ends 1) none_yet some_yet at_end refl refl refl,
               (
-                record { premises = _; instance = enters (Some main_number) main reads none_yet (only 0) (only 0) read_number (by_call (calling (codes "read") read_number)) (in_main_at 2 _ refl) (called (calling (codes "read") read_number) (only 0) refl (contains_at calls 1 _ refl) (read_there) (contains_at (t.event main reads (calling (codes "read") read_number) (only 0)) 0 _ refl)); hold = (contains_at (take 7 edges) 5 _ refl, tt) },
-                (
-                  record { premises = _; instance = returns (Some read_number) (only_returns read_number) (ends 0) some_yet some_yet some_yet None in_read refl (contains_at (t.next (only_returns read_number) (ends 0) some_yet) 0 _ refl); hold = (contains_at (take 8 edges) 6 _ refl, tt) },
-                  (
-                    record { premises = _; instance = returns (Some read_number) (only_returns read_number) (ends 0) (only 0) (only 0) (only 0) None in_read refl (contains_at (t.next (only_returns read_number) (ends 0) (only 0)) 0 _ refl); hold = (contains_at (take 9 edges) 7 _ refl, tt) },
-                    (
-                      record { premises = _; instance = call_returns (Some main_number) main reads none_yet some_yet some_yet some_yet some_yet read_number (calling (codes "read") read_number) 3 (in_main_at 2 _ refl) (called (calling (codes "read") read_number) some_yet refl (contains_at calls 1 _ refl) (read_there) (contains_at (t.event main reads (calling (codes "read") read_number) some_yet) 0 _ refl)) (contains_at reads.successors 0 _ refl) (contains_at (t.next main reads (t.leave main reads (by_call (calling (codes "read") read_number)) read_number some_yet some_yet)) 0 _ refl); hold = (contains_at (take 10 edges) 4 _ refl, (contains_at (take 10 edges) 8 _ refl, tt)) },
-                      (
-                        record { premises = _; instance = call_returns (Some main_number) main reads none_yet (only 0) (only 0) (only 0) (only 0) read_number (calling (codes "read") read_number) 3 (in_main_at 2 _ refl) (called (calling (codes "read") read_number) (only 0) refl (contains_at calls 1 _ refl) (read_there) (contains_at (t.event main reads (calling (codes "read") read_number) (only 0)) 0 _ refl)) (contains_at reads.successors 0 _ refl) (contains_at (t.next main reads (t.leave main reads (by_call (calling (codes "read") read_number)) read_number (only 0) (only 0))) 0 _ refl); hold = (contains_at (take 11 edges) 5 _ refl, (contains_at (take 11 edges) 9 _ refl, tt)) },
-                        (
-                          record { premises = _; instance = goes_on (Some main_number) main copies_again none_yet some_yet some_yet 4 (in_main_at 3 _ refl) copying_is_no_call (contains_at copies_again.successors 1 _ refl) (contains_at (t.next main copies_again some_yet) 0 _ refl); hold = (contains_at (take 12 edges) 10 _ refl, tt) },
-                          (
-                            record { premises = _; instance = goes_on (Some main_number) main copies_again none_yet (only 0) (only 0) 4 (in_main_at 3 _ refl) copying_is_no_call (contains_at copies_again.successors 1 _ refl) (contains_at (t.next main copies_again (only 0)) 0 _ refl); hold = (contains_at (take 13 edges) 11 _ refl, tt) },
-                            (
-                              record { premises = _; instance = enters (Some main_number) main closes none_yet some_yet some_yet close_number (by_call (calling (codes "close") close_number)) (in_main_at 4 _ refl) (called (calling (codes "close") close_number) some_yet refl (contains_at calls 2 _ refl) (close_there) (contains_at (t.event main closes (calling (codes "close") close_number) some_yet) 0 _ refl)); hold = (contains_at (take 14 edges) 12 _ refl, tt) },
-                              (
-                                record { premises = _; instance = enters (Some main_number) main closes none_yet (only 0) (only 1) close_number (by_call (calling (codes "close") close_number)) (in_main_at 4 _ refl) (called (calling (codes "close") close_number) (only 1) refl (contains_at calls 2 _ refl) (close_there) (contains_at (t.event main closes (calling (codes "close") close_number) (only 0)) 0 _ refl)); hold = (contains_at (take 15 edges) 13 _ refl, tt) },
-                                (
-                                  record { premises = _; instance = returns (Some close_number) (only_returns close_number) (ends 0) some_yet some_yet some_yet None in_close refl (contains_at (t.next (only_returns close_number) (ends 0) some_yet) 0 _ refl); hold = (contains_at (take 16 edges) 14 _ refl, tt) },
-                                  (
-                                    record { premises = _; instance = returns (Some close_number) (only_returns close_number) (ends 0) (only 1) (only 1) (only 1) None in_close refl (contains_at (t.next (only_returns close_number) (ends 0) (only 1)) 0 _ refl); hold = (contains_at (take 17 edges) 15 _ refl, tt) },
-                                    (
-                                      record { premises = _; instance = call_returns (Some main_number) main closes none_yet some_yet some_yet some_yet some_yet close_number (calling (codes "close") close_number) 5 (in_main_at 4 _ refl) (called (calling (codes "close") close_number) some_yet refl (contains_at calls 2 _ refl) (close_there) (contains_at (t.event main closes (calling (codes "close") close_number) some_yet) 0 _ refl)) (contains_at closes.successors 0 _ refl) (contains_at (t.next main closes (t.leave main closes (by_call (calling (codes "close") close_number)) close_number some_yet some_yet)) 0 _ refl); hold = (contains_at (take 18 edges) 12 _ refl, (contains_at (take 18 edges) 16 _ refl, tt)) },
-                                      (
-                                        record { premises = _; instance = call_returns (Some main_number) main closes none_yet (only 0) (only 1) (only 1) (only 1) close_number (calling (codes "close") close_number) 5 (in_main_at 4 _ refl) (called (calling (codes "close") close_number) (only 1) refl (contains_at calls 2 _ refl) (close_there) (contains_at (t.event main closes (calling (codes "close") close_number) (only 0)) 0 _ refl)) (contains_at closes.successors 0 _ refl) (contains_at (t.next main closes (t.leave main closes (by_call (calling (codes "close") close_number)) close_number (only 1) (only 1))) 0 _ refl); hold = (contains_at (take 19 edges) 13 _ refl, (contains_at (take 19 edges) 17 _ refl, tt)) },
-                                        (
-                                          record { premises = _; instance = returns (Some main_number) main (ends 5) none_yet some_yet some_yet None (in_main_at 5 _ refl) refl (contains_at (t.next main (ends 5) some_yet) 0 _ refl); hold = (contains_at (take 20 edges) 18 _ refl, tt) },
-                                          (
-                                            record { premises = _; instance = returns (Some main_number) main (ends 5) none_yet (only 1) (only 1) None (in_main_at 5 _ refl) refl (contains_at (t.next main (ends 5) (only 1)) 0 _ refl); hold = (contains_at (take 21 edges) 19 _ refl, tt) },
-                                            (
-                                              record { premises = _; instance = call_returns None the_start the_call none_yet none_yet none_yet some_yet some_yet main_number entry_call 1 at_call (called entry_call none_yet refl (contains_at calls 0 _ refl) (main_there) (contains_at (t.event the_start the_call entry_call none_yet) 0 _ refl)) (contains_at the_call.successors 0 _ refl) (contains_at (t.next the_start the_call (t.leave the_start the_call (by_call entry_call) main_number none_yet some_yet)) 0 _ refl); hold = (contains_at (take 22 edges) 0 _ refl, (contains_at (take 22 edges) 20 _ refl, tt)) },
-                                              (
-                                                record { premises = _; instance = call_returns None the_start the_call none_yet none_yet none_yet (only 1) (only 1) main_number entry_call 1 at_call (called entry_call none_yet refl (contains_at calls 0 _ refl) (main_there) (contains_at (t.event the_start the_call entry_call none_yet) 0 _ refl)) (contains_at the_call.successors 0 _ refl) (contains_at (t.next the_start the_call (t.leave the_start the_call (by_call entry_call) main_number none_yet (only 1))) 0 _ refl); hold = (contains_at (take 23 edges) 0 _ refl, (contains_at (take 23 edges) 21 _ refl, tt)) },
-                                                (
-                                                  record { premises = _; instance = returns None the_start (ends 1) none_yet some_yet some_yet None at_end refl (contains_at (t.next the_start (ends 1) some_yet) 0 _ refl); hold = (contains_at (take 24 edges) 22 _ refl, tt) },
-                                                  (
-                                                    record { premises = _; instance = returns None the_start (ends 1) none_yet (only 1) (only 1) None at_end refl (contains_at (t.next the_start (ends 1) (only 1)) 0 _ refl); hold = (contains_at (take 25 edges) 23 _ refl, tt) },
-                                                    tt,
-                                                  ),
-                                                ),
-                                              ),
-                                            ),
-                                          ),
-                                        ),
-                                      ),
-                                    ),
-                                  ),
-                                ),
-                              ),
-                            ),
-                          ),
-                        ),
-                      ),
-                    ),
-                  ),
-                ),
+                returns_from 25 23 None the_start (ends 1) none_yet (only 1) at_end refl refl refl,
+                tt,
               ),
             ),
           ),
@@ -197,8 +201,71 @@ each_follows = (
   ),
 )
 
-derived : IsDerivation (StageInstance subject gives known setting) edges
-derived = derivation_goes_on (StageInstance subject gives known setting) [] edges (nothing_derived (StageInstance subject gives known setting)) each_follows
+the_rest_closes : EachFollows rules (take 12 edges) (drop 12 edges)
+the_rest_closes = (
+  main_goes 12 10 3 1 0 copies_again some_yet some_yet 4 refl copying_is_no_call refl refl refl,
+  (
+    main_goes 13 11 3 1 0 copies_again (only 0) (only 0) 4 refl copying_is_no_call refl refl refl,
+    (
+      enters_by_call 14 12 2 (Some main_number) main closes none_yet some_yet some_yet close_call close_number (in_main_at 4 _ refl) refl refl close_there refl refl,
+      (
+        enters_by_call 15 13 2 (Some main_number) main closes none_yet (only 0) (only 1) close_call close_number (in_main_at 4 _ refl) refl refl close_there refl refl,
+        (
+          returns_from 16 14 (Some close_number) (only_returns close_number) (ends 0) some_yet some_yet in_close refl refl refl,
+          (
+            returns_from 17 15 (Some close_number) (only_returns close_number) (ends 0) (only 1) (only 1) in_close refl refl refl,
+            the_rest_ends,
+          ),
+        ),
+      ),
+    ),
+  ),
+)
+
+the_rest_reads : EachFollows rules (take 6 edges) (drop 6 edges)
+the_rest_reads = (
+  enters_by_call 6 4 1 (Some main_number) main reads none_yet some_yet some_yet read_call read_number (in_main_at 2 _ refl) refl refl read_there refl refl,
+  (
+    enters_by_call 7 5 1 (Some main_number) main reads none_yet (only 0) (only 0) read_call read_number (in_main_at 2 _ refl) refl refl read_there refl refl,
+    (
+      returns_from 8 6 (Some read_number) (only_returns read_number) (ends 0) some_yet some_yet in_read refl refl refl,
+      (
+        returns_from 9 7 (Some read_number) (only_returns read_number) (ends 0) (only 0) (only 0) in_read refl refl refl,
+        (
+          comes_back 10 4 8 1 (Some main_number) main reads none_yet some_yet some_yet some_yet read_call read_number 3 (in_main_at 2 _ refl) refl refl read_there refl refl refl refl refl,
+          (
+            comes_back 11 5 9 1 (Some main_number) main reads none_yet (only 0) (only 0) (only 0) read_call read_number 3 (in_main_at 2 _ refl) refl refl read_there refl refl refl refl refl,
+            the_rest_closes,
+          ),
+        ),
+      ),
+    ),
+  ),
+)
+
+the_rest_begins : EachFollows rules (take 0 edges) (drop 0 edges)
+the_rest_begins = (
+  record { premises = []; instance = start; hold = tt },
+  (
+    enters_by_call 1 0 0 None the_start the_call none_yet none_yet none_yet entry_call main_number at_call refl refl main_there refl refl,
+    (
+      main_goes 2 1 0 0 0 makes none_yet some_yet 1 refl making_is_no_call refl refl refl,
+      (
+        main_goes 3 1 0 0 1 makes none_yet (only 0) 1 refl making_is_no_call refl refl refl,
+        (
+          main_goes 4 2 1 0 0 first_copies some_yet some_yet 2 refl copying_is_no_call refl refl refl,
+          (
+            main_goes 5 3 1 0 0 first_copies (only 0) (only 0) 2 refl copying_is_no_call refl refl refl,
+            the_rest_reads,
+          ),
+        ),
+      ),
+    ),
+  ),
+)
+
+derived : IsDerivation rules edges
+derived = derivation_goes_on rules [] edges (nothing_derived rules) the_rest_begins
 
 -- ---- without doubles
 
@@ -245,4 +312,4 @@ pub no_error : (e : Edge) → Contains edges e → IsError property e.fact → �
 no_error e there = each_contained (λ (d : Edge). IsError property d.fact → ⊥) edges e (never, (never, (never, (opened, (never, (opened, (never, (opened, (never, (opened, (never, (opened, (never, (opened, (never, (shut, (never, (shut, (never, (shut, (never, (shut, (never, (shut, (never, (shut, tt)))))))))))))))))))))))))) there
 
 pub are_path_edges : ArePathEdges subject gives known setting edges
-are_path_edges = record { least = record { closed = closed; derivable = All-derivable (StageInstance subject gives known setting) edges derived }; apart = without_doubles }
+are_path_edges = record { least = record { closed = closed; derivable = All-derivable rules edges derived }; apart = without_doubles }
