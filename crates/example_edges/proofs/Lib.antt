@@ -2,3 +2,6 @@ pub mod Finite
 pub mod ReadingNodes
 pub mod ReadingClosed
 pub mod ReadingDerived
+pub mod ThrowingNodes
+pub mod ThrowingClosed
+pub mod ThrowingDerived
