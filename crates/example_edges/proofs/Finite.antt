@@ -47,7 +47,8 @@ abbrev pub all_pushed : {F : Type 0} → List F → List F → List F
 all_pushed earlier [] = earlier
 all_pushed earlier (fact ∷ rest) = all_pushed (earlier ++ fact ∷ []) rest
 
-pub goes_on : {F : Type 0} (I : List F → F → Type 0) (earlier rest : List F) → IsDerivation I earlier → EachFollows I earlier rest → IsDerivation I (all_pushed earlier rest)
+pub goes_on : {F : Type 0} (I : List F → F → Type 0) (earlier rest : List F) → IsDerivation I earlier → EachFollows I earlier rest
+    → IsDerivation I (all_pushed earlier rest)
 goes_on I earlier [] derived each = derived
 goes_on I earlier (fact ∷ rest) derived each = goes_on I (earlier ++ fact ∷ []) rest (IsDerivation-push I earlier fact derived each.0) each.1
 

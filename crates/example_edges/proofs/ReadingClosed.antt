@@ -104,7 +104,8 @@ at_place m s P all e f there = found P (stands_at m s) edges (edge m e s f) (sta
 abbrev Are : Option MethodNo → SiteFact → Spot → List SiteFact → Type 0
 Are m e s facts = AllByRecursion (λ (g : SiteFact). Contains edges (edge m e s g)) facts
 
-are : (m : Option MethodNo) (e : SiteFact) (s : Spot) (facts : List SiteFact) → Are m e s facts → (g : SiteFact) → Contains facts g → Contains edges (edge m e s g)
+are : (m : Option MethodNo) (e : SiteFact) (s : Spot) (facts : List SiteFact) → Are m e s facts → (g : SiteFact) → Contains facts g
+    → Contains edges (edge m e s g)
 are m e s facts all g there = each_contained (λ (h : SiteFact). Contains edges (edge m e s h)) facts g all there
 
 -- There they are at each successor.
@@ -173,7 +174,19 @@ again_goes_on = λ no_call. (((at 4 _ refl, tt), ((at 12 _ refl, tt), tt)), (((a
 nodes_go_on : Everywhere GoesOn
 nodes_go_on = record {
   of_start = λ k c. (λ no_call. absurd (no_call _ refl), (λ no_call. (tt, (tt, tt)), tt));
-  of_main = (makes_goes_on, (first_goes_on, (λ no_call. absurd (no_call _ refl), (again_goes_on, (λ no_call. absurd (no_call _ refl), (λ no_call. (tt, (tt, tt)), tt))))));
+  of_main = (
+    makes_goes_on,
+    (
+      first_goes_on,
+      (
+        λ no_call. absurd (no_call _ refl),
+        (
+          again_goes_on,
+          (λ no_call. absurd (no_call _ refl), (λ no_call. (tt, (tt, tt)), tt)),
+        ),
+      ),
+    ),
+  );
   of_read = (λ no_call. (tt, (tt, tt)), tt);
   of_close = (λ no_call. (tt, (tt, tt)), tt);
 }
@@ -247,11 +260,13 @@ entered m l n e f sent c target node is there call event =
     AllByRecursion (λ (s : SiteFact). IsSent m l n k d.entry g s) (t.event l n k d.fact))))) is (at_node Sends nodes_send m l n node) in
     let at_targets = at_place m (before n) (λ (d : Edge). AtTargets (node_at m n) (λ (g : MethodNo).
     AllByRecursion (λ (s : SiteFact). IsSent m l n c d.entry g s) (t.event l n c d.fact))) at_edges e f there in
-    let at_facts = at_target (node_at m n) (λ (g : MethodNo). AllByRecursion (λ (s : SiteFact). IsSent m l n c e g s) (t.event l n c f)) at_targets target call in
+    let at_facts = at_target (node_at m n) (λ (g : MethodNo). AllByRecursion (λ (s : SiteFact). IsSent m l n c e g s)
+    (t.event l n c f)) at_targets target call in
     each_contained (λ (s : SiteFact). IsSent m l n c e target s) (t.event l n c f) sent at_facts event
 
 -- What leaves it goes on.
-left : (m : Option MethodNo) (l : LoweredMethod) (n : Node) (e sent out g : SiteFact) (c : NodeCall) (target : MethodNo) (offset : ℕ) → IsSent m l n c e target sent
+left : (m : Option MethodNo) (l : LoweredMethod) (n : Node) (e sent out g : SiteFact) (c : NodeCall) (target : MethodNo) (offset : ℕ)
+    → IsSent m l n c e target sent
     → Contains edges (edge (Some target) (t.enter (by_call c) sent) spots.Returned out) → Contains n.successors offset
     → Contains (t.next l n (t.leave l n (by_call c) target sent out)) g → Contains edges (edge m e (spots.Node offset) g)
 left m l n e sent out g c target offset is there leads after =
@@ -281,10 +296,12 @@ raises_nothing m l n class node (held z h s op slot holds throwable is) = holds_
 pub closed : IsClosed (StageInstance subject gives known setting) edges
 closed _ _ start hold = at 0 _ refl
 closed _ _ (goes_on m l n e f g offset node no_call leads after) hold =
-    let all = at_place m (before n) (λ (d : Edge). AreAfter m d.entry n.successors (t.next l n d.fact)) (at_node GoesOn nodes_go_on m l n node no_call) e f hold.0 in
+    let all = at_place m (before n) (λ (d : Edge). AreAfter m d.entry n.successors (t.next l n d.fact))
+    (at_node GoesOn nodes_go_on m l n node no_call) e f hold.0 in
     are_after m e n.successors _ all offset leads g after
 closed _ _ (returns m l n e f g value node is after) hold =
-    let all = subst (AtReturn (AtPlace m (before n) (λ (d : Edge). Are m d.entry spots.Returned (t.next l n d.fact)))) is (at_node Returns nodes_return m l n node) in
+    let all = subst (AtReturn (AtPlace m (before n) (λ (d : Edge). Are m d.entry spots.Returned (t.next l n d.fact)))) is
+    (at_node Returns nodes_return m l n node) in
     are m e spots.Returned _ (at_place m (before n) (λ (d : Edge). Are m d.entry spots.Returned (t.next l n d.fact)) all e f hold.0) g after
 closed _ _ (raises m l n e f g class handler spot node throws goes after) hold = absurd (raises_nothing m l n class node throws)
 closed _ _ (answers m l n e f sent g c target stub parameters result offset node is call stubbed given leads event after) hold =

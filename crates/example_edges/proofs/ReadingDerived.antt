@@ -176,9 +176,11 @@ comes_back i k j p m l n e f sent g c target offset node is call written event l
 
 the_rest_ends : EachFollows rules (take 18 edges) (drop 18 edges)
 the_rest_ends = (
-  comes_back 18 12 16 2 (Some main_number) main closes none_yet some_yet some_yet some_yet close_call close_number 5 (in_main_at 4 _ refl) refl refl close_there refl refl refl refl refl,
+  comes_back 18 12 16 2 (Some main_number) main closes none_yet some_yet some_yet some_yet close_call close_number 5
+      (in_main_at 4 _ refl) refl refl close_there refl refl refl refl refl,
   (
-    comes_back 19 13 17 2 (Some main_number) main closes none_yet (only 0) (only 1) (only 1) close_call close_number 5 (in_main_at 4 _ refl) refl refl close_there refl refl refl refl refl,
+    comes_back 19 13 17 2 (Some main_number) main closes none_yet (only 0) (only 1) (only 1) close_call close_number 5
+        (in_main_at 4 _ refl) refl refl close_there refl refl refl refl refl,
     (
       returns_from 20 18 (Some main_number) main (ends 5) none_yet some_yet (in_main_at 5 _ refl) refl refl refl,
       (
@@ -186,7 +188,8 @@ the_rest_ends = (
         (
           comes_back 22 0 20 0 None the_start the_call none_yet none_yet none_yet some_yet entry_call main_number 1 at_call refl refl main_there refl refl refl refl refl,
           (
-            comes_back 23 0 21 0 None the_start the_call none_yet none_yet none_yet (only 1) entry_call main_number 1 at_call refl refl main_there refl refl refl refl refl,
+            comes_back 23 0 21 0 None the_start the_call none_yet none_yet none_yet
+                (only 1) entry_call main_number 1 at_call refl refl main_there refl refl refl refl refl,
             (
               returns_from 24 22 None the_start (ends 1) none_yet some_yet at_end refl refl refl,
               (
@@ -207,9 +210,11 @@ the_rest_closes = (
   (
     main_goes 13 11 3 1 0 copies_again (only 0) (only 0) 4 refl copying_is_no_call refl refl refl,
     (
-      enters_by_call 14 12 2 (Some main_number) main closes none_yet some_yet some_yet close_call close_number (in_main_at 4 _ refl) refl refl close_there refl refl,
+      enters_by_call 14 12 2 (Some main_number) main closes none_yet some_yet some_yet close_call close_number
+          (in_main_at 4 _ refl) refl refl close_there refl refl,
       (
-        enters_by_call 15 13 2 (Some main_number) main closes none_yet (only 0) (only 1) close_call close_number (in_main_at 4 _ refl) refl refl close_there refl refl,
+        enters_by_call 15 13 2 (Some main_number) main closes none_yet (only 0) (only 1) close_call close_number
+            (in_main_at 4 _ refl) refl refl close_there refl refl,
         (
           returns_from 16 14 (Some close_number) (only_returns close_number) (ends 0) some_yet some_yet in_close refl refl refl,
           (
@@ -232,9 +237,11 @@ the_rest_reads = (
       (
         returns_from 9 7 (Some read_number) (only_returns read_number) (ends 0) (only 0) (only 0) in_read refl refl refl,
         (
-          comes_back 10 4 8 1 (Some main_number) main reads none_yet some_yet some_yet some_yet read_call read_number 3 (in_main_at 2 _ refl) refl refl read_there refl refl refl refl refl,
+          comes_back 10 4 8 1 (Some main_number) main reads none_yet some_yet some_yet some_yet read_call read_number 3
+              (in_main_at 2 _ refl) refl refl read_there refl refl refl refl refl,
           (
-            comes_back 11 5 9 1 (Some main_number) main reads none_yet (only 0) (only 0) (only 0) read_call read_number 3 (in_main_at 2 _ refl) refl refl read_there refl refl refl refl refl,
+            comes_back 11 5 9 1 (Some main_number) main reads none_yet (only 0) (only 0) (only 0) read_call read_number 3
+                (in_main_at 2 _ refl) refl refl read_there refl refl refl refl refl,
             the_rest_closes,
           ),
         ),
@@ -295,7 +302,64 @@ abbrev place : Edge → ℕ
 place d = place_in (map key edges) (key d)
 
 pub without_doubles : IsWithoutDoubles edges
-without_doubles = apart place edges (refl, (refl, (refl, (refl, (refl, (refl, (refl, (refl, (refl, (refl, (refl, (refl, (refl, (refl, (refl, (refl, (refl, (refl, (refl, (refl, (refl, (refl, (refl, (refl, (refl, (refl, tt))))))))))))))))))))))))))
+without_doubles = apart place edges (
+  refl,
+  (
+    refl,
+    (
+      refl,
+      (
+        refl,
+        (
+          refl,
+          (
+            refl,
+            (
+              refl,
+              (
+                refl,
+                (
+                  refl,
+                  (
+                    refl,
+                    (
+                      refl,
+                      (
+                        refl,
+                        (
+                          refl,
+                          (
+                            refl,
+                            (
+                              refl,
+                              (
+                                refl,
+                                (
+                                  refl,
+                                  (
+                                    refl,
+                                    (
+                                      refl,
+                                      (refl, (refl, (refl, (refl, (refl, (refl, (refl, tt))))))),
+                                    ),
+                                  ),
+                                ),
+                              ),
+                            ),
+                          ),
+                        ),
+                      ),
+                    ),
+                  ),
+                ),
+              ),
+            ),
+          ),
+        ),
+      ),
+    ),
+  ),
+)
 
 -- ---- the error state
 
@@ -309,7 +373,67 @@ shut : IsError property (only 1) → ⊥
 shut error = true≢false (ap (nat_eq 1) error)
 
 pub no_error : (e : Edge) → Contains edges e → IsError property e.fact → ⊥
-no_error e there = each_contained (λ (d : Edge). IsError property d.fact → ⊥) edges e (never, (never, (never, (opened, (never, (opened, (never, (opened, (never, (opened, (never, (opened, (never, (opened, (never, (shut, (never, (shut, (never, (shut, (never, (shut, (never, (shut, (never, (shut, tt)))))))))))))))))))))))))) there
+no_error e there = each_contained (λ (d : Edge). IsError property d.fact → ⊥) edges e (
+  never,
+  (
+    never,
+    (
+      never,
+      (
+        opened,
+        (
+          never,
+          (
+            opened,
+            (
+              never,
+              (
+                opened,
+                (
+                  never,
+                  (
+                    opened,
+                    (
+                      never,
+                      (
+                        opened,
+                        (
+                          never,
+                          (
+                            opened,
+                            (
+                              never,
+                              (
+                                shut,
+                                (
+                                  never,
+                                  (
+                                    shut,
+                                    (
+                                      never,
+                                      (
+                                        shut,
+                                        (never, (shut, (never, (shut, (never, (shut, tt)))))),
+                                      ),
+                                    ),
+                                  ),
+                                ),
+                              ),
+                            ),
+                          ),
+                        ),
+                      ),
+                    ),
+                  ),
+                ),
+              ),
+            ),
+          ),
+        ),
+      ),
+    ),
+  ),
+) there
 
 pub are_path_edges : ArePathEdges subject gives known setting edges
 are_path_edges = record { least = record { closed = closed; derivable = All-derivable rules edges derived }; apart = without_doubles }

@@ -28,7 +28,8 @@ not_coded : (class : List ℕ) (number : ℕ) → IsCodedInitialiser program cla
 not_coded class number is =
     let named : is_class_initialiser is.method.signature ≡ true = ap is_class_initialiser is.named in
     let other : is_class_initialiser is.method.signature ≡ false =
-    each_contained (λ (m : Method). is_class_initialiser m.signature ≡ false) program.methods is.method (refl, (refl, (refl, tt))) (contains_at program.methods number is.method is.stands) in
+    each_contained (λ (m : Method). is_class_initialiser m.signature ≡ false) program.methods is.method (refl, (refl, (refl, tt)))
+    (contains_at program.methods number is.method is.stands) in
     true≢false (sym named ∙ other)
 
 pub starts_nothing : (n : Node) (i : MethodNo) → StartsAt program n i → ⊥
@@ -42,7 +43,8 @@ is_of_file (described s) = false
 pub describes_nothing : (target : MethodNo) (stub : StubMethod) → IsDescribedBy program target stub → ⊥
 describes_nothing target stub is =
     let file : is_of_file is.method.body ≡ true =
-    each_contained (λ (m : Method). is_of_file m.body ≡ true) program.methods is.method (refl, (refl, (refl, tt))) (contains_at program.methods target.0 is.method is.stands) in
+    each_contained (λ (m : Method). is_of_file m.body ≡ true) program.methods is.method (refl, (refl, (refl, tt)))
+    (contains_at program.methods target.0 is.method is.stands) in
     true≢false (sym file ∙ ap is_of_file is.of_stub)
 
 -- Nothing is known to be held.
@@ -75,7 +77,8 @@ pub nothing_thrown : (class name : List ℕ) → IsThrownAt program [] (Some cla
 nothing_thrown class name (raised raise there is) = absurd (contains_none raise there)
 nothing_thrown class name (initialising above is has error) = not_coded above has.number has.initialiser
 
-nothing_listed : (class : List ℕ) (throws : List ClassNo) → ((c : ClassNo) → Contains throws c → (name : List ℕ) × IsClassNumber program c name × IsThrownAt program [] (Some class) name)
+nothing_listed : (class : List ℕ) (throws : List ClassNo)
+    → ((c : ClassNo) → Contains throws c → (name : List ℕ) × IsClassNumber program c name × IsThrownAt program [] (Some class) name)
     → [] ≡ throws
 nothing_listed class [] only = refl
 nothing_listed class (c ∷ cs) only = absurd (nothing_thrown class _ (only c (contains_first c cs)).2)
@@ -149,10 +152,12 @@ pub record Everywhere (P : Option MethodNo → LoweredMethod → Node → Type 0
   pub of_read : AllByRecursion (P (Some read_number) (only_returns read_number)) (only_returns read_number).nodes
   pub of_close : AllByRecursion (P (Some close_number) (only_returns close_number)) (only_returns close_number).nodes
 
-pub at_node : (P : Option MethodNo → LoweredMethod → Node → Type 0) → Everywhere P → (m : Option MethodNo) (l : LoweredMethod) (n : Node) → IsNode subject gives m l n → P m l n
+pub at_node : (P : Option MethodNo → LoweredMethod → Node → Type 0) → Everywhere P → (m : Option MethodNo) (l : LoweredMethod) (n : Node)
+    → IsNode subject gives m l n → P m l n
 at_node P all m l n is =
     let of_method : AllByRecursion (P m l) l.nodes =
-    method_cases (λ (k : Option MethodNo) (j : LoweredMethod). AllByRecursion (P k j) j.nodes) all.of_start all.of_main all.of_read all.of_close m l is.method in
+    method_cases (λ (k : Option MethodNo) (j : LoweredMethod). AllByRecursion
+    (P k j) j.nodes) all.of_start all.of_main all.of_read all.of_close m l is.method in
     each_contained (P m l) l.nodes n of_method is.stands
 
 -- Nothing is thrown.

@@ -106,7 +106,8 @@ at_place m s P every e f there = found P (stands_at m s) edges (edge m e s f) (s
 abbrev Are : Option MethodNo → SiteFact → Spot → List SiteFact → Type 0
 Are m e s facts = AllByRecursion (λ (g : SiteFact). Contains edges (edge m e s g)) facts
 
-are : (m : Option MethodNo) (e : SiteFact) (s : Spot) (facts : List SiteFact) → Are m e s facts → (g : SiteFact) → Contains facts g → Contains edges (edge m e s g)
+are : (m : Option MethodNo) (e : SiteFact) (s : Spot) (facts : List SiteFact) → Are m e s facts → (g : SiteFact) → Contains facts g
+    → Contains edges (edge m e s g)
 are m e s facts every g there = each_contained (λ (h : SiteFact). Contains edges (edge m e s h)) facts g every there
 
 -- There they are at each successor.
@@ -195,7 +196,19 @@ divides_goes_on = λ no_call. (((at 8 _ refl, tt), tt), (((at 9 _ refl, tt), tt)
 nodes_go_on : Everywhere GoesOn
 nodes_go_on = record {
   of_start = λ k c. (λ no_call. absurd (no_call _ refl), (λ no_call. (tt, (tt, (tt, tt))), tt));
-  of_main = (makes_goes_on, (first_goes_on, (λ no_call. absurd (no_call _ refl), (again_goes_on, (λ no_call. absurd (no_call _ refl), (λ no_call. (tt, (tt, (tt, tt))), tt))))));
+  of_main = (
+    makes_goes_on,
+    (
+      first_goes_on,
+      (
+        λ no_call. absurd (no_call _ refl),
+        (
+          again_goes_on,
+          (λ no_call. absurd (no_call _ refl), (λ no_call. (tt, (tt, (tt, tt))), tt)),
+        ),
+      ),
+    ),
+  );
   of_read = (divides_goes_on, (λ no_call. (tt, (tt, tt)), tt));
   of_close = (λ no_call. (tt, (tt, tt)), tt);
 }
@@ -233,7 +246,19 @@ divides_raises number there = out_of (λ (handler : Option ℕ) (spot : Spot). A
 nodes_raise : Everywhere Raises
 nodes_raise = record {
   of_start = λ k c. ((λ number there. absurd (contains_none number there)), ((λ number there. absurd (contains_none number there)), tt));
-  of_main = ((λ number there. absurd (contains_none number there)), ((λ number there. absurd (contains_none number there)), ((λ number there. absurd (contains_none number there)), ((λ number there. absurd (contains_none number there)), ((λ number there. absurd (contains_none number there)), ((λ number there. absurd (contains_none number there)), tt))))));
+  of_main = (
+    (λ number there. absurd (contains_none number there)),
+    (
+      (λ number there. absurd (contains_none number there)),
+      (
+        (λ number there. absurd (contains_none number there)),
+        (
+          (λ number there. absurd (contains_none number there)),
+          ((λ number there. absurd (contains_none number there)), ((λ number there. absurd (contains_none number there)), tt)),
+        ),
+      ),
+    ),
+  );
   of_read = (divides_raises, ((λ number there. absurd (contains_none number there)), tt));
   of_close = ((λ number there. absurd (contains_none number there)), tt);
 }
@@ -279,7 +304,26 @@ Sends m l n = AtCall (λ c. AtPlace m (before n) (λ d. AtTargets (node_at m n) 
     AllByRecursion (λ (sent : SiteFact). IsSent m l n c d.entry target sent) (t.event l n c d.fact)))) n.op
 
 start_sends : (k : MethodNo) (c : ClassNo) → Sends None (start_nodes k c) (start_call c)
-start_sends k c = ((((at 1 _ refl, (((at 28 _ refl, tt), tt), (((at 29 _ refl, tt), tt), (((at 30 _ refl, tt), tt), tt))), λ class handler spot goes. tt), tt), tt), tt)
+start_sends k c = (
+  (
+    (
+      (
+        at 1 _ refl,
+        (
+          ((at 28 _ refl, tt), tt),
+          (
+            ((at 29 _ refl, tt), tt),
+            (((at 30 _ refl, tt), tt), tt),
+          ),
+        ),
+        λ class handler spot goes. tt,
+      ),
+      tt,
+    ),
+    tt,
+  ),
+  tt,
+)
 
 -- The handler takes whatever is thrown at the call.
 into_handler : (P : Option ℕ → Spot → Type 0) → P (Some 3) (spots.Node 3) → (class : List ℕ) (handler : Option ℕ) (spot : Spot)
@@ -289,10 +333,46 @@ into_handler P goes class _ _ (caught h (inr later)) = absurd later.1
 into_handler P goes class _ _ (uncaught refused) = absurd (refused takes_all (contains_first takes_all []) (all refl))
 
 read_is_sent : Sends (Some main_number) main reads
-read_is_sent = ((((at 6 _ refl, (((at 22 _ refl, tt), tt), tt), (into_handler (λ (handler : Option ℕ) (spot : Spot). AllByRecursion (λ (d : Edge). Are (Some main_number) none_yet spot (t.raise main reads handler (t.leave main reads (by_call (calling (codes "read") read_number)) read_number some_yet d.fact))) (filter (leaves_at read_number (t.enter (by_call (calling (codes "read") read_number)) some_yet) spots.Thrown) edges)) ((at 14 _ refl, tt), tt))), tt), tt), ((((at 7 _ refl, (((at 23 _ refl, tt), tt), tt), (into_handler (λ (handler : Option ℕ) (spot : Spot). AllByRecursion (λ (d : Edge). Are (Some main_number) none_yet spot (t.raise main reads handler (t.leave main reads (by_call (calling (codes "read") read_number)) read_number (copied 0) d.fact))) (filter (leaves_at read_number (t.enter (by_call (calling (codes "read") read_number)) (copied 0)) spots.Thrown) edges)) ((at 15 _ refl, tt), tt))), tt), tt), tt))
+read_is_sent = (
+  (
+    (
+      (
+        at 6 _ refl,
+        (((at 22 _ refl, tt), tt), tt),
+        (into_handler (λ (handler : Option ℕ) (spot : Spot). AllByRecursion
+            (λ (d : Edge). Are (Some main_number) none_yet spot (t.raise main reads handler
+            (t.leave main reads (by_call (calling (codes "read") read_number)) read_number some_yet d.fact)))
+            (filter (leaves_at read_number (t.enter (by_call (calling (codes "read") read_number)) some_yet) spots.Thrown) edges))
+            ((at 14 _ refl, tt), tt)),
+      ),
+      tt,
+    ),
+    tt,
+  ),
+  (
+    (
+      (
+        (
+          at 7 _ refl,
+          (((at 23 _ refl, tt), tt), tt),
+          (into_handler (λ (handler : Option ℕ) (spot : Spot). AllByRecursion (λ (d : Edge). Are (Some main_number) none_yet spot
+              (t.raise main reads handler (t.leave main reads (by_call (calling (codes "read") read_number)) read_number (copied 0) d.fact)))
+              (filter (leaves_at read_number (t.enter (by_call (calling (codes "read") read_number)) (copied 0)) spots.Thrown) edges))
+              ((at 15 _ refl, tt), tt)),
+        ),
+        tt,
+      ),
+      tt,
+    ),
+    tt,
+  ),
+)
 
 close_is_sent : Sends (Some main_number) main closes
-close_is_sent = ((((at 18 _ refl, (((at 22 _ refl, tt), tt), tt), λ class handler spot goes. tt), tt), tt), ((((at 19 _ refl, (((at 24 _ refl, tt), tt), tt), λ class handler spot goes. tt), tt), tt), tt))
+close_is_sent = (
+  (((at 18 _ refl, (((at 22 _ refl, tt), tt), tt), λ class handler spot goes. tt), tt), tt),
+  ((((at 19 _ refl, (((at 24 _ refl, tt), tt), tt), λ class handler spot goes. tt), tt), tt), tt),
+)
 
 nodes_send : Everywhere Sends
 nodes_send = record {
@@ -313,17 +393,20 @@ entered m l n e f sent c target node is there call event =
     AllByRecursion (λ (s : SiteFact). IsSent m l n k d.entry g s) (t.event l n k d.fact))))) is (at_node Sends nodes_send m l n node) in
     let at_targets = at_place m (before n) (λ (d : Edge). AtTargets (node_at m n) (λ (g : MethodNo).
     AllByRecursion (λ (s : SiteFact). IsSent m l n c d.entry g s) (t.event l n c d.fact))) at_edges e f there in
-    let at_facts = at_target (node_at m n) (λ (g : MethodNo). AllByRecursion (λ (s : SiteFact). IsSent m l n c e g s) (t.event l n c f)) at_targets target call in
+    let at_facts = at_target (node_at m n) (λ (g : MethodNo). AllByRecursion (λ (s : SiteFact). IsSent m l n c e g s)
+    (t.event l n c f)) at_targets target call in
     each_contained (λ (s : SiteFact). IsSent m l n c e target s) (t.event l n c f) sent at_facts event
 
 -- What leaves it goes on.
-left : (m : Option MethodNo) (l : LoweredMethod) (n : Node) (e sent out g : SiteFact) (c : NodeCall) (target : MethodNo) (offset : ℕ) → IsSent m l n c e target sent
+left : (m : Option MethodNo) (l : LoweredMethod) (n : Node) (e sent out g : SiteFact) (c : NodeCall) (target : MethodNo) (offset : ℕ)
+    → IsSent m l n c e target sent
     → Contains edges (edge (Some target) (t.enter (by_call c) sent) spots.Returned out) → Contains n.successors offset
     → Contains (t.next l n (t.leave l n (by_call c) target sent out)) g → Contains edges (edge m e (spots.Node offset) g)
 left m l n e sent out g c target offset is there leads after =
     let entry = t.enter (by_call c) sent in
     let passes = both _ _ (stands_itself (Some target) spots.Returned) (kind_itself entry) in
-    let every = found (λ (d : Edge). AreAfter m e n.successors (t.next l n (t.leave l n (by_call c) target sent d.fact))) (leaves_at target entry spots.Returned) edges
+    let every = found (λ (d : Edge). AreAfter m e n.successors (t.next l n (t.leave l n (by_call c) target sent d.fact)))
+    (leaves_at target entry spots.Returned) edges
     (edge (Some target) entry spots.Returned out) passes is.1 there in
     are_after m e n.successors _ every offset leads g after
 
@@ -345,11 +428,13 @@ thrown : (m : Option MethodNo) (l : LoweredMethod) (n : Node) (e sent out g : Si
 thrown m l n e sent out g c target class handler spot is there goes after =
     let entry = t.enter (by_call c) sent in
     let passes = both _ _ (stands_itself (Some target) spots.Thrown) (kind_itself entry) in
-    let facts = found (λ (d : Edge). Are m e spot (t.raise l n handler (t.leave l n (by_call c) target sent d.fact))) (leaves_at target entry spots.Thrown) edges
+    let facts = found (λ (d : Edge). Are m e spot (t.raise l n handler (t.leave l n (by_call c) target sent d.fact)))
+    (leaves_at target entry spots.Thrown) edges
     (edge (Some target) entry spots.Thrown out) passes (is.2 class handler spot goes) there in
     are m e spot _ facts g after
 
-unwound : (m : Option MethodNo) (l : LoweredMethod) (n : Node) (e f sent out g : SiteFact) (target : MethodNo) (by : Entering) (class : List ℕ) (handler : Option ℕ)
+unwound : (m : Option MethodNo) (l : LoweredMethod) (n : Node) (e f sent out g : SiteFact) (target : MethodNo) (by : Entering) (class : List ℕ)
+    (handler : Option ℕ)
     (spot : Spot) → IsNode subject gives m l n → Enters subject known t m l n target f by sent → GoesTo subject n class handler spot
     → Contains (t.raise l n handler (t.leave l n by target sent out)) g → Contains edges (edge m e (before n) f)
     → Contains edges (edge (Some target) (t.enter by sent) spots.Thrown out) → Contains edges (edge m e spot g)
@@ -357,7 +442,8 @@ unwound m l n e f _ out g target _ class handler spot node (called c sent is cal
     thrown m l n e sent out g c target class handler spot (entered m l n e f sent c target node is there call event) at_exit goes after
 unwound m l n e f _ out g target _ class handler spot node (triggered starts) goes after there at_exit = absurd (starts_nothing n target starts)
 
-raised : (m : Option MethodNo) (l : LoweredMethod) (n : Node) (e f g : SiteFact) (class : List ℕ) (handler : Option ℕ) (spot : Spot) → IsNode subject gives m l n
+raised : (m : Option MethodNo) (l : LoweredMethod) (n : Node) (e f g : SiteFact) (class : List ℕ) (handler : Option ℕ) (spot : Spot)
+    → IsNode subject gives m l n
     → ThrowsClass subject known l n class → GoesTo subject n class handler spot → Contains (t.raise l n handler f) g → Contains edges (edge m e (before n) f)
     → Contains edges (edge m e spot g)
 raised m l n e f g class handler spot node (listed number there is) goes after at_edge =
@@ -369,10 +455,12 @@ raised m l n e f g class handler spot node (held z h s op slot holds throwable i
 pub closed : IsClosed (StageInstance subject gives known setting) edges
 closed _ _ start hold = at 0 _ refl
 closed _ _ (goes_on m l n e f g offset node no_call leads after) hold =
-    let every = at_place m (before n) (λ (d : Edge). AreAfter m d.entry n.successors (t.next l n d.fact)) (at_node GoesOn nodes_go_on m l n node no_call) e f hold.0 in
+    let every = at_place m (before n) (λ (d : Edge). AreAfter m d.entry n.successors (t.next l n d.fact))
+    (at_node GoesOn nodes_go_on m l n node no_call) e f hold.0 in
     are_after m e n.successors _ every offset leads g after
 closed _ _ (returns m l n e f g value node is after) hold =
-    let every = subst (AtReturn (AtPlace m (before n) (λ (d : Edge). Are m d.entry spots.Returned (t.next l n d.fact)))) is (at_node Returns nodes_return m l n node) in
+    let every = subst (AtReturn (AtPlace m (before n) (λ (d : Edge). Are m d.entry spots.Returned (t.next l n d.fact)))) is
+    (at_node Returns nodes_return m l n node) in
     are m e spots.Returned _ (at_place m (before n) (λ (d : Edge). Are m d.entry spots.Returned (t.next l n d.fact)) every e f hold.0) g after
 closed _ _ (raises m l n e f g class handler spot node throws goes after) hold = raised m l n e f g class handler spot node throws goes after hold.0
 closed _ _ (answers m l n e f sent g c target stub parameters result offset node is call stubbed given leads event after) hold =

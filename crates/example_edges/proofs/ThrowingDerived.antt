@@ -208,11 +208,14 @@ comes_back i k j p m l n e f sent out g c target offset node is call written eve
 
 the_rest_ends : EachFollows rules (take 22 edges) (drop 22 edges)
 the_rest_ends = (
-  comes_back 22 16 20 2 (Some main_number) main closes none_yet some_yet some_yet some_yet some_yet close_call close_number 5 (in_main_at 4 _ refl) refl refl close_there refl refl refl refl refl,
+  comes_back 22 16 20 2 (Some main_number) main closes none_yet some_yet some_yet some_yet some_yet close_call close_number 5
+      (in_main_at 4 _ refl) refl refl close_there refl refl refl refl refl,
   (
-    comes_back 23 5 11 1 (Some main_number) main reads none_yet (copied 0) (copied 0) (gone 0) (local 0) read_call read_number 5 (in_main_at 2 _ refl) refl refl read_there refl refl refl refl refl,
+    comes_back 23 5 11 1 (Some main_number) main reads none_yet (copied 0) (copied 0) (gone 0) (local 0) read_call read_number 5
+        (in_main_at 2 _ refl) refl refl read_there refl refl refl refl refl,
     (
-      comes_back 24 17 21 2 (Some main_number) main closes none_yet (copied 0) (copied 1) (gone 1) (local 1) close_call close_number 5 (in_main_at 4 _ refl) refl refl close_there refl refl refl refl refl,
+      comes_back 24 17 21 2 (Some main_number) main closes none_yet (copied 0) (copied 1) (gone 1) (local 1) close_call close_number 5
+          (in_main_at 4 _ refl) refl refl close_there refl refl refl refl refl,
       (
         returns_from 25 22 (Some main_number) main (ends 5) none_yet some_yet some_yet (in_main_at 5 _ refl) refl refl refl,
         (
@@ -222,9 +225,11 @@ the_rest_ends = (
             (
               comes_back 28 0 25 0 None the_start the_call none_yet none_yet none_yet some_yet some_yet entry_call main_number 1 at_call refl refl main_there refl refl refl refl refl,
               (
-                comes_back 29 0 26 0 None the_start the_call none_yet none_yet none_yet (gone 0) (gone 0) entry_call main_number 1 at_call refl refl main_there refl refl refl refl refl,
+                comes_back 29 0 26 0 None the_start the_call none_yet none_yet none_yet (gone 0)
+                    (gone 0) entry_call main_number 1 at_call refl refl main_there refl refl refl refl refl,
                 (
-                  comes_back 30 0 27 0 None the_start the_call none_yet none_yet none_yet (gone 1) (gone 1) entry_call main_number 1 at_call refl refl main_there refl refl refl refl refl,
+                  comes_back 30 0 27 0 None the_start the_call none_yet none_yet none_yet (gone 1)
+                      (gone 1) entry_call main_number 1 at_call refl refl main_there refl refl refl refl refl,
                   (
                     returns_from 31 28 None the_start (ends 1) none_yet some_yet some_yet at_end refl refl refl,
                     (
@@ -255,9 +260,11 @@ the_rest_closes = (
       (
         node_goes 17 15 0 0 (Some main_number) main copies_again none_yet (local 0) (copied 0) 4 (in_main_at 3 _ refl) again_is_no_call refl refl refl,
         (
-          enters_by_call 18 16 2 (Some main_number) main closes none_yet some_yet some_yet close_call close_number (in_main_at 4 _ refl) refl refl close_there refl refl,
+          enters_by_call 18 16 2 (Some main_number) main closes none_yet some_yet some_yet close_call close_number
+              (in_main_at 4 _ refl) refl refl close_there refl refl,
           (
-            enters_by_call 19 17 2 (Some main_number) main closes none_yet (copied 0) (copied 1) close_call close_number (in_main_at 4 _ refl) refl refl close_there refl refl,
+            enters_by_call 19 17 2 (Some main_number) main closes none_yet (copied 0) (copied 1) close_call close_number
+                (in_main_at 4 _ refl) refl refl close_there refl refl,
             (
               returns_from 20 18 (Some close_number) (only_returns close_number) (ends 0) some_yet some_yet some_yet in_close refl refl refl,
               (
@@ -276,7 +283,8 @@ the_rest_reads : EachFollows rules (take 6 edges) (drop 6 edges)
 the_rest_reads = (
   enters_by_call 6 4 1 (Some main_number) main reads none_yet some_yet some_yet read_call read_number (in_main_at 2 _ refl) refl refl read_there refl refl,
   (
-    enters_by_call 7 5 1 (Some main_number) main reads none_yet (copied 0) (copied 0) read_call read_number (in_main_at 2 _ refl) refl refl read_there refl refl,
+    enters_by_call 7 5 1 (Some main_number) main reads none_yet (copied 0) (copied 0) read_call read_number
+        (in_main_at 2 _ refl) refl refl read_there refl refl,
     (
       node_goes 8 6 0 0 (Some read_number) reading divides some_yet some_yet some_yet 1 (in_read_at 0 _ refl) dividing_is_no_call refl refl refl,
       (
@@ -351,7 +359,64 @@ abbrev place : Edge → ℕ
 place d = place_in (map key edges) (key d)
 
 pub without_doubles : IsWithoutDoubles edges
-without_doubles = apart place edges (refl, (refl, (refl, (refl, (refl, (refl, (refl, (refl, (refl, (refl, (refl, (refl, (refl, (refl, (refl, (refl, (refl, (refl, (refl, (refl, (refl, (refl, (refl, (refl, (refl, (refl, (refl, (refl, (refl, (refl, (refl, (refl, (refl, (refl, tt))))))))))))))))))))))))))))))))))
+without_doubles = apart place edges (
+  refl,
+  (
+    refl,
+    (
+      refl,
+      (
+        refl,
+        (
+          refl,
+          (
+            refl,
+            (
+              refl,
+              (
+                refl,
+                (
+                  refl,
+                  (
+                    refl,
+                    (
+                      refl,
+                      (
+                        refl,
+                        (
+                          refl,
+                          (
+                            refl,
+                            (
+                              refl,
+                              (
+                                refl,
+                                (
+                                  refl,
+                                  (
+                                    refl,
+                                    (
+                                      refl,
+                                      (refl, (refl, (refl, (refl, (refl, (refl, (refl, (refl, (refl, (refl, (refl, (refl, (refl, (refl, (refl, tt))))))))))))))),
+                                    ),
+                                  ),
+                                ),
+                              ),
+                            ),
+                          ),
+                        ),
+                      ),
+                    ),
+                  ),
+                ),
+              ),
+            ),
+          ),
+        ),
+      ),
+    ),
+  ),
+)
 
 -- ---- the error state
 
@@ -365,7 +430,67 @@ shut : IsError property (gone 1) → ⊥
 shut error = true≢false (ap (nat_eq 1) error)
 
 pub no_error : (e : Edge) → Contains edges e → IsError property e.fact → ⊥
-no_error e there = each_contained (λ (d : Edge). IsError property d.fact → ⊥) edges e (never, (never, (never, (opened, (never, (opened, (never, (opened, (never, (opened, (never, (opened, (never, (opened, (never, (opened, (never, (opened, (never, (shut, (never, (shut, (never, (opened, (shut, (never, (opened, (shut, (never, (opened, (shut, (never, (opened, (shut, tt)))))))))))))))))))))))))))))))))) there
+no_error e there = each_contained (λ (d : Edge). IsError property d.fact → ⊥) edges e (
+  never,
+  (
+    never,
+    (
+      never,
+      (
+        opened,
+        (
+          never,
+          (
+            opened,
+            (
+              never,
+              (
+                opened,
+                (
+                  never,
+                  (
+                    opened,
+                    (
+                      never,
+                      (
+                        opened,
+                        (
+                          never,
+                          (
+                            opened,
+                            (
+                              never,
+                              (
+                                opened,
+                                (
+                                  never,
+                                  (
+                                    opened,
+                                    (
+                                      never,
+                                      (
+                                        shut,
+                                        (never, (shut, (never, (opened, (shut, (never, (opened, (shut, (never, (opened, (shut, (never, (opened, (shut, tt)))))))))))))),
+                                      ),
+                                    ),
+                                  ),
+                                ),
+                              ),
+                            ),
+                          ),
+                        ),
+                      ),
+                    ),
+                  ),
+                ),
+              ),
+            ),
+          ),
+        ),
+      ),
+    ),
+  ),
+) there
 
 pub are_path_edges : ArePathEdges subject gives known setting edges
 are_path_edges = record { least = record { closed = closed; derivable = All-derivable rules edges derived }; apart = without_doubles }
