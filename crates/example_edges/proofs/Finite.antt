@@ -1,5 +1,5 @@
 -- Lists that are written out: what all their elements of a place have, what has numbers, and derivations of which each fact follows.
-use Rattle.std.proofs.Common.{◌≡◌, inl, inr, ℕ, zero, suc, ◌+◌, Bool, true, false, cond, List, [], ◌∷◌, ◌++◌, filter, Some, ◌∙◌, ap, subst, arith}
+use Rattle.std.proofs.Common.{◌≡◌, inl, inr, ℕ, zero, suc, ◌+◌, nat_eq, eqb-true, Bool, true, false, ◌&&◌, true≢false, cond, List, [], ◌∷◌, ◌++◌, filter, Some, refl, sym, ◌∙◌, ap, subst, arith}
 use Rattle.std.specs.List.{slice_get, AllByRecursion, Contains}
 use Rattle.std.proofs.lemmas.Option.{same_Some, none-some}
 use Rattle.list_laws.proofs.Members.{contains_cases, contains_none}
@@ -21,19 +21,43 @@ found {X} P test (y ∷ ys) x passes all there = elim (contains_cases y x ys the
   | inr later ↦ found P test ys x passes (kept_later P test y ys (test y) all) later
 ]
 
--- ---- numbers
+-- ---- tests of a whole list
+
+first_of_both : (a b : Bool) → (a && b) ≡ true → a ≡ true
+first_of_both true b e = refl
+first_of_both false b e = e
+
+second_of_both : (a b : Bool) → (a && b) ≡ true → b ≡ true
+second_of_both true b e = e
+second_of_both false b e = absurd (true≢false (sym e))
+
+abbrev pub all_pass : {X : Type 0} → (X → Bool) → List X → Bool
+all_pass test [] = true
+all_pass test (x ∷ xs) = test x && all_pass test xs
+
+pub passes : {X : Type 0} (test : X → Bool) (xs : List X) (x : X) → all_pass test xs ≡ true → Contains xs x → test x ≡ true
+passes test [] x all there = absurd (contains_none x there)
+passes test (y ∷ ys) x all there = elim (contains_cases y x ys there) [
+  | inl same ↦ ap test (sym same) ∙ first_of_both (test y) _ all
+  | inr later ↦ passes test ys x (second_of_both (test y) _ all) later
+]
 
 -- The elements are numbered by their places.
-abbrev pub AreNumbered : {X : Type 0} → (X → ℕ) → ℕ → List X → Type 0
-AreNumbered number n [] = Unit {0}
-AreNumbered number n (x ∷ xs) = (number x ≡ n) × AreNumbered number (suc n) xs
+abbrev pub are_numbered : {X : Type 0} → (X → ℕ) → ℕ → List X → Bool
+are_numbered number n [] = true
+are_numbered number n (x ∷ xs) = nat_eq (number x) n && are_numbered number (suc n) xs
 
-number_at : {X : Type 0} (number : X → ℕ) (n : ℕ) (xs : List X) → AreNumbered number n xs → (i : ℕ) (x : X) → slice_get xs i ≡ Some x → number x ≡ n + i
+number_at : {X : Type 0} (number : X → ℕ) (n : ℕ) (xs : List X) → are_numbered number n xs ≡ true → (i : ℕ) (x : X) → slice_get xs i ≡ Some x
+    → number x ≡ n + i
 number_at number n [] are i x e = absurd (none-some x e)
-number_at number n (y ∷ ys) are zero x e = let h = ap number (same_Some y x e) in let k = are.0 in omega (arith, h, k)
-number_at number n (y ∷ ys) are (suc i) x e = let h = number_at number (suc n) ys are.1 i x e in omega (arith, h)
+number_at number n (y ∷ ys) are zero x e =
+    let h = ap number (same_Some y x e) in
+    let k = eqb-true (number y) n (first_of_both (nat_eq (number y) n) _ are) in
+    omega (arith, h, k)
+number_at number n (y ∷ ys) are (suc i) x e =
+    let h = number_at number (suc n) ys (second_of_both (nat_eq (number y) n) _ are) i x e in omega (arith, h)
 
-pub apart : {X : Type 0} (number : X → ℕ) (xs : List X) → AreNumbered number 0 xs → IsWithoutDoubles xs
+pub apart : {X : Type 0} (number : X → ℕ) (xs : List X) → are_numbered number 0 xs ≡ true → IsWithoutDoubles xs
 apart number xs are x i j p q = let h = number_at number 0 xs are i x p in let k = number_at number 0 xs are j x q in omega (arith, h, k)
 
 -- ---- derivations

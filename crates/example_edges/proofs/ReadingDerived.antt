@@ -1,5 +1,5 @@
 -- The list of path edges is a derivation: each edge follows from those before it. None stands there twice.
-use Rattle.std.proofs.Common.{codes, ◌≡◌, ◌≢◌, ℕ, ◌+◌, ◌*◌, nat_eq, Bool, true, false, true≢false, List, [], ◌∷◌, map, drop, take, Option, Some, None, refl, sym, ap, if◌then◌else◌}
+use Rattle.std.proofs.Common.{◌∙◌, not, eq-eqb, codes, ◌≡◌, ◌≢◌, ℕ, ◌+◌, ◌*◌, nat_eq, Bool, true, false, true≢false, List, [], ◌∷◌, map, drop, take, Option, Some, None, refl, sym, ap, if◌then◌else◌}
 use Rattle.std.specs.List.{slice_get, Contains}
 use Rattle.jvm_model.specs.declared.number.ClassNo.{ClassNo}
 use Rattle.jvm_model.specs.declared.number.MethodNo.{MethodNo}
@@ -12,7 +12,7 @@ use Rattle.op_model.specs.declared.op.CallKind.TheVariants.{Static}
 use Rattle.op_model.specs.declared.op.Op.{Op}
 use Rattle.op_model.specs.declared.op.Op.TheVariants.{Assign, Load, Store, LoadElement, StoreElement, LoadStatic, StoreStatic, New, NewArray, Constant, Call, Return, Throw, Cast, Probe}
 use Rattle.machine_nodes.specs.Nodes.{AreThrownAt}
-use Rattle.list_laws.proofs.Members.{contains_none, each_contained}
+use Rattle.list_laws.proofs.Members.{contains_none}
 use Rattle.list_laws.proofs.Places.{contains_at}
 use Rattle.least_sets.specs.Rules.{Follows, IsDerivation, IsWithoutDoubles}
 use Rattle.points_to_rules.specs.Calls.{IsOfFile}
@@ -24,7 +24,7 @@ use Rattle.stage_edges.specs.Rules.{Edge, edge, node_at, before, IsMethod, of_fi
 use Rattle.stage_edges.specs.Edges.{ArePathEdges, IsError, StageInstance}
 use Rattle.least_sets.proofs.Derivations.{All-derivable}
 use Rattle.example_edges.specs.Reading.{calling, calls, close_number, closes, copies_again, edges, ends, first_copies, gives, known, main, main_number, makes, member, file, method, only, only_returns, program, property, read_number, reads, setting, subject}
-use Rattle.example_edges.proofs.Finite.{EachFollows, apart, goes_on as derivation_goes_on, nothing_derived}
+use Rattle.example_edges.proofs.Finite.{passes, EachFollows, apart, goes_on as derivation_goes_on, nothing_derived}
 use Rattle.example_edges.proofs.ReadingNodes.{nothing_thrown, start as start_nodes, start_call}
 use Rattle.example_edges.proofs.ReadingClosed.{closed}
 
@@ -52,7 +52,15 @@ abbrev the_call : Node
 the_call = start_call the_class
 
 abbrev entry_call : NodeCall
-entry_call = record { kind = Static; resolved = main_number; chosen = Some main_number; name = codes "main"; descriptor = codes "()V"; arguments = []; result = None }
+entry_call = record {
+  kind = Static;
+  resolved = main_number;
+  chosen = Some main_number;
+  name = codes "main";
+  descriptor = codes "()V";
+  arguments = [];
+  result = None;
+}
 
 throws_none : AreThrownAt program [] (Some (codes "F")) []
 throws_none = record { only = λ c there. absurd (contains_none c there); all = λ c name is thrown. absurd (nothing_thrown (codes "F") name thrown) }
@@ -186,7 +194,8 @@ the_rest_ends = (
       (
         returns_from 21 19 (Some main_number) main (ends 5) none_yet (only 1) (in_main_at 5 _ refl) refl refl refl,
         (
-          comes_back 22 0 20 0 None the_start the_call none_yet none_yet none_yet some_yet entry_call main_number 1 at_call refl refl main_there refl refl refl refl refl,
+          comes_back 22 0 20 0 None the_start the_call none_yet none_yet none_yet some_yet
+              entry_call main_number 1 at_call refl refl main_there refl refl refl refl refl,
           (
             comes_back 23 0 21 0 None the_start the_call none_yet none_yet none_yet
                 (only 1) entry_call main_number 1 at_call refl refl main_there refl refl refl refl refl,
@@ -302,138 +311,23 @@ abbrev place : Edge → ℕ
 place d = place_in (map key edges) (key d)
 
 pub without_doubles : IsWithoutDoubles edges
-without_doubles = apart place edges (
-  refl,
-  (
-    refl,
-    (
-      refl,
-      (
-        refl,
-        (
-          refl,
-          (
-            refl,
-            (
-              refl,
-              (
-                refl,
-                (
-                  refl,
-                  (
-                    refl,
-                    (
-                      refl,
-                      (
-                        refl,
-                        (
-                          refl,
-                          (
-                            refl,
-                            (
-                              refl,
-                              (
-                                refl,
-                                (
-                                  refl,
-                                  (
-                                    refl,
-                                    (
-                                      refl,
-                                      (refl, (refl, (refl, (refl, (refl, (refl, (refl, tt))))))),
-                                    ),
-                                  ),
-                                ),
-                              ),
-                            ),
-                          ),
-                        ),
-                      ),
-                    ),
-                  ),
-                ),
-              ),
-            ),
-          ),
-        ),
-      ),
-    ),
-  ),
-)
+without_doubles = apart place edges refl
 
 -- ---- the error state
 
-never : IsError property none_yet → ⊥
-never error = error
+abbrev is_error : SiteFact → Bool
+is_error none_yet = false
+is_error some_yet = false
+is_error (of_object u) = nat_eq u.state property.error
 
-opened : IsError property (only 0) → ⊥
-opened error = true≢false (ap (nat_eq 0) error)
-
-shut : IsError property (only 1) → ⊥
-shut error = true≢false (ap (nat_eq 1) error)
+errs : (f : SiteFact) → IsError property f → is_error f ≡ true
+errs none_yet error = absurd error
+errs some_yet error = absurd error
+errs (of_object u) error = eq-eqb u.state property.error error
 
 pub no_error : (e : Edge) → Contains edges e → IsError property e.fact → ⊥
-no_error e there = each_contained (λ (d : Edge). IsError property d.fact → ⊥) edges e (
-  never,
-  (
-    never,
-    (
-      never,
-      (
-        opened,
-        (
-          never,
-          (
-            opened,
-            (
-              never,
-              (
-                opened,
-                (
-                  never,
-                  (
-                    opened,
-                    (
-                      never,
-                      (
-                        opened,
-                        (
-                          never,
-                          (
-                            opened,
-                            (
-                              never,
-                              (
-                                shut,
-                                (
-                                  never,
-                                  (
-                                    shut,
-                                    (
-                                      never,
-                                      (
-                                        shut,
-                                        (never, (shut, (never, (shut, (never, (shut, tt)))))),
-                                      ),
-                                    ),
-                                  ),
-                                ),
-                              ),
-                            ),
-                          ),
-                        ),
-                      ),
-                    ),
-                  ),
-                ),
-              ),
-            ),
-          ),
-        ),
-      ),
-    ),
-  ),
-) there
+no_error e there error =
+    true≢false (sym (passes (λ (d : Edge). not (is_error d.fact)) edges e refl there) ∙ ap not (errs e.fact error))
 
 pub are_path_edges : ArePathEdges subject gives known setting edges
 are_path_edges = record { least = record { closed = closed; derivable = All-derivable rules edges derived }; apart = without_doubles }

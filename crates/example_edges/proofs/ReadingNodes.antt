@@ -62,7 +62,15 @@ holds_nothing h s there = each_contained IsOther calls (may_hold h s) (tt, (tt, 
 abbrev pub start_call : ClassNo → Node
 start_call c = record {
   offset = 0;
-  op = Call (record { kind = Static; resolved = main_number; chosen = Some main_number; name = codes "main"; descriptor = codes "()V"; arguments = []; result = None });
+  op = Call (record {
+    kind = Static;
+    resolved = main_number;
+    chosen = Some main_number;
+    name = codes "main";
+    descriptor = codes "()V";
+    arguments = [];
+    result = None;
+  });
   successors = 1 ∷ [];
   handlers = [];
   trigger = Some c;

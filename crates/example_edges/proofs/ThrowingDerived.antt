@@ -1,5 +1,5 @@
 -- The list of path edges is a derivation: each edge follows from those before it. None stands there twice.
-use Rattle.std.proofs.Common.{codes, inl, ◌≡◌, ◌≢◌, ℕ, ◌+◌, ◌*◌, nat_eq, Bool, true, false, true≢false, List, [], ◌∷◌, map, drop, take, Option, Some, None, refl, sym, ap, if◌then◌else◌}
+use Rattle.std.proofs.Common.{◌∙◌, not, eq-eqb, codes, inl, ◌≡◌, ◌≢◌, ℕ, ◌+◌, ◌*◌, nat_eq, Bool, true, false, true≢false, List, [], ◌∷◌, map, drop, take, Option, Some, None, refl, sym, ap, if◌then◌else◌}
 use Rattle.std.specs.List.{slice_get, Contains}
 use Rattle.jvm_model.specs.declared.number.ClassNo.{ClassNo}
 use Rattle.jvm_model.specs.declared.number.MethodNo.{MethodNo}
@@ -13,7 +13,7 @@ use Rattle.op_model.specs.declared.op.Op.{Op}
 use Rattle.op_model.specs.declared.op.Op.TheVariants.{Assign, Load, Store, LoadElement, StoreElement, LoadStatic, StoreStatic, New, NewArray, Constant, Call, Return, Throw, Cast, Probe}
 use Rattle.machine_nodes.specs.Nodes.{AreThrownAt}
 use Rattle.machine_nodes.specs.NodeSteps.{all as every_class}
-use Rattle.list_laws.proofs.Members.{contains_none, each_contained}
+use Rattle.list_laws.proofs.Members.{contains_none}
 use Rattle.list_laws.proofs.Places.{contains_at}
 use Rattle.least_sets.specs.Rules.{Follows, IsDerivation, IsWithoutDoubles}
 use Rattle.points_to_rules.specs.Calls.{IsOfFile}
@@ -25,7 +25,7 @@ use Rattle.stage_edges.specs.Rules.{Edge, edge, node_at, before, IsMethod, of_fi
 use Rattle.stage_edges.specs.Edges.{ArePathEdges, IsError, StageInstance}
 use Rattle.least_sets.proofs.Derivations.{All-derivable}
 use Rattle.example_edges.specs.Throwing.{calling, calls, close_number, closes, copied, copies_again, divides, edges, ends, error_class, error_site, file, first_copies, gives, gone, known, local, main, main_number, makes, member, method, only_returns, program, property, read_number, reading, reads, setting, subject, takes_all}
-use Rattle.example_edges.proofs.Finite.{EachFollows, apart, goes_on as derivation_goes_on, nothing_derived}
+use Rattle.example_edges.proofs.Finite.{passes, EachFollows, apart, goes_on as derivation_goes_on, nothing_derived}
 use Rattle.example_edges.proofs.ThrowingNodes.{nothing_thrown, start as start_nodes, start_call}
 use Rattle.example_edges.proofs.ThrowingClosed.{closed}
 
@@ -53,7 +53,15 @@ abbrev the_call : Node
 the_call = start_call the_class
 
 abbrev entry_call : NodeCall
-entry_call = record { kind = Static; resolved = main_number; chosen = Some main_number; name = codes "main"; descriptor = codes "()V"; arguments = []; result = None }
+entry_call = record {
+  kind = Static;
+  resolved = main_number;
+  chosen = Some main_number;
+  name = codes "main";
+  descriptor = codes "()V";
+  arguments = [];
+  result = None;
+}
 
 throws_none : AreThrownAt program [] (Some (codes "F")) []
 throws_none = record { only = λ c there. absurd (contains_none c there); all = λ c name is thrown. absurd (nothing_thrown (codes "F") name thrown) }
@@ -223,7 +231,8 @@ the_rest_ends = (
           (
             returns_from 27 24 (Some main_number) main (ends 5) none_yet (local 1) (gone 1) (in_main_at 5 _ refl) refl refl refl,
             (
-              comes_back 28 0 25 0 None the_start the_call none_yet none_yet none_yet some_yet some_yet entry_call main_number 1 at_call refl refl main_there refl refl refl refl refl,
+              comes_back 28 0 25 0 None the_start the_call none_yet none_yet none_yet some_yet some_yet
+                  entry_call main_number 1 at_call refl refl main_there refl refl refl refl refl,
               (
                 comes_back 29 0 26 0 None the_start the_call none_yet none_yet none_yet (gone 0)
                     (gone 0) entry_call main_number 1 at_call refl refl main_there refl refl refl refl refl,
@@ -359,138 +368,23 @@ abbrev place : Edge → ℕ
 place d = place_in (map key edges) (key d)
 
 pub without_doubles : IsWithoutDoubles edges
-without_doubles = apart place edges (
-  refl,
-  (
-    refl,
-    (
-      refl,
-      (
-        refl,
-        (
-          refl,
-          (
-            refl,
-            (
-              refl,
-              (
-                refl,
-                (
-                  refl,
-                  (
-                    refl,
-                    (
-                      refl,
-                      (
-                        refl,
-                        (
-                          refl,
-                          (
-                            refl,
-                            (
-                              refl,
-                              (
-                                refl,
-                                (
-                                  refl,
-                                  (
-                                    refl,
-                                    (
-                                      refl,
-                                      (refl, (refl, (refl, (refl, (refl, (refl, (refl, (refl, (refl, (refl, (refl, (refl, (refl, (refl, (refl, tt))))))))))))))),
-                                    ),
-                                  ),
-                                ),
-                              ),
-                            ),
-                          ),
-                        ),
-                      ),
-                    ),
-                  ),
-                ),
-              ),
-            ),
-          ),
-        ),
-      ),
-    ),
-  ),
-)
+without_doubles = apart place edges refl
 
 -- ---- the error state
 
-never : IsError property none_yet → ⊥
-never error = error
+abbrev is_error : SiteFact → Bool
+is_error none_yet = false
+is_error some_yet = false
+is_error (of_object u) = nat_eq u.state property.error
 
-opened : IsError property (gone 0) → ⊥
-opened error = true≢false (ap (nat_eq 0) error)
-
-shut : IsError property (gone 1) → ⊥
-shut error = true≢false (ap (nat_eq 1) error)
+errs : (f : SiteFact) → IsError property f → is_error f ≡ true
+errs none_yet error = absurd error
+errs some_yet error = absurd error
+errs (of_object u) error = eq-eqb u.state property.error error
 
 pub no_error : (e : Edge) → Contains edges e → IsError property e.fact → ⊥
-no_error e there = each_contained (λ (d : Edge). IsError property d.fact → ⊥) edges e (
-  never,
-  (
-    never,
-    (
-      never,
-      (
-        opened,
-        (
-          never,
-          (
-            opened,
-            (
-              never,
-              (
-                opened,
-                (
-                  never,
-                  (
-                    opened,
-                    (
-                      never,
-                      (
-                        opened,
-                        (
-                          never,
-                          (
-                            opened,
-                            (
-                              never,
-                              (
-                                opened,
-                                (
-                                  never,
-                                  (
-                                    opened,
-                                    (
-                                      never,
-                                      (
-                                        shut,
-                                        (never, (shut, (never, (opened, (shut, (never, (opened, (shut, (never, (opened, (shut, (never, (opened, (shut, tt)))))))))))))),
-                                      ),
-                                    ),
-                                  ),
-                                ),
-                              ),
-                            ),
-                          ),
-                        ),
-                      ),
-                    ),
-                  ),
-                ),
-              ),
-            ),
-          ),
-        ),
-      ),
-    ),
-  ),
-) there
+no_error e there error =
+    true≢false (sym (passes (λ (d : Edge). not (is_error d.fact)) edges e refl there) ∙ ap not (errs e.fact error))
 
 pub are_path_edges : ArePathEdges subject gives known setting edges
 are_path_edges = record { least = record { closed = closed; derivable = All-derivable rules edges derived }; apart = without_doubles }

@@ -50,7 +50,15 @@ describes_nothing target stub is =
 abbrev pub start_call : ClassNo → Node
 start_call c = record {
   offset = 0;
-  op = Call (record { kind = Static; resolved = main_number; chosen = Some main_number; name = codes "main"; descriptor = codes "()V"; arguments = []; result = None });
+  op = Call (record {
+    kind = Static;
+    resolved = main_number;
+    chosen = Some main_number;
+    name = codes "main";
+    descriptor = codes "()V";
+    arguments = [];
+    result = None;
+  });
   successors = 1 ∷ [];
   handlers = [];
   trigger = Some c;
