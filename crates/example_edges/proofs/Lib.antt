@@ -1,4 +1,5 @@
 pub mod Finite
+pub mod Places
 pub mod ReadingNodes
 pub mod ReadingClosed
 pub mod ReadingDerived

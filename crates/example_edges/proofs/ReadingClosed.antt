@@ -1,5 +1,5 @@
 -- The list of path edges is closed under each rule: node by node, each edge leads to edges of the list alone.
-use Rattle.std.proofs.Common.{◌≡◌, ◌≢◌, ℕ, Bool, true, false, ◌&&◌, nat_eq, eq-eqb, List, filter, Option, Some, None, refl, subst}
+use Rattle.std.proofs.Common.{◌≡◌, ◌≢◌, ℕ, true, List, filter, Option, Some, None, refl, subst}
 use Rattle.std.specs.List.{slice_get, AllByRecursion, Contains}
 use Rattle.jvm_model.specs.declared.number.ClassNo.{ClassNo}
 use Rattle.jvm_model.specs.declared.number.MethodNo.{MethodNo}
@@ -9,18 +9,18 @@ use Rattle.op_model.specs.declared.node.NodeRef.{NodeRef}
 use Rattle.op_model.specs.declared.node.Spot.{Spot}
 use Rattle.op_model.specs.declared.node.Spot.TheVariants as spots
 use Rattle.op_model.specs.declared.op.Call.{Call as NodeCall}
-use Rattle.op_model.specs.declared.op.Op.{Op}
-use Rattle.op_model.specs.declared.op.Op.TheVariants.{Assign, Load, Store, LoadElement, StoreElement, LoadStatic, StoreStatic, New, NewArray, Constant, Call, Return, Throw, Cast, Probe}
+use Rattle.op_model.specs.declared.op.Op.TheVariants.{Call}
 use Rattle.list_laws.proofs.Members.{contains_none, each_contained}
 use Rattle.list_laws.proofs.Places.{contains_at}
 use Rattle.least_sets.specs.Rules.{IsClosed}
 use Rattle.points_to_rules.specs.Facts.{Fact, may_hold, may_run, may_call, may_write}
-use Rattle.stage_facts.specs.Facts.{SiteFact, none_yet, some_yet, of_object}
+use Rattle.stage_facts.specs.Facts.{SiteFact}
 use Rattle.stage_transfer.specs.Calls.{Entering, by_call}
 use Rattle.stage_transfer.specs.Stages.{Transfer, transfer_of}
 use Rattle.stage_edges.specs.Rules.{Edge, edge, Enters, called, triggered, start, goes_on, returns, raises, answers, described_raises, enters, call_returns, resumes, unwinds, IsNode, node_at, before, ThrowsClass, listed, held}
 use Rattle.stage_edges.specs.Edges.{StageInstance}
 use Rattle.example_edges.specs.Reading.{calls, closes, copies_again, edges, first_copies, gives, known, main, main_number, makes, reads, setting, subject}
+use Rattle.example_edges.proofs.Places.{AtCall, AtReturn, both, calls_at, itself, kind_itself, leaves_at, number_itself, stands_at, stands_itself}
 use Rattle.example_edges.proofs.Finite.{found}
 use Rattle.example_edges.proofs.ReadingNodes.{at_node, Everywhere, describes_nothing, holds_nothing, start as start_nodes, start_call, starts_nothing, throws_nothing}
 
@@ -28,70 +28,6 @@ abbrev t : Transfer
 t = transfer_of setting
 
 -- ---- which edges stand at a place
-
-abbrev same_number : Option MethodNo → Option MethodNo → Bool
-same_number None None = true
-same_number None (Some n) = false
-same_number (Some m) None = false
-same_number (Some m) (Some n) = nat_eq m.0 n.0
-
-abbrev same_spot : Spot → Spot → Bool
-same_spot (spots.Node o) (spots.Node p) = nat_eq o p
-same_spot (spots.Node o) spots.Returned = false
-same_spot (spots.Node o) spots.Thrown = false
-same_spot spots.Returned (spots.Node p) = false
-same_spot spots.Returned spots.Returned = true
-same_spot spots.Returned spots.Thrown = false
-same_spot spots.Thrown (spots.Node p) = false
-same_spot spots.Thrown spots.Returned = false
-same_spot spots.Thrown spots.Thrown = true
-
-abbrev same_kind : SiteFact → SiteFact → Bool
-same_kind none_yet none_yet = true
-same_kind none_yet some_yet = false
-same_kind none_yet (of_object u) = false
-same_kind some_yet none_yet = false
-same_kind some_yet some_yet = true
-same_kind some_yet (of_object u) = false
-same_kind (of_object s) none_yet = false
-same_kind (of_object s) some_yet = false
-same_kind (of_object s) (of_object u) = nat_eq s.state u.state
-
-abbrev stands_at : Option MethodNo → Spot → Edge → Bool
-stands_at m spot d = same_number m d.method && same_spot spot d.spot
-
-abbrev leaves_at : MethodNo → SiteFact → Edge → Bool
-leaves_at m entry d = stands_at (Some m) spots.Returned d && same_kind entry d.entry
-
-abbrev calls_at : NodeRef → Fact → Bool
-calls_at r (may_hold h s) = false
-calls_at r (may_run m) = false
-calls_at r (may_call q m) = same_number r.method q.method && nat_eq r.offset q.offset
-calls_at r (may_write m f) = false
-
-itself : (n : ℕ) → nat_eq n n ≡ true
-itself n = eq-eqb n n refl
-
-both : (a b : Bool) → a ≡ true → b ≡ true → (a && b) ≡ true
-both true b p q = q
-both false b p q = p
-
-number_itself : (m : Option MethodNo) → same_number m m ≡ true
-number_itself None = refl
-number_itself (Some m) = itself m.0
-
-spot_itself : (s : Spot) → same_spot s s ≡ true
-spot_itself (spots.Node o) = itself o
-spot_itself spots.Returned = refl
-spot_itself spots.Thrown = refl
-
-kind_itself : (f : SiteFact) → same_kind f f ≡ true
-kind_itself none_yet = refl
-kind_itself some_yet = refl
-kind_itself (of_object s) = itself s.state
-
-stands_itself : (m : Option MethodNo) (s : Spot) → stands_at m s (edge m none_yet s none_yet) ≡ true
-stands_itself m s = both _ _ (number_itself m) (spot_itself s)
 
 -- Of each edge at a place something holds.
 abbrev AtPlace : Option MethodNo → Spot → (Edge → Type 0) → Type 0
@@ -119,42 +55,6 @@ are_after m e successors facts all offset leads =
 
 at : (k : ℕ) (d : Edge) → slice_get edges k ≡ Some d → Contains edges d
 at k d e = contains_at edges k d e
-
--- ---- operations
-
-abbrev AtCall : (NodeCall → Type 0) → Op → Type 0
-AtCall P (Assign moves) = Unit {0}
-AtCall P (Load object field target) = Unit {0}
-AtCall P (Store object field value) = Unit {0}
-AtCall P (LoadElement array target) = Unit {0}
-AtCall P (StoreElement array value) = Unit {0}
-AtCall P (LoadStatic field target) = Unit {0}
-AtCall P (StoreStatic field value) = Unit {0}
-AtCall P (New site target) = Unit {0}
-AtCall P (NewArray sites target) = Unit {0}
-AtCall P (Constant site target) = Unit {0}
-AtCall P (Call c) = P c
-AtCall P (Return value) = Unit {0}
-AtCall P (Throw value) = Unit {0}
-AtCall P (Cast class z) = Unit {0}
-AtCall P (Probe z) = Unit {0}
-
-abbrev AtReturn : Type 0 → Op → Type 0
-AtReturn P (Assign moves) = Unit {0}
-AtReturn P (Load object field target) = Unit {0}
-AtReturn P (Store object field value) = Unit {0}
-AtReturn P (LoadElement array target) = Unit {0}
-AtReturn P (StoreElement array value) = Unit {0}
-AtReturn P (LoadStatic field target) = Unit {0}
-AtReturn P (StoreStatic field value) = Unit {0}
-AtReturn P (New site target) = Unit {0}
-AtReturn P (NewArray sites target) = Unit {0}
-AtReturn P (Constant site target) = Unit {0}
-AtReturn P (Call c) = Unit {0}
-AtReturn P (Return value) = P
-AtReturn P (Throw value) = Unit {0}
-AtReturn P (Cast class z) = Unit {0}
-AtReturn P (Probe z) = Unit {0}
 
 -- ---- rule by rule
 
@@ -226,7 +126,7 @@ abbrev IsSent : Option MethodNo → LoweredMethod → Node → NodeCall → Site
 IsSent m l n c e target sent =
     Contains edges (edge (Some target) (t.enter (by_call c) sent) (spots.Node 0) (t.enter (by_call c) sent))
     × AllByRecursion (λ (d : Edge). AreAfter m e n.successors (t.next l n (t.leave l n (by_call c) target sent d.fact)))
-    (filter (leaves_at target (t.enter (by_call c) sent)) edges)
+    (filter (leaves_at target (t.enter (by_call c) sent) spots.Returned) edges)
 
 abbrev Sends : Option MethodNo → LoweredMethod → Node → Type 0
 Sends m l n = AtCall (λ c. AtPlace m (before n) (λ d. AtTargets (node_at m n) (λ target.
@@ -272,7 +172,7 @@ left : (m : Option MethodNo) (l : LoweredMethod) (n : Node) (e sent out g : Site
 left m l n e sent out g c target offset is there leads after =
     let entry = t.enter (by_call c) sent in
     let passes = both _ _ (stands_itself (Some target) spots.Returned) (kind_itself entry) in
-    let all = found (λ (d : Edge). AreAfter m e n.successors (t.next l n (t.leave l n (by_call c) target sent d.fact))) (leaves_at target entry) edges
+    let all = found (λ (d : Edge). AreAfter m e n.successors (t.next l n (t.leave l n (by_call c) target sent d.fact))) (leaves_at target entry spots.Returned) edges
     (edge (Some target) entry spots.Returned out) passes is.1 there in
     are_after m e n.successors _ all offset leads g after
 

@@ -2,25 +2,17 @@
 -- A program that makes a file and reads it, which may throw; a handler closes it: its nodes, what the points-to analysis says of its calls and of
 -- what is thrown, the setting of the third stage, and its path edges.
 use Rattle.std.specs.Prelude.{codes, map, ◌≡◌, ℕ, true, false, List, [], ◌∷◌, Some, None, Result, Ok, slice_get, Contains}
-use Rattle.jvm_model.specs.declared.automaton.Automaton.{Automaton}
-use Rattle.jvm_model.specs.declared.class_file.ClassFile.{ClassFile}
-use Rattle.jvm_model.specs.declared.class_file.Member.{Member}
 use Rattle.jvm_model.specs.declared.number.MethodNo.{MethodNo}
 use Rattle.jvm_model.specs.declared.reason.Refusal.{Refusal}
 use Rattle.jvm_model.specs.declared.site.Site.{Site}
 use Rattle.jvm_model.specs.declared.site.SiteKind.TheVariants as kinds
-use Rattle.jvm_model.specs.Programs.{Method, Program, in_file, object_name}
+use Rattle.jvm_model.specs.Programs.{Program, object_name}
 use Rattle.op_model.specs.declared.lowered.LoweredMethod.{LoweredMethod}
 use Rattle.op_model.specs.declared.node.Node.{Node}
 use Rattle.op_model.specs.declared.node.NodeHandler.{NodeHandler}
-use Rattle.op_model.specs.declared.node.NodeRef.{NodeRef}
 use Rattle.op_model.specs.declared.node.Spot.{Spot}
 use Rattle.op_model.specs.declared.node.Spot.TheVariants as spots
-use Rattle.op_model.specs.declared.op.Call.{Call as NodeCall}
-use Rattle.op_model.specs.declared.op.CallKind.TheVariants.{Virtual}
-use Rattle.op_model.specs.declared.op.Op.{Op}
-use Rattle.op_model.specs.declared.op.Op.TheVariants.{Assign, Call, New, Return}
-use Rattle.op_model.specs.declared.op.Source.TheVariants as sources
+use Rattle.op_model.specs.declared.op.Op.TheVariants.{Assign, Call}
 use Rattle.op_model.specs.Supplies.{GivenAs}
 use Rattle.machine_bytecode.specs.Objects.{Subject}
 use Rattle.slot_names.specs.declared.variable.Variable.TheVariants.{At}
@@ -30,37 +22,9 @@ use Rattle.access_paths.specs.Paths.{bare}
 use Rattle.stage_facts.specs.Facts.{SiteFact, none_yet, some_yet, of_object}
 use Rattle.stage_transfer.specs.Settings.{Setting}
 use Rattle.stage_edges.specs.Rules.{Edge, edge}
+pub use Rattle.example_edges.specs.Reading.{main_number, read_number, close_number, member, file, method, property, site, node, copies, calling, makes, first_copies, ends, only_returns, in_main}
 
 -- ---- the program: a class F with the methods main, read and close
-
-abbrev pub main_number : MethodNo
-main_number = record { 0 = 0 }
-
-abbrev pub read_number : MethodNo
-read_number = record { 0 = 1 }
-
-abbrev pub close_number : MethodNo
-close_number = record { 0 = 2 }
-
-abbrev pub member : Member
-member = record { flags = 0; name = 1; descriptor = 2; attributes = [] }
-
-abbrev pub file : ClassFile
-file = record {
-  minor = 0;
-  major = 49;
-  pool = [];
-  flags = 0;
-  this_class = 3;
-  super_class = 5;
-  interfaces = [];
-  fields = [];
-  methods = member ∷ member ∷ member ∷ [];
-  attributes = [];
-}
-
-abbrev pub method : (name : List ℕ) → (number : ℕ) → Method
-method name number = record { class = codes "F"; signature = record { name = name; descriptor = codes "()V" }; flags = 0; body = in_file file number member }
 
 abbrev pub error_class : List ℕ
 error_class = codes "java/lang/ArithmeticException"
@@ -73,41 +37,10 @@ program = record {
   fields = [];
 }
 
--- A file is read while it is opened; after it is closed, reading it is an error.
-abbrev pub property : Automaton
-property = record {
-  class_name = codes "F";
-  states = codes "opened" ∷ codes "closed" ∷ codes "error" ∷ [];
-  initial = 0;
-  error = 2;
-  events = record { name = codes "read"; descriptor = codes "()V"; next = 0 ∷ 2 ∷ 2 ∷ [] }
-      ∷ record { name = codes "close"; descriptor = codes "()V"; next = 1 ∷ 1 ∷ 2 ∷ [] } ∷ [];
-}
-
 abbrev pub subject : Subject
 subject = record { program = program; property = property; entry = 0 }
 
 -- ---- its nodes
-
-abbrev pub site : Site
-site = record { kind = kinds.New; method = Some main_number; offset = 0; class = codes "F" }
-
-abbrev pub node : (offset : ℕ) → Op → (successors : List ℕ) → Node
-node offset op successors = record { offset = offset; op = op; successors = successors; handlers = []; trigger = None; throws = [] }
-
--- The file stands in a local variable. For a call it is copied to the operand stack, from where the call takes it.
-abbrev pub copies : (offset : ℕ) → (successors : List ℕ) → Node
-copies offset successors = node offset (Assign (record { source = sources.Slot 0; target = 1 } ∷ [])) successors
-
-abbrev pub calling : (name : List ℕ) → MethodNo → NodeCall
-calling name number =
-    record { kind = Virtual; resolved = number; chosen = None; name = name; descriptor = codes "()V"; arguments = Some 1 ∷ []; result = None }
-
-abbrev pub makes : Node
-makes = node 0 (New site 0) (1 ∷ [])
-
-abbrev pub first_copies : Node
-first_copies = copies 1 (2 ∷ [])
 
 -- A handler takes whatever is thrown.
 abbrev pub takes_all : NodeHandler
@@ -134,18 +67,11 @@ closes = node 4 (Call (calling (codes "close") close_number)) (5 ∷ [])
 abbrev pub divides : Node
 divides = record { offset = 0; op = Assign []; successors = 1 ∷ []; handlers = []; trigger = None; throws = record { 0 = 1 } ∷ [] }
 
-abbrev pub ends : ℕ → Node
-ends offset = node offset (Return None) []
-
 abbrev pub main : LoweredMethod
 main = record { method = main_number; slots = 1; stack = 1; params = 0; nodes = makes ∷ first_copies ∷ reads ∷ copies_again ∷ closes ∷ ends 5 ∷ [] }
 
 abbrev pub reading : LoweredMethod
 reading = record { method = read_number; slots = 1; stack = 0; params = 1; nodes = divides ∷ ends 1 ∷ [] }
-
--- A method that only returns.
-abbrev pub only_returns : MethodNo → LoweredMethod
-only_returns number = record { method = number; slots = 1; stack = 0; params = 1; nodes = ends 0 ∷ [] }
 
 abbrev pub given : List (Result LoweredMethod Refusal)
 given = Ok main ∷ Ok reading ∷ Ok (only_returns close_number) ∷ []
@@ -154,9 +80,6 @@ abbrev pub gives : GivenAs
 gives number answer = slice_get given number ≡ Some answer
 
 -- ---- what is known
-
-abbrev pub in_main : ℕ → NodeRef
-in_main offset = record { method = Some main_number; offset = offset }
 
 -- What the points-to analysis says of the calls, and of what is thrown.
 abbrev pub error_site : Site
