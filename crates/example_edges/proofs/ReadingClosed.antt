@@ -172,7 +172,8 @@ left : (m : Option MethodNo) (l : LoweredMethod) (n : Node) (e sent out g : Site
 left m l n e sent out g c target offset is there leads after =
     let entry = t.enter (by_call c) sent in
     let passes = both _ _ (stands_itself (Some target) spots.Returned) (kind_itself entry) in
-    let all = found (λ (d : Edge). AreAfter m e n.successors (t.next l n (t.leave l n (by_call c) target sent d.fact))) (leaves_at target entry spots.Returned) edges
+    let all = found (λ (d : Edge). AreAfter m e n.successors (t.next l n (t.leave l n (by_call c) target sent d.fact)))
+    (leaves_at target entry spots.Returned) edges
     (edge (Some target) entry spots.Returned out) passes is.1 there in
     are_after m e n.successors _ all offset leads g after
 

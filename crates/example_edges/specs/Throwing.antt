@@ -22,7 +22,24 @@ use Rattle.access_paths.specs.Paths.{bare}
 use Rattle.stage_facts.specs.Facts.{SiteFact, none_yet, some_yet, of_object}
 use Rattle.stage_transfer.specs.Settings.{Setting}
 use Rattle.stage_edges.specs.Rules.{Edge, edge}
-pub use Rattle.example_edges.specs.Reading.{main_number, read_number, close_number, member, file, method, property, site, node, copies, calling, makes, first_copies, ends, only_returns, in_main}
+pub use Rattle.example_edges.specs.Reading.{
+  main_number,
+  read_number,
+  close_number,
+  member,
+  file,
+  method,
+  property,
+  site,
+  node,
+  copies,
+  calling,
+  makes,
+  first_copies,
+  ends,
+  only_returns,
+  in_main,
+}
 
 -- ---- the program: a class F with the methods main, read and close
 
