@@ -1,0 +1,2 @@
+-- How paths are told by their rows.
+pub mod PathWords

@@ -1,0 +1,8 @@
+//! Access paths and facts as rows of a pool: `pack_path` makes a path a row, and `unpack_path` reads it back. The layer above keeps what it
+//! knows of a program by the numbers of such rows, so that equal values have equal numbers.
+//! Begin with specs/PathRows.antt, which says what the words of a row are.
+#![tactic(auto)]
+
+mod path_row;
+
+pub use path_row::{pack_path, unpack_path};
