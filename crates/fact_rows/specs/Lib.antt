@@ -1,1 +1,3 @@
 pub mod PathRows
+pub mod FactRows
+pub mod Packing

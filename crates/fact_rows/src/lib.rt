@@ -3,6 +3,8 @@
 //! Begin with specs/PathRows.antt, which says what the words of a row are.
 #![tactic(auto)]
 
+mod fact_row;
 mod path_row;
 
+pub use fact_row::{pack_fact, unpack_fact};
 pub use path_row::{pack_path, unpack_path};
