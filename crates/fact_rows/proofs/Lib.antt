@@ -2,3 +2,4 @@
 pub mod PathWords
 pub mod Growing
 pub mod Tuples
+pub mod Reading
