@@ -3,3 +3,4 @@ pub mod PathWords
 pub mod Growing
 pub mod Tuples
 pub mod Reading
+pub mod OneRow

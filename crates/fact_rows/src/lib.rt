@@ -4,7 +4,9 @@
 #![tactic(auto)]
 
 mod fact_row;
+mod laws;
 mod path_row;
 
 pub use fact_row::{pack_fact, unpack_fact};
+pub use laws::{rows_stay, rows_tell_values, values_have_one_row};
 pub use path_row::{pack_path, unpack_path};
