@@ -1,12 +1,12 @@
 -- What rows of a pool keep, and what they gain, while it grows.
-use Rattle.std.proofs.Common.{◌≡◌, ℕ, ◌+◌, ◌*◌, ◌<◌, ◌≤◌, List, [], ◌∷◌, ◌++◌, length, map, take, get_or, min, Some, refl, sym, ◌∙◌, ap, subst, arith, append_assoc}
-use Rattle.std.specs.List.{slice_get, AllZip}
+use Rattle.std.proofs.Common.{◌≡◌, ℕ, ◌+◌, ◌*◌, ◌<◌, ◌≤◌, List, [], ◌∷◌, ◌++◌, length, take, get_or, Some, refl, sym, ◌∙◌, ap, arith, append_assoc}
+use Rattle.std.specs.List.{slice_get}
 use Rattle.std.proofs.lemmas.List.{length-append, length-map, length-take, take-take, take_all}
 use Rattle.list_laws.proofs.Places.{in_front}
 use Rattle.list_laws.proofs.Zips.{zip_more, zip_weaker}
 use Rattle.access_paths.specs.Paths.{Path, number_of}
 use Rattle.fact_pool.specs.Rows.{HasSpare, IsInterned, KeepsRoom, PoolRows, is_added, was_held}
-use Rattle.fact_pool.proofs.Interned.{front_of_interned, length_of_interned, spare_of_interned}
+use Rattle.fact_pool.proofs.Interned.{front_of_interned, spare_of_interned}
 use Rattle.fact_rows.specs.PathRows.{IsPathRow, KeepsRows, path_words}
 use Rattle.fact_rows.specs.FactRows.{HaveRows}
 use Rattle.fact_rows.specs.Packing.{GetsRows, GrowsBy}
@@ -58,8 +58,8 @@ gets_more old new paths i x start before after n got kept within at is more = re
   numbers = got.numbers ++ n ∷ [];
   behind = more ∙ ap (λ (ws : List ℕ). ws ++ n ∷ []) got.behind ∙ append_assoc start got.numbers (n ∷ []);
   have =
-    zip_more (λ (y : Path) (m : ℕ). IsPathRow new m y) paths got.numbers i x n within at
-    (kept_paths old new (take i paths) got.numbers kept got.have) is;
+      zip_more (λ (y : Path) (m : ℕ). IsPathRow new m y) paths got.numbers i x n within at
+      (kept_paths old new (take i paths) got.numbers kept got.have) is;
 }
 
 -- ---- the pool grows
@@ -78,12 +78,12 @@ grows_more n old now new words grows interned room short one = record {
     words_stay = omega (arith, grows.room.words_stay, room.words_stay);
   };
   spare = λ rows more spare.
-    let before : HasSpare now (rows + 1) (more + 5) = grows.spare (rows + 1) (more + 5) (record {
-      rows_fit = omega (arith, spare.rows_fit);
-      words_fit = omega (arith, spare.words_fit);
-    }) in
-    spare_of_interned now new words rows more interned room
-    (record { rows_fit = before.rows_fit; words_fit = omega (arith, before.words_fit) });
+      let before : HasSpare now (rows + 1) (more + 5) = grows.spare (rows + 1) (more + 5) (record {
+        rows_fit = omega (arith, spare.rows_fit);
+        words_fit = omega (arith, spare.words_fit);
+      }) in
+      spare_of_interned now new words rows more interned room
+      (record { rows_fit = before.rows_fit; words_fit = omega (arith, before.words_fit) });
 }
 
 -- there is room for the next path

@@ -1,6 +1,5 @@
 -- A row is that of one value, a value has one row, and its row stays.
 use Rattle.std.proofs.Common.{◌≡◌, ℕ, List, [], ◌∷◌, ◌++◌, length, take, drop, get_or, ◌-◌, Some, refl, sym, ◌∙◌, ap, subst, arith}
-use Rattle.std.specs.List.{slice_get}
 use Rattle.std.proofs.lemmas.Option.{same_Some}
 use Rattle.list_laws.proofs.Zips.{zip_unique}
 use Rattle.access_paths.specs.Paths.{Path}

@@ -97,7 +97,11 @@ fn word_of(holds: bool) -> u32
 }
 
 /// Makes the paths rows, and puts the numbers of these behind the words.
-fn pack_paths(set: &PathSet, pool: &mut FactPool, words: &mut ArrayVec<u32, MOST_WORDS>) -> Result<(), AllocError>
+fn pack_paths(
+    set: &PathSet,
+    pool: &mut FactPool,
+    words: &mut ArrayVec<u32, MOST_WORDS>,
+) -> Result<(), AllocError>
     requires few { length pool.old.rows + length set.now < 2 ^ 32 }
     requires fits { array_vec_len words.old + length set.now ≤ 17 }
     ensures rows { OnOk result (GetsRows pool.new.rows set.now words.old.items words.new.items) }

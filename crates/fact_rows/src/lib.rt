@@ -1,6 +1,7 @@
-//! Access paths and facts as rows of a pool: `pack_path` makes a path a row, and `unpack_path` reads it back. The layer above keeps what it
-//! knows of a program by the numbers of such rows, so that equal values have equal numbers.
-//! Begin with specs/PathRows.antt, which says what the words of a row are.
+//! Access paths and the facts of sites as rows of a pool: `pack_path` and `pack_fact` make a value a row, and `unpack_path` and
+//! `unpack_fact` read it back. A row is that of one value, and a value has one row. So the analysis above keeps its facts by the numbers of
+//! their rows: two of them are equal where their numbers are.
+//! Begin with specs/PathRows.antt and specs/FactRows.antt, which say what the words of a row are.
 #![tactic(auto)]
 
 mod fact_row;

@@ -79,6 +79,10 @@ fn fields_of(numbers: &[u32]) -> Fields
         [] => Fields::Zero,
         [first] => Fields::One(FieldNo(*first)),
         [first, second] => Fields::Two(FieldNo(*first), FieldNo(*second)),
-        [first, second, third, ..] => Fields::Three(FieldNo(*first), FieldNo(*second), FieldNo(*third)),
+        [first, second, third, ..] => Fields::Three(
+            FieldNo(*first),
+            FieldNo(*second),
+            FieldNo(*third),
+        ),
     }
 }
