@@ -7,7 +7,7 @@ use Rattle.list_laws.proofs.Zips.{zip_more, zip_weaker}
 use Rattle.access_paths.specs.Paths.{Path, number_of}
 use Rattle.fact_pool.specs.Rows.{HasSpare, IsInterned, KeepsRoom, PoolRows, is_added, was_held}
 use Rattle.fact_pool.proofs.Interned.{front_of_interned, spare_of_interned}
-use Rattle.fact_rows.specs.PathRows.{IsPathRow, KeepsRows, path_words}
+use Rattle.fact_rows.specs.PathRows.{IsPathRow, KeepsRows, SpendsAtMost, path_words}
 use Rattle.fact_rows.specs.FactRows.{HaveRows}
 use Rattle.fact_rows.specs.Packing.{GetsRows, GrowsBy}
 
@@ -111,3 +111,16 @@ spare_last m n total old now last first second few some all spare =
 pub spare_second : (m n : ℕ) (old now : PoolRows) → GrowsBy m old now → m ≤ 6 → n ≤ 6 → HasSpare old 13 77 → HasSpare now n (5 * n)
 spare_second m n old now first few some spare =
     first.spare n (5 * n) (record { rows_fit = omega (arith, spare.rows_fit); words_fit = omega (arith, spare.words_fit) })
+
+-- ---- what is left once all are rows
+
+pub spends_tuple : (m n : ℕ) (old now last new : PoolRows) (words : List ℕ) → GrowsBy m old now → GrowsBy n now last → m ≤ 6 → n ≤ 6
+    → length words ≡ 5 + m + n → IsInterned last new words → KeepsRoom last new → SpendsAtMost 13 77 old new
+spends_tuple m n old now last new words first second few some all interned room = record {
+  few = omega (arith, first.few, second.few, one_more last new words interned);
+  left = λ rows more spare.
+      let middle : HasSpare now (rows + 1 + n) (more + length words + 5 * n) =
+      first.spare (rows + 1 + n) (more + length words + 5 * n)
+      (record { rows_fit = omega (arith, spare.rows_fit); words_fit = omega (arith, spare.words_fit) }) in
+      spare_of_interned last new words rows more interned room (second.spare (rows + 1) (more + length words) middle);
+}

@@ -12,8 +12,8 @@ use Rattle.fact_rows.specs.Packing.{GetsRows}
 use Rattle.fact_rows.proofs.Growing.{kept_interned, kept_paths, kept_then}
 
 -- the rows of the must paths were made, then those of the must-not paths, and then that of the tuple
-pub tuple_row : {E : Type 0} (t : Tuple) (one two last : PoolRows) (some all : List ℕ) (r : Result Row E) → IsPathSet t.must → IsPathSet t.must_not → t.state ≤ 255
-    → GetsRows one.rows t.must (first_words t) some → KeepsRows one.rows two.rows → GetsRows two.rows t.must_not some all
+pub tuple_row : {E : Type 0} (t : Tuple) (one two last : PoolRows) (some all : List ℕ) (r : Result Row E) → IsPathSet t.must → IsPathSet t.must_not
+    → t.state ≤ 255 → GetsRows one.rows t.must (first_words t) some → KeepsRows one.rows two.rows → GetsRows two.rows t.must_not some all
     → IfOk r (λ row. slice_get last.rows row.0 ≡ Some all) → OnOk r (IsInterned two last all) → IfOk r (λ row. IsFactRow last.rows row.0 (of_object t))
 tuple_row t one two last some all (Err e) must must_not fits first kept second stands interned = tt
 tuple_row t one two last some all (Ok row) must must_not fits first kept second stands interned =
@@ -33,3 +33,9 @@ tuple_row t one two last some all (Ok row) must must_not fits first kept second 
         state_fits = fits;
       };
     }
+
+-- what holds once words are a row holds where they are made one
+pub once_row : {E : Type 0} (P : Type 0) (old new : PoolRows) (words : List ℕ) (r : Result Row E) → OnOk r (IsInterned old new words)
+    → (IsInterned old new words → P) → OnOk r P
+once_row P old new words (Err e) interned give = tt
+once_row P old new words (Ok row) interned give = give interned

@@ -1,10 +1,11 @@
 -- Public contracts rest on this module.
 -- Access paths as rows of a pool of facts.
-use Rattle.std.specs.Prelude.{◌≡◌, ℕ, ◌≤◌, List, ◌∷◌, Some, length, map, slice_get, take}
+use Rattle.std.specs.Prelude.{◌≡◌, ℕ, ◌+◌, ◌≤◌, List, ◌∷◌, Some, length, map, slice_get, take}
 use Rattle.access_paths.specs.declared.root.Root.{Root}
 use Rattle.access_paths.specs.declared.root.Root.TheVariants.{Slot, Static, Returned, Thrown}
 use Rattle.access_paths.specs.Followed.{most_fields}
 use Rattle.access_paths.specs.Paths.{Path, number_of}
+use Rattle.fact_pool.specs.Rows.{HasSpare, PoolRows}
 
 -- The kind of a root.
 abbrev pub kind_of : Root → ℕ
@@ -32,3 +33,8 @@ pub record IsPathRow (rows : List (List ℕ)) (row : ℕ) (x : Path) : Type 0 wh
 -- The rows that there were stay first.
 pub record KeepsRows (old new : List (List ℕ)) : Type 0 where
   pub front : take (length old) new ≡ old
+
+-- So many rows at most were added; what was spare is spare yet, but for so many rows and words.
+pub record SpendsAtMost (rows words : ℕ) (old new : PoolRows) : Type 0 where
+  pub few : length new.rows ≤ length old.rows + rows
+  pub left : (more_rows more_words : ℕ) → HasSpare old (more_rows + rows) (more_words + words) → HasSpare new more_rows more_words

@@ -8,7 +8,7 @@ ghost use Rattle.stage_facts.specs.Facts.{of_object, SiteFact, Tuple};
 ghost use Rattle.stage_facts.specs.Plain.{fact_of};
 ghost use Rattle.fact_rows.specs.FactRows.{first_words, word_of, AreTupleWords, IsFactRow, SetHasRows};
 ghost use Rattle.fact_rows.specs.Packing.{GetsRows, GrowsBy};
-ghost use Rattle.fact_rows.specs.PathRows.{KeepsRows};
+ghost use Rattle.fact_rows.specs.PathRows.{KeepsRows, SpendsAtMost};
 
 use crate::path_row::{pack_path, unpack_path};
 use access_paths::PathSet;
@@ -26,6 +26,7 @@ pub fn pack_fact(fact: &PlainFact, pool: &mut FactPool) -> Result<Row, AllocErro
     requires { length pool.old.rows + 16 ≤ 2 ^ 32 }
     ensures row { IfOk result (λ row. IsFactRow pool.new.rows row.0 (fact_of fact.now)) }
     ensures kept { KeepsRows pool.old.rows pool.new.rows }
+    ensures spends { OnOk result (SpendsAtMost 13 77 pool.old pool.new) }
     ensures err { OnErr result (pool.new.rows ≡ pool.old.rows) }
     ensures room { KeepsRoom pool.old pool.new }
 
@@ -44,6 +45,7 @@ fn pack_tuple(tuple: &PlainTuple, pool: &mut FactPool) -> Result<Row, AllocError
     requires { length pool.old.rows + 16 ≤ 2 ^ 32 }
     ensures row { IfOk result (λ row. IsFactRow pool.new.rows row.0 (of_object tuple.now)) }
     ensures kept { KeepsRows pool.old.rows pool.new.rows }
+    ensures spends { OnOk result (SpendsAtMost 13 77 pool.old pool.new) }
     ensures err { OnErr result (pool.new.rows ≡ pool.old.rows) }
     ensures room { KeepsRoom pool.old pool.new }
     ensures sure { HasSpare pool.old 13 77 → IsOk result }
@@ -63,6 +65,7 @@ fn tuple_row(tuple: &PlainTuple, pool: &mut FactPool) -> Result<Row, AllocError>
     requires { length pool.old.rows + 16 ≤ 2 ^ 32 }
     ensures row { IfOk result (λ row. IsFactRow pool.new.rows row.0 (of_object tuple.now)) }
     ensures kept { KeepsRows pool.old.rows pool.new.rows }
+    ensures spends { OnOk result (SpendsAtMost 13 77 pool.old pool.new) }
     ensures room { KeepsRoom pool.old pool.new }
     ensures sure { HasSpare pool.old 13 77 → IsOk result }
 {

@@ -6,9 +6,10 @@ use Rattle.access_paths.specs.Sets.{IsPathSet}
 use Rattle.stage_facts.specs.Facts.{Tuple, of_object}
 use Rattle.fact_pool.specs.Rows.{IsInterned}
 use Rattle.fact_rows.specs.FactRows.{IsFactRow, first_words}
+use Rattle.fact_rows.specs.PathRows.{SpendsAtMost}
 use Rattle.fact_rows.specs.Packing.{GetsRows}
-use Rattle.fact_rows.proofs.Growing.{gets_length, spare_last, spare_second}
-use Rattle.fact_rows.proofs.Tuples.{tuple_row}
+use Rattle.fact_rows.proofs.Growing.{gets_length, spare_last, spare_second, spends_tuple}
+use Rattle.fact_rows.proofs.Tuples.{once_row, tuple_row}
 use Rattle.fact_rows.proofs.fact_row.tuple_row.Goals as goal
 
 pub returns-in_err-pack_paths-2-clause-sure : goal.returns-in_err-pack_paths-2-clause-sure
@@ -56,3 +57,20 @@ returns-clause-sure c spare =
     c.intern.ensures.sure_of_spare
     (spare_last (length must) (length must_not) (length c.as_slice.result.now) c.args.pool.now one two
     c.in_ok-pack_paths.ensures.grows c.in_ok-pack_paths-2.ensures.grows c.well_formed-2.ensures.few c.well_formed-3.ensures.few total spare)
+
+pub returns-clause-spends : goal.returns-clause-spends
+returns-clause-spends c =
+    let must = c.tuple.inside.must in
+    let must_not = c.tuple.inside.must_not in
+    let old = c.args.pool.now in
+    let one = c.pack_paths.new.pool in
+    let two = c.pack_paths-2.new.pool in
+    let last = c.intern.new.self in
+    let words = c.as_slice.result.now in
+    let first = gets_length one.rows must c.first_words-words.result.items c.pack_paths.new.words.items c.in_ok-pack_paths.ensures.rows in
+    let second = gets_length two.rows must_not c.pack_paths.new.words.items c.pack_paths-2.new.words.items c.in_ok-pack_paths-2.ensures.rows in
+    let total : length words ≡ 5 + length must + length must_not =
+    omega (arith, first, second, ap length c.as_slice.ensures.value, ap length c.first_words-words.ensures.words) in
+    once_row (SpendsAtMost 13 77 old last) two last words c.intern.result c.intern.ensures.interned
+    (λ interned. spends_tuple (length must) (length must_not) old one two last words c.in_ok-pack_paths.ensures.grows c.in_ok-pack_paths-2.ensures.grows
+    c.well_formed-2.ensures.few c.well_formed-3.ensures.few total interned c.intern.ensures.room)
