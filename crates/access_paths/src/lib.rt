@@ -5,13 +5,14 @@
 #![tactic(auto)]
 
 pub mod cut;
-mod fields;
+pub mod fields;
 mod gain;
 pub mod path;
 pub mod path_set;
 pub mod root;
 
 pub use cut::Cut;
+pub use fields::Fields;
 pub use path::Path;
 pub use path_set::PathSet;
 pub use root::Root;

@@ -1,7 +1,7 @@
 //! A path.
 
 ghost use Rattle.std.specs.Prelude.{◌≡◌, ◌≤◌, nat_lt, length, if◌then◌else◌};
-ghost use Rattle.access_paths.specs.Followed.{most_fields};
+ghost use Rattle.access_paths.specs.Followed.{listed, most_fields};
 ghost use Rattle.access_paths.specs.Gains.{rest_behind};
 ghost use Rattle.access_paths.specs.Operations.{begins_at, behind, passes_field, with_field, with_root};
 ghost use Rattle.access_paths.specs.Orders.{path_order};
@@ -57,6 +57,14 @@ impl Path {
         }
     }
 
+    /// The path of a root that follows these fields.
+    pub fn along(root: Root, fields: Fields) -> Path
+        ensures root { result.root ≡ root }
+        ensures fields { result.fields ≡ listed fields }
+    {
+        Path { root, fields }
+    }
+
     /// What holds of each path: it follows three fields at most. It does nothing.
     pub fn well_formed(&self)
         ensures { length self.now.fields ≤ most_fields }
@@ -69,6 +77,13 @@ impl Path {
         ensures { result ≡ self.now.root }
     {
         self.root
+    }
+
+    /// The fields that the path follows, one after another.
+    pub fn fields(&self) -> Fields
+        ensures { listed result ≡ self.now.fields }
+    {
+        self.fields
     }
 
     /// How many fields the path follows.

@@ -22,4 +22,6 @@ mod readers;
 #[cfg(test)]
 mod rows;
 #[cfg(test)]
+mod site_facts;
+#[cfg(test)]
 mod words;

@@ -1,0 +1,3 @@
+pub mod PathRows
+pub mod FactRows
+pub mod Packing
