@@ -1,12 +1,12 @@
 -- From an analysis and what is found on its ground to the report.
-use Rattle.std.proofs.Common.{◌≡◌, ◌≤◌, ℕ, Bool, List, [], ◌∷◌, length, Contains, refl, sym, subst, arith}
+use Rattle.std.proofs.Common.{◌≡◌, ℕ, Bool, List, [], ◌∷◌, length, Contains, refl, sym, subst}
 use Rattle.std.specs.List.{AllByRecursion, AllZip}
 use Rattle.std.specs.Prelude.{zip}
 use Rattle.std.proofs.lemmas.List.Elements.{All-from_recursion}
 use Rattle.flow_graph.proofs.Effects.{zip_length}
-use Rattle.jvm_model.specs.declared.automaton.Automaton.{Automaton}
 use Rattle.jvm_model.specs.declared.number.MethodNo.{MethodNo}
 use Rattle.jvm_model.specs.Programs.{Program}
+use Rattle.machine_bytecode.specs.Objects.{Subject}
 use Rattle.op_model.specs.Supplies.{GivenAs}
 use Rattle.points_to_rules.specs.WholeMethods.{AreWholeMethods}
 use Rattle.points_to_rules.specs.Facts.{Fact}
@@ -27,12 +27,12 @@ use Rattle.report_analysis.proofs.KnownSites.{site_in_program}
 
 -- ---- verdicts
 
-module _ (p : Program) (S : Fact → Type 0) (one other : GivenAs) (there : GivesNodes S one other) (back : GivesNodes S other one) (w : Asked) where
-  verdicts_are : (sites : List TrackedSite) (verdicts : List Verdict) → AllZip (IsVerdict p one S w) sites verdicts
-      → AllByRecursion (λ (f : TrackedSite × Verdict). IsVerdict p other S w f.0 f.1) (zip sites verdicts)
+module _ (x : Subject) (S : Fact → Type 0) (one other : GivenAs) (there : GivesNodes S one other) (back : GivesNodes S other one) (w : Asked) (first : w.stages ≡ 1) where
+  verdicts_are : (sites : List TrackedSite) (verdicts : List Verdict) → AllZip (IsVerdict x one S w) sites verdicts
+      → AllByRecursion (λ (f : TrackedSite × Verdict). IsVerdict x other S w f.0 f.1) (zip sites verdicts)
   verdicts_are [] verdicts all = tt
   verdicts_are (t ∷ sites) [] all = tt
-  verdicts_are (t ∷ sites) (v ∷ verdicts) all = (verdict_both p S one other there back w t v all.0, verdicts_are sites verdicts all.1)
+  verdicts_are (t ∷ sites) (v ∷ verdicts) all = (verdict_both x S one other there back w first t v all.0, verdicts_are sites verdicts all.1)
 
 -- ---- the analysis
 
@@ -57,31 +57,26 @@ module _ (p : Program) (entry : MethodNo) (limit : ℕ) (g : Findings) (analysis
       let tracked = ((tracked_in upper sites are).those t).0 there in
       record { class = tracked.known; method = site_in_program p (Contains g.facts) (site_in p t) tracked.allocated }
 
-  -- the sites have as many verdicts, for whatever last stage is asked for
-  pub as_many_verdicts : (a : Automaton) (sites : List TrackedSite) (verdicts : List Verdict)
-      → ((stages : ℕ) → 1 ≤ stages → AllZip (IsVerdict p Listed (Contains g.facts) (record { property = a; stages = stages })) sites verdicts)
-      → length verdicts ≡ length sites
-  as_many_verdicts a sites verdicts told =
-      zip_length (IsVerdict p Listed (Contains g.facts) (record { property = a; stages = 1 })) sites verdicts (told 1 (omega arith))
+  module _ (x : Subject) (of : x.program ≡ p) (w : Asked) (first : w.stages ≡ 1) (sites : List TrackedSite) (verdicts : List Verdict)
+      (are : AreTracked p Listed (Contains g.facts) x.property.class_name sites) (told : AllZip (IsVerdict x Listed (Contains g.facts) w) sites verdicts) where
+    -- the sites have as many verdicts
+    pub as_many_verdicts : length verdicts ≡ length sites
+    as_many_verdicts = zip_length (IsVerdict x Listed (Contains g.facts) w) sites verdicts told
 
-  pub reported : (w : Asked) (upper : List ℕ) → upper ≡ w.property.class_name
-      → (sites : List TrackedSite) (verdicts : List Verdict) → AreTracked p Listed (Contains g.facts) upper sites
-      → AllZip (IsVerdict p Listed (Contains g.facts) w) sites verdicts
-      → (text : List ℕ) (all_safe : Bool) → IsWritten p sites verdicts text all_safe
-      → IsReportText p (IsSupplied p) (Contains g.facts) w text all_safe
-  reported w upper named sites verdicts are told text all_safe written =
-      let long : length verdicts ≡ length sites = zip_length (IsVerdict p Listed (Contains g.facts) w) sites verdicts told in
-      let tracked = subst (λ (class : List ℕ). AreTracked p (IsSupplied p) (Contains g.facts) class sites) named (tracked_in upper sites are) in
-      let safe = all_safe_as sites verdicts long in
-      record {
-        lines = report_lines p (zip sites verdicts);
-        text_is = written.text_is;
-        report = record {
-          found = zip sites verdicts;
-          tracked = subst (AreTracked p (IsSupplied p) (Contains g.facts) w.property.class_name) (sym (found_sites sites verdicts long)) tracked;
-          verdicts = All-from_recursion (λ (f : TrackedSite × Verdict). IsVerdict p (IsSupplied p) (Contains g.facts) w f.0 f.1) (zip sites verdicts)
-              (verdicts_are p (Contains g.facts) Listed (IsSupplied p) to_supplied to_listed w sites verdicts told);
-          lines_are = refl;
-          safe = ((λ yes. safe.0 (written.safe.0 yes)), (λ all. written.safe.1 (safe.1 all)));
-        };
-      }
+    pub reported : (text : List ℕ) (all_safe : Bool) → IsWritten x.program sites verdicts text all_safe → IsReportText x (IsSupplied p) (Contains g.facts) w text all_safe
+    reported text all_safe written =
+        let long = as_many_verdicts in
+        let tracked = subst (λ (q : Program). AreTracked q (IsSupplied p) (Contains g.facts) x.property.class_name sites) (sym of) (tracked_in x.property.class_name sites are) in
+        let safe = all_safe_as sites verdicts long in
+        record {
+          lines = report_lines x.program (zip sites verdicts);
+          text_is = written.text_is;
+          report = record {
+            found = zip sites verdicts;
+            tracked = subst (AreTracked x.program (IsSupplied p) (Contains g.facts) x.property.class_name) (sym (found_sites sites verdicts long)) tracked;
+            verdicts = All-from_recursion (λ (f : TrackedSite × Verdict). IsVerdict x (IsSupplied p) (Contains g.facts) w f.0 f.1) (zip sites verdicts)
+                (verdicts_are x (Contains g.facts) Listed (IsSupplied p) to_supplied to_listed w first sites verdicts told);
+            lines_are = refl;
+            safe = ((λ yes. safe.0 (written.safe.0 yes)), (λ all. written.safe.1 (safe.1 all)));
+          };
+        }

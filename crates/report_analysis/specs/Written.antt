@@ -9,7 +9,7 @@ use Rattle.report_spec.specs.Reports.{is_safe, is_unproved, is_limit, line_of, r
 use Rattle.report_analysis.specs.declared.writing.Counts.{Counts}
 use Rattle.report_analysis.specs.Texts.{text_of}
 
--- The verdict where the first stage alone is asked for, or others that prove nothing: by whether it proves the site safe.
+-- The verdict where the first stage alone is asked for: by whether it proves the site safe.
 abbrev pub verdict_of : Bool → Verdict
 verdict_of true = Safe 1
 verdict_of false = Unproved

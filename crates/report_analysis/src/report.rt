@@ -1,11 +1,12 @@
 //! The report on an analysis.
 
-ghost use Rattle.std.specs.Prelude.{◌≡◌, ◌≤◌, ℕ, Contains, IfOk};
+ghost use Rattle.std.specs.Prelude.{◌≡◌, ℕ, Contains, IfOk};
 ghost use Rattle.jvm_model.specs.Automata.{IsAutomaton};
 ghost use Rattle.jvm_model.specs.declared.number.MethodNo.{MethodNo as RuleMethodNo};
 ghost use Rattle.report_analysis.specs.Analyses.{IsAnalysis};
 ghost use Rattle.report_analysis.specs.Texts.{IsReportText};
 ghost use Rattle.lowering_supply.specs.Supplied.{IsSupplied};
+ghost use Rattle.report_spec.specs.Verdicts.{Asked};
 ghost use Rattle.program_model.specs.Numbers.{name_at, IsClassNumber};
 
 use crate::verdicts::verdicts_of;
@@ -23,7 +24,7 @@ pub struct Report {
     pub all_safe: bool,
 }
 
-/// The report on an analysis of the program, whatever the last stage is that is asked for: a line for each tracked site with its verdict, and the summary.
+/// The report on an analysis of the program, where the first stage alone is asked for: a line for each tracked site with its verdict, and the summary.
 /// `upper` is the property's class.
 pub fn report_of(
     alloc: Global,
@@ -35,9 +36,9 @@ pub fn report_of(
     requires upper { IsClassNumber ground.now.program upper.0 }
     requires class { name_at ground.now.program upper.0 ≡ automaton.now.class_name }
     requires analysis { (entry : RuleMethodNo) × (limit : ℕ) × IsAnalysis ground.now.program (IsSupplied ground.now.program) entry limit ground.now }
-    ensures { IfOk result (λ r. (stages : ℕ) → 1 ≤ stages
-        → IsReportText ground.now.program (IsSupplied ground.now.program) (Contains ground.now.facts) (record { property = automaton.now; stages = stages })
-        r.text.items r.all_safe) }
+    ensures { IfOk result (λ r. (first : ℕ) (w : Asked) → w.stages ≡ 1
+        → IsReportText (record { program = ground.now.program; property = automaton.now; entry = first }) (IsSupplied ground.now.program)
+        (Contains ground.now.facts) w r.text.items r.all_safe) }
 {
     supplied_methods_are_whole();
     let sites = tracked(alloc, ground, upper)?;

@@ -1,12 +1,12 @@
-//! The verdict of each site. The first stage is the one that runs: so a site is safe by it or unproved, whatever the last stage is that is asked for.
+//! The verdict of each site, where the first stage alone is asked for: a site is safe by it or unproved.
 
-ghost use Rattle.std.specs.Prelude.{◌≡◌, ◌≤◌, ℕ, map, Contains, IfOk};
+ghost use Rattle.std.specs.Prelude.{◌≡◌, ℕ, map, Contains, IfOk};
 ghost use Rattle.std.specs.List.{AllZip};
 ghost use Rattle.jvm_model.specs.Automata.{IsAutomaton};
 ghost use Rattle.program_model.specs.Numbers.{IsClassNumber};
 ghost use Rattle.ground.specs.Findings.{gives_listed};
 ghost use Rattle.site_report.specs.Sites.{AreInOrder};
-ghost use Rattle.report_spec.specs.Verdicts.{IsVerdict};
+ghost use Rattle.report_spec.specs.Verdicts.{Asked, IsVerdict};
 ghost use Rattle.report_analysis.specs.Written.{verdict_of};
 
 use ground::Ground;
@@ -25,9 +25,9 @@ pub(crate) fn verdicts_of(
     requires automaton { IsAutomaton automaton.now }
     requires order { AreInOrder sites.now }
     requires known { (t : TrackedSite) → Contains sites.now t → IsClassNumber ground.now.program t.class.0 }
-    ensures { IfOk result (λ verdicts. (stages : ℕ) → 1 ≤ stages
-        → AllZip (IsVerdict ground.now.program (gives_listed ground.now.methods) (Contains ground.now.facts)
-        (record { property = automaton.now; stages = stages })) sites.now verdicts.items) }
+    ensures { IfOk result (λ verdicts. (entry : ℕ) (w : Asked) → w.stages ≡ 1
+        → AllZip (IsVerdict (record { program = ground.now.program; property = automaton.now; entry = entry }) (gives_listed ground.now.methods)
+        (Contains ground.now.facts) w) sites.now verdicts.items) }
 {
     let answers = prune(alloc, ground, automaton, sites)?;
     stage_verdicts(alloc, answers.as_slice())

@@ -28,24 +28,25 @@ module _ (P : ℕ → Type 0) (stages : ℕ) where
 
 -- ---- what stages have by other words
 
-module _ (P Q : ℕ → Type 0) (to : (stage : ℕ) → P stage → Q stage) (back : (stage : ℕ) → Q stage → P stage) (stages : ℕ) where
+module _ (P Q : ℕ → Type 0) (stages : ℕ) (to : (stage : ℕ) → stage ≤ stages → P stage → Q stage) (back : (stage : ℕ) → stage ≤ stages → Q stage → P stage) where
   first_over : (stage : ℕ) → IsFirstStage P stages stage → IsFirstStage Q stages stage
   first_over stage x = record {
     from_one = x.from_one;
     within = x.within;
-    has = to stage x.has;
-    none_earlier = λ earlier one lt has. x.none_earlier earlier one lt (back earlier has);
+    has = to stage x.within x.has;
+    none_earlier = λ earlier one lt has. let here = x.within in x.none_earlier earlier one lt (back earlier (omega arith) has);
   }
 
   none_over : HoldsOfNoStage P stages → HoldsOfNoStage Q stages
-  none_over x = record { none = λ stage one within has. x.none stage one within (back stage has) }
+  none_over x = record { none = λ stage one within has. x.none stage one within (back stage within has) }
 
--- the verdict is the same by both
-pub verdict_over : (P Q L M : ℕ → Type 0) → ((stage : ℕ) → P stage → Q stage) → ((stage : ℕ) → Q stage → P stage) → ((stage : ℕ) → L stage → M stage)
-    → ((stage : ℕ) → M stage → L stage) → (stages : ℕ) (v : Verdict) → IsVerdictBy P L stages v → IsVerdictBy Q M stages v
-verdict_over P Q L M to back limit_to limit_back stages (Safe stage) is = first_over P Q to back stages stage is
-verdict_over P Q L M to back limit_to limit_back stages (Limit stage) is = (none_over P Q to back stages is.0, first_over L M limit_to limit_back stages stage is.1)
-verdict_over P Q L M to back limit_to limit_back stages Unproved is = (none_over P Q to back stages is.0, none_over L M limit_to limit_back stages is.1)
+-- the verdict is the same by both, where the stages that are asked for have the same
+pub verdict_over : (P Q L M : ℕ → Type 0) (stages : ℕ) → ((stage : ℕ) → stage ≤ stages → P stage → Q stage) → ((stage : ℕ) → stage ≤ stages → Q stage → P stage)
+    → ((stage : ℕ) → stage ≤ stages → L stage → M stage) → ((stage : ℕ) → stage ≤ stages → M stage → L stage)
+    → (v : Verdict) → IsVerdictBy P L stages v → IsVerdictBy Q M stages v
+verdict_over P Q L M stages to back limit_to limit_back (Safe stage) is = first_over P Q stages to back stage is
+verdict_over P Q L M stages to back limit_to limit_back (Limit stage) is = (none_over P Q stages to back is.0, first_over L M stages limit_to limit_back stage is.1)
+verdict_over P Q L M stages to back limit_to limit_back Unproved is = (none_over P Q stages to back is.0, none_over L M stages limit_to limit_back is.1)
 
 -- ---- the verdict
 

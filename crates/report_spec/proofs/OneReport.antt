@@ -1,7 +1,7 @@
 -- A program has one report: the tracked sites stand in one order, and each has one verdict.
 use Rattle.std.proofs.Common.{◌≡◌, ◌↔◌, ◌∙◌, ℕ, Bool, true, false, List, [], ◌∷◌, map, All, IsTrue, refl, sym, ap, subst}
 use Rattle.std.proofs.lemmas.List.Elements.{All-head, All-tail}
-use Rattle.jvm_model.specs.Programs.{Program}
+use Rattle.machine_bytecode.specs.Objects.{Subject}
 use Rattle.op_model.specs.Supplies.{GivenAs}
 use Rattle.points_to_rules.specs.Facts.{Fact}
 use Rattle.site_report.specs.declared.tracked_site.TrackedSite.{TrackedSite}
@@ -12,7 +12,7 @@ use Rattle.report_spec.specs.Tracked.{AreTracked}
 use Rattle.report_spec.specs.Verdicts.{Asked, AtLimitBy, IsVerdict, SafeBy}
 use Rattle.report_spec.proofs.FirstStages.{verdict_is_one}
 use Rattle.report_spec.proofs.ReportOrder.{order_same}
-use Rattle.report_spec.proofs.SameFacts.{AreKept, report_into}
+use Rattle.report_spec.proofs.SameFacts.{report_into}
 
 -- ---- verdicts
 
@@ -41,27 +41,27 @@ answer_same false false P x y = refl
 
 -- ---- the report
 
-module _ (p : Program) (gives : GivenAs) (S : Fact → Type 0) where
+module _ (x : Subject) (gives : GivenAs) (S : Fact → Type 0) where
   -- the tracked sites are one list
-  pub sites_same : (upper : List ℕ) (xs ys : List TrackedSite) → AreTracked p gives S upper xs → AreTracked p gives S upper ys → xs ≡ ys
-  sites_same upper xs ys x y =
-      order_same xs ys x.order y.order (record { there = λ t h. (y.those t).1 ((x.those t).0 h) }) (record { there = λ t h. (x.those t).1 ((y.those t).0 h) })
+  pub sites_same : (upper : List ℕ) (xs ys : List TrackedSite) → AreTracked x.program gives S upper xs → AreTracked x.program gives S upper ys → xs ≡ ys
+  sites_same upper xs ys a b =
+      order_same xs ys a.order b.order (record { there = λ t h. (b.those t).1 ((a.those t).0 h) }) (record { there = λ t h. (a.those t).1 ((b.those t).0 h) })
 
   module _ (w : Asked) where
-    verdict_same : (t : TrackedSite) (v u : Verdict) → IsVerdict p gives S w t v → IsVerdict p gives S w t u → v ≡ u
-    verdict_same t v u x y = verdict_is_one (SafeBy gives S w.property (site_in p t)) (AtLimitBy gives S w.property (site_in p t)) w.stages v u x y
+    verdict_same : (t : TrackedSite) (v u : Verdict) → IsVerdict x gives S w t v → IsVerdict x gives S w t u → v ≡ u
+    verdict_same t v u a b = verdict_is_one (SafeBy x gives S w.depth w.fact_limit (site_in x.program t)) (AtLimitBy x gives S w.depth w.fact_limit (site_in x.program t)) w.stages v u a b
 
-    same_report : (l m : List (List ℕ)) (x y : Bool) → IsReport p gives S w l x → IsReport p gives S w m y → (l ≡ m) × (x ≡ y)
-    same_report l m x y r q =
+    same_report : (l m : List (List ℕ)) (a b : Bool) → IsReport x gives S w l a → IsReport x gives S w m b → (l ≡ m) × (a ≡ b)
+    same_report l m a b r q =
         let site = λ (f : TrackedSite × Verdict). f.0 in
-        let sites = sites_same w.property.class_name (map site r.found) (map site q.found) r.tracked q.tracked in
-        let found = verdicts_same (IsVerdict p gives S w) (IsVerdict p gives S w) verdict_same r.found q.found sites r.verdicts q.verdicts in
-        let safe = subst (λ (fs : List (TrackedSite × Verdict)). IsTrue x ↔ All (λ (f : TrackedSite × Verdict). IsTrue (is_safe f.1)) fs) found r.safe in (
-          r.lines_are ∙ ap (report_lines p) found ∙ sym q.lines_are,
-          answer_same x y (All (λ (f : TrackedSite × Verdict). IsTrue (is_safe f.1)) q.found) safe q.safe,
+        let sites = sites_same x.property.class_name (map site r.found) (map site q.found) r.tracked q.tracked in
+        let found = verdicts_same (IsVerdict x gives S w) (IsVerdict x gives S w) verdict_same r.found q.found sites r.verdicts q.verdicts in
+        let safe = subst (λ (fs : List (TrackedSite × Verdict)). IsTrue a ↔ All (λ (f : TrackedSite × Verdict). IsTrue (is_safe f.1)) fs) found r.safe in (
+          r.lines_are ∙ ap (report_lines x.program) found ∙ sym q.lines_are,
+          answer_same a b (All (λ (f : TrackedSite × Verdict). IsTrue (is_safe f.1)) q.found) safe q.safe,
         )
 
 -- by the same facts there is one report
-pub report_same : (p : Program) (gives : GivenAs) (w : Asked) (S T : Fact → Type 0) → AreKept S T → AreKept T S → (l m : List (List ℕ)) (x y : Bool)
-    → IsReport p gives S w l x → IsReport p gives T w m y → (l ≡ m) × (x ≡ y)
-report_same p gives w S T to back l m x y r q = same_report p gives T w l m x y (report_into p gives S T to back w l x r) q
+pub report_same : (x : Subject) (gives : GivenAs) (w : Asked) (S T : Fact → Type 0) → ((fact : Fact) → S fact → T fact) → ((fact : Fact) → T fact → S fact)
+    → (l m : List (List ℕ)) (a b : Bool) → IsReport x gives S w l a → IsReport x gives T w m b → (l ≡ m) × (a ≡ b)
+report_same x gives w S T to back l m a b r q = same_report x gives T w l m a b (report_into x gives S T to back w l a r) q

@@ -1,3 +1,4 @@
 pub mod Tracked
 pub mod Verdicts
+pub mod AllFacts
 pub mod Reports

@@ -2,6 +2,7 @@
 -- The report that tells the verdict of each tracked site.
 use Rattle.std.specs.Prelude.{◌≡◌, ◌↔◌, ℕ, Bool, true, false, List, [], ◌∷◌, ◌++◌, map, count_by, All, IsTrue}
 use Rattle.jvm_model.specs.Programs.{Program}
+use Rattle.machine_bytecode.specs.Objects.{Subject}
 use Rattle.op_model.specs.Supplies.{GivenAs}
 use Rattle.points_to_rules.specs.Facts.{Fact}
 use Rattle.site_report.specs.declared.tracked_site.TrackedSite.{TrackedSite}
@@ -41,9 +42,9 @@ report_lines p found =
 
 -- The report on what is asked has one line for each tracked site, in the order of a report, with its verdict, and then the summary; and says whether all
 -- are safe.
-pub record IsReport (p : Program) (gives : GivenAs) (S : Fact → Type 0) (w : Asked) (lines : List (List ℕ)) (all_safe : Bool) : Type 0 where
+pub record IsReport (x : Subject) (gives : GivenAs) (S : Fact → Type 0) (w : Asked) (lines : List (List ℕ)) (all_safe : Bool) : Type 0 where
   pub found : List (TrackedSite × Verdict)
-  pub tracked : AreTracked p gives S w.property.class_name (map (λ (f : TrackedSite × Verdict). f.0) found)
-  pub verdicts : All (λ (f : TrackedSite × Verdict). IsVerdict p gives S w f.0 f.1) found
-  pub lines_are : lines ≡ report_lines p found
+  pub tracked : AreTracked x.program gives S x.property.class_name (map (λ (f : TrackedSite × Verdict). f.0) found)
+  pub verdicts : All (λ (f : TrackedSite × Verdict). IsVerdict x gives S w f.0 f.1) found
+  pub lines_are : lines ≡ report_lines x.program found
   pub safe : IsTrue all_safe ↔ All (λ (f : TrackedSite × Verdict). IsTrue (is_safe f.1)) found

@@ -9,6 +9,7 @@ mod Steps
 pub mod Words
 pub mod SafeLines
 pub mod Verdicts
+pub mod StageSites
 pub mod TrueReports
 pub mod BuiltIn
 pub mod Reported

@@ -149,7 +149,7 @@ status_reports false s is = inr is
 analysis_formed : (i : Input) (p : Program) (entry : MethodNo) (s : Status) (lines : List (List ℕ)) → AnalysisOutcome i p entry s lines → IsFormed s lines
 analysis_formed i p entry s lines (pair_limit end ends) = refuses_formed s lines no_file 0 PairLimit ends
 analysis_formed i p entry s lines (refused_method r end ends) = refuses_formed s lines r.file r.offset r.reason ends
-analysis_formed i p entry s lines (reported facts all_safe solution report is) = record {
+analysis_formed i p entry s lines (reported found facts all_safe solution of_all report is) = record {
   others = report_lines p report.found;
   same = report.lines_are;
   are = report_are_lines p report.found

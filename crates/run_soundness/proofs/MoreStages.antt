@@ -2,7 +2,7 @@
 use Rattle.std.proofs.Common.{◌≡◌, ◌≤◌, ℕ, Bool, List, [], ◌∷◌, All, Contains, map, sym, ap, ◌∙◌, subst}
 use Rattle.std.specs.List.{count_by}
 use Rattle.std.proofs.lemmas.List.Elements.{All-append, All-cons, All-head, All-nil, All-tail, All-weaker, Contains-append_left}
-use Rattle.jvm_model.specs.Programs.{Program}
+use Rattle.machine_bytecode.specs.Objects.{Subject}
 use Rattle.least_sets.proofs.Places.{first, later}
 use Rattle.op_model.specs.Supplies.{GivenAs}
 use Rattle.points_to_rules.specs.Facts.{Fact}
@@ -32,37 +32,37 @@ module _ (others : List (List ℕ)) where
   kept_in_more : (longer lines : List (List ℕ)) → ((line : List ℕ) → Contains others line → Contains longer line) → AreKeptIn others lines → AreKeptIn longer lines
   kept_in_more longer lines more all = All-weaker IsKept (λ (line : List ℕ). SaysSafe line → Contains longer line) (λ line kept says. more line (kept says)) lines all
 
-module _ (p : Program) (gives : GivenAs) (S : Fact → Type 0) (w : Asked) (more : ℕ) (le : w.stages ≤ more) where
+module _ (run : Subject) (gives : GivenAs) (S : Fact → Type 0) (w : Asked) (more : ℕ) (le : w.stages ≤ more) where
   abbrev IsFirst : TrackedSite × Verdict → Type 0
-  IsFirst f = IsVerdict p gives S w f.0 f.1
+  IsFirst f = IsVerdict run gives S w f.0 f.1
 
   abbrev IsSecond : TrackedSite × Verdict → Type 0
-  IsSecond f = IsVerdict p gives S (with_stages w more) f.0 f.1
+  IsSecond f = IsVerdict run gives S (with_stages w more) f.0 f.1
 
   -- of one site
-  line_same : (t : TrackedSite) (v u : Verdict) → IsVerdict p gives S w t v → IsVerdict p gives S (with_stages w more) t u → SaysSafe (verdict_line p t v)
-      → verdict_line p t u ≡ verdict_line p t v
+  line_same : (t : TrackedSite) (v u : Verdict) → IsVerdict run gives S w t v → IsVerdict run gives S (with_stages w more) t u → SaysSafe (verdict_line run.program t v)
+      → verdict_line run.program t u ≡ verdict_line run.program t v
   line_same t (Safe stage) u x y says =
-      ap (verdict_line p t) (safe_stays (SafeBy gives S w.property (site_in p t)) (AtLimitBy gives S w.property (site_in p t)) w.stages more stage le u x y)
-  line_same t Unproved u x y says = absurd (cc (says_a (verdict_line p t Unproved) says))
-  line_same t (Limit stage) u x y says = absurd (cc (says_a (verdict_line p t (Limit stage)) says))
+      ap (verdict_line run.program t) (safe_stays (SafeBy run gives S w.depth w.fact_limit (site_in run.program t)) (AtLimitBy run gives S w.depth w.fact_limit (site_in run.program t)) w.stages more stage le u x y)
+  line_same t Unproved u x y says = absurd (cc (says_a (verdict_line run.program t Unproved) says))
+  line_same t (Limit stage) u x y says = absurd (cc (says_a (verdict_line run.program t (Limit stage)) says))
 
   -- of sites that are the same, one after another
   lines_kept : (xs ys : List (TrackedSite × Verdict)) → map (λ (f : TrackedSite × Verdict). f.0) xs ≡ map (λ (f : TrackedSite × Verdict). f.0) ys → All IsFirst xs
-      → All IsSecond ys → AreKeptIn (map (line_of p) ys) (map (line_of p) xs)
-  lines_kept [] ys e h k = All-nil (λ (line : List ℕ). SaysSafe line → Contains (map (line_of p) ys) line)
+      → All IsSecond ys → AreKeptIn (map (line_of run.program) ys) (map (line_of run.program) xs)
+  lines_kept [] ys e h k = All-nil (λ (line : List ℕ). SaysSafe line → Contains (map (line_of run.program) ys) line)
   lines_kept (x ∷ xs) [] e h k = absurd cc
   lines_kept (x ∷ xs) (y ∷ ys) e h k =
       let site : x.0 ≡ y.0 = cc in
       let sites : map (λ (f : TrackedSite × Verdict). f.0) xs ≡ map (λ (f : TrackedSite × Verdict). f.0) ys = cc in
-      let here = subst (λ (t : TrackedSite). IsVerdict p gives S w t x.1) site (All-head IsFirst x xs h) in
-      let lines = map (line_of p) ys in
-      let same = ap (λ (t : TrackedSite). verdict_line p t x.1) site in
-      kept_with (line_of p y ∷ lines) (map (line_of p) xs) (line_of p x)
+      let here = subst (λ (t : TrackedSite). IsVerdict run gives S w t x.1) site (All-head IsFirst x xs h) in
+      let lines = map (line_of run.program) ys in
+      let same = ap (λ (t : TrackedSite). verdict_line run.program t x.1) site in
+      kept_with (line_of run.program y ∷ lines) (map (line_of run.program) xs) (line_of run.program x)
       (λ says.
       let is = line_same y.0 x.1 y.1 here (All-head IsSecond y ys k) (subst SaysSafe same says) in
-      subst (Contains (line_of p y ∷ lines)) (is ∙ sym same) (first (line_of p y) lines))
-      (kept_in_more lines (line_of p y ∷ lines) (map (line_of p) xs) (λ line there. later (line_of p y) lines line there)
+      subst (Contains (line_of run.program y ∷ lines)) (is ∙ sym same) (first (line_of run.program y) lines))
+      (kept_in_more lines (line_of run.program y ∷ lines) (map (line_of run.program) xs) (λ line there. later (line_of run.program y) lines line there)
       (lines_kept xs ys sites (All-tail IsFirst x xs h) (All-tail IsSecond y ys k)))
 
   -- the summary says of no site that it is safe
@@ -71,14 +71,14 @@ module _ (p : Program) (gives : GivenAs) (S : Fact → Type 0) (w : Asked) (more
       kept_with others [] (summary_line safe unproved limit) (λ says. absurd (cc (says_a (summary_line safe unproved limit) says)))
       (All-nil (λ (line : List ℕ). SaysSafe line → Contains others line))
 
-  pub safe_lines_kept : (lines others : List (List ℕ)) (all_safe all_of_others : Bool) → IsReport p gives S w lines all_safe
-      → IsReport p gives S (with_stages w more) others all_of_others → AreKeptIn others lines
+  pub safe_lines_kept : (lines others : List (List ℕ)) (all_safe all_of_others : Bool) → IsReport run gives S w lines all_safe
+      → IsReport run gives S (with_stages w more) others all_of_others → AreKeptIn others lines
   safe_lines_kept lines others all_safe all_of_others r q =
       let site = λ (f : TrackedSite × Verdict). f.0 in
-      let sites = sites_same p gives S w.property.class_name (map site r.found) (map site q.found) r.tracked q.tracked in
-      let of_sites = map (line_of p) q.found in
-      let whole = report_lines p q.found in
-      let front = kept_in_more of_sites whole (map (line_of p) r.found)
+      let sites = sites_same run gives S run.property.class_name (map site r.found) (map site q.found) r.tracked q.tracked in
+      let of_sites = map (line_of run.program) q.found in
+      let whole = report_lines run.program q.found in
+      let front = kept_in_more of_sites whole (map (line_of run.program) r.found)
       (λ line there. Contains-append_left of_sites
       (summary_line (count_by (λ (f : TrackedSite × Verdict). is_safe f.1) q.found) (count_by (λ (f : TrackedSite × Verdict). is_unproved f.1) q.found)
       (count_by (λ (f : TrackedSite × Verdict). is_limit f.1) q.found) ∷ []) line there)
@@ -86,6 +86,6 @@ module _ (p : Program) (gives : GivenAs) (S : Fact → Type 0) (w : Asked) (more
       let safe = count_by (λ (f : TrackedSite × Verdict). is_safe f.1) r.found in
       let unproved = count_by (λ (f : TrackedSite × Verdict). is_unproved f.1) r.found in
       let limit = count_by (λ (f : TrackedSite × Verdict). is_limit f.1) r.found in
-      let all = All-append (λ (line : List ℕ). SaysSafe line → Contains whole line) (map (line_of p) r.found) (summary_line safe unproved limit ∷ []) front
+      let all = All-append (λ (line : List ℕ). SaysSafe line → Contains whole line) (map (line_of run.program) r.found) (summary_line safe unproved limit ∷ []) front
       (summary_kept whole safe unproved limit) in
       subst (λ (ls : List (List ℕ)). AreKeptIn ls lines) (sym q.lines_are) (subst (AreKeptIn whole) (sym r.lines_are) all)

@@ -34,7 +34,9 @@ use Rattle.site_report.specs.Sites.{site_in}
 use Rattle.report_spec.specs.Tracked.{Allocates, IsTracked, makes, is_given}
 use Rattle.run_soundness.specs.Claims.{IsOwnSite}
 use Rattle.run_soundness.specs.ClosedFacts.{AreClosedFacts}
-use Rattle.run_soundness.proofs.TrueReports.{IsReportBy, sites_true}
+use Rattle.report_spec.specs.Verdicts.{Asked}
+use Rattle.run_soundness.proofs.StageSites.{class_named, kind_of}
+use Rattle.run_soundness.proofs.TrueReports.{EdgesNeverErr, IsReportBy, sites_true}
 
 -- Objects are made there by an instruction or by a stub that gives one.
 abbrev IsMade : SiteKind → Type 0
@@ -48,9 +50,6 @@ not_thrown : (kind : SiteKind) → kind ≡ Thrown → IsMade kind → ⊥
 not_thrown kind is (inl new) = cc
 not_thrown kind is (inr result) = cc
 
-abbrev kind_of : Site → SiteKind
-kind_of s = s.kind
-
 module _ (x : Subject) (facts : List Fact) (program : IsProgram x.program) (exceptions : HasExceptions x.program) (entry : HasEntry x) (are : AreClosedFacts x facts) where
   abbrev S : Fact → Type 0
   S = Contains facts
@@ -60,7 +59,7 @@ module _ (x : Subject) (facts : List Fact) (program : IsProgram x.program) (exce
       let m = is_map x.program program in
       let run = supplied_runs x m.0 program exceptions entry m.1 in
       let all = executions_covered x m.0 (IsSupplied x.program) S run m.1 (λ number coded. each_answer x.program number run.program coded) (supplied_whole x.program)
-      are.closed are.unrefused e.states e.execution in
+      (λ premises fact instance hold. are.closed premises fact (inl instance) hold) are.unrefused e.states e.execution in
       let object = (all.2 e.state e.reached).world.objects e.lives.0 e.object (placed e.state.world.heap e.object e.lives) in
       subst (IsSite x.program (IsSupplied x.program) S) e.of_site object.made
 
@@ -81,27 +80,17 @@ module _ (x : Subject) (facts : List Fact) (program : IsProgram x.program) (exce
     allocated (of_node m l n runs node at) = at_node m l n runs node at
     allocated (before_entry class is_error is) = absurd (not_thrown s.kind (ap kind_of is) made)
 
-  -- a class of the program has a name of a class
-  class_named : (number : ℕ) → IsClassNumber x.program number → IsClassName (name_at x.program number)
-  class_named number within = elim (slice_get_cases x.program.classes number).1 [
-    | inl (c, less, at, same) ↦ (
-        let stands : slice_get (class_names x.program) number ≡ Some c.name = slice_get-map (λ (d : Class). d.name) x.program.classes number ∙ ap (λ (o : Option Class). option_map (λ (d : Class). d.name) o) at in
-        let is : name_at x.program number ≡ c.name = ap (λ (o : Option Class). unwrap_or (option_map (λ (d : Class). d.name) o) []) at in
-        subst IsClassName (sym is) (All-contains IsClassName (class_names x.program) c.name program.named (contains_at (class_names x.program) number c.name stands)))
-    | inr (past, none) ↦ absurd (omega (arith, past, within))
-  ]
-
   pub own_is_tracked : (t : TrackedSite) → IsOwnSite x t → Errs x (site_in x.program t) → IsTracked x.program (IsSupplied x.program) S x.property.class_name t
   own_is_tracked t own e = record {
     known = own.known;
     allocated = allocated (site_in x.program t) own.kind
-        (λ m l n sites target node is among. supplied_arrays x.program m.0 l node.given n sites target node.stands is (site_in x.program t) among (class_named t.class.0 own.known))
+        (λ m l n sites target node is among. supplied_arrays x.program m.0 l node.given n sites target node.stands is (site_in x.program t) among (class_named x.program program t.class.0 own.known))
         (made_there (site_in x.program t) e);
     below = own.below;
   }
 
 -- Where a report says that all is safe, no site of the program's own ever errs.
-pub own_never_err : (x : Subject) (stages : ℕ) (facts : List Fact) (lines : List (List ℕ)) (all_safe : Bool) → IsProgram x.program → HasExceptions x.program → HasEntry x
-    → AreClosedFacts x facts → IsReportBy x stages facts lines all_safe → all_safe ≡ true → (t : TrackedSite) → IsOwnSite x t → Errs x (site_in x.program t) → ⊥
-own_never_err x stages facts lines all_safe program exceptions entry are report safe t own errs =
-    sites_true x stages facts lines all_safe program exceptions entry are report safe t (own_is_tracked x facts program exceptions entry are t own errs) errs
+pub own_never_err : EdgesNeverErr → (x : Subject) (w : Asked) (facts : List Fact) (lines : List (List ℕ)) (all_safe : Bool) → IsProgram x.program → HasExceptions x.program
+    → HasEntry x → AreClosedFacts x facts → IsReportBy x w facts lines all_safe → all_safe ≡ true → (t : TrackedSite) → IsOwnSite x t → Errs x (site_in x.program t) → ⊥
+own_never_err never_by_edges x w facts lines all_safe program exceptions entry are report safe t own errs =
+    sites_true never_by_edges x w facts lines all_safe program exceptions entry are report safe t (own_is_tracked x facts program exceptions entry are t own errs) errs

@@ -19,10 +19,11 @@ use Rattle.property_file.specs.PropertyFile.{IsPropertyFile}
 use Rattle.run_spec.specs.declared.status.Status.{Status}
 use Rattle.run_spec.specs.declared.status.Status.TheVariants.{AllSafe, SomeUnproved, Refused, Usage}
 use Rattle.run_spec.specs.Inputs.{AreStubs, Input, IsInput, all_stubs}
-use Rattle.run_spec.specs.Outcomes.{report_status, AnalysisOutcome, pair_limit, refused_method, reported, ClassOutcome, no_class, has_class, EntryOutcome, no_entry, other_shape, has_entry, LinkOutcome, unlinked, linked, FolderOutcome, refused_folder, has_classes, StubOutcome, no_stub_file, stubs_no_document, broken_stubs, no_stubs, has_stubs, PropertyOutcome, no_property, property_no_document, broken_property, has_property, Outcome, unusable, usable}
+use Rattle.run_spec.specs.Outcomes.{asked_of, report_status, AnalysisOutcome, pair_limit, refused_method, reported, ClassOutcome, no_class, has_class, EntryOutcome, no_entry, other_shape, has_entry, LinkOutcome, unlinked, linked, FolderOutcome, refused_folder, has_classes, StubOutcome, no_stub_file, stubs_no_document, broken_stubs, no_stubs, has_stubs, PropertyOutcome, no_property, property_no_document, broken_property, has_property, Outcome, unusable, usable}
 use Rattle.simulation.specs.Simulation.{HasEntry, HasExceptions}
 use Rattle.run_spec.specs.RunSubjects.{IsRunOf}
 use Rattle.run_spec.specs.WholeInputs.{IsWholeInput}
+use Rattle.report_spec.specs.Verdicts.{Asked}
 use Rattle.run_soundness.specs.Reports.{IsReportOf}
 use Rattle.run_soundness.proofs.BuiltIn.{has_exceptions}
 
@@ -40,8 +41,8 @@ abbrev subject : Program → Automaton → MethodNo → Subject
 subject p a entry = record { program = p; property = a; entry = entry.0 }
 
 -- the lines are the report on it by the least facts, and the status is that of the report
-abbrev HasReport : Subject → ℕ → Status → List (List ℕ) → Type 0
-HasReport x stages status lines = (facts : List Fact) × (all_safe : Bool) × IsReportOf x stages facts lines all_safe × (status ≡ report_status all_safe)
+abbrev HasReport : Subject → Asked → Status → List (List ℕ) → Type 0
+HasReport x w status lines = (facts : List Fact) × (all_safe : Bool) × IsReportOf x w facts lines all_safe × (status ≡ report_status all_safe)
 
 -- the property's class is there, and there are least sets, with nothing refused and within the limit
 abbrev IsAnalysed : Subject → ℕ → Type 0
@@ -52,7 +53,7 @@ IsAnalysed x limit =
 -- what the run is of, with its report
 abbrev IsReported : List (List ℕ) → List File → Status → List (List ℕ) → Type 0
 IsReported words files status lines =
-    (x : Subject) × (run : IsRunOf words files x) × IsProgram x.program × HasExceptions x.program × HasEntry x × HasReport x run.input.wanted.stages status lines
+    (x : Subject) × (run : IsRunOf words files x) × IsProgram x.program × HasExceptions x.program × HasEntry x × HasReport x (asked_of run.input) status lines
     × IsAnalysed x run.input.wanted.pair_limit
 
 -- ---- the levels, from the last to the first
@@ -65,15 +66,17 @@ module _ (status : Status) (lines : List (List ℕ)) (ends : (status ≡ AllSafe
   never_usage is = elim ends [ inl safe ↦ cc | inr unproved ↦ cc ]
 
   of_analysis : (i : Input) (p : Program) (entry : MethodNo) → AnalysisOutcome i p entry status lines
-      → HasReport (subject p i.property entry) i.wanted.stages status lines
+      → HasReport (subject p i.property entry) (asked_of i) status lines
       × ((facts : List Fact) × IsSolution p (IsSupplied p) entry i.wanted.pair_limit facts)
   of_analysis i p entry (pair_limit many e) = absurd (never_refused e.status_is)
   of_analysis i p entry (refused_method r is e) = absurd (never_refused e.status_is)
-  of_analysis i p entry (reported facts all_safe solution report is) =
-      ((facts, all_safe, record { limit = i.wanted.pair_limit; solution = solution; report = report }, is), (facts, solution))
+  of_analysis i p entry (reported found facts all_safe solution of_all report is) = (
+    (facts, all_safe, record { found = found; limit = i.wanted.pair_limit; solution = solution; of_all = of_all; report = report }, is),
+    (found, solution),
+  )
 
   of_class : (i : Input) (p : Program) (entry : MethodNo) → ClassOutcome i p entry status lines
-      → HasReport (subject p i.property entry) i.wanted.stages status lines × IsAnalysed (subject p i.property entry) i.wanted.pair_limit
+      → HasReport (subject p i.property entry) (asked_of i) status lines × IsAnalysed (subject p i.property entry) i.wanted.pair_limit
   of_class i p entry (no_class none e) = absurd (never_refused e.status_is)
   of_class i p entry (has_class class is next) = let told = of_analysis i p entry next in (told.0, ((class, is), told.1))
 
@@ -128,7 +131,7 @@ module _ (status : Status) (lines : List (List ℕ)) (ends : (status ≡ AllSafe
 module _ (words : List (List ℕ)) (files : List File) (status : Status) (lines : List (List ℕ)) (outcome : Outcome words files status lines)
     (ends : (status ≡ AllSafe) ⊎ (status ≡ SomeUnproved)) where
   pub is_reported : (x : Subject) × (run : IsRunOf words files x) × IsProgram x.program × HasExceptions x.program × HasEntry x
-      × HasReport x run.input.wanted.stages status lines
+      × HasReport x (asked_of run.input) status lines
   is_reported = let (x, run, program, exceptions, entry, report, analysed) = of_words status lines ends words files outcome in (x, run, program, exceptions, entry, report)
 
   -- nothing was missing, and nothing was refused

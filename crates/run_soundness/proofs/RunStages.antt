@@ -14,14 +14,16 @@ use Rattle.command_words.specs.declared.fault.UsageFault.TheVariants.{Words, Ran
 use Rattle.command_words.specs.Requests.{Wanted, AsksFor}
 use Rattle.lowering_supply.specs.OneAnswer.{one_answer}
 use Rattle.lowering_supply.specs.Supplied.{IsSupplied}
-use Rattle.report_spec.proofs.SameFacts.{all_kept, report_into}
+use Rattle.least_sets.proofs.Least.{least_is_one}
+use Rattle.points_to_rules.specs.Writes.{AnyInstance}
+use Rattle.report_spec.proofs.SameFacts.{report_into}
 use Rattle.run_spec.specs.declared.status.Status.{Status}
 use Rattle.run_spec.specs.declared.status.Status.TheVariants.{Refused, Usage}
 use Rattle.run_spec.specs.Inputs.{HaveDifferentNames, Input}
 use Rattle.run_spec.specs.Lines.{missing_line, no_file, refused_line, usage_line}
-use Rattle.run_spec.specs.Outcomes.{asked_of, AnalysisOutcome, ClassOutcome, EndsWith, EntryOutcome, FolderOutcome, LinkOutcome, Outcome, PropertyOutcome, StubOutcome, pair_limit, refused_method, reported, no_class, has_class, no_entry, other_shape, has_entry, unlinked, linked, refused_folder, has_classes, no_stub_file, stubs_no_document, broken_stubs, no_stubs, has_stubs, no_property, property_no_document, broken_property, has_property, unusable, usable}
+use Rattle.run_spec.specs.Outcomes.{asked_of, run_of, AnalysisOutcome, ClassOutcome, EndsWith, EntryOutcome, FolderOutcome, LinkOutcome, Outcome, PropertyOutcome, StubOutcome, pair_limit, refused_method, reported, no_class, has_class, no_entry, other_shape, has_entry, unlinked, linked, refused_folder, has_classes, no_stub_file, stubs_no_document, broken_stubs, no_stubs, has_stubs, no_property, property_no_document, broken_property, has_property, unusable, usable}
 use Rattle.run_spec.proofs.Levels.{past_class, past_entry, past_link, past_folder, past_stubs, past_property, past_words}
-use Rattle.run_spec.proofs.OneAnalysis.{many_or_few, refused_or_solved, to_other, to_this}
+use Rattle.run_spec.proofs.OneAnalysis.{many_or_few, refused_or_solved}
 use Rattle.run_spec.proofs.OneFolder.{files_differ}
 use Rattle.run_spec.proofs.OneRequest.{AsksFor-same}
 use Rattle.run_soundness.specs.Truth.{SaysSafe}
@@ -53,16 +55,15 @@ module _ (files : List File) (differ : HaveDifferentNames files) (s t : Status) 
     of_analysis : (p : Program) (entry : MethodNo) → AnalysisOutcome i p entry s l → AnalysisOutcome asked_for_more p entry t m → Kept
     of_analysis p entry (pair_limit many ends) other = none_safe Refused (refused_line no_file 0 PairLimit) refl ends
     of_analysis p entry (refused_method r is ends) other = none_safe Refused (refused_line r.file r.offset r.reason) refl ends
-    of_analysis p entry (reported facts b is report si) (pair_limit many ends) =
+    of_analysis p entry (reported facts all b is of_all report si) (pair_limit many ends) =
         absurd (many_or_few p (IsSupplied p) (one_answer p) entry limit facts many.1 is.least)
-    of_analysis p entry (reported facts b is report si) (refused_method q is2 ends) =
+    of_analysis p entry (reported facts all b is of_all report si) (refused_method q is2 ends) =
         absurd (refused_or_solved p (IsSupplied p) (one_answer p) entry limit q facts is2 is)
-    of_analysis p entry (reported facts b is report si) (reported others c is2 report2 ti) =
-        let to = to_other p (IsSupplied p) (one_answer p) entry limit facts others is.least is2.least in
-        let back = to_this p (IsSupplied p) (one_answer p) entry limit facts others is.least is2.least in
-        let here = report_into p (IsSupplied p) (Contains others) (Contains facts) (all_kept (Contains others) (Contains facts) back)
-        (all_kept (Contains facts) (Contains others) to) (asked_of asked_for_more) m c report2 in
-        safe_lines_kept p (IsSupplied p) (Contains facts) (asked_of i) more le l m b c report here
+    of_analysis p entry (reported facts all b is of_all report si) (reported others other c is2 of_other report2 ti) =
+        let to = least_is_one (AnyInstance p (IsSupplied p) entry) all other of_all.least of_other.least in
+        let back = least_is_one (AnyInstance p (IsSupplied p) entry) other all of_other.least of_all.least in
+        let here = report_into (run_of i p entry) (IsSupplied p) (Contains other) (Contains all) back to (asked_of asked_for_more) m c report2 in
+        safe_lines_kept (run_of i p entry) (IsSupplied p) (Contains all) (asked_of i) more le l m b c report here
 
     of_class : (p : Program) (entry : MethodNo) → ClassOutcome i p entry s l → ClassOutcome asked_for_more p entry t m → Kept
     of_class p entry (no_class none ends) other = none_safe Refused (refused_line i.wanted.property 0 MissingClass) refl ends

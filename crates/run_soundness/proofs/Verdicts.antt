@@ -1,5 +1,5 @@
 -- A site that the first stage proves safe never errs, in any execution of the bytecode.
-use Rattle.std.proofs.Common.{ℕ, List, Contains}
+use Rattle.std.proofs.Common.{inl, ℕ, List, Contains}
 use Rattle.jvm_model.specs.declared.site.Site.{Site}
 use Rattle.jvm_model.specs.LinkedPrograms.{IsProgram}
 use Rattle.machine_bytecode.specs.Executions.{Errs}
@@ -12,13 +12,13 @@ use Rattle.points_to_rules.specs.Rules.{Instance}
 use Rattle.lowering_supply.proofs.EachAnswer.{each_answer}
 use Rattle.lowering_supply.proofs.Maps.{is_map}
 use Rattle.lowering_supply.specs.Supplied.{IsSupplied}
-use Rattle.points_to_rules.specs.Solutions.{IsSolution}
 use Rattle.simulation.proofs.Supplied.{supplied_runs}
 use Rattle.simulation.specs.Simulation.{HasEntry, HasExceptions, IsRun}
 use Rattle.coverage.proofs.Refused.{calls_unrefused}
 use Rattle.simulation.proofs.Whole.{supplied_whole}
 use Rattle.simulation.proofs.CoveredExecutions.{executions_covered}
 use Rattle.prune_stage.specs.Pruning.{IsPruned}
+use Rattle.report_spec.specs.AllFacts.{AreAllFacts}
 use Rattle.run_soundness.specs.ClosedFacts.{AreClosedFacts}
 use Rattle.run_soundness.proofs.Words.{never_errs}
 
@@ -46,11 +46,8 @@ pub closed_never_errs : (x : Subject) (facts : List Fact) → IsProgram x.progra
     → (s : Site) → IsPruned (IsSupplied x.program) (Contains facts) x.property s → Errs x s → ⊥
 closed_never_errs x facts program exceptions entry are s pruned e =
     let m = is_map x.program program in
-    pruned_never_errs x m.0 facts (supplied_runs x m.0 program exceptions entry m.1) m.1 are.closed are.unrefused s pruned e
+    pruned_never_errs x m.0 facts (supplied_runs x m.0 program exceptions entry m.1) m.1 (λ premises fact instance hold. are.closed premises fact (inl instance) hold) are.unrefused s pruned e
 
 -- The least facts are closed ones.
-pub least_are_closed : (x : Subject) (facts : List Fact) (limit : ℕ) → IsSolution x.program (IsSupplied x.program) (record { 0 = x.entry }) limit facts → AreClosedFacts x facts
-least_are_closed x facts limit solution = record {
-  closed = λ premises fact instance hold. solution.least.least.closed premises fact instance hold;
-  unrefused = solution.unrefused;
-}
+pub least_are_closed : (x : Subject) (facts : List Fact) → AreAllFacts x.program (IsSupplied x.program) (record { 0 = x.entry }) facts → AreClosedFacts x facts
+least_are_closed x facts all = record { closed = λ premises fact instance hold. all.least.closed premises fact instance hold; unrefused = all.unrefused }

@@ -6,23 +6,29 @@ use Rattle.machine_bytecode.specs.Objects.{Subject}
 use Rattle.lowering_supply.specs.Supplied.{IsSupplied}
 use Rattle.points_to_rules.specs.Solutions.{IsSolution}
 use Rattle.points_to_rules.specs.Facts.{Fact}
+use Rattle.report_spec.specs.AllFacts.{AreAllFacts}
 use Rattle.report_spec.specs.Reports.{IsReport}
 use Rattle.report_spec.specs.Tracked.{IsTracked}
+use Rattle.report_spec.specs.Verdicts.{Asked}
 use Rattle.run_spec.specs.RunSubjects.{IsRunOf}
 use Rattle.site_report.specs.declared.tracked_site.TrackedSite.{TrackedSite}
 use Rattle.run_soundness.specs.Truth.{IsTrueLine}
 
--- The lines are the report on the program, by the stages up to this one and by the least facts of its analysis.
-pub record IsReportOf (x : Subject) (stages : ℕ) (facts : List Fact) (lines : List (List ℕ)) (all_safe : Bool) : Type 0 where
+-- The lines are the report on the program, on what is asked and by the least facts of its analysis, which has a solution.
+pub record IsReportOf (x : Subject) (w : Asked) (facts : List Fact) (lines : List (List ℕ)) (all_safe : Bool) : Type 0 where
+  pub found : List Fact
   pub limit : ℕ
-  pub solution : IsSolution x.program (IsSupplied x.program) (record { 0 = x.entry }) limit facts
-  pub report : IsReport x.program (IsSupplied x.program) (Contains facts) (record { property = x.property; stages = stages }) lines all_safe
+  pub solution : IsSolution x.program (IsSupplied x.program) (record { 0 = x.entry }) limit found
+  pub of_all : AreAllFacts x.program (IsSupplied x.program) (record { 0 = x.entry }) facts
+  pub report : IsReport x (IsSupplied x.program) (Contains facts) w lines all_safe
 
 -- The report is about the site: methods that may run, by the least facts of the analysis, make objects of the property's class or of one below it there.
 pub record IsReportedSite (x : Subject) (t : TrackedSite) : Type 0 where
-  pub facts : List Fact
+  pub found : List Fact
   pub limit : ℕ
-  pub solution : IsSolution x.program (IsSupplied x.program) (record { 0 = x.entry }) limit facts
+  pub solution : IsSolution x.program (IsSupplied x.program) (record { 0 = x.entry }) limit found
+  pub facts : List Fact
+  pub of_all : AreAllFacts x.program (IsSupplied x.program) (record { 0 = x.entry }) facts
   pub tracked : IsTracked x.program (IsSupplied x.program) (Contains facts) x.property.class_name t
 
 -- The line is true, and of a site that the report is about.

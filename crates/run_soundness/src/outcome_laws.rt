@@ -9,7 +9,7 @@ ghost use Rattle.points_to_rules.specs.Facts.{Fact};
 ghost use Rattle.run_spec.specs.declared.status.Status.{Status};
 ghost use Rattle.run_spec.specs.declared.status.Status.TheVariants.{AllSafe, SomeUnproved};
 ghost use Rattle.run_spec.specs.Inputs.{HaveDifferentNames};
-ghost use Rattle.run_spec.specs.Outcomes.{report_status, Outcome};
+ghost use Rattle.run_spec.specs.Outcomes.{asked_of, report_status, Outcome};
 ghost use Rattle.run_spec.specs.RunSubjects.{IsRunOf};
 ghost use Rattle.run_spec.specs.WholeInputs.{IsWholeInput};
 ghost use Rattle.run_soundness.specs.Reports.{IsReportOf};
@@ -23,7 +23,7 @@ pub fn reports_are_of_runs()
     ensures { (words : List (List ℕ)) (files : List File) (status : Status) (lines : List (List ℕ)) → Outcome words files status lines
         → (status ≡ AllSafe) ⊎ (status ≡ SomeUnproved)
         → (x : Subject) × (run : IsRunOf words files x) × IsProgram x.program × HasExceptions x.program × HasEntry x
-        × ((facts : List Fact) × (all_safe : Bool) × IsReportOf x run.input.wanted.stages facts lines all_safe × (status ≡ report_status all_safe)) }
+        × ((facts : List Fact) × (all_safe : Bool) × IsReportOf x (asked_of run.input) facts lines all_safe × (status ≡ report_status all_safe)) }
 {}
 
 /// So it is of an input in which nothing is missing and nothing is refused, as that of which `complete` says that there is a report.

@@ -16,8 +16,9 @@ use Rattle.lowering_supply.specs.OneAnswer.{one_answer}
 use Rattle.lowering_supply.specs.Supplied.{IsSupplied}
 use Rattle.property_file.specs.Refusals.{IsBrokenFile}
 use Rattle.property_file.proofs.Broken.{IsNoDocument-not, IsNoDocument-not_broken, IsBrokenFile-not}
+use Rattle.least_sets.proofs.Least.{least_is_one}
+use Rattle.points_to_rules.specs.Writes.{AnyInstance}
 use Rattle.report_spec.proofs.OneReport.{report_same}
-use Rattle.report_spec.proofs.SameFacts.{all_kept}
 use Rattle.stub_file.specs.declared.stub_failure.StubFault.TheVariants as stub_faults
 use Rattle.stub_file.specs.StubFile.{IsStubFile, IsStubRefusal}
 use Rattle.toml_tables.specs.Documents.{IsNoDocument}
@@ -25,9 +26,9 @@ use Rattle.run_spec.specs.declared.status.Status.{Status}
 use Rattle.run_spec.specs.declared.status.Status.TheVariants as statuses
 use Rattle.run_spec.specs.Inputs.{HaveDifferentNames, Input}
 use Rattle.run_spec.specs.Lines.{missing_line, refused_line, usage_line}
-use Rattle.run_spec.specs.Outcomes.{EndsWith, Refuses, asked_of, report_status, AnalysisOutcome, pair_limit, refused_method, reported, ClassOutcome, no_class, has_class, EntryOutcome, no_entry, other_shape, has_entry, LinkOutcome, unlinked, linked, FolderOutcome, refused_folder, has_classes, StubOutcome, no_stub_file, stubs_no_document, broken_stubs, no_stubs, has_stubs, PropertyOutcome, no_property, property_no_document, broken_property, has_property, Outcome, unusable, usable}
+use Rattle.run_spec.specs.Outcomes.{EndsWith, Refuses, asked_of, run_of, report_status, AnalysisOutcome, pair_limit, refused_method, reported, ClassOutcome, no_class, has_class, EntryOutcome, no_entry, other_shape, has_entry, LinkOutcome, unlinked, linked, FolderOutcome, refused_folder, has_classes, StubOutcome, no_stub_file, stubs_no_document, broken_stubs, no_stubs, has_stubs, PropertyOutcome, no_property, property_no_document, broken_property, has_property, Outcome, unusable, usable}
 use Rattle.run_spec.proofs.Levels.{past_class, past_entry, past_link, past_folder, past_stubs, past_property, past_words, linked_or_not, link_refusal_same, stubs_or_refused, document_or_broken}
-use Rattle.run_spec.proofs.OneAnalysis.{many_or_few, refusal_same, refused_or_solved, to_other, to_this}
+use Rattle.run_spec.proofs.OneAnalysis.{many_or_few, refusal_same, refused_or_solved}
 use Rattle.run_spec.proofs.OneFolder.{classes_or_refused, files_differ, IsRefusedFolder-same}
 use Rattle.run_spec.proofs.OneRequest.{asked_or_wrong, UsageFault-same}
 
@@ -65,23 +66,22 @@ module _ (s t : Status) (l m : List (List ℕ)) where
     AnalysisOutcome-same (pair_limit many ends) (pair_limit many2 ends2) = same_end statuses.Refused _ _ refl ends ends2
     AnalysisOutcome-same (pair_limit many ends) (refused_method q is ends2) =
         absurd (many_or_few p (IsSupplied p) (one_answer p) entry limit is.facts many.1 is.least)
-    AnalysisOutcome-same (pair_limit many ends) (reported facts b is report ti) =
+    AnalysisOutcome-same (pair_limit many ends) (reported facts all b is of_all report ti) =
         absurd (many_or_few p (IsSupplied p) (one_answer p) entry limit facts many.1 is.least)
     AnalysisOutcome-same (refused_method r is ends) (pair_limit many ends2) =
         absurd (many_or_few p (IsSupplied p) (one_answer p) entry limit is.facts many.1 is.least)
     AnalysisOutcome-same (refused_method r is ends) (refused_method q is2 ends2) =
         same_refusal r q (refusal_same p (IsSupplied p) (one_answer p) entry limit r q is is2) ends ends2
-    AnalysisOutcome-same (refused_method r is ends) (reported facts b is2 report ti) =
+    AnalysisOutcome-same (refused_method r is ends) (reported facts all b is2 of_all report ti) =
         absurd (refused_or_solved p (IsSupplied p) (one_answer p) entry limit r facts is is2)
-    AnalysisOutcome-same (reported facts b is report si) (pair_limit many ends) =
+    AnalysisOutcome-same (reported facts all b is of_all report si) (pair_limit many ends) =
         absurd (many_or_few p (IsSupplied p) (one_answer p) entry limit facts many.1 is.least)
-    AnalysisOutcome-same (reported facts b is report si) (refused_method q is2 ends) =
+    AnalysisOutcome-same (reported facts all b is of_all report si) (refused_method q is2 ends) =
         absurd (refused_or_solved p (IsSupplied p) (one_answer p) entry limit q facts is2 is)
-    AnalysisOutcome-same (reported facts b is report si) (reported others c is2 report2 ti) =
-        let to = to_other p (IsSupplied p) (one_answer p) entry limit facts others is.least is2.least in
-        let back = to_this p (IsSupplied p) (one_answer p) entry limit facts others is.least is2.least in
-        let both = report_same p (IsSupplied p) (asked_of i) (Contains facts) (Contains others) (all_kept (Contains facts) (Contains others) to)
-        (all_kept (Contains others) (Contains facts) back) l m b c report report2 in
+    AnalysisOutcome-same (reported facts all b is of_all report si) (reported others other c is2 of_other report2 ti) =
+        let to = least_is_one (AnyInstance p (IsSupplied p) entry) all other of_all.least of_other.least in
+        let back = least_is_one (AnyInstance p (IsSupplied p) entry) other all of_other.least of_all.least in
+        let both = report_same (run_of i p entry) (IsSupplied p) (asked_of i) (Contains all) (Contains other) to back l m b c report report2 in
         (si ∙ ap report_status both.1 ∙ sym ti, both.0)
 
     -- ---- the program

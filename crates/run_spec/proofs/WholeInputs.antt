@@ -28,7 +28,7 @@ solved i p entry s l facts solution (pair_limit many ends) =
     absurd (many_or_few p (IsSupplied p) (one_answer p) entry i.wanted.pair_limit facts many.1 solution.least)
 solved i p entry s l facts solution (refused_method r is ends) =
     absurd (refused_or_solved p (IsSupplied p) (one_answer p) entry i.wanted.pair_limit r facts is solution)
-solved i p entry s l facts solution (reported others all_safe is report status) = by_report s all_safe status
+solved i p entry s l facts solution (reported others facts_ all_safe is of_all report status) = by_report s all_safe status
 
 -- the levels of a whole input lead to its analysis
 past_levels : (words : List (List ℕ)) (files : List File) (s : Status) (l : List (List ℕ)) → HaveDifferentNames files → (w : IsWholeInput words files)

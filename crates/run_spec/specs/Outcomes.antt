@@ -20,11 +20,13 @@ use Rattle.command_words.specs.declared.fault.UsageFault.{UsageFault}
 use Rattle.command_words.specs.Requests.{Wanted, AsksFor, IsUsageFault}
 use Rattle.entry_points.specs.Entries.{IsEntry, NamesMethod}
 use Rattle.lowering_supply.specs.Supplied.{IsSupplied}
+use Rattle.machine_bytecode.specs.Objects.{Subject}
 use Rattle.points_to_rules.specs.declared.solve_fault.SolveFault.TheVariants as solve_faults
 use Rattle.points_to_rules.specs.Solutions.{IsSolution, IsSolveEnd}
 use Rattle.points_to_rules.specs.Facts.{Fact}
 use Rattle.property_file.specs.PropertyFile.{IsPropertyFile}
 use Rattle.property_file.specs.Refusals.{IsBrokenFile}
+use Rattle.report_spec.specs.AllFacts.{AreAllFacts}
 use Rattle.report_spec.specs.Reports.{IsReport}
 use Rattle.report_spec.specs.Verdicts.{Asked}
 use Rattle.stub_file.specs.declared.stub_failure.StubFault.TheVariants as stub_faults
@@ -51,23 +53,28 @@ Misses status lines name = EndsWith status lines statuses.Usage (missing_line na
 
 -- ---- the analysis
 
--- What is asked of an input: whether its property is kept, by the stages up to the last one that the words ask for.
+-- What is asked of an input: by the stages up to the last one that the words ask for, with their depth and their limit.
 abbrev pub asked_of : Input → Asked
-asked_of i = record { property = i.property; stages = i.wanted.stages }
+asked_of i = record { stages = i.wanted.stages; depth = i.wanted.depth; fact_limit = i.wanted.fact_limit }
+
+-- What is run: a program with an entry, and the property of the input.
+abbrev pub run_of : Input → Program → MethodNo → Subject
+run_of i p entry = record { program = p; property = i.property; entry = entry.0 }
 
 -- The status where each tracked site is safe, and where not.
 abbrev pub report_status : Bool → Status
 report_status true = statuses.AllSafe
 report_status false = statuses.SomeUnproved
 
--- There are too many pairs of a place and a site; or a method that may run, or a call in one, is refused; or there is a report.
+-- There are too many pairs of a place and a site; or a method that may run, or a call in one, is refused; or there is a report, by all facts.
 pub data AnalysisOutcome (i : Input) (p : Program) (entry : MethodNo) (status : Status) (lines : List (List ℕ)) : Type 0 where
   pair_limit : IsSolveEnd p (IsSupplied p) entry i.wanted.pair_limit (Cause (solve_faults.PairLimit i.wanted.pair_limit))
       → Refuses status lines no_file 0 PairLimit → AnalysisOutcome i p entry status lines
   refused_method : (r : Refusal) → IsSolveEnd p (IsSupplied p) entry i.wanted.pair_limit (Cause (solve_faults.Refused r))
       → Refuses status lines r.file r.offset r.reason → AnalysisOutcome i p entry status lines
-  reported : (facts : List Fact) (all_safe : Bool) → IsSolution p (IsSupplied p) entry i.wanted.pair_limit facts
-      → IsReport p (IsSupplied p) (Contains facts) (asked_of i) lines all_safe → status ≡ report_status all_safe → AnalysisOutcome i p entry status lines
+  reported : (found facts : List Fact) (all_safe : Bool) → IsSolution p (IsSupplied p) entry i.wanted.pair_limit found
+      → AreAllFacts p (IsSupplied p) entry facts → IsReport (run_of i p entry) (IsSupplied p) (Contains facts) (asked_of i) lines all_safe
+      → status ≡ report_status all_safe → AnalysisOutcome i p entry status lines
 
 -- ---- the program
 

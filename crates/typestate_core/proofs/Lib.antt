@@ -10,7 +10,6 @@ pub mod Wholes
 pub mod Judging
 pub mod ProgramJudging
 pub mod ReadStubs
-pub mod PlainFacts
 pub mod Reported
 pub mod CallOrder
 pub mod Cutting

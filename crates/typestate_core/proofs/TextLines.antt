@@ -2,7 +2,7 @@
 use Rattle.std.proofs.Common.{◌≡◌, ◌≢◌, ◌∙◌, ℕ, Bool, List, [], ◌∷◌, All, sym, ap, append-nil, subst}
 use Rattle.std.specs.List.{AllByRecursion, count_by}
 use Rattle.std.proofs.lemmas.List.Elements.{All-cons, All-nil, All-from_recursion}
-use Rattle.jvm_model.specs.Programs.{Program}
+use Rattle.machine_bytecode.specs.Objects.{Subject}
 use Rattle.op_model.specs.Supplies.{GivenAs}
 use Rattle.points_to_rules.specs.Facts.{Fact}
 use Rattle.site_report.specs.declared.tracked_site.TrackedSite.{TrackedSite}
@@ -33,13 +33,14 @@ one_line text line told is =
     ap lines_in (is ∙ sym (append-nil line)) ∙ lines_of_text (line ∷ []) (are_lines (line ∷ []) (told, tt))
 
 -- the text of a report
-pub report_cut : (p : Program) (gives : GivenAs) (S : Fact → Type 0) (w : Asked) (text : List ℕ) (all_safe : Bool) → IsReportText p gives S w text all_safe
-    → IsReport p gives S w (lines_in text) all_safe
-report_cut p gives S w text all_safe told =
+pub report_cut : (x : Subject) (gives : GivenAs) (S : Fact → Type 0) (w : Asked) (text : List ℕ) (all_safe : Bool) → IsReportText x gives S w text all_safe
+    → IsReport x gives S w (lines_in text) all_safe
+report_cut x gives S w text all_safe told =
+    let p = x.program in
     let found = told.report.found in
     let formed = report_are_lines p found (count_by (λ (f : TrackedSite × Verdict). is_safe f.1) found)
     (count_by (λ (f : TrackedSite × Verdict). is_unproved f.1) found) (count_by (λ (f : TrackedSite × Verdict). is_limit f.1) found) in
     let cut : lines_in (text_of (report_lines p found)) ≡ report_lines p found =
     lines_of_text (report_lines p found) (are_lines (report_lines p found) formed) in
     let same : lines_in text ≡ told.lines = ap lines_in (told.text_is ∙ ap text_of told.report.lines_are) ∙ (cut ∙ sym told.report.lines_are) in
-    subst (λ (lines : List (List ℕ)). IsReport p gives S w lines all_safe) (sym same) told.report
+    subst (λ (lines : List (List ℕ)). IsReport x gives S w lines all_safe) (sym same) told.report

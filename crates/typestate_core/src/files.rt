@@ -53,7 +53,7 @@ fn judge_request<T: Tree>(
     request: &Request<'_>,
     tree: &mut T,
 ) -> Result<Answer, RunFailure>
-    requires stages { 1 ≤ request.now.stages }
+    requires stages { request.now.stages ≡ 1 }
     ensures told { IfOk result (λ a. IfSome (T.files tree.old) (λ files. PropertyOutcome files (wanted_of request.now) a.status (lines_of a))) }
     ensures reported { IfOk result (λ a. IsReported a.status) }
     ensures read_fault { IsErrOf result (Cause read_fault) → Rose (T.faults tree.old) (T.faults tree.new) }
@@ -89,7 +89,7 @@ fn judge_property<T: Tree>(
     automaton: &Automaton,
     tree: &mut T,
 ) -> Result<Answer, RunFailure>
-    requires stages { 1 ≤ request.now.stages }
+    requires stages { request.now.stages ≡ 1 }
     requires automaton { IsAutomaton automaton.now }
     ensures told { IfOk result (λ a. IfSome (T.files tree.old) (λ files. StubOutcome files (wanted_of request.now) automaton.now a.status (lines_of a))) }
     ensures reported { IfOk result (λ a. IsReported a.status) }
@@ -134,7 +134,7 @@ fn judge_stubs<T: Tree>(
     stubs: Vec<StubClass>,
     tree: &mut T,
 ) -> Result<Answer, RunFailure>
-    requires stages { 1 ≤ request.now.stages }
+    requires stages { request.now.stages ≡ 1 }
     requires automaton { IsAutomaton automaton.now }
     requires stubs { All IsSoundStub stubs.items }
     ensures told { IfOk result (λ a. IfSome (T.files tree.old) (λ files. FolderOutcome files (wanted_of request.now) automaton.now stubs.items a.status (lines_of a))) }

@@ -1,6 +1,6 @@
 //! From class files and stubs to the report: linking, the entry, the property's class, the analysis, and the stages.
 
-ghost use Rattle.std.specs.Prelude.{◌≡◌, ◌↔◌, ◌≤◌, ℕ, Bool, All, Contains, IfOk, IfErr, IsTrue};
+ghost use Rattle.std.specs.Prelude.{◌≡◌, ◌↔◌, ℕ, Bool, All, Contains, IfOk, IfErr, IsTrue};
 ghost use Rattle.failure.specs.declared.Failure.TheVariants.{OutOfMemory};
 ghost use Rattle.jvm_model.specs.Automata.{IsAutomaton};
 ghost use Rattle.jvm_model.specs.declared.number.MethodNo.{MethodNo as RuleMethodNo};
@@ -12,6 +12,7 @@ ghost use Rattle.command_words.specs.Requests.{wanted_of};
 ghost use Rattle.report_analysis.specs.Analyses.{IsAnalysis};
 ghost use Rattle.lowering_supply.specs.Supplied.{IsSupplied};
 ghost use Rattle.report_spec.specs.Reports.{IsReport};
+ghost use Rattle.report_spec.specs.Verdicts.{Asked};
 ghost use Rattle.entry_points.specs.Entries.{NamesMethod};
 ghost use Rattle.typestate_core.specs.Answers.{IsReported, OfInputs, lines_of};
 ghost use Rattle.typestate_core.specs.Ends.{SaysEnd};
@@ -40,7 +41,7 @@ pub(crate) fn judge_classes(
     stubs: Vec<StubClass>,
     classes: Vec<NamedClass>,
 ) -> Result<Answer, RunFailure>
-    requires stages { 1 ≤ request.now.stages }
+    requires stages { request.now.stages ≡ 1 }
     requires automaton { IsAutomaton automaton.now }
     requires stubs { All IsSoundStub stubs.items }
     requires classes { All (λ (c : RuleNamedClass). IsChecked c.class) classes.items }
@@ -78,7 +79,7 @@ fn judge_program(
     named: bool,
     program: &Program,
 ) -> Result<Answer, RunFailure>
-    requires stages { 1 ≤ request.now.stages }
+    requires stages { request.now.stages ≡ 1 }
     requires automaton { IsAutomaton automaton.now }
     ensures told { IfOk result (λ a. OfInputs (wanted_of request.now) automaton.now (λ i.
         IsTrue named ↔ NamesMethod i.classes request.now.class.now request.now.method.now → EntryOutcome i program.now a.status (lines_of a))) }
@@ -100,7 +101,7 @@ fn judge_entry(
     program: &Program,
     entry: MethodNo,
 ) -> Result<Answer, RunFailure>
-    requires stages { 1 ≤ request.now.stages }
+    requires stages { request.now.stages ≡ 1 }
     requires automaton { IsAutomaton automaton.now }
     requires entry { IsMethodNumber program.now entry.0 }
     ensures told { IfOk result (λ a. OfInputs (wanted_of request.now) automaton.now (λ i. ClassOutcome i program.now entry a.status (lines_of a))) }
@@ -123,7 +124,7 @@ fn judge_analysis(
     entry: MethodNo,
     class: ClassNo,
 ) -> Result<Answer, RunFailure>
-    requires stages { 1 ≤ request.now.stages }
+    requires stages { request.now.stages ≡ 1 }
     requires automaton { IsAutomaton automaton.now }
     requires entry { IsMethodNumber program.now entry.0 }
     requires class { IsClassNumber program.now class.0 }
@@ -157,7 +158,7 @@ fn refuse_end(alloc: Global, failure: &SolveFailure) -> Result<Answer, RunFailur
     }
 }
 
-/// Reports on the tracked sites of a program that is analysed. The report speaks of any last stage.
+/// Reports on the tracked sites of a program that is analysed, where the first stage alone is asked for.
 fn report_on(
     alloc: Global,
     automaton: &Automaton,
@@ -168,9 +169,9 @@ fn report_on(
     requires class { IsClassNumber ground.now.program class.0 }
     requires named { name_at ground.now.program class.0 ≡ automaton.now.class_name }
     requires analysis { (entry : RuleMethodNo) × (limit : ℕ) × IsAnalysis ground.now.program (IsSupplied ground.now.program) entry limit ground.now }
-    ensures told { IfOk result (λ a. (stages : ℕ) → 1 ≤ stages → (all_safe : Bool)
-        × IsReport ground.now.program (IsSupplied ground.now.program) (Contains ground.now.facts) (record { property = automaton.now; stages = stages }) (lines_of a) all_safe
-        × (a.status ≡ report_status all_safe)) }
+    ensures told { IfOk result (λ a. (first : ℕ) (w : Asked) → w.stages ≡ 1 → (all_safe : Bool)
+        × IsReport (record { program = ground.now.program; property = automaton.now; entry = first }) (IsSupplied ground.now.program)
+        (Contains ground.now.facts) w (lines_of a) all_safe × (a.status ≡ report_status all_safe)) }
     ensures reported { IfOk result (λ a. IsReported a.status) }
     ensures memory { IfErr result (λ e. e ≡ OutOfMemory) }
 {

@@ -1,13 +1,15 @@
-use Rattle.std.proofs.Common.{◌≤◌, ℕ, List, Contains, length, sym, ap, ◌∙◌, subst}
+use Rattle.std.proofs.Common.{◌≡◌, ℕ, List, Contains, length, refl, sym, ap, ◌∙◌, subst}
 use Rattle.std.specs.List.{AllZip}
 use Rattle.std.proofs.lemmas.Result.{IfOk-weaker}
 use Rattle.lowering_supply.specs.Supplied.{IsSupplied}
 use Rattle.jvm_model.specs.Programs.{Program}
+use Rattle.machine_bytecode.specs.Objects.{Subject}
 use Rattle.program_model.specs.Numbers.{name_at}
 use Rattle.ground.specs.Findings.{gives_listed}
 use Rattle.site_report.specs.declared.tracked_site.TrackedSite.{TrackedSite}
 use Rattle.site_report.specs.declared.verdict.Verdict.{Verdict}
 use Rattle.site_report.specs.Sites.{IsKnownSite}
+use Rattle.report_spec.specs.Tracked.{AreTracked}
 use Rattle.report_spec.specs.Verdicts.{Asked, IsVerdict}
 use Rattle.report_analysis.specs.Texts.{IsReportText}
 use Rattle.report_analysis.specs.Written.{IsWritten}
@@ -28,10 +30,13 @@ written-requires-clause-pairs c =
     let g = c.args.ground.now in
     let (entry, limit, analysis) = c.requires.analysis in
     let whole = c.supplied_methods_are_whole.ensures g.program in
-    let sites = c.as_slice.result.now in
     let verdicts = c.in_ok-verdicts.verdicts.items in
-    let many = as_many_verdicts g.program entry limit g analysis whole c.args.automaton.now sites verdicts c.in_ok-verdicts.ensures in
-    ap (length {A = Verdict}) c.as_slice-3.ensures.value ∙ many ∙ ap (length {A = TrackedSite}) (c.as_slice.ensures.value ∙ sym c.as_slice-2.ensures.value)
+    let x : Subject = record { program = g.program; property = c.args.automaton.now; entry = 0 } in
+    let asked : Asked = record { stages = 1; depth = 0; fact_limit = 0 } in
+    let tracked = subst (λ (class : List ℕ). AreTracked g.program (gives_listed g.methods) (Contains g.facts) class c.in_ok-sites.sites.items) c.requires.class c.in_ok-sites.ensures in
+    let told = subst (λ (ts : List TrackedSite). AllZip (IsVerdict x (gives_listed g.methods) (Contains g.facts) asked) ts verdicts) c.as_slice.ensures.value (c.in_ok-verdicts.ensures 0 asked refl) in
+    let many = as_many_verdicts g.program entry limit g analysis whole x refl asked refl c.in_ok-sites.sites.items verdicts tracked told in
+    ap (length {A = Verdict}) c.as_slice-3.ensures.value ∙ many ∙ ap (length {A = TrackedSite}) (sym c.as_slice-2.ensures.value)
 
 pub written-requires-clause-known : goal.written-requires-clause-known
 written-requires-clause-known c t there =
@@ -45,22 +50,20 @@ written-requires-clause-known c t there =
 pub returns : goal.returns
 returns c =
     let g = c.args.ground.now in
-    let p = c.program.result.now in
-    let a = c.args.automaton.now in
     let sites = c.in_ok-sites.sites.items in
     let verdicts = c.in_ok-verdicts.verdicts.items in
     let (entry, limit, analysis) = c.requires.analysis in
     let whole = c.supplied_methods_are_whole.ensures g.program in
-    IfOk-weaker c.written.result (λ r. IsWritten p c.as_slice-2.result.now c.as_slice-3.result.now r.text.items r.all_safe)
-    (λ r. (stages : ℕ) → 1 ≤ stages → IsReportText g.program (IsSupplied g.program) (Contains g.facts) (record { property = a; stages = stages }) r.text.items r.all_safe)
-    (λ r w stages some.
-    let asked : Asked = record { property = a; stages = stages } in
+    let gives = gives_listed g.methods in
+    let x : ℕ → Subject = λ first. record { program = g.program; property = c.args.automaton.now; entry = first } in
+    let tracked = subst (λ (class : List ℕ). AreTracked g.program gives (Contains g.facts) class sites) c.requires.class c.in_ok-sites.ensures in
+    IfOk-weaker c.written.result (λ r. IsWritten c.program.result.now c.as_slice-2.result.now c.as_slice-3.result.now r.text.items r.all_safe)
+    (λ r. (first : ℕ) (w : Asked) → w.stages ≡ 1 → IsReportText (x first) (IsSupplied g.program) (Contains g.facts) w r.text.items r.all_safe)
+    (λ r wrote first w one.
     let text = r.text.items in
-    let verdict = IsVerdict g.program (gives_listed g.methods) (Contains g.facts) asked in
-    let told = subst (λ (ts : List TrackedSite). AllZip verdict ts verdicts) c.as_slice.ensures.value (c.in_ok-verdicts.ensures stages some) in
-    let of_program = subst (λ (q : Program). IsWritten q c.as_slice-2.result.now c.as_slice-3.result.now text r.all_safe) c.program.ensures w in
+    let told = subst (λ (ts : List TrackedSite). AllZip (IsVerdict (x first) gives (Contains g.facts) w) ts verdicts) c.as_slice.ensures.value (c.in_ok-verdicts.ensures first w one) in
+    let of_program = subst (λ (q : Program). IsWritten q c.as_slice-2.result.now c.as_slice-3.result.now text r.all_safe) c.program.ensures wrote in
     let of_sites = subst (λ (ts : List TrackedSite). IsWritten g.program ts c.as_slice-3.result.now text r.all_safe) c.as_slice-2.ensures.value of_program in
     let of_both = subst (λ (vs : List Verdict). IsWritten g.program sites vs text r.all_safe) c.as_slice-3.ensures.value of_sites in
-    reported g.program entry limit g analysis whole asked (name_at g.program c.args.upper.0) c.requires.class sites verdicts c.in_ok-sites.ensures told text
-    r.all_safe of_both)
+    reported g.program entry limit g analysis whole (x first) refl w one sites verdicts tracked told text r.all_safe of_both)
     c.written.ensures

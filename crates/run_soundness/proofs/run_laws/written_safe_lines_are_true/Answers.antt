@@ -2,4 +2,4 @@ use Rattle.run_soundness.proofs.Written.{written_true}
 use Rattle.run_soundness.proofs.run_laws.written_safe_lines_are_true.Goals as goal
 
 pub returns : goal.returns
-returns c = λ words files status lines outcome line stands says. written_true words files status lines outcome line stands says
+returns c = λ words files status lines outcome line stands says. written_true c.safe_stages_never_err.ensures words files status lines outcome line stands says
