@@ -22,7 +22,7 @@ module _ {F : Type 0} (I J : List F → F → Type 0) (over : (premises : List F
   follows_over : (earlier : List F) (fact : F) → Follows I earlier fact → Follows J earlier fact
   follows_over earlier fact f = record { premises = f.premises; instance = over f.premises fact f.instance; hold = f.hold }
 
-  derivable_over : (fact : F) → IsDerivable I fact → IsDerivable J fact
+  pub derivable_over : (fact : F) → IsDerivable I fact → IsDerivable J fact
   derivable_over fact d = (d.0, (λ k other stands. follows_over _ other (d.1 k other stands)))
 
 -- ---- rules by more facts
