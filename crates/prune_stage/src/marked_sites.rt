@@ -9,12 +9,12 @@ use crate::event_set::EventSet;
 use ground::is_among;
 use jvm_model::SiteNo;
 
-/// Which sites have their events marked, and at which place those of each.
+/// Which sites have their events marked, and at which place the events of each.
 pub(crate) trait Marking {
     // The events of the site of the number are marked at the place.
     ghost stands: { Self → ℕ → ℕ → Type 0 };
 
-    /// Marks an event at those of the sites that have a place. The sites stand in the order of their numbers.
+    /// Marks an event at the sites that have a place. The sites stand in the order of their numbers.
     fn mark(&self, found: &[SiteNo], event: usize, sets: &mut [EventSet])
         requires event { event < 32 }
         requires below { AreBelow (length sets.old) (stands self.now) }
@@ -56,7 +56,7 @@ impl Marking for Only {
     }
 }
 
-/// Marks an event at sites, those of them that have a place.
+/// Marks an event at the sites that have a place.
 fn mark_each(found: &[SiteNo], places: &[Option<usize>], event: usize, sets: &mut [EventSet])
     requires event { event < 32 }
     requires below { AreBelow (length sets.old) (StandsInTable places.now) }

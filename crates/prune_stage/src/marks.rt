@@ -3,16 +3,15 @@
 ghost use Rattle.std.specs.Prelude.{◌≡◌, ◌↔◌, ◌<◌, ℕ, length, slice_get};
 ghost use Rattle.jvm_model.specs.Automata.{IsAutomaton};
 ghost use Rattle.op_model.specs.declared.lowered.LoweredMethod.{LoweredMethod};
-ghost use Rattle.op_model.specs.declared.node.Node.{Node};
-ghost use Rattle.ground.specs.Findings.{HasNode, IsNodeAt};
-ghost use Rattle.prune_stage.specs.Marks.{AreMarked, CallMarks, MethodMarks, NodeMarks, OfOneBelow};
+ghost use Rattle.ground.specs.Findings.{HasNode};
+ghost use Rattle.prune_stage.specs.Marks.{AreMarked, MethodMarks, NodeMarks, OfOneBelow};
 ghost use Rattle.prune_stage.specs.Places.{AreBelow};
 
 use crate::event_set::EventSet;
 use crate::marked_sites::Marking;
 use ground::{Ground, NodePlace, call_event, receiver};
 use jvm_model::Automaton;
-use op_model::{Call, Op};
+use op_model::Op;
 
 /// Marks the event of each call of methods that may run, at each site of an object on which it may be made.
 pub(crate) fn mark_methods<M: Marking>(
@@ -52,7 +51,7 @@ fn mark_method<M: Marking>(
     }
 }
 
-/// Marks the event of the node at a place, if its operation is a call.
+/// Marks the event that the node at a place is, if its operation is a call, at the sites of the objects on which that is made.
 fn mark_node<M: Marking>(
     ground: &Ground<'_>,
     automaton: &Automaton,
@@ -68,23 +67,6 @@ fn mark_node<M: Marking>(
     let Op::Call(call) = &ground.node(at).op else {
         return;
     };
-    mark_call(ground, automaton, marking, at, call, sets);
-}
-
-/// Marks the event that a call is, as one of a node.
-fn mark_call<M: Marking>(
-    ground: &Ground<'_>,
-    automaton: &Automaton,
-    marking: &M,
-    at: NodePlace,
-    call: &Call,
-    sets: &mut [EventSet],
-)
-    requires automaton { IsAutomaton automaton.now }
-    requires below { AreBelow (length sets.old) (M.stands marking.now) }
-    requires there { HasNode ground.now at }
-    ensures { (n : Node) (there : IsNodeAt ground.now at n) → AreMarked (CallMarks automaton.now ground.now (M.stands marking.now) there.lowered n call.now) sets.old sets.new }
-{
     let Some(event) = call_event(automaton, call) else {
         return;
     };

@@ -5,32 +5,39 @@ ghost use Rattle.program_model.specs.Numbers.{IsClassNumber};
 ghost use Rattle.ground.specs.Added.{AreAdded};
 ghost use Rattle.report_sites.specs.Found.{IsOnlySite, IsTrackedAs};
 
-use jvm_model::{ClassNo, MethodNo, SiteKind};
+use jvm_model::{ClassNo, SiteKind};
+use op_model::NodeRef;
 use program_model::program::Program;
 use site_report::TrackedSite;
 use std::alloc::AllocError;
 
+/// The class whose objects are tracked, with those of the classes below it.
+#[derive(Clone, Copy)]
+pub(crate) struct TrackedClass<'a> {
+    pub(crate) program: &'a Program,
+    pub(crate) upper: ClassNo,
+}
+
 /// The tracked site of the objects of a class, if that is the upper class or one below it.
 fn site_below(
-    program: &Program,
-    upper: ClassNo,
+    wanted: &TrackedClass<'_>,
     kind: SiteKind,
-    method: Option<MethodNo>,
-    offset: u32,
+    at: NodeRef,
     class: &[u8],
 ) -> Option<TrackedSite>
-    requires { IsClassNumber program.now upper.0 }
-    ensures { IsOnlySite program.now upper (record { kind = kind; method = method; offset = offset; class = class.now }) result }
+    requires { IsClassNumber wanted.now.program.now wanted.now.upper.0 }
+    ensures { IsOnlySite wanted.now.program.now wanted.now.upper (record { kind = kind; method = at.method; offset = at.offset; class = class.now }) result }
 {
+    let program = wanted.program;
     program.well_formed();
     match program.find(class) {
         Some(number) => {
-            if !program.is_at_or_above(number, upper) {
+            if !program.is_at_or_above(number, wanted.upper) {
                 return None;
             }
             Some(TrackedSite {
-                method,
-                offset,
+                method: at.method,
+                offset: at.offset,
                 class: number,
                 kind,
             })
@@ -54,18 +61,16 @@ fn add_site(site: Option<TrackedSite>, sites: &mut Vec<TrackedSite>) -> Result<(
 
 /// Adds the tracked site of the objects of a class, if that is the upper class or one below it.
 pub(crate) fn add_class(
-    program: &Program,
-    upper: ClassNo,
+    wanted: &TrackedClass<'_>,
     kind: SiteKind,
-    method: Option<MethodNo>,
-    offset: u32,
+    at: NodeRef,
     class: &[u8],
     sites: &mut Vec<TrackedSite>,
 ) -> Result<(), AllocError>
-    requires { IsClassNumber program.now upper.0 }
-    ensures { OnOk result (AreAdded (IsTrackedAs program.now upper (record { kind = kind; method = method; offset = offset; class = class.now }))
+    requires { IsClassNumber wanted.now.program.now wanted.now.upper.0 }
+    ensures { OnOk result (AreAdded (IsTrackedAs wanted.now.program.now wanted.now.upper (record { kind = kind; method = at.method; offset = at.offset; class = class.now }))
         sites.old.items sites.new.items) }
 {
-    let site = site_below(program, upper, kind, method, offset, class);
+    let site = site_below(wanted, kind, at, class);
     add_site(site, sites)
 }

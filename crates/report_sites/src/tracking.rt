@@ -12,10 +12,10 @@ ghost use Rattle.report_spec.specs.Tracked.{AreTracked};
 
 use crate::nodes::add_nodes;
 use crate::order::in_order;
+use crate::sites::TrackedClass;
 use ground::Ground;
 use jvm_model::ClassNo;
 use op_model::LoweredMethod;
-use program_model::program::Program;
 use site_report::TrackedSite;
 use std::alloc::{AllocError, Global};
 
@@ -32,47 +32,45 @@ pub fn tracked(
 {
     let program = ground.program();
     ground.well_formed();
-    let found = found_sites(alloc, program, ground, upper)?;
+    let wanted = TrackedClass { program, upper };
+    let found = found_sites(alloc, &wanted, ground)?;
     Ok(in_order(found))
 }
 
 /// The sites of all methods that may run, as they are found.
 fn found_sites(
     alloc: Global,
-    program: &Program,
+    wanted: &TrackedClass<'_>,
     ground: &Ground<'_>,
-    upper: ClassNo,
 ) -> Result<Vec<TrackedSite>, AllocError>
-    requires upper { IsClassNumber program.now upper.0 }
-    requires targets { (call : NodeRef) (m : RuleMethodNo) → Contains ground.now.facts (may_call call m) → IsMethodNumber program.now m.0 }
-    ensures { IfOk result (λ sites. AreFound program.now ground.now upper sites.items) }
+    requires upper { IsClassNumber wanted.now.program.now wanted.now.upper.0 }
+    requires targets { (call : NodeRef) (m : RuleMethodNo) → Contains ground.now.facts (may_call call m) → IsMethodNumber wanted.now.program.now m.0 }
+    ensures { IfOk result (λ sites. AreFound wanted.now.program.now ground.now wanted.now.upper sites.items) }
 {
     let mut sites = Vec::new(alloc);
     for place in 0..ground.method_count() {
-        add_method(program, ground, upper, ground.method(place), &mut sites)?;
+        add_method(wanted, ground, ground.method(place), &mut sites)?;
     }
     Ok(sites)
 }
 
 /// Adds the sites of a method, if it may run.
 fn add_method(
-    program: &Program,
+    wanted: &TrackedClass<'_>,
     ground: &Ground<'_>,
-    upper: ClassNo,
     method: &LoweredMethod,
     sites: &mut Vec<TrackedSite>,
 ) -> Result<(), AllocError>
-    requires upper { IsClassNumber program.now upper.0 }
-    requires targets { (call : NodeRef) (m : RuleMethodNo) → Contains ground.now.facts (may_call call m) → IsMethodNumber program.now m.0 }
-    ensures { OnOk result (AreAdded (IsSiteOfMethod program.now ground.now upper method.now) sites.old.items sites.new.items) }
+    requires upper { IsClassNumber wanted.now.program.now wanted.now.upper.0 }
+    requires targets { (call : NodeRef) (m : RuleMethodNo) → Contains ground.now.facts (may_call call m) → IsMethodNumber wanted.now.program.now m.0 }
+    ensures { OnOk result (AreAdded (IsSiteOfMethod wanted.now.program.now ground.now wanted.now.upper method.now) sites.old.items sites.new.items) }
 {
     if !ground.may_run(method.method) {
         return Ok(());
     }
     add_nodes(
-        program,
+        wanted,
         ground,
-        upper,
         method.method,
         method.nodes.as_slice(),
         sites,

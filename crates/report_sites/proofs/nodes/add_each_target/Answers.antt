@@ -18,12 +18,12 @@ loop-target-preserved c =
     let k = c.loop-target.target-index in
     let past : MethodNo = record { 0 = 0 } in
     record {
-      added = added_more (TargetGives c.args.program.now c.args.upper c.args.method c.args.offset) targets k (get_or targets k past)
+      added = added_more (TargetGives c.args.wanted.now.program.now c.args.wanted.now.upper c.args.method c.args.offset) targets k (get_or targets k past)
           (slice_get-get_or targets k past c.loop-target-test.true)
           c.args.sites.now.items c.loop-target.sites.items c.add_target.new.sites.items c.loop-target.invariant.added c.in_ok-add_target.ensures;
     }
 
 pub returns : goal.returns
 returns c =
-    added_all (TargetGives c.args.program.now c.args.upper c.args.method c.args.offset) c.args.targets.now c.loop-target.target-index c.loop-target-test.false
+    added_all (TargetGives c.args.wanted.now.program.now c.args.wanted.now.upper c.args.method c.args.offset) c.args.targets.now c.loop-target.target-index c.loop-target-test.false
     c.args.sites.now.items c.loop-target.sites.items c.loop-target.invariant.added

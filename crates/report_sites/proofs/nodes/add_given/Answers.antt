@@ -9,7 +9,7 @@ add_each_target-requires-clause-targets c = λ m among. c.requires.targets (node
 pub returns : goal.returns
 returns c =
     on_ok_weaker c.add_each_target.result
-    (λ added. listed_targets c.args.program.now c.args.ground.now c.args.upper c.args.method c.args.node.now c.targets_of-targets.result.now
+    (λ added. listed_targets c.args.wanted.now.program.now c.args.ground.now c.args.wanted.now.upper c.args.method c.args.node.now c.targets_of-targets.result.now
     c.targets_of-targets.ensures.targets
     c.args.sites.now.items c.add_each_target.new.sites.items added)
     c.add_each_target.ensures

@@ -5,6 +5,6 @@ use Rattle.report_sites.proofs.nodes.add_nodes.Given as goal
 
 abbrev pub invariant-loop-node : goal.invariant-loop-node
 invariant-loop-node l = record {
-  added : AreAdded (OfOne (IsSiteOf l.program l.ground l.upper l.method) (take l.node-index l.nodes))
+  added : AreAdded (OfOne (IsSiteOf l.wanted.program.now l.ground l.wanted.upper l.method) (take l.node-index l.nodes))
       l.initial.sites.items l.sites.items;
 }

@@ -10,11 +10,11 @@ loop-outcome-preserved c =
     let k = c.loop-outcome.outcome-index in
     let at = slice_get_read outcomes (length outcomes) k c.outcome-item.result refl c.loop-outcome-test.true c.outcome-item.is in
     record {
-      added = added_more (GivesNew c.args.program.now c.args.upper c.args.method c.args.offset) outcomes k c.outcome-item.result at
+      added = added_more (GivesNew c.args.wanted.now.program.now c.args.wanted.now.upper c.args.method c.args.offset) outcomes k c.outcome-item.result at
           c.args.sites.now.items c.loop-outcome.sites.items c.add_outcome.new.sites.items c.loop-outcome.invariant.added c.in_ok-add_outcome.ensures;
     }
 
 pub returns : goal.returns
 returns c =
-    added_all (GivesNew c.args.program.now c.args.upper c.args.method c.args.offset) c.args.outcomes.now c.loop-outcome.outcome-index c.loop-outcome-test.false
+    added_all (GivesNew c.args.wanted.now.program.now c.args.wanted.now.upper c.args.method c.args.offset) c.args.outcomes.now c.loop-outcome.outcome-index c.loop-outcome-test.false
     c.args.sites.now.items c.loop-outcome.sites.items c.loop-outcome.invariant.added

@@ -9,17 +9,17 @@ use Rattle.report_sites.proofs.targets.add_stub.Goals as goal
 
 pub returns-then-stub : goal.returns-then-stub
 returns-then-stub c =
-    added_none (StubGives c.args.program.now c.args.upper c.args.method c.args.offset c.args.stub.now) c.args.sites.now.items
+    added_none (StubGives c.args.wanted.now.program.now c.args.wanted.now.upper c.args.method c.args.offset c.args.stub.now) c.args.sites.now.items
     (λ t gives. false≢true (sym gives.0 ∙ c.if-stub.true))
 
 pub returns : goal.returns
 returns c =
     let stub = c.args.stub.now in
-    let of = GivesNew c.args.program.now c.args.upper c.args.method c.args.offset in
+    let of = GivesNew c.args.wanted.now.program.now c.args.wanted.now.upper c.args.method c.args.offset in
     let a = c.args.sites.now.items in
     let b = c.add_outcomes.new.sites.items in
     on_ok_weaker c.add_outcomes.result
-    (λ added. added_as (OfOne of stub.returns) (StubGives c.args.program.now c.args.upper c.args.method c.args.offset stub) a b
+    (λ added. added_as (OfOne of stub.returns) (StubGives c.args.wanted.now.program.now c.args.wanted.now.upper c.args.method c.args.offset stub) a b
     (λ t gives. (c.if-stub.false, gives))
     (λ t gives. gives.1)
     (subst (λ (outcomes : List StubResult). AreAdded (OfOne of outcomes) a b) c.as_slice.ensures added))

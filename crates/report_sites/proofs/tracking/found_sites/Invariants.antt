@@ -5,5 +5,5 @@ use Rattle.report_sites.proofs.tracking.found_sites.Given as goal
 
 abbrev pub invariant-loop-place : goal.invariant-loop-place
 invariant-loop-place l = record {
-  added : AreAdded (OfOne (IsSiteOfMethod l.program l.ground l.upper) (take l.place l.ground.methods)) [] l.sites.items;
+  added : AreAdded (OfOne (IsSiteOfMethod l.wanted.program.now l.ground l.wanted.upper) (take l.place l.ground.methods)) [] l.sites.items;
 }
