@@ -1,4 +1,3 @@
-pub mod Order
-pub mod Sets
+pub mod Fronts
 pub mod OrderedFacts
 pub mod NormalFacts

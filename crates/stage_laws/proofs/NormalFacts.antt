@@ -5,12 +5,13 @@ use Rattle.std.proofs.lemmas.List.{length-take}
 use Rattle.std.proofs.lemmas.Bool.Decides.{nat_tests}
 use Rattle.list_laws.proofs.Members.{each_contained}
 use Rattle.access_paths.specs.Paths.{Path, most_paths}
+use Rattle.access_paths.specs.Sets.{AreInOrder, IsPathSet}
+use Rattle.access_paths.proofs.SetMembers.{front_ordered}
 use Rattle.stage_facts.specs.Facts.{Tuple, SiteFact, none_yet, some_yet, of_object}
 use Rattle.stage_transfer.specs.Settings.{Setting}
 use Rattle.stage_transfer.specs.Stages.{finished, limited, normal}
-use Rattle.stage_laws.specs.Normal.{AreInOrder, AreNormal, IsNormal, IsNormalTuple, IsPathSet}
+use Rattle.stage_laws.specs.Normal.{AreNormal, IsNormal, IsNormalTuple}
 use Rattle.stage_laws.proofs.OrderedFacts.{Each, IsOrdered, Ordered}
-use Rattle.stage_laws.proofs.Sets.{front_ordered}
 
 -- a front of a set
 front_set : (set : List Path) → AreInOrder set → IsPathSet (take most_paths set)

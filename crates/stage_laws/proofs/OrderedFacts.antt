@@ -15,14 +15,14 @@ use Rattle.op_model.specs.declared.op.Op.TheVariants.{Assign, Load, Store, LoadE
 use Rattle.points_to_rules.specs.Facts.{Holder, variable}
 use Rattle.access_paths.specs.declared.root.Root.TheVariants.{Slot, Static}
 use Rattle.access_paths.specs.Paths.{bare, has_path, Path}
+use Rattle.access_paths.specs.Sets.{AreInOrder}
+use Rattle.access_paths.proofs.SetMembers.{path_set_ordered, with_ordered}
 use Rattle.stage_facts.specs.Facts.{Tuple, SiteFact, none_yet, some_yet, of_object}
 use Rattle.stage_transfer.specs.Settings.{Setting, alike, among, same_site}
 use Rattle.stage_transfer.specs.Changes.{Change, changed, changed_set, copied, copying, slots_go, unwritten, writing}
 use Rattle.stage_transfer.specs.Operations.{after_load, after_new, after_operation, after_static_load, after_store, assigning, beside_new, loaded, on_tuples, puts_away, receiving, returning, stored_set, storing_static}
 use Rattle.stage_transfer.specs.Exceptions.{after_raise, catching, thrown_slot, unwinding}
 use Rattle.stage_transfer.specs.Calls.{Entering, Result, an_argument, a_new_object, another, after_answer, after_event, after_exception, begins_static, call_facts, entered_fact, entered_set, event_at, event_of_call, giving, is_handed_on, is_of_others, joined, joins, left_by_tuple, left_fact, left_set, moved_by_event, not_referring, passing, referring, written_by}
-use Rattle.stage_laws.specs.Normal.{AreInOrder}
-use Rattle.stage_laws.proofs.Sets.{path_set_ordered, with_ordered}
 
 pub record IsOrdered (t : Tuple) : Type 0 where
   pub must : AreInOrder t.must

@@ -1,23 +1,8 @@
 -- Public contracts rest on this module.
 -- Facts in the normal form of a stage.
-use Rattle.std.specs.Prelude.{◌≡◌, ◌⊎◌, ℕ, ◌≤◌, true, List, [], ◌∷◌, length, IsTrue, Contains}
-use Rattle.access_paths.specs.Paths.{Path, comes_before, most_paths, path_key}
+use Rattle.std.specs.Prelude.{◌≡◌, ◌⊎◌, ℕ, true, List, [], Contains}
+use Rattle.access_paths.specs.Sets.{IsPathSet}
 use Rattle.stage_facts.specs.Facts.{SiteFact, none_yet, some_yet, of_object, Tuple}
-
--- The path comes before the first of the others.
-abbrev pub IsBeforeFirst : Path → List Path → Type 0
-IsBeforeFirst x [] = Unit {0}
-IsBeforeFirst x (y ∷ ys) = IsTrue (comes_before (path_key x) (path_key y))
-
--- The paths stand in order, each once.
-abbrev pub AreInOrder : List Path → Type 0
-AreInOrder [] = Unit {0}
-AreInOrder (x ∷ xs) = IsBeforeFirst x xs × AreInOrder xs
-
--- In order, and no more than a set may have.
-pub record IsPathSet (set : List Path) : Type 0 where
-  pub ordered : AreInOrder set
-  pub few : length set ≤ most_paths
 
 -- The second stage knows no paths, and the third no paths that do not refer to the object.
 pub record IsNormalTuple (stage : ℕ) (t : Tuple) : Type 0 where

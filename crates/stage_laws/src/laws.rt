@@ -7,11 +7,12 @@ ghost use Rattle.op_model.specs.declared.op.Call.{Call as NodeCall};
 ghost use Rattle.jvm_model.specs.declared.number.MethodNo.{MethodNo};
 ghost use Rattle.std.specs.Prelude.{Option};
 ghost use Rattle.access_paths.specs.Paths.{Path, comes_before, most_paths, path_key};
+ghost use Rattle.access_paths.specs.Sets.{AreInOrder};
 ghost use Rattle.stage_facts.specs.Facts.{SiteFact};
 ghost use Rattle.stage_transfer.specs.Settings.{Setting};
 ghost use Rattle.stage_transfer.specs.Calls.{Entering, Result};
 ghost use Rattle.stage_transfer.specs.Stages.{transfer_of};
-ghost use Rattle.stage_laws.specs.Normal.{AreInOrder, AreNormal, IsNormal};
+ghost use Rattle.stage_laws.specs.Normal.{AreNormal, IsNormal};
 
 /// What a stage gives of a normal fact is normal: on each way, at an event, and where methods are entered and left.
 pub fn transfers_are_normal()

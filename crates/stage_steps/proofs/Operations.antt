@@ -66,20 +66,7 @@ new_or_not (New site target) s = elim (site_or_not site s) [
   where
     of_site : (z : ℕ) → New site target ≡ New s z → site ≡ s
     of_site z e = cc e
-new_or_not (Assign moves) s = inr (λ z e. cc e)
-new_or_not (Load object field target) s = inr (λ z e. cc e)
-new_or_not (Store object field value) s = inr (λ z e. cc e)
-new_or_not (LoadElement array target) s = inr (λ z e. cc e)
-new_or_not (StoreElement array value) s = inr (λ z e. cc e)
-new_or_not (LoadStatic field target) s = inr (λ z e. cc e)
-new_or_not (StoreStatic field value) s = inr (λ z e. cc e)
-new_or_not (NewArray sites target) s = inr (λ z e. cc e)
-new_or_not (Constant site target) s = inr (λ z e. cc e)
-new_or_not (Call call) s = inr (λ z e. cc e)
-new_or_not (Return value) s = inr (λ z e. cc e)
-new_or_not (Throw value) s = inr (λ z e. cc e)
-new_or_not (Cast class slot) s = inr (λ z e. cc e)
-new_or_not (Probe slot) s = inr (λ z e. cc e)
+new_or_not op s = inr (λ z e. cc e)
 
 -- ---- an object that is there
 

@@ -67,20 +67,7 @@ static_or_not (StoreStatic g y) f =
   where
     by : (y z : ℕ) → StoreStatic g y ≡ StoreStatic f z → g.0 ≡ f.0
     by y z e = ap (λ (h : FieldNo). h.0) (cc e)
-static_or_not (Assign moves) f = inr (λ z e. cc e)
-static_or_not (Load object field target) f = inr (λ z e. cc e)
-static_or_not (Store object field value) f = inr (λ z e. cc e)
-static_or_not (LoadElement array target) f = inr (λ z e. cc e)
-static_or_not (StoreElement array value) f = inr (λ z e. cc e)
-static_or_not (LoadStatic field target) f = inr (λ z e. cc e)
-static_or_not (New site target) f = inr (λ z e. cc e)
-static_or_not (NewArray sites target) f = inr (λ z e. cc e)
-static_or_not (Constant site target) f = inr (λ z e. cc e)
-static_or_not (Call call) f = inr (λ z e. cc e)
-static_or_not (Return value) f = inr (λ z e. cc e)
-static_or_not (Throw value) f = inr (λ z e. cc e)
-static_or_not (Cast class slot) f = inr (λ z e. cc e)
-static_or_not (Probe slot) f = inr (λ z e. cc e)
+static_or_not op f = inr (λ z e. cc e)
 
 module _ (x : Subject) (l : LoweredMethod) (n : Node) (w after : World) (old new : List Value) (s : Site) (o : ℕ) (t u : Tuple)
     (d : Describes s t o w (of_slots old)) (off : t.may ≡ false) (apart : IsNoConstant o) where

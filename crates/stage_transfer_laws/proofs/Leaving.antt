@@ -154,24 +154,6 @@ left_joins S w answers by target sent out u is = record {
 
 left_is : (w : Setting) (l : LoweredMethod) (n : Node) (by : Entering) (target : MethodNo) (sent : SiteFact) (out : Tuple)
     → IsLeft w by target sent out (left_by_tuple w l n by target sent out)
-left_is w l n by target none_yet out = record {
-  unique = refl;
-  state = refl;
-  must = refl;
-  must_not = refl;
-  may = λ e. (or_parts out.may (list_any (is_dropped by) out.must) e).0;
-  clear = λ e. tt;
-  handed_on = λ e. (or_parts out.may (list_any (is_dropped by) out.must) e).1;
-}
-left_is w l n by target some_yet out = record {
-  unique = refl;
-  state = refl;
-  must = refl;
-  must_not = refl;
-  may = λ e. (or_parts out.may (list_any (is_dropped by) out.must) e).0;
-  clear = λ e. tt;
-  handed_on = λ e. (or_parts out.may (list_any (is_dropped by) out.must) e).1;
-}
 left_is w l n by target (of_object t) out =
     let dropped : Bool = list_any (is_dropped by) out.must in
     let left_out : Bool = list_any (is_left_out w l n by target (left_set w by target t.must out.must)) t.must in
@@ -184,6 +166,15 @@ left_is w l n by target (of_object t) out =
       clear = λ e. (or_parts t.may (dropped || left_out) (or_parts out.may (t.may || (dropped || left_out)) e).1).0;
       handed_on = λ e. (or_parts dropped left_out (or_parts t.may (dropped || left_out) (or_parts out.may (t.may || (dropped || left_out)) e).1).1).0;
     }
+left_is w l n by target idle out = record {
+  unique = refl;
+  state = refl;
+  must = refl;
+  must_not = refl;
+  may = λ e. (or_parts out.may (list_any (is_dropped by) out.must) e).0;
+  clear = λ e. tt;
+  handed_on = λ e. (or_parts out.may (list_any (is_dropped by) out.must) e).1;
+}
 
 pub leave_is : (S : Fact → Type 0) (w : Setting) → AreAnswersOf S w.answers
     → (l : LoweredMethod) (n : Node) (by : Entering) (target : MethodNo) (sent : SiteFact) (out : Tuple)

@@ -1,9 +1,9 @@
 -- The load of a field: the path behind it leads from the target.
 use Rattle.op_model.specs.declared.op.Op.{Op}
-use Rattle.std.proofs.Common.{◌≡◌, inl, inr, ℕ, Bool, true, false, cond, not, ◌||◌, List, [], ◌∷◌, refl, sym, ◌∙◌, ap, subst}
+use Rattle.std.proofs.Common.{◌≡◌, inl, inr, ℕ, Bool, true, false, cond, not, List, [], ◌∷◌, refl, sym, ◌∙◌, ap, subst}
 use Rattle.std.specs.Prelude.{◌≢◌}
 use Rattle.std.specs.List.{Contains, filter, list_any}
-use Rattle.std.proofs.lemmas.Bool.{and_cases, eq-eqb, eqb-true, false≢true, not-false, or_parts}
+use Rattle.std.proofs.lemmas.Bool.{and_cases, eq-eqb, eqb-true, false≢true, not-false}
 use Rattle.list_laws.proofs.Members.{contains_first, contains_none, contains_only}
 use Rattle.jvm_model.specs.declared.number.FieldNo.{FieldNo}
 use Rattle.op_model.specs.declared.lowered.LoweredMethod.{LoweredMethod}
@@ -18,7 +18,7 @@ use Rattle.stage_transfer.specs.Changes.{Change, begins_at, changed_set, is_lost
 use Rattle.stage_transfer.specs.Operations.{after_load, ends_in, field_of, loaded, loaded_fields, may_be_loaded}
 use Rattle.stage_relations.specs.Roots.{Copied, Doubles, same, own, HasVariables}
 use Rattle.stage_relations.specs.Relations.{Comes, taken, EndsIn, Flows, HasFields, IsComplete, IsUnstored, Origin, path, Target}
-use Rattle.stage_transfer_laws.proofs.Members.{in_filter, in_flat_map, none_passes, of_filter, of_flat_map}
+use Rattle.stage_transfer_laws.proofs.Members.{in_filter, in_flat_map, none_passes, of_filter, of_flat_map, three_off}
 use Rattle.stage_transfer_laws.proofs.Alike.{Knows}
 use Rattle.stage_transfer_laws.proofs.Changed.{added, not_lost, of_changed, staying}
 use Rattle.stage_transfer_laws.proofs.Flowing.{heir_of, origin_of}
@@ -147,8 +147,8 @@ module _ (w : Setting) (knows : Knows w) (l : LoweredMethod) (n : Node) (has : H
         state = refl;
         must = load_origin t.must;
         must_not = λ y there. inl (load_origin t.must_not y there);
-        may = λ e. (or_parts t.may lost (or_parts (t.may || lost) sure e).0).0;
+        may = λ e. (three_off t.may lost sure e).0;
         complete = λ e.
-            let parts = or_parts (t.may || lost) sure e in
-            load_complete t.must (or_parts t.may lost parts.0).1 parts.1;
+            let off = three_off t.may lost sure e in
+            load_complete t.must off.1 off.2;
       }

@@ -1,5 +1,5 @@
 -- Operations that go on: which roots are copied, which go, and which hold what those held that go.
-use Rattle.std.proofs.Common.{◌≡◌, ◌⊎◌, inl, inr, ℕ, false, ◌||◌, List, [], ◌∷◌, map, refl, sym, ◌∙◌, ap, subst}
+use Rattle.std.proofs.Common.{◌≡◌, ◌⊎◌, inl, inr, ℕ, Bool, false, ◌||◌, List, [], ◌∷◌, map, refl, sym, ◌∙◌, ap, subst}
 use Rattle.std.specs.Prelude.{◌≢◌}
 use Rattle.std.specs.List.{Contains, flat_map}
 use Rattle.std.proofs.lemmas.Bool.{false≢true, or_from, or_parts}
@@ -17,7 +17,7 @@ use Rattle.access_paths.specs.declared.root.Root.{Root}
 use Rattle.access_paths.specs.declared.root.Root.TheVariants.{Slot, Static, Returned, Thrown}
 use Rattle.access_paths.specs.Paths.{same_root}
 use Rattle.stage_transfer.specs.Settings.{Setting, among}
-use Rattle.stage_transfer.specs.Changes.{Copy, copying, slots_go, unwritten, writing}
+use Rattle.stage_transfer.specs.Changes.{copied, Copy, copying, slots_go, unwritten, writing}
 use Rattle.stage_transfer.specs.Operations.{assigning, copies_of, moved_by, storing_static, target_of}
 use Rattle.stage_relations.specs.Roots.{Copied, Doubles, own, HasVariables, gone_slots, kept, moved, loaded, stored, static, returned, thrown}
 use Rattle.stage_transfer_laws.proofs.Shapes.{copies_roots, shape}
@@ -116,6 +116,21 @@ assigned_moves w knows l n has moves = record {
 
 -- ---- static fields
 
+-- An operation that writes slots, and lets one root have what another had.
+one_moves : (w : Setting) → Knows w → (l : LoweredMethod) (n : Node) → HasVariables l n → (op : Op) (goes : Root → Bool) (from to : Root) → Copied op from to
+    → ((r : Root) → goes r ≡ false → Copied op r r)
+    → ((r q : Root) → Copied op r q → ((r ≡ q) × (goes r ≡ false)) ⊎ Contains (root_copy from to ∷ []) (root_copy r q))
+    → Moves (Copied op) (Doubles l n (Copied op)) (root_copy from to ∷ [])
+    (record { adds = copied (root_copy from to ∷ []); goes = goes; doubles = unwritten w l n (among (gone_slots op)) })
+one_moves w knows l n has op goes from to copies stays each = record {
+  adds = λ set. refl;
+  stays = stays;
+  copy = λ k there. subst (λ (c : Copy). Copied op c.from c.to) (contains_only (root_copy from to) k there) copies;
+  each = each;
+  own = λ r q goes. own goes;
+  doubles = unwritten_double w knows l n has (among (gone_slots op)) (Copied op) (slot_stays op);
+}
+
 loaded_stays : (field : FieldNo) (target : ℕ) (r : Root) → slots_go (among (target ∷ [])) r ≡ false → Copied (LoadStatic field target) r r
 loaded_stays field target (Slot z) stays = kept (not_among (target ∷ []) z stays)
 loaded_stays field target (Static f) stays = static (λ y e. absurd cc)
@@ -140,15 +155,9 @@ loaded_each field target r q thrown = inl (refl, refl)
 pub loaded_moves : (w : Setting) → Knows w → (l : LoweredMethod) (n : Node) → HasVariables l n → (field : FieldNo) (target : ℕ)
     → Moves (Copied (LoadStatic field target)) (Doubles l n (Copied (LoadStatic field target))) (root_copy (Static field) (Slot target) ∷ [])
     (copying w l n (target ∷ []) (root_copy (Static field) (Slot target)))
-loaded_moves w knows l n has field target = record {
-  adds = λ set. refl;
-  stays = loaded_stays field target;
-  copy = λ k there. subst (λ (c : Copy). Copied (LoadStatic field target) c.from c.to) (contains_only (root_copy (Static field) (Slot target)) k there)
-      (loaded refl);
-  each = loaded_each field target;
-  own = λ r q copied. own copied;
-  doubles = unwritten_double w knows l n has (among (target ∷ [])) (Copied (LoadStatic field target)) (slot_stays (LoadStatic field target));
-}
+loaded_moves w knows l n has field target =
+    one_moves w knows l n has (LoadStatic field target) (slots_go (among (target ∷ []))) (Static field) (Slot target)
+    (loaded refl) (loaded_stays field target) (loaded_each field target)
 
 stored_stays : (field : FieldNo) (value : ℕ) (r : Root) → (slots_go (among (value ∷ [])) r || same_root (Static field) r) ≡ false
     → Copied (StoreStatic field value) r r
@@ -184,12 +193,6 @@ stored_each field value r q thrown = inl (refl, refl)
 pub stored_moves : (w : Setting) → Knows w → (l : LoweredMethod) (n : Node) → HasVariables l n → (field : FieldNo) (value : ℕ)
     → Moves (Copied (StoreStatic field value)) (Doubles l n (Copied (StoreStatic field value))) (root_copy (Slot value) (Static field) ∷ [])
     (storing_static w l n field value)
-stored_moves w knows l n has field value = record {
-  adds = λ set. refl;
-  stays = stored_stays field value;
-  copy = λ k there. subst (λ (c : Copy). Copied (StoreStatic field value) c.from c.to) (contains_only (root_copy (Slot value) (Static field)) k there)
-      (stored refl);
-  each = stored_each field value;
-  own = λ r q copied. own copied;
-  doubles = unwritten_double w knows l n has (among (value ∷ [])) (Copied (StoreStatic field value)) (slot_stays (StoreStatic field value));
-}
+stored_moves w knows l n has field value =
+    one_moves w knows l n has (StoreStatic field value) (λ (r : Root). slots_go (among (value ∷ [])) r || same_root (Static field) r) (Slot value) (Static field)
+    (stored refl) (stored_stays field value) (stored_each field value)

@@ -1,6 +1,6 @@
 -- The store to a field: paths that pass the field leave, and those of the value are listed behind the object's slots.
 use Rattle.op_model.specs.declared.op.Op.{Op}
-use Rattle.std.proofs.Common.{◌≡◌, ◌⊎◌, inl, inr, ℕ, Bool, true, false, not, ◌&&◌, ◌||◌, List, [], ◌∷◌, ◌++◌, map, refl, sym, ◌∙◌, subst}
+use Rattle.std.proofs.Common.{◌≡◌, ◌⊎◌, inl, inr, ℕ, Bool, true, false, not, ◌&&◌, List, [], ◌∷◌, ◌++◌, map, refl, sym, ◌∙◌, subst}
 use Rattle.std.specs.Prelude.{◌≢◌}
 use Rattle.std.specs.List.{Contains, filter, list_any}
 use Rattle.std.proofs.lemmas.Bool.{and_cases, false≢true, not-false, not-true, not_from_false, or_parts}
@@ -19,7 +19,7 @@ use Rattle.stage_transfer.specs.Changes.{Change, begins_at, changed_set, is_lost
 use Rattle.stage_transfer.specs.Operations.{store_loses, after_store, field_of, is_short, is_stored_field, passes_field, stored, stored_set, unstored as unpassed}
 use Rattle.stage_relations.specs.Roots.{same, own, HasVariables}
 use Rattle.stage_relations.specs.Relations.{Comes, put, Flows, HasFields, Heir, IsComplete, IsOverwritten, IsPut, IsUnstored, Origin, path}
-use Rattle.stage_transfer_laws.proofs.Members.{in_filter, in_flat_map, none_passes, not_among, of_filter, of_flat_map}
+use Rattle.stage_transfer_laws.proofs.Members.{in_filter, in_flat_map, none_passes, not_among, of_filter, of_flat_map, three_off}
 use Rattle.stage_transfer_laws.proofs.Alike.{Knows, alike_itself, are_alike}
 use Rattle.stage_transfer_laws.proofs.Changed.{not_lost, of_changed, staying, target_of_path}
 use Rattle.stage_transfer_laws.proofs.Loads.{is_field}
@@ -232,8 +232,8 @@ module _ (w : Setting) (knows : Knows w) (l : LoweredMethod) (n : Node) (has : H
         state = refl;
         must = store_origin t.must;
         must_not = λ y there. inl (store_origin t.must_not y there);
-        may = λ e. (or_parts t.may loses (or_parts (t.may || loses) lost e).0).0;
+        may = λ e. (three_off t.may loses lost e).0;
         complete = λ e.
-            let parts = or_parts (t.may || loses) lost e in
-            store_complete t.must (or_parts t.may loses parts.0).1 parts.1;
+            let off = three_off t.may loses lost e in
+            store_complete t.must off.1 off.2;
       }

@@ -1,5 +1,5 @@
 use Rattle.access_paths.specs.Paths.{most_paths}
-use Rattle.stage_laws.proofs.Sets.{front_least}
+use Rattle.stage_laws.proofs.Fronts.{front_least}
 use Rattle.stage_laws.proofs.laws.limits_keep_the_least.Goals as goal
 
 pub returns : goal.returns
