@@ -1,0 +1,11 @@
+//! What calls do to the facts of a site: what a method is entered with (`entered`), and what its caller knows when it has ended (`left`).
+//! No call takes memory. Begin with src/enter.rt and src/leave.rt; src/finish.rt has the normal form of a stage and the limit on paths, and
+//! src/path_test.rt how paths are gathered.
+#![tactic(auto)]
+
+mod enter;
+mod finish;
+mod path_test;
+mod units;
+
+pub use enter::entered;
