@@ -1,4 +1,7 @@
--- Finishing: the normal form of a stage, and the limit on paths. Gathering: what a loop over paths gathers. Passing: the units of a call.
+-- Finishing: what was gathered is cut. Gathering: what a loop over paths gathers. Passing: the units of a call. SlotTests: slots of one variable.
+-- Doubling: a path that is lost is doubled by a path of the caller that joins, or by none.
 pub mod Finishing
 pub mod Gathering
 pub mod Passing
+pub mod SlotTests
+pub mod Doubling

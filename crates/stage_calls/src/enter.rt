@@ -56,7 +56,7 @@ fn entered_may(by: Entering<'_>, tuple: &PlainTuple) -> bool
     if tuple.may {
         return true;
     }
-    any(tuple.must.as_slice(), &Unpassed { by })
+    any(&tuple.must, &Unpassed { by })
 }
 
 /// The paths of a set that are passed on, as paths of the callee, where they are wanted.
@@ -67,7 +67,7 @@ fn entered_set(wanted: bool, by: Entering<'_>, set: &PathSet) -> Gathering
     if !wanted {
         return gathering;
     }
-    gather(&mut gathering, set.as_slice(), &BeginsStatic {});
+    gather(&mut gathering, set, &BeginsStatic {});
     pass(&mut gathering, by, set);
     gathering
 }

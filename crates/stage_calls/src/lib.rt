@@ -3,9 +3,15 @@
 //! src/path_test.rt how paths are gathered.
 #![tactic(auto)]
 
+mod alike;
 mod enter;
 mod finish;
+mod joins;
+mod leave;
+mod left_out;
 mod path_test;
+mod roots;
 mod units;
 
 pub use enter::entered;
+pub use leave::left;

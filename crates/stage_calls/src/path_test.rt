@@ -6,7 +6,7 @@ ghost use Rattle.access_paths.specs.Paths.{Path as AccessPath};
 ghost use Rattle.stage_transfer.specs.Changes.{has_fields};
 ghost use Rattle.stage_views.specs.Views.{Gathers};
 
-use access_paths::{Fields, Path};
+use access_paths::{Fields, Path, PathSet};
 use stage_views::Gathering;
 
 /// A test of paths.
@@ -19,8 +19,15 @@ pub(crate) trait PathTest {
         ensures { (p : AccessPath → Bool) → computes self.now p → result ≡ p path.now };
 }
 
-/// Gathers the paths that pass.
-pub(crate) fn gather<T: PathTest>(gathering: &mut Gathering, paths: &[Path], test: &T)
+/// Gathers the paths of a set that pass.
+pub(crate) fn gather<T: PathTest>(gathering: &mut Gathering, set: &PathSet, test: &T)
+    ensures { (p : AccessPath → Bool) (before : List AccessPath) → T.computes test.now p → Gathers gathering.old before → Gathers gathering.new (before ++ filter p set.now) }
+{
+    gather_paths(gathering, set.as_slice(), test);
+}
+
+/// The same of paths.
+fn gather_paths<T: PathTest>(gathering: &mut Gathering, paths: &[Path], test: &T)
     ensures { (p : AccessPath → Bool) (before : List AccessPath) → T.computes test.now p → Gathers gathering.old before → Gathers gathering.new (before ++ filter p paths.now) }
 {
     for path in paths {
@@ -30,8 +37,15 @@ pub(crate) fn gather<T: PathTest>(gathering: &mut Gathering, paths: &[Path], tes
     }
 }
 
+/// Whether a path of a set passes.
+pub(crate) fn any<T: PathTest>(set: &PathSet, test: &T) -> bool
+    ensures { (p : AccessPath → Bool) → T.computes test.now p → result ≡ list_any p set.now }
+{
+    any_path(set.as_slice(), test)
+}
+
 /// Whether a path passes.
-pub(crate) fn any<T: PathTest>(paths: &[Path], test: &T) -> bool
+fn any_path<T: PathTest>(paths: &[Path], test: &T) -> bool
     ensures { (p : AccessPath → Bool) → T.computes test.now p → result ≡ list_any p paths.now }
 {
     for path in paths {

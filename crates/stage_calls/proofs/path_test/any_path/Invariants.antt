@@ -1,7 +1,7 @@
 use Rattle.std.proofs.Common.{◌≡◌, Bool, false, take}
 use Rattle.std.specs.List.{list_any}
 use Rattle.access_paths.specs.Paths.{Path as AccessPath}
-use Rattle.stage_calls.proofs.path_test.any.Given as goal
+use Rattle.stage_calls.proofs.path_test.any_path.Given as goal
 
 -- none of the paths so far passes
 abbrev pub invariant-loop-path : goal.invariant-loop-path

@@ -3,8 +3,8 @@ use Rattle.std.specs.List.{filter}
 use Rattle.stage_views.specs.declared.gathering.Gathering.{Gathering}
 use Rattle.stage_views.specs.Views.{Gathers}
 use Rattle.stage_calls.proofs.Gathering.{gathers_failing, gathers_passing}
-use Rattle.stage_calls.proofs.path_test.gather.Goals as goal
-use Rattle.stage_calls.proofs.path_test.gather.Goals.{then-holds, else-holds}
+use Rattle.stage_calls.proofs.path_test.gather_paths.Goals as goal
+use Rattle.stage_calls.proofs.path_test.gather_paths.Goals.{then-holds, else-holds}
 
 pub loop-path-preserved : goal.loop-path-preserved
 loop-path-preserved g c p before computes initial =
