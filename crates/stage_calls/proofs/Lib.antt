@@ -1,0 +1,7 @@
+-- Finishing: what was gathered is cut. Gathering: what a loop over paths gathers. Passing: the units of a call. SlotTests: slots of one variable.
+-- Doubling: a path that is lost is doubled by a path of the caller that joins, or by none.
+pub mod Finishing
+pub mod Gathering
+pub mod Passing
+pub mod SlotTests
+pub mod Doubling

@@ -1,0 +1,17 @@
+//! What calls do to the facts of a site: what a method is entered with (`entered`), and what its caller knows when it has ended (`left`).
+//! No call takes memory. Begin with src/enter.rt and src/leave.rt; src/finish.rt has the normal form of a stage and the limit on paths, and
+//! src/path_test.rt how paths are gathered.
+#![tactic(auto)]
+
+mod alike;
+mod enter;
+mod finish;
+mod joins;
+mod leave;
+mod left_out;
+mod path_test;
+mod roots;
+mod units;
+
+pub use enter::entered;
+pub use leave::left;

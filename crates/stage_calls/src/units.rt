@@ -1,0 +1,43 @@
+//! The units of a call's arguments.
+
+ghost use Rattle.std.specs.Prelude.{◌≡◌, ℕ, nat_eq};
+ghost use Rattle.std.specs.List.{list_any};
+ghost use Rattle.std.specs.Option.{option_to_list};
+ghost use Rattle.machine_nodes.specs.Slots.{argument_slots};
+ghost use Rattle.stage_transfer.specs.Calls.{passed};
+ghost use Rattle.stage_transfer.specs.Settings.{among};
+ghost use Rattle.stage_views.specs.Views.{entering_of};
+
+use stage_views::Entering;
+
+/// Whether a slot is passed.
+pub(crate) fn is_passed(by: Entering<'_>, slot: u32) -> bool
+    ensures { result ≡ among (passed (entering_of by.entry)) slot }
+{
+    match by {
+        Entering::Call(call) => is_argument(call.arguments.as_slice(), slot),
+        Entering::Trigger => false,
+    }
+}
+
+/// Whether a slot is that of an argument.
+pub(crate) fn is_argument(arguments: &[Option<u32>], slot: u32) -> bool
+    ensures { result ≡ among (argument_slots arguments.now) slot }
+{
+    for argument in arguments {
+        if is_slot(*argument, slot) {
+            return true;
+        }
+    }
+    false
+}
+
+/// Whether a slot is this one, if it is there.
+pub(crate) fn is_slot(given: Option<u32>, slot: u32) -> bool
+    ensures { result ≡ among (option_to_list given) slot }
+{
+    match given {
+        Some(other) => slot == other,
+        None => false,
+    }
+}
