@@ -1,1 +1,2 @@
-
+-- Read Gathered first: what is gathered when a path more comes.
+pub mod Gathered

@@ -1,6 +1,6 @@
 -- Public contracts rest on this module.
 -- What the parts that a transfer is given stand for, and what it gives.
-use Rattle.std.specs.Prelude.{◌≡◌, ◌⊎◌, ℕ, ◌≤◌, nat_lt, true, false, List, [], ◌∷◌, length, take}
+use Rattle.std.specs.Prelude.{◌≡◌, ◌⊎◌, ◌≤◌, nat_lt, true, false, List, [], ◌∷◌, length, take}
 use Rattle.jvm_model.specs.declared.site.Site.{Site}
 use Rattle.access_paths.specs.Paths.{Path, most_paths, path_set}
 use Rattle.stage_facts.specs.Facts.{SiteFact}
