@@ -1,0 +1,5 @@
+pub mod Gathered
+pub mod Lists
+pub mod OneVariable
+pub mod Doubled
+pub mod Drafted

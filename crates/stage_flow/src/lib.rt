@@ -1,0 +1,14 @@
+//! The transfer of facts along a node, as code: what happens to a fact on the way to a successor (`after_node`), where an object is thrown
+//! (`after_raise`), and with a result or an exception of a described method (`after_answer`, `after_exception`).
+//! An operation is a `PathChange`: which slots it writes, which other root goes, and what paths it adds. One engine makes any such change
+//! of a tuple's sets, as a `Draft` that gets the normal form of its stage at the end. Begin with src/change.rt and src/engine.rt.
+#![tactic(auto)]
+
+mod alike;
+mod change;
+mod draft;
+mod engine;
+mod gain;
+mod handed;
+mod lost;
+mod written;
