@@ -1,6 +1,6 @@
 -- This crate's own proofs alone rest on this module.
 -- Events by the number of the next state.
-use Rattle.std.specs.Prelude.{ℕ, nat_eq, Bool, ◌&&◌, List, [], ◌∷◌, Option, Some, None, option_map, slice_get, slice_index, if◌then◌else◌}
+use Rattle.std.specs.Prelude.{ℕ, nat_eq, Bool, ◌&&◌, List, [], ◌∷◌, Option, option_map, slice_get, slice_index, if◌then◌else◌}
 use Rattle.std.specs.Option.{option_flatten}
 use Rattle.std.specs.Str.{bytes_eq}
 use Rattle.jvm_model.specs.declared.automaton.Event.{Event}

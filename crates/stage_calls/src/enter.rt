@@ -67,7 +67,7 @@ fn entered_set(wanted: bool, by: Entering<'_>, set: &PathSet) -> Gathering
     if !wanted {
         return gathering;
     }
-    gather(&mut gathering, set, &BeginsStatic {});
+    gather(&mut gathering, set, &BeginsStatic);
     pass(&mut gathering, by, set);
     gathering
 }
@@ -135,7 +135,7 @@ fn is_passed_on(by: Entering<'_>, root: Root) -> bool
 }
 
 /// Whether a path begins at a static field.
-struct BeginsStatic {}
+struct BeginsStatic;
 
 impl PathTest for BeginsStatic {
     ghost use Rattle.stage_transfer.specs.Calls.{begins_static};

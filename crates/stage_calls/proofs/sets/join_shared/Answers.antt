@@ -1,4 +1,4 @@
-use Rattle.std.proofs.Common.{List, [], ◌∷◌, ◌++◌, map, sym, ◌∙◌, subst}
+use Rattle.std.proofs.Common.{[], ◌∷◌, ◌++◌, map, sym, ◌∙◌, subst}
 use Rattle.std.specs.List.{filter, range_with_len}
 use Rattle.access_paths.specs.Paths.{Path}
 use Rattle.stage_views.specs.declared.gathering.Gathering.{Gathering}
