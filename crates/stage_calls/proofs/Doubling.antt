@@ -1,5 +1,5 @@
 -- A path that is lost is doubled by a path of the caller that joins, or by none.
-use Rattle.std.proofs.Common.{◌≡◌, ◌⊎◌, inl, inr, ℕ, Bool, true, false, not, ◌&&◌, List, ◌++◌, map, refl, sym, ◌∙◌, ap, subst}
+use Rattle.std.proofs.Common.{◌≡◌, inl, inr, ℕ, Bool, true, false, not, ◌&&◌, List, ◌++◌, refl, sym, ◌∙◌, ap, subst}
 use Rattle.std.specs.List.{Contains, filter, list_any}
 use Rattle.std.proofs.lemmas.Bool.{and_from, and_parts, false≢true}
 use Rattle.std.proofs.lemmas.List.Elements.{Contains-append_cases, Contains-append_right}
@@ -9,7 +9,7 @@ use Rattle.op_model.specs.declared.lowered.LoweredMethod.{LoweredMethod}
 use Rattle.op_model.specs.declared.node.Node.{Node}
 use Rattle.access_paths.specs.declared.root.Root.{Root}
 use Rattle.access_paths.specs.declared.root.Root.TheVariants.{Slot, Static, Returned, Thrown}
-use Rattle.access_paths.specs.Paths.{Path, has_path}
+use Rattle.access_paths.specs.Paths.{Path, has_path, same_path}
 use Rattle.stage_transfer.specs.Settings.{Setting, alike, among}
 use Rattle.stage_transfer.specs.Changes.{has_fields, unwritten, with_root}
 use Rattle.stage_transfer.specs.Calls.{Entering, is_handed_on, is_slot, joins, left_set, written_on}
@@ -100,7 +100,7 @@ not_left_out_joined w l n by target caller exit x joined =
     by_tests true false true d joined = refl
     by_tests false b true d joined = refl
 
-pub left_out_unless_doubled : (w : Setting) (l : LoweredMethod) (n : Node) (by : Entering) (target : MethodNo) (caller exit : List Path) (x : Path) (slot : ℕ)
+left_out_unless_doubled : (w : Setting) (l : LoweredMethod) (n : Node) (by : Entering) (target : MethodNo) (caller exit : List Path) (x : Path) (slot : ℕ)
     → x.root ≡ Slot slot → has_fields x.fields ≡ true → joins w by target x ≡ false
     → not (list_any (doubles w l n by target x slot) caller) ≡ is_left_out_of w l n by target caller exit x
 left_out_unless_doubled w l n by target caller exit x slot root fields apart =
@@ -109,3 +109,21 @@ left_out_unless_doubled w l n by target caller exit x slot root fields apart =
     (λ i. sym fields i && (is_slot (Slot slot) && (not (sym apart i) && not (doubled_by w l n by target caller exit x slot i))))
     ∙ ap (λ (b : Bool). has_fields x.fields && (true && (not b && not (is_doubled_slot w l n by target caller exit x slot)))) (ap (joins w by target) (sym one))
     ∙ ap out one
+
+pub unless_doubled : (w : Setting) (l : LoweredMethod) (n : Node) (by : Entering) (target : MethodNo) (caller exit : List Path) (x : Path) (slot : ℕ) (b : Bool) (paths : List Path)
+    → x.root ≡ Slot slot → true ≡ has_fields x.fields → false ≡ joins w by target x → b ≡ list_any (doubles w l n by target x slot) paths → paths ≡ caller
+    → not b ≡ is_left_out_of w l n by target caller exit x
+unless_doubled w l n by target caller exit x slot b paths root fields apart doubled same =
+    ap not (doubled ∙ ap (list_any (doubles w l n by target x slot)) same)
+    ∙ left_out_unless_doubled w l n by target caller exit x slot root (sym fields) (sym apart)
+
+-- ---- one path of the caller
+
+pub doubles_from : (w : Setting) (l : LoweredMethod) (n : Node) (by : Entering) (target : MethodNo) (x : Path) (slot : ℕ) (other : Path) (r : Root) (y : Path) (b : Bool)
+    → r ≡ other.root → true ≡ holds_afterwards w l n by slot r → y ≡ with_root r x → true ≡ same_path y other → b ≡ joins w by target other
+    → b ≡ doubles w l n by target x slot other
+doubles_from w l n by target x slot other r y b root holds path same joined =
+    let first : true ≡ holds_afterwards w l n by slot other.root = holds ∙ ap (holds_afterwards w l n by slot) root in
+    let second : true ≡ same_path (with_root other.root x) other =
+    same ∙ ap (λ (z : Path). same_path z other) (path ∙ ap (λ (q : Root). with_root q x) root) in
+    joined ∙ (λ i. first i && (second i && joins w by target other))

@@ -4,7 +4,8 @@ use Rattle.std.specs.List.{Contains, filter, range_with_len}
 use Rattle.std.proofs.lemmas.Bool.{lt-ltb}
 use Rattle.op_model.specs.declared.lowered.LoweredMethod.{LoweredMethod}
 use Rattle.op_model.specs.declared.node.Node.{Node}
-use Rattle.stage_transfer.specs.Settings.{Setting, alike, among, same_variable}
+use Rattle.stage_transfer.specs.Settings.{Setting, alike, among}
+use Rattle.stage_calls.specs.Testing.{is_like}
 use Rattle.stage_transfer_laws.proofs.Members.{among_those, in_filter, in_range, is_among, none_among, of_filter, of_range}
 
 -- two tests are one where each follows from the other
@@ -12,9 +13,6 @@ pub one_test : (a b : Bool) → (a ≡ true → b ≡ true) → (b ≡ true → 
 one_test true b to back = sym (to refl)
 one_test false true to back = back refl
 one_test false false to back = refl
-
-abbrev like : Setting → LoweredMethod → Node → (z y : ℕ) → Bool
-like w l n z y = same_variable (w.answers.variable_at l n y) (w.answers.variable_at l n z)
 
 abbrev those : (ℕ → Bool) → (count : ℕ) → List ℕ
 those p count = filter p (range_with_len 0 count)
@@ -35,15 +33,18 @@ absent_from p count y outside = sym (none_among (those p count) y absent)
 -- ---- the slots of the method
 
 shape : (w : Setting) (l : LoweredMethod) (n : Node) (z : ℕ) (b : Bool) → nat_lt z (l.slots + l.stack) ≡ b
-    → cond b (those (like w l n z) (l.slots + l.stack)) (z ∷ []) ≡ alike w l n z
-shape w l n z b is = ap (λ (c : Bool). cond c (those (like w l n z) (l.slots + l.stack)) (z ∷ [])) (sym is)
+    → cond b (those (is_like w l n z) (l.slots + l.stack)) (z ∷ []) ≡ alike w l n z
+shape w l n z b is = ap (λ (c : Bool). cond c (those (is_like w l n z) (l.slots + l.stack)) (z ∷ [])) (sym is)
 
-pub alike_within : (w : Setting) (l : LoweredMethod) (n : Node) (z y : ℕ) → z < l.slots + l.stack → y < l.slots + l.stack → like w l n z y ≡ among (alike w l n z) y
+pub alike_slots : (w : Setting) (l : LoweredMethod) (n : Node) (z : ℕ) → z < l.slots + l.stack → those (is_like w l n z) (l.slots + l.stack) ≡ alike w l n z
+alike_slots w l n z inside = shape w l n z true (lt-ltb z (l.slots + l.stack) inside)
+
+pub alike_within : (w : Setting) (l : LoweredMethod) (n : Node) (z y : ℕ) → z < l.slots + l.stack → y < l.slots + l.stack → is_like w l n z y ≡ among (alike w l n z) y
 alike_within w l n z y inside within =
-    among_those_of (like w l n z) (l.slots + l.stack) y within
+    among_those_of (is_like w l n z) (l.slots + l.stack) y within
     ∙ ap (λ (zs : List ℕ). among zs y) (shape w l n z true (lt-ltb z (l.slots + l.stack) inside))
 
 pub alike_absent : (w : Setting) (l : LoweredMethod) (n : Node) (z y : ℕ) → z < l.slots + l.stack → l.slots + l.stack ≤ y → false ≡ among (alike w l n z) y
 alike_absent w l n z y inside outside =
-    absent_from (like w l n z) (l.slots + l.stack) y outside
+    absent_from (is_like w l n z) (l.slots + l.stack) y outside
     ∙ ap (λ (zs : List ℕ). among zs y) (shape w l n z true (lt-ltb z (l.slots + l.stack) inside))

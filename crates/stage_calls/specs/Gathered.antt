@@ -1,4 +1,4 @@
--- Public contracts rest on this module.
+-- This crate's own proofs alone rest on this module.
 -- What a tuple has before the normal form of a stage and the limit on paths, as it was gathered.
 use Rattle.std.specs.Prelude.{◌≡◌, ℕ, nat_eq, nat_lt, Bool, true, not, ◌&&◌, List, length, take}
 use Rattle.access_paths.specs.Paths.{Path, most_paths}

@@ -1,3 +1,4 @@
 pub mod Gathered
 pub mod Testing
 pub mod Units
+pub mod Events

@@ -7,9 +7,9 @@ use Rattle.op_model.specs.declared.lowered.LoweredMethod.{LoweredMethod}
 use Rattle.op_model.specs.declared.node.Node.{Node}
 use Rattle.access_paths.specs.declared.root.Root.{Root}
 use Rattle.access_paths.specs.declared.root.Root.TheVariants.{Slot, Static, Returned, Thrown}
-use Rattle.access_paths.specs.Paths.{Path, same_path}
+use Rattle.access_paths.specs.Paths.{bare, Path, same_path}
 use Rattle.stage_facts.specs.Facts.{Tuple}
-use Rattle.stage_transfer.specs.Settings.{Setting, alike, among}
+use Rattle.stage_transfer.specs.Settings.{Setting, alike, among, same_variable}
 use Rattle.stage_transfer.specs.Changes.{has_fields, is_doubled, unwritten, with_root}
 use Rattle.stage_transfer.specs.Calls.{Entering, is_dropped, is_handed_on, is_left_out, is_passed_on, joins, left_set, written_on}
 
@@ -68,3 +68,13 @@ abbrev pub may_both : Setting → LoweredMethod → Node → Entering → (targe
 may_both w l n by target caller exit =
     exit.may || (caller.may
     || (list_any (is_dropped by) exit.must || list_any (is_left_out w l n by target (left_set w by target caller.must exit.must)) caller.must))
+
+-- ---- slots
+
+-- The path of a slot alone.
+abbrev pub bare_slot : ℕ → Path
+bare_slot z = bare (Slot z)
+
+-- The slots have one variable at the node.
+abbrev pub is_like : Setting → LoweredMethod → Node → (z y : ℕ) → Bool
+is_like w l n z y = same_variable (w.answers.variable_at l n y) (w.answers.variable_at l n z)

@@ -22,7 +22,7 @@ use access_paths::{Path, PathSet, Root};
 use stage_facts::{PlainFact, PlainTuple};
 use stage_views::{Entering, Gathering, StageSetting};
 
-/// What a method is entered with.
+/// What a method is entered with, where each unit of the arguments has the number of a slot (`has_slots`).
 pub fn entered(setting: &StageSetting<'_>, by: Entering<'_>, fact: &PlainFact) -> PlainFact
     ensures { (w : Setting) → IsSettingBy setting.now w → HasSlots (entering_of by.entry)
         → fact_of result ≡ (transfer_of w).enter (entering_of by.entry) (fact_of fact.now) }
@@ -67,7 +67,7 @@ fn entered_set(wanted: bool, by: Entering<'_>, set: &PathSet) -> Gathering
     if !wanted {
         return gathering;
     }
-    gather(&mut gathering, set, &BeginsStatic {});
+    gather(&mut gathering, set, &BeginsStatic);
     pass(&mut gathering, by, set);
     gathering
 }
@@ -93,7 +93,7 @@ fn pass_units(gathering: &mut Gathering, arguments: &[Option<u32>], set: &PathSe
     }
 }
 
-/// The same of one unit.
+/// The same of one unit. One whose number is that of no slot passes nothing.
 fn pass_unit(gathering: &mut Gathering, unit: usize, argument: Option<u32>, set: &PathSet)
     ensures { (before : List AccessPath) → unit < 2 ^ 32 → Gathers gathering.old before → Gathers gathering.new (before ++ copied (passing_to unit argument) set.now) }
 {
@@ -135,7 +135,7 @@ fn is_passed_on(by: Entering<'_>, root: Root) -> bool
 }
 
 /// Whether a path begins at a static field.
-struct BeginsStatic {}
+struct BeginsStatic;
 
 impl PathTest for BeginsStatic {
     ghost use Rattle.stage_transfer.specs.Calls.{begins_static};

@@ -1,14 +1,27 @@
 //! The units of a call's arguments.
 
-ghost use Rattle.std.specs.Prelude.{◌≡◌, ℕ, nat_eq};
-ghost use Rattle.std.specs.List.{list_any};
+ghost use Rattle.std.specs.Prelude.{◌≡◌, ◌↔◌, IsTrue};
 ghost use Rattle.std.specs.Option.{option_to_list};
 ghost use Rattle.machine_nodes.specs.Slots.{argument_slots};
 ghost use Rattle.stage_transfer.specs.Calls.{passed};
 ghost use Rattle.stage_transfer.specs.Settings.{among};
 ghost use Rattle.stage_views.specs.Views.{entering_of};
+ghost use Rattle.stage_calls.specs.Units.{HasSlots};
 
 use stage_views::Entering;
+
+/// There are so many slots.
+const MOST_UNITS: usize = 4_294_967_296;
+
+/// Whether a call has no more units of arguments than there are slots. Those of class files have 256 at most.
+pub fn has_slots(by: Entering<'_>) -> bool
+    ensures { IsTrue result ↔ HasSlots (entering_of by.entry) }
+{
+    match by {
+        Entering::Call(call) => call.arguments.len() <= MOST_UNITS,
+        Entering::Trigger => true,
+    }
+}
 
 /// Whether a slot is passed.
 pub(crate) fn is_passed(by: Entering<'_>, slot: u32) -> bool

@@ -1,6 +1,6 @@
-//! Tests of the data of class files and programs, of the outside, of the readers and of the rows of facts: each public call once on its
-//! happy path, and what no clause says. They stand apart from the crates that they test, since a crate with tests is proved twice.
-//! cases_readers has the tables of what is read and refused.
+//! Tests of the data of class files and programs, of the outside, of the readers, of the rows of facts and of what calls do to facts: each
+//! public call once on its happy path, and what no clause says. They stand apart from the crates that they test, since a crate with tests
+//! is proved twice. cases_readers has the tables of what is read and refused.
 #![tactic(auto)]
 
 #[cfg(test)]
@@ -21,6 +21,8 @@ mod outside;
 mod readers;
 #[cfg(test)]
 mod rows;
+#[cfg(test)]
+mod site_calls;
 #[cfg(test)]
 mod site_facts;
 #[cfg(test)]

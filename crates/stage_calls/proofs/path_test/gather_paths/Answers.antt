@@ -1,4 +1,4 @@
-use Rattle.std.proofs.Common.{List, [], ◌∷◌, ◌++◌, take, sym, ◌∙◌, subst}
+use Rattle.std.proofs.Common.{[], ◌∷◌, ◌++◌, take, sym, ◌∙◌, subst}
 use Rattle.std.specs.List.{filter}
 use Rattle.stage_views.specs.declared.gathering.Gathering.{Gathering}
 use Rattle.stage_views.specs.Views.{Gathers}
