@@ -63,3 +63,52 @@ fn rows_are_held_once(rt: HostRuntime) -> Result<(), Fail> {
     look_at_rows(&rt, &pool);
     Ok(())
 }
+
+/// Looks whether the pool holds the rows of the numbers below this one, and no others.
+fn look_at_front(rt: &impl Abort, pool: &FactPool, count: u32) {
+    assert_eq!(rt; pool.len(), count);
+    for number in 0..count {
+        assert!(rt; words_of(pool, Row(number)) == Some([number, 7, number].as_slice()));
+    }
+}
+
+/// Makes a row of each number from the one to the other. Where memory runs out nothing has changed, and it is tried once more.
+fn make_rows(rt: &impl Abort, pool: &mut FactPool, from: u32, to: u32) -> Result<(), AllocError> {
+    for number in from..to {
+        let words = [number, 7, number];
+        if row_of(pool, &words).is_err() {
+            look_at_front(rt, pool, number);
+            assert_eq!(rt; row_of(pool, &words)?, Row(number));
+        }
+    }
+    Ok(())
+}
+
+/// Looks whether each of the rows is found.
+fn find_rows(rt: &impl Abort, pool: &mut FactPool, count: u32) -> Result<(), AllocError> {
+    for number in 0..count {
+        assert_eq!(rt; row_of(pool, &[number, 7, number])?, Row(number));
+    }
+    Ok(())
+}
+
+/// Makes room. Where memory runs out nothing has changed, and it is tried once more.
+fn make_room(rt: &impl Abort, pool: &mut FactPool, held: u32) -> Result<(), AllocError> {
+    if pool.reserve(1000, 3000).is_err() {
+        look_at_front(rt, pool, held);
+        pool.reserve(1000, 3000)?;
+    }
+    Ok(())
+}
+
+#[test]
+fn rows_are_found_after_growth(rt: HostRuntime) -> Result<(), Fail> {
+    let mut pool = FactPool::new(rt.alloc());
+    make_rows(&rt, &mut pool, 0, 100)?;
+    find_rows(&rt, &mut pool, 100)?;
+    make_room(&rt, &mut pool, 100)?;
+    make_rows(&rt, &mut pool, 100, 200)?;
+    find_rows(&rt, &mut pool, 200)?;
+    look_at_front(&rt, &pool, 200);
+    Ok(())
+}
