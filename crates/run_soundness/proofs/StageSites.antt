@@ -10,13 +10,13 @@ use Rattle.jvm_model.specs.declared.number.FieldNo.{FieldNo}
 use Rattle.jvm_model.specs.declared.site.Site.{Site}
 use Rattle.jvm_model.specs.declared.site.SiteKind.{SiteKind}
 use Rattle.jvm_model.specs.declared.site.SiteKind.TheVariants as kinds
-use Rattle.jvm_model.specs.Descriptors.{is_reference_type}
 use Rattle.jvm_model.specs.LinkedPrograms.{IsProgram, class_names}
 use Rattle.jvm_model.specs.Names.{IsClassName}
 use Rattle.jvm_model.specs.Programs.{Class, Program}
 use Rattle.program_model.specs.Numbers.{name_at, IsClassNumber}
 use Rattle.least_sets.proofs.Places.{contains_at}
 use Rattle.machine_bytecode.specs.Objects.{Subject}
+use Rattle.machine_bytecode.specs.States.{is_reference_type}
 use Rattle.flow_graph.specs.declared.steps.Graph.{Graph}
 use Rattle.flow_graph.specs.declared.steps.GraphStep.{GraphStep}
 use Rattle.op_model.specs.declared.lowered.LoweredMethod.{LoweredMethod}
@@ -25,8 +25,8 @@ use Rattle.op_model.specs.declared.op.CallKind.{CallKind}
 use Rattle.op_model.specs.declared.op.Op.{Op}
 use Rattle.op_model.specs.declared.op.Op.TheVariants.{New, Probe, LoadStatic, StoreStatic, Load, Store}
 use Rattle.op_model.specs.Supplies.{IsCodedMethod}
-use Rattle.jvm_model.specs.declared.opcode.Action.{Action}
-use Rattle.jvm_model.specs.declared.opcode.Action.TheVariants as actions
+use Rattle.jvm_model.specs.Table.{Action}
+use Rattle.jvm_model.specs.Table as actions
 use Rattle.lowering_spec.specs.Operations.{IsAssign, IsCallOp, IsFieldOp, IsOp, IsStaticOp, Placed, field_no}
 use Rattle.lowering_spec.specs.LoweredMethods.{IsNodeOf}
 use Rattle.lowering.specs.Refusals.{IsAccepted}
