@@ -129,10 +129,10 @@ module _ (x : Subject) (S : Fact → Type 0) (base : GivenAs) (closed : IsClosed
 
 module _ {F : Type 0} (I J : List F → F → Type 0) (P : F → Type 0) (keeps : IsClosedSet I P)
     (over : (premises : List F) (fact : F) → Hold P premises → I premises fact → J premises fact) where
-  follows_kept : (earlier : List F) (fact : F) → All P earlier → Follows I earlier fact → Follows J earlier fact
+  follows_kept : (earlier : List F) (fact : F) → ((x : F) → Contains earlier x → P x) → Follows I earlier fact → Follows J earlier fact
   follows_kept earlier fact all f = record {
     premises = f.premises;
-    instance = over f.premises fact (Hold-larger (Contains earlier) P (λ x there. All-contains P earlier x all there) f.premises f.hold) f.instance;
+    instance = over f.premises fact (Hold-larger (Contains earlier) P all f.premises f.hold) f.instance;
     hold = f.hold;
   }
 
