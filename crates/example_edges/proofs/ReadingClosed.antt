@@ -86,12 +86,7 @@ close_is_sent = (
 )
 
 nodes_send : Everywhere it (Sends it)
-nodes_send = record {
-  of_start = λ k c. (start_sends k c, (tt, tt));
-  of_main = (tt, (tt, (read_is_sent, (tt, (close_is_sent, (tt, tt))))));
-  of_read = (tt, tt);
-  of_close = (tt, tt);
-}
+nodes_send = record { of_start = λ k c. (start_sends k c, (tt, tt)); of_main = (tt, (tt, (read_is_sent, (tt, (close_is_sent, (tt, tt)))))); of_read = (tt, tt); of_close = (tt, tt) }
 
 pub closed : IsClosed (StageInstance subject gives known setting) edges
 closed = closed_by_nodes it (at 0 _ refl) nodes_go_on nodes_return nodes_raise no_throw nodes_send
