@@ -245,22 +245,19 @@ module _ (x : Subject) (given : Given) (gives : GivenAs) (S : Fact → Type 0) (
   pub resumes_good : (state after : State) (at : AtNode x given state) → Resumes x given state after at → (place : ℕ)
       → Described x given gives S s t E k place state → Described x given gives S s t E k place after
   resumes_good state after at a place d =
-      let w = state.world in
       let i = left_by state at place a.value a.is_return a.caller a.rest a.below d in
       let b = i.waits in
-      let l = b.lowered in
-      let m = b.node in
       let by_is = triggered_of b.by (sym a.triggered ∙ b.waits) in
-      let is = triggered_by x given gives S s t E k (method_of a.caller) l m i.target b.fact b.by b.sent b.enters by_is in
-      let left = left_trigger_says x S s t k.laws place l m b.by i.target b.sent w a.caller.slots (behind_of x given gives S s t E k w place a.caller i.target i.entry b) by_is (returned_value a.value at.frame.slots) i.fact i.says in
-      let out = t.leave l m by_trigger i.target b.fact i.fact in
+      let is = triggered_by x given gives S s t E k (method_of a.caller) b.lowered b.node i.target b.fact b.by b.sent b.enters by_is in
+      let left = left_trigger_says x S s t k.laws place b.lowered b.node b.by i.target b.sent state.world a.caller.slots (behind_of x given gives S s t E k state.world place a.caller i.target i.entry b) by_is (returned_value a.value at.frame.slots) i.fact i.says in
+      let out = t.leave b.lowered b.node by_trigger i.target b.fact i.fact in
       let held = subst (λ (u : SiteFact). E (edge (Some i.target) u spots.Returned i.fact)) is.entered i.held in
       described_as x given gives S s t E k place after _ a.after (record {
         entry = b.own;
         fact = out;
-        held = edge_at x given gives S s t E k (method_of a.caller) b.own out m a.caller.offset b.at
-            (k.edges _ _ (Instance.resumes (method_of a.caller) l m b.own b.fact i.fact i.target spots.Returned b.is_node is.starts tt) (b.held, (held, tt)));
-        says = subst (λ (u : SiteFact). Says s u place w (of_slots a.caller.slots)) (is.left i.fact) left;
+        held = edge_at x given gives S s t E k (method_of a.caller) b.own out b.node a.caller.offset b.at
+            (k.edges _ _ (Instance.resumes (method_of a.caller) b.lowered b.node b.own b.fact i.fact i.target spots.Returned b.is_node is.starts tt) (b.held, (held, tt)));
+        says = subst (λ (u : SiteFact). Says s u place state.world (of_slots a.caller.slots)) (is.left i.fact) left;
         waiting = i.waiting;
       })
 
