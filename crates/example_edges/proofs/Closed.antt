@@ -121,7 +121,8 @@ module _ (a : Example) where
   module _ (begins : Contains edges (edge None none_yet (spots.Node 0) none_yet)) (go_on : Everywhere a GoesOn) (return : Everywhere a Returns)
       (raise : Everywhere a Raises) (no_throw : Everywhere a (λ m l n. is_throw n.op ≡ false)) (sends : Everywhere a Sends) where
     -- What enters a method is sent.
-    entered : (m : Option MethodNo) (l : LoweredMethod) (n : Node) (e f sent : SiteFact) (c : NodeCall) (target : MethodNo) → IsNode (subject_of a) (gives_of a) m l n
+    entered : (m : Option MethodNo) (l : LoweredMethod) (n : Node) (e f sent : SiteFact) (c : NodeCall) (target : MethodNo)
+        → IsNode (subject_of a) (gives_of a) m l n
         → n.op ≡ Call c → Contains edges (edge m e (before n) f) → known_of a (may_call (node_at m n) target) → Contains (t.event l n c f) sent
         → IsSent m l n c e target sent
     entered m l n e f sent c target node is there call event =
@@ -148,10 +149,12 @@ module _ (a : Example) where
 
     -- A call enters by its event, and no initialiser is entered.
     by_calls : (m : Option MethodNo) (l : LoweredMethod) (n : Node) (target : MethodNo) (f : SiteFact) (c : NodeCall) (sent : SiteFact)
-        → Enters (subject_of a) (known_of a) t m l n target f (by_call c) sent → (n.op ≡ Call c) × known_of a (may_call (node_at m n) target) × Contains (t.event l n c f) sent
+        → Enters (subject_of a) (known_of a) t m l n target f (by_call c) sent
+        → (n.op ≡ Call c) × known_of a (may_call (node_at m n) target) × Contains (t.event l n c f) sent
     by_calls m l n target f _ _ (called c sent is call of_file event) = (is, call, event)
 
-    sends_on : (m : Option MethodNo) (l : LoweredMethod) (n : Node) (e f sent : SiteFact) (target : MethodNo) (by : Entering) → IsNode (subject_of a) (gives_of a) m l n
+    sends_on : (m : Option MethodNo) (l : LoweredMethod) (n : Node) (e f sent : SiteFact) (target : MethodNo) (by : Entering)
+        → IsNode (subject_of a) (gives_of a) m l n
         → Enters (subject_of a) (known_of a) t m l n target f by sent → Contains edges (edge m e (before n) f)
         → Contains edges (edge (Some target) (t.enter by sent) (spots.Node 0) (t.enter by sent))
     sends_on m l n e f _ target _ node (called c sent is call of_file event) there = (entered m l n e f sent c target node is there call event).0
@@ -160,7 +163,8 @@ module _ (a : Example) where
     -- What it throws goes to a handler, or out.
     thrown : (m : Option MethodNo) (l : LoweredMethod) (n : Node) (e sent out g : SiteFact) (c : NodeCall) (target : MethodNo) (class : List ℕ) (handler : Option ℕ)
         (spot : Spot) → IsSent m l n c e target sent → Contains edges (edge (Some target) (t.enter (by_call c) sent) spots.Thrown out)
-        → GoesTo (subject_of a) n class handler spot → Contains (t.raise l n handler (t.leave l n (by_call c) target sent out)) g → Contains edges (edge m e spot g)
+        → GoesTo (subject_of a) n class handler spot → Contains (t.raise l n handler (t.leave l n (by_call c) target sent out)) g
+        → Contains edges (edge m e spot g)
     thrown m l n e sent out g c target class handler spot is there goes after =
         let entry = t.enter (by_call c) sent in
         let passes = both _ _ (stands_itself (Some target) spots.Thrown) (kind_itself entry) in
@@ -171,7 +175,8 @@ module _ (a : Example) where
 
     unwound : (m : Option MethodNo) (l : LoweredMethod) (n : Node) (e f sent out g : SiteFact) (target : MethodNo) (by : Entering) (class : List ℕ)
         (handler : Option ℕ)
-        (spot : Spot) → IsNode (subject_of a) (gives_of a) m l n → Enters (subject_of a) (known_of a) t m l n target f by sent → GoesTo (subject_of a) n class handler spot
+        (spot : Spot) → IsNode (subject_of a) (gives_of a) m l n → Enters (subject_of a) (known_of a) t m l n target f by sent
+        → GoesTo (subject_of a) n class handler spot
         → Contains (t.raise l n handler (t.leave l n by target sent out)) g → Contains edges (edge m e (before n) f)
         → Contains edges (edge (Some target) (t.enter by sent) spots.Thrown out) → Contains edges (edge m e spot g)
     unwound m l n e f _ out g target _ class handler spot node (called c sent is call of_file event) goes after there at_exit =
@@ -180,7 +185,8 @@ module _ (a : Example) where
 
     raised : (m : Option MethodNo) (l : LoweredMethod) (n : Node) (e f g : SiteFact) (class : List ℕ) (handler : Option ℕ) (spot : Spot)
         → IsNode (subject_of a) (gives_of a) m l n
-        → ThrowsClass (subject_of a) (known_of a) l n class → GoesTo (subject_of a) n class handler spot → Contains (t.raise l n handler f) g → Contains edges (edge m e (before n) f)
+        → ThrowsClass (subject_of a) (known_of a) l n class → GoesTo (subject_of a) n class handler spot → Contains (t.raise l n handler f) g
+        → Contains edges (edge m e (before n) f)
         → Contains edges (edge m e spot g)
     raised m l n e f g class handler spot node (listed number there is) goes after at_edge =
         let facts = each_contained (Raised m l n) n.throws number (at_node a Raises raise m l n node) there class handler spot goes in

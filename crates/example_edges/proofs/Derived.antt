@@ -93,7 +93,8 @@ module _ (a : Example) where
   }
 
   -- A method returns.
-  pub returns_from : (i k : ℕ) (m : Option MethodNo) (l : LoweredMethod) (n : Node) (e f g : SiteFact) → IsNode (subject_of a) (gives_of a) m l n → n.op ≡ Return None
+  pub returns_from : (i k : ℕ) (m : Option MethodNo) (l : LoweredMethod) (n : Node) (e f g : SiteFact) → IsNode (subject_of a) (gives_of a) m l n
+      → n.op ≡ Return None
       → slice_get (t.next l n f) 0 ≡ Some g → slice_get (take i edges) k ≡ Some (edge m e (before n) f)
       → Follows rules (take i edges) (edge m e spots.Returned g)
   returns_from i k m l n e f g node is after there = record {
