@@ -71,6 +71,11 @@ abbrev pub all_pushed : {F : Type 0} → List F → List F → List F
 all_pushed earlier [] = earlier
 all_pushed earlier (fact ∷ rest) = all_pushed (earlier ++ fact ∷ []) rest
 
+infixr 4 ◌▸◌
+-- A fact follows, and then the others.
+pub ◌▸◌ : {A B : Type 0} → A → B → A × B
+a ▸ b = (a, b)
+
 pub goes_on : {F : Type 0} (I : List F → F → Type 0) (earlier rest : List F) → IsDerivation I earlier → EachFollows I earlier rest
     → IsDerivation I (all_pushed earlier rest)
 goes_on I earlier [] derived each = derived

@@ -1,8 +1,9 @@
 pub mod Finite
 pub mod Places
-pub mod ReadingNodes
+pub mod Nodes
+pub mod Closed
+pub mod Derived
 pub mod ReadingClosed
 pub mod ReadingDerived
-pub mod ThrowingNodes
 pub mod ThrowingClosed
 pub mod ThrowingDerived

@@ -1,165 +1,27 @@
--- The list of path edges is a derivation: each edge follows from those before it. None stands there twice.
-use Rattle.std.proofs.Common.{◌∙◌, not, eq-eqb, codes, inl, ◌≡◌, ◌≢◌, ℕ, ◌+◌, ◌*◌, nat_eq, Bool, true, false, true≢false, List, [], ◌∷◌, map, drop, take, Option, Some, None, refl, sym, ap, if◌then◌else◌}
+-- The program with a handler: each edge of the list follows from those before it. None stands there twice, and none is of an object in the error state.
+use Rattle.std.proofs.Common.{inl, ◌≡◌, ℕ, List, [], drop, take, Some, None, refl}
 use Rattle.std.specs.List.{slice_get, Contains}
-use Rattle.jvm_model.specs.declared.number.ClassNo.{ClassNo}
-use Rattle.jvm_model.specs.declared.number.MethodNo.{MethodNo}
-use Rattle.op_model.specs.declared.lowered.LoweredMethod.{LoweredMethod}
-use Rattle.op_model.specs.declared.node.Node.{Node}
-use Rattle.op_model.specs.declared.node.Spot.{Spot}
 use Rattle.op_model.specs.declared.node.Spot.TheVariants as spots
-use Rattle.op_model.specs.declared.op.Call.{Call as NodeCall}
-use Rattle.op_model.specs.declared.op.CallKind.TheVariants.{Static}
-use Rattle.op_model.specs.declared.op.Op.{Op}
-use Rattle.op_model.specs.declared.op.Op.TheVariants.{Assign, Load, Store, LoadElement, StoreElement, LoadStatic, StoreStatic, New, NewArray, Constant, Call, Return, Throw, Cast, Probe}
-use Rattle.machine_nodes.specs.Nodes.{AreThrownAt}
 use Rattle.machine_nodes.specs.NodeSteps.{all as every_class}
 use Rattle.list_laws.proofs.Members.{contains_none}
 use Rattle.list_laws.proofs.Places.{contains_at}
-use Rattle.least_sets.specs.Rules.{Follows, IsDerivation, IsWithoutDoubles}
-use Rattle.points_to_rules.specs.Calls.{IsOfFile}
-use Rattle.points_to_rules.specs.Facts.{may_call}
-use Rattle.stage_facts.specs.Facts.{SiteFact, none_yet, some_yet, of_object}
+use Rattle.least_sets.specs.Rules.{Follows}
+use Rattle.stage_facts.specs.Facts.{SiteFact, none_yet, some_yet}
 use Rattle.stage_transfer.specs.Calls.{by_call}
 use Rattle.stage_transfer.specs.Stages.{Transfer, transfer_of}
-use Rattle.stage_edges.specs.Rules.{Edge, edge, node_at, before, IsMethod, of_file, of_start, IsNode, called, caught, uncaught, listed, raises, unwinds, start, goes_on, returns, enters, call_returns}
-use Rattle.stage_edges.specs.Edges.{ArePathEdges, IsError, StageInstance}
-use Rattle.least_sets.proofs.Derivations.{All-derivable}
-use Rattle.example_edges.specs.Throwing.{calling, calls, close_number, closes, copied, copies_again, divides, edges, ends, error_class, error_site, file, first_copies, gives, gone, known, local, main, main_number, makes, member, method, only_returns, program, property, read_number, reading, reads, setting, subject, takes_all}
-use Rattle.example_edges.proofs.Finite.{passes, EachFollows, apart, goes_on as derivation_goes_on, nothing_derived}
-use Rattle.example_edges.proofs.ThrowingNodes.{nothing_thrown, start as start_nodes, start_call}
-use Rattle.example_edges.proofs.ThrowingClosed.{closed}
+use Rattle.stage_edges.specs.Rules.{Edge, edge, before, called, caught, uncaught, listed, raises, unwinds, start}
+use Rattle.stage_edges.specs.Edges.{ArePathEdges, IsError}
+use Rattle.example_edges.specs.Throwing.{calls, close_number, closes, copied, copies_again, divides, edges, ends, error_class, error_site, first_copies, gives, gone, known, local, main, main_number, makes, only_returns, property, read_number, reading, reads, setting, subject, takes_all}
+use Rattle.example_edges.proofs.Finite.{◌▸◌, EachFollows}
+use Rattle.example_edges.proofs.Nodes.{at_call, at_end, close_there, entry_call, in_close, in_main_at, in_read_at, main_there, read_there, the_call, the_start}
+use Rattle.example_edges.proofs.Derived.{are_path_edges as path_edges_of, close_call, comes_back, enters_by_call, no_call, no_error as no_error_of, node_goes, read_call, returns_from, rules as rules_of}
+use Rattle.example_edges.proofs.ThrowingClosed.{closed, it}
+
+abbrev rules : List Edge → Edge → Type 0
+rules = rules_of it
 
 abbrev t : Transfer
 t = transfer_of setting
-
--- ---- methods and nodes
-
-main_there : IsOfFile program main_number
-main_there = record { method = method (codes "main") 0; stands = refl; file = file; place = 0; member = member; of_file = refl }
-
-read_there : IsOfFile program read_number
-read_there = record { method = method (codes "read") 1; stands = refl; file = file; place = 1; member = member; of_file = refl }
-
-close_there : IsOfFile program close_number
-close_there = record { method = method (codes "close") 2; stands = refl; file = file; place = 2; member = member; of_file = refl }
-
-abbrev the_class : ClassNo
-the_class = record { 0 = 0 }
-
-abbrev the_start : LoweredMethod
-the_start = start_nodes main_number the_class
-
-abbrev the_call : Node
-the_call = start_call the_class
-
-abbrev entry_call : NodeCall
-entry_call = record {
-  kind = Static;
-  resolved = main_number;
-  chosen = Some main_number;
-  name = codes "main";
-  descriptor = codes "()V";
-  arguments = [];
-  result = None;
-}
-
-throws_none : AreThrownAt program [] (Some (codes "F")) []
-throws_none = record { only = λ c there. absurd (contains_none c there); all = λ c name is thrown. absurd (nothing_thrown (codes "F") name thrown) }
-
-is_start : IsMethod subject gives the_start None
-is_start = of_start (record {
-  call = the_call;
-  return = ends 1;
-  is = refl;
-  is_call = record {
-    entry = method (codes "main") 0;
-    stands = refl;
-    offset = refl;
-    op = refl;
-    successors = refl;
-    handlers = refl;
-    class = the_class;
-    trigger = refl;
-    is_class = record { class = _; stands = refl; named = refl };
-    throws = throws_none;
-  };
-  is_return = record { offset = refl; op = refl; successors = refl; handlers = refl; trigger = refl; throws = refl };
-}) refl refl refl
-
-at_call : IsNode subject gives None the_start the_call
-at_call = record { method = is_start; stands = contains_at the_start.nodes 0 _ refl }
-
-at_end : IsNode subject gives None the_start (ends 1)
-at_end = record { method = is_start; stands = contains_at the_start.nodes 1 _ refl }
-
-in_main_at : (k : ℕ) (n : Node) → slice_get main.nodes k ≡ Some n → IsNode subject gives (Some main_number) main n
-in_main_at k n e = record { method = of_file main_number refl; stands = contains_at main.nodes k n e }
-
-in_read_at : (k : ℕ) (n : Node) → slice_get reading.nodes k ≡ Some n → IsNode subject gives (Some read_number) reading n
-in_read_at k n e = record { method = of_file read_number refl; stands = contains_at reading.nodes k n e }
-
-in_close : IsNode subject gives (Some close_number) (only_returns close_number) (ends 0)
-in_close = record { method = of_file close_number refl; stands = contains_at (only_returns close_number).nodes 0 _ refl }
-
-abbrev is_call : Op → Bool
-is_call (Assign moves) = false
-is_call (Load object field target) = false
-is_call (Store object field value) = false
-is_call (LoadElement array target) = false
-is_call (StoreElement array value) = false
-is_call (LoadStatic field target) = false
-is_call (StoreStatic field value) = false
-is_call (New site target) = false
-is_call (NewArray sites target) = false
-is_call (Constant site target) = false
-is_call (Call c) = true
-is_call (Return value) = false
-is_call (Throw value) = false
-is_call (Cast class z) = false
-is_call (Probe z) = false
-
-making_is_no_call : (c : NodeCall) → makes.op ≢ Call c
-making_is_no_call c is = true≢false (sym (ap is_call is))
-
-copying_is_no_call : (c : NodeCall) → first_copies.op ≢ Call c
-copying_is_no_call c is = true≢false (sym (ap is_call is))
-
-again_is_no_call : (c : NodeCall) → copies_again.op ≢ Call c
-again_is_no_call c is = true≢false (sym (ap is_call is))
-
-dividing_is_no_call : (c : NodeCall) → divides.op ≢ Call c
-dividing_is_no_call c is = true≢false (sym (ap is_call is))
-
--- ---- the rules, by places in lists
-
-abbrev read_call : NodeCall
-read_call = calling (codes "read") read_number
-
-abbrev close_call : NodeCall
-close_call = calling (codes "close") close_number
-
-abbrev rules : List Edge → Edge → Type 0
-rules = StageInstance subject gives known setting
-
--- A node goes on.
-node_goes : (i k p q : ℕ) (m : Option MethodNo) (l : LoweredMethod) (n : Node) (e f g : SiteFact) (offset : ℕ) → IsNode subject gives m l n
-    → ((c : NodeCall) → n.op ≢ Call c) → slice_get n.successors p ≡ Some offset → slice_get (t.next l n f) q ≡ Some g
-    → slice_get (take i edges) k ≡ Some (edge m e (before n) f) → Follows rules (take i edges) (edge m e (spots.Node offset) g)
-node_goes i k p q m l n e f g offset node no_call leads after there = record {
-  premises = _;
-  instance = goes_on m l n e f g offset node no_call (contains_at _ p offset leads) (contains_at _ q g after);
-  hold = (contains_at _ k _ there, tt);
-}
-
--- A method returns.
-returns_from : (i k : ℕ) (m : Option MethodNo) (l : LoweredMethod) (n : Node) (e f g : SiteFact) → IsNode subject gives m l n → n.op ≡ Return None
-    → slice_get (t.next l n f) 0 ≡ Some g → slice_get (take i edges) k ≡ Some (edge m e (before n) f)
-    → Follows rules (take i edges) (edge m e spots.Returned g)
-returns_from i k m l n e f g node is after there = record {
-  premises = _;
-  instance = returns m l n e f g None node is (contains_at _ 0 g after);
-  hold = (contains_at _ k _ there, tt);
-}
 
 -- The division throws out of its method.
 divides_raises : (i k : ℕ) (f g : SiteFact) → slice_get (t.raise reading divides None f) 0 ≡ Some g
@@ -167,7 +29,7 @@ divides_raises : (i k : ℕ) (f g : SiteFact) → slice_get (t.raise reading div
     → Follows rules (take i edges) (edge (Some read_number) f spots.Thrown g)
 divides_raises i k f g after there = record {
   premises = _;
-  instance = raises (Some read_number) reading divides f f g error_class None spots.Thrown (in_read_at 0 divides refl)
+  instance = raises (Some read_number) reading divides f f g error_class None spots.Thrown (in_read_at it 0 divides refl)
       (listed (record { 0 = 1 }) (contains_at divides.throws 0 _ refl) (record { class = _; stands = refl; named = refl }))
       (uncaught (λ h listed_there takes. contains_none h listed_there)) (contains_at _ 0 g after);
   hold = (contains_at _ k _ there, tt);
@@ -182,209 +44,82 @@ reads_unwinds : (i k j : ℕ) (f sent out g : SiteFact) → slice_get (t.event m
 reads_unwinds i k j f sent out g event after there at_exit = record {
   premises = _;
   instance = unwinds (Some main_number) main reads none_yet f sent out g read_number (by_call read_call) error_class (Some 3) (spots.Node 3)
-      (in_main_at 2 reads refl) (called read_call sent refl (contains_at calls 1 _ refl) read_there (contains_at _ 0 sent event))
+      (in_main_at it 2 reads refl) (called read_call sent refl (contains_at calls 1 _ refl) (read_there it) (contains_at _ 0 sent event))
       (error_site, contains_at calls 3 _ refl, refl) (caught takes_all (inl (every_class refl, refl))) (contains_at _ 0 g after);
-  hold = (contains_at _ k _ there, (contains_at _ j _ at_exit, tt));
-}
-
--- A call enters its target.
-enters_by_call : (i k p : ℕ) (m : Option MethodNo) (l : LoweredMethod) (n : Node) (e f sent : SiteFact) (c : NodeCall) (target : MethodNo)
-    → IsNode subject gives m l n → n.op ≡ Call c → slice_get calls p ≡ Some (may_call (node_at m n) target) → IsOfFile program target
-    → slice_get (t.event l n c f) 0 ≡ Some sent → slice_get (take i edges) k ≡ Some (edge m e (before n) f)
-    → Follows rules (take i edges) (edge (Some target) (t.enter (by_call c) sent) (spots.Node 0) (t.enter (by_call c) sent))
-enters_by_call i k p m l n e f sent c target node is call written event there = record {
-  premises = _;
-  instance = enters m l n e f sent target (by_call c) node (called c sent is (contains_at calls p _ call) written (contains_at _ 0 sent event));
-  hold = (contains_at _ k _ there, tt);
-}
-
--- The caller goes on.
-comes_back : (i k j p : ℕ) (m : Option MethodNo) (l : LoweredMethod) (n : Node) (e f sent out g : SiteFact) (c : NodeCall) (target : MethodNo) (offset : ℕ)
-    → IsNode subject gives m l n → n.op ≡ Call c → slice_get calls p ≡ Some (may_call (node_at m n) target) → IsOfFile program target
-    → slice_get (t.event l n c f) 0 ≡ Some sent → slice_get n.successors 0 ≡ Some offset
-    → slice_get (t.next l n (t.leave l n (by_call c) target sent out)) 0 ≡ Some g → slice_get (take i edges) k ≡ Some (edge m e (before n) f)
-    → slice_get (take i edges) j ≡ Some (edge (Some target) (t.enter (by_call c) sent) spots.Returned out)
-    → Follows rules (take i edges) (edge m e (spots.Node offset) g)
-comes_back i k j p m l n e f sent out g c target offset node is call written event leads after there at_exit = record {
-  premises = _;
-  instance = call_returns m l n e f sent out g target c offset node (called c sent is (contains_at calls p _ call) written (contains_at _ 0 sent event))
-      (contains_at _ 0 offset leads) (contains_at _ 0 g after);
   hold = (contains_at _ k _ there, (contains_at _ j _ at_exit, tt));
 }
 
 -- ---- the derivation
 
 the_rest_ends : EachFollows rules (take 22 edges) (drop 22 edges)
-the_rest_ends = (
-  comes_back 22 16 20 2 (Some main_number) main closes none_yet some_yet some_yet some_yet some_yet close_call close_number 5
-      (in_main_at 4 _ refl) refl refl close_there refl refl refl refl refl,
-  (
-    comes_back 23 5 11 1 (Some main_number) main reads none_yet (copied 0) (copied 0) (gone 0) (local 0) read_call read_number 5
-        (in_main_at 2 _ refl) refl refl read_there refl refl refl refl refl,
-    (
-      comes_back 24 17 21 2 (Some main_number) main closes none_yet (copied 0) (copied 1) (gone 1) (local 1) close_call close_number 5
-          (in_main_at 4 _ refl) refl refl close_there refl refl refl refl refl,
-      (
-        returns_from 25 22 (Some main_number) main (ends 5) none_yet some_yet some_yet (in_main_at 5 _ refl) refl refl refl,
-        (
-          returns_from 26 23 (Some main_number) main (ends 5) none_yet (local 0) (gone 0) (in_main_at 5 _ refl) refl refl refl,
-          (
-            returns_from 27 24 (Some main_number) main (ends 5) none_yet (local 1) (gone 1) (in_main_at 5 _ refl) refl refl refl,
-            (
-              comes_back 28 0 25 0 None the_start the_call none_yet none_yet none_yet some_yet some_yet
-                  entry_call main_number 1 at_call refl refl main_there refl refl refl refl refl,
-              (
-                comes_back 29 0 26 0 None the_start the_call none_yet none_yet none_yet (gone 0)
-                    (gone 0) entry_call main_number 1 at_call refl refl main_there refl refl refl refl refl,
-                (
-                  comes_back 30 0 27 0 None the_start the_call none_yet none_yet none_yet (gone 1)
-                      (gone 1) entry_call main_number 1 at_call refl refl main_there refl refl refl refl refl,
-                  (
-                    returns_from 31 28 None the_start (ends 1) none_yet some_yet some_yet at_end refl refl refl,
-                    (
-                      returns_from 32 29 None the_start (ends 1) none_yet (gone 0) (gone 0) at_end refl refl refl,
-                      (
-                        returns_from 33 30 None the_start (ends 1) none_yet (gone 1) (gone 1) at_end refl refl refl,
-                        tt,
-                      ),
-                    ),
-                  ),
-                ),
-              ),
-            ),
-          ),
-        ),
-      ),
-    ),
-  ),
-)
+the_rest_ends =
+    comes_back it 22 16 20 2 (Some main_number) main closes none_yet some_yet some_yet some_yet some_yet close_call close_number 5 (in_main_at it 4 _ refl)
+    refl refl (close_there it) refl refl refl refl refl
+    ▸ comes_back it 23 5 11 1 (Some main_number) main reads none_yet (copied 0) (copied 0) (gone 0) (local 0) read_call read_number 5 (in_main_at it 2 _ refl)
+    refl refl (read_there it) refl refl refl refl refl
+    ▸ comes_back it 24 17 21 2 (Some main_number) main closes none_yet (copied 0) (copied 1) (gone 1) (local 1) close_call close_number 5
+    (in_main_at it 4 _ refl) refl refl (close_there it) refl refl refl refl refl
+    ▸ returns_from it 25 22 (Some main_number) main (ends 5) none_yet some_yet some_yet (in_main_at it 5 _ refl) refl refl refl
+    ▸ returns_from it 26 23 (Some main_number) main (ends 5) none_yet (local 0) (gone 0) (in_main_at it 5 _ refl) refl refl refl
+    ▸ returns_from it 27 24 (Some main_number) main (ends 5) none_yet (local 1) (gone 1) (in_main_at it 5 _ refl) refl refl refl
+    ▸ comes_back it 28 0 25 0 None the_start the_call none_yet none_yet none_yet some_yet some_yet entry_call main_number 1 (at_call it) refl refl
+    (main_there it) refl refl refl refl refl
+    ▸ comes_back it 29 0 26 0 None the_start the_call none_yet none_yet none_yet (gone 0) (gone 0) entry_call main_number 1 (at_call it) refl refl
+    (main_there it) refl refl refl refl refl
+    ▸ comes_back it 30 0 27 0 None the_start the_call none_yet none_yet none_yet (gone 1) (gone 1) entry_call main_number 1 (at_call it) refl refl
+    (main_there it) refl refl refl refl refl
+    ▸ returns_from it 31 28 None the_start (ends 1) none_yet some_yet some_yet (at_end it) refl refl refl
+    ▸ returns_from it 32 29 None the_start (ends 1) none_yet (gone 0) (gone 0) (at_end it) refl refl refl
+    ▸ returns_from it 33 30 None the_start (ends 1) none_yet (gone 1) (gone 1) (at_end it) refl refl refl
+    ▸ tt
 
 the_rest_closes : EachFollows rules (take 14 edges) (drop 14 edges)
-the_rest_closes = (
-  reads_unwinds 14 4 12 some_yet some_yet some_yet some_yet refl refl refl refl,
-  (
-    reads_unwinds 15 5 13 (copied 0) (copied 0) (gone 0) (local 0) refl refl refl refl,
-    (
-      node_goes 16 14 0 0 (Some main_number) main copies_again none_yet some_yet some_yet 4 (in_main_at 3 _ refl) again_is_no_call refl refl refl,
-      (
-        node_goes 17 15 0 0 (Some main_number) main copies_again none_yet (local 0) (copied 0) 4 (in_main_at 3 _ refl) again_is_no_call refl refl refl,
-        (
-          enters_by_call 18 16 2 (Some main_number) main closes none_yet some_yet some_yet close_call close_number
-              (in_main_at 4 _ refl) refl refl close_there refl refl,
-          (
-            enters_by_call 19 17 2 (Some main_number) main closes none_yet (copied 0) (copied 1) close_call close_number
-                (in_main_at 4 _ refl) refl refl close_there refl refl,
-            (
-              returns_from 20 18 (Some close_number) (only_returns close_number) (ends 0) some_yet some_yet some_yet in_close refl refl refl,
-              (
-                returns_from 21 19 (Some close_number) (only_returns close_number) (ends 0) (local 1) (local 1) (gone 1) in_close refl refl refl,
-                the_rest_ends,
-              ),
-            ),
-          ),
-        ),
-      ),
-    ),
-  ),
-)
+the_rest_closes =
+    reads_unwinds 14 4 12 some_yet some_yet some_yet some_yet refl refl refl refl
+    ▸ reads_unwinds 15 5 13 (copied 0) (copied 0) (gone 0) (local 0) refl refl refl refl
+    ▸ node_goes it 16 14 0 0 (Some main_number) main copies_again none_yet some_yet some_yet 4 (in_main_at it 3 _ refl) (no_call copies_again.op refl) refl
+    refl refl
+    ▸ node_goes it 17 15 0 0 (Some main_number) main copies_again none_yet (local 0) (copied 0) 4 (in_main_at it 3 _ refl) (no_call copies_again.op refl) refl
+    refl refl
+    ▸ enters_by_call it 18 16 2 (Some main_number) main closes none_yet some_yet some_yet close_call close_number (in_main_at it 4 _ refl) refl refl
+    (close_there it) refl refl
+    ▸ enters_by_call it 19 17 2 (Some main_number) main closes none_yet (copied 0) (copied 1) close_call close_number (in_main_at it 4 _ refl) refl refl
+    (close_there it) refl refl
+    ▸ returns_from it 20 18 (Some close_number) (only_returns close_number) (ends 0) some_yet some_yet some_yet (in_close it) refl refl refl
+    ▸ returns_from it 21 19 (Some close_number) (only_returns close_number) (ends 0) (local 1) (local 1) (gone 1) (in_close it) refl refl refl
+    ▸ the_rest_ends
 
 the_rest_reads : EachFollows rules (take 6 edges) (drop 6 edges)
-the_rest_reads = (
-  enters_by_call 6 4 1 (Some main_number) main reads none_yet some_yet some_yet read_call read_number (in_main_at 2 _ refl) refl refl read_there refl refl,
-  (
-    enters_by_call 7 5 1 (Some main_number) main reads none_yet (copied 0) (copied 0) read_call read_number
-        (in_main_at 2 _ refl) refl refl read_there refl refl,
-    (
-      node_goes 8 6 0 0 (Some read_number) reading divides some_yet some_yet some_yet 1 (in_read_at 0 _ refl) dividing_is_no_call refl refl refl,
-      (
-        node_goes 9 7 0 0 (Some read_number) reading divides (local 0) (local 0) (local 0) 1 (in_read_at 0 _ refl) dividing_is_no_call refl refl refl,
-        (
-          returns_from 10 8 (Some read_number) reading (ends 1) some_yet some_yet some_yet (in_read_at 1 _ refl) refl refl refl,
-          (
-            returns_from 11 9 (Some read_number) reading (ends 1) (local 0) (local 0) (gone 0) (in_read_at 1 _ refl) refl refl refl,
-            (
-              divides_raises 12 6 some_yet some_yet refl refl,
-              (
-                divides_raises 13 7 (local 0) (gone 0) refl refl,
-                the_rest_closes,
-              ),
-            ),
-          ),
-        ),
-      ),
-    ),
-  ),
-)
+the_rest_reads =
+    enters_by_call it 6 4 1 (Some main_number) main reads none_yet some_yet some_yet read_call read_number (in_main_at it 2 _ refl) refl refl (read_there it)
+    refl refl
+    ▸ enters_by_call it 7 5 1 (Some main_number) main reads none_yet (copied 0) (copied 0) read_call read_number (in_main_at it 2 _ refl) refl refl
+    (read_there it) refl refl
+    ▸ node_goes it 8 6 0 0 (Some read_number) reading divides some_yet some_yet some_yet 1 (in_read_at it 0 _ refl) (no_call divides.op refl) refl refl refl
+    ▸ node_goes it 9 7 0 0 (Some read_number) reading divides (local 0) (local 0) (local 0) 1 (in_read_at it 0 _ refl) (no_call divides.op refl) refl refl
+    refl
+    ▸ returns_from it 10 8 (Some read_number) reading (ends 1) some_yet some_yet some_yet (in_read_at it 1 _ refl) refl refl refl
+    ▸ returns_from it 11 9 (Some read_number) reading (ends 1) (local 0) (local 0) (gone 0) (in_read_at it 1 _ refl) refl refl refl
+    ▸ divides_raises 12 6 some_yet some_yet refl refl
+    ▸ divides_raises 13 7 (local 0) (gone 0) refl refl
+    ▸ the_rest_closes
 
 the_rest_begins : EachFollows rules (take 0 edges) (drop 0 edges)
-the_rest_begins = (
-  record { premises = []; instance = start; hold = tt },
-  (
-    enters_by_call 1 0 0 None the_start the_call none_yet none_yet none_yet entry_call main_number at_call refl refl main_there refl refl,
-    (
-      node_goes 2 1 0 0 (Some main_number) main makes none_yet none_yet some_yet 1 (in_main_at 0 _ refl) making_is_no_call refl refl refl,
-      (
-        node_goes 3 1 0 1 (Some main_number) main makes none_yet none_yet (local 0) 1 (in_main_at 0 _ refl) making_is_no_call refl refl refl,
-        (
-          node_goes 4 2 0 0 (Some main_number) main first_copies none_yet some_yet some_yet 2 (in_main_at 1 _ refl) copying_is_no_call refl refl refl,
-          (
-            node_goes 5 3 0 0 (Some main_number) main first_copies none_yet (local 0) (copied 0) 2 (in_main_at 1 _ refl) copying_is_no_call refl refl refl,
-            the_rest_reads,
-          ),
-        ),
-      ),
-    ),
-  ),
-)
+the_rest_begins =
+    record { premises = []; instance = start; hold = tt }
+    ▸ enters_by_call it 1 0 0 None the_start the_call none_yet none_yet none_yet entry_call main_number (at_call it) refl refl (main_there it) refl refl
+    ▸ node_goes it 2 1 0 0 (Some main_number) main makes none_yet none_yet some_yet 1 (in_main_at it 0 _ refl) (no_call makes.op refl) refl refl refl
+    ▸ node_goes it 3 1 0 1 (Some main_number) main makes none_yet none_yet (local 0) 1 (in_main_at it 0 _ refl) (no_call makes.op refl) refl refl refl
+    ▸ node_goes it 4 2 0 0 (Some main_number) main first_copies none_yet some_yet some_yet 2 (in_main_at it 1 _ refl) (no_call first_copies.op refl) refl refl
+    refl
+    ▸ node_goes it 5 3 0 0 (Some main_number) main first_copies none_yet (local 0) (copied 0) 2 (in_main_at it 1 _ refl) (no_call first_copies.op refl) refl
+    refl refl
+    ▸ the_rest_reads
 
-derived : IsDerivation rules edges
-derived = derivation_goes_on rules [] edges (nothing_derived rules) the_rest_begins
-
--- ---- without doubles
-
--- What tells an edge of the list from the others.
-abbrev number_of_method : Option MethodNo → ℕ
-number_of_method None = 0
-number_of_method (Some m) = 1 + m.0
-
-abbrev number_of_fact : SiteFact → ℕ
-number_of_fact none_yet = 0
-number_of_fact some_yet = 1
-number_of_fact (of_object u) = 2 + u.state
-
-abbrev number_of_spot : Spot → ℕ
-number_of_spot (spots.Node offset) = 2 + offset
-number_of_spot spots.Returned = 0
-number_of_spot spots.Thrown = 1
-
-abbrev key : Edge → ℕ
-key d = 100 * number_of_method d.method + (10 * number_of_spot d.spot + number_of_fact d.fact)
-
-abbrev place_in : List ℕ → ℕ → ℕ
-place_in [] k = 0
-place_in (j ∷ js) k = if nat_eq j k then 0 else 1 + place_in js k
-
-abbrev place : Edge → ℕ
-place d = place_in (map key edges) (key d)
-
-pub without_doubles : IsWithoutDoubles edges
-without_doubles = apart place edges refl
-
--- ---- the error state
-
-abbrev is_error : SiteFact → Bool
-is_error none_yet = false
-is_error some_yet = false
-is_error (of_object u) = nat_eq u.state property.error
-
-errs : (f : SiteFact) → IsError property f → is_error f ≡ true
-errs none_yet error = absurd error
-errs some_yet error = absurd error
-errs (of_object u) error = eq-eqb u.state property.error error
-
-pub no_error : (e : Edge) → Contains edges e → IsError property e.fact → ⊥
-no_error e there error =
-    true≢false (sym (passes (λ (d : Edge). not (is_error d.fact)) edges e refl there) ∙ ap not (errs e.fact error))
+-- ---- the law
 
 pub are_path_edges : ArePathEdges subject gives known setting edges
-are_path_edges = record { least = record { closed = closed; derivable = All-derivable rules edges derived }; apart = without_doubles }
+are_path_edges = path_edges_of it closed the_rest_begins refl refl
+
+pub no_error : (e : Edge) → Contains edges e → IsError property e.fact → ⊥
+no_error = no_error_of it refl

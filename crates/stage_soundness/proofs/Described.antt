@@ -1,31 +1,24 @@
 -- A closed set of path edges describes every execution: each step keeps what it says, and so it says it of each state.
-use Rattle.std.proofs.Common.{◌≡◌, ◌≢◌, ◌⊎◌, inl, inr, ℕ, zero, suc, ◌<◌, ◌≤◌, Bool, true, false, List, [], ◌∷◌, ◌++◌, length, map, Option, Some, None, Ok, Contains, refl, sym, ap, ◌∙◌, subst, arith}
+use Rattle.std.proofs.Common.{◌≡◌, inl, inr, ℕ, zero, suc, Bool, true, false, List, [], ◌∷◌, ◌++◌, map, Some, Contains, refl, sym, ap, ◌∙◌, subst}
 use Rattle.std.specs.Prelude.{slice_get, MatchBool}
 use Rattle.std.proofs.lemmas.Option.{none-some, same_Some, slice_get_cases}
 use Rattle.list_laws.proofs.Members.{contains_cases, contains_first, contains_later, contains_none}
 use Rattle.jvm_model.specs.declared.site.Site.{Site}
 use Rattle.jvm_model.specs.declared.site.SiteKind.TheVariants as kinds
-use Rattle.jvm_model.specs.LinkedPrograms.{IsProgram}
-use Rattle.least_sets.specs.Rules.{IsClosedSet}
-use Rattle.op_model.specs.declared.node.Node.{Node}
-use Rattle.op_model.specs.declared.node.Spot.TheVariants as spots
-use Rattle.op_model.specs.Supplies.{Given, GivenAs, IsMapOf}
+use Rattle.op_model.specs.Supplies.{Given, GivenAs}
 use Rattle.machine_bytecode.specs.Objects.{Subject}
-use Rattle.machine_bytecode.specs.Start.{boot_classes, boot_object, IsArgumentArray, IsFirst, start_frame}
-use Rattle.machine_bytecode.specs.States.{Object, running, State}
+use Rattle.machine_bytecode.specs.Start.{boot_classes, boot_object, IsArgumentArray, IsFirst}
+use Rattle.machine_bytecode.specs.States.{Object, State}
 use Rattle.machine_nodes.specs.NodeExecutions.{AreNodeSteps, IsNodeExecution}
 use Rattle.machine_nodes.specs.NodeSteps.{NodeStep, advances, enters, gets_result, gets_exception, enters_entry, returns, resumes, ends, raises, throws, catches, unwinds, starts, wraps}
 use Rattle.slot_names.specs.Sharing.{VariablesHaveValues}
 use Rattle.points_to_rules.specs.Facts.{Fact}
-use Rattle.coverage.specs.Covering.{CoversAll}
-use Rattle.coverage.specs.Uses.{InformsAll}
 use Rattle.coverage.proofs.Executions.{covers_all}
 use Rattle.coverage.proofs.Uses.{informs_all}
 use Rattle.stage_facts.specs.Facts.{none_yet}
 use Rattle.stage_transfer.specs.Stages.{Transfer}
-use Rattle.stage_edges.specs.Rules.{Edge, edge, Instance}
+use Rattle.stage_edges.specs.Rules.{Edge, Instance}
 use Rattle.stage_steps.specs.Said.{IsTracked}
-use Rattle.stage_soundness.specs.Describing.{DescribesAll, method_of}
 use Rattle.stage_soundness.proofs.Bounded.{frames_bounded}
 use Rattle.stage_soundness.proofs.Known.{described_as, Described, IsKnown, Premises, tracked_before}
 use Rattle.stage_soundness.proofs.Returning.{ends_good, enters_entry_good, resumes_good, returns_good, starts_good}

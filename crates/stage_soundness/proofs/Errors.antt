@@ -15,18 +15,17 @@ use Rattle.op_model.specs.declared.node.Spot.TheVariants as spots
 use Rattle.op_model.specs.Supplies.{Given, GivenAs}
 use Rattle.program_laws.proofs.Decided.{fits_or_not}
 use Rattle.machine_bytecode.specs.Objects.{Subject}
-use Rattle.machine_bytecode.specs.States.{Value, primitive_value, reference_to, Object, Frame, Mode, running, throwing, ended, State, World, slot_at}
-use Rattle.machine_nodes.specs.Nodes.{IsClassNumber}
+use Rattle.machine_bytecode.specs.States.{Value, primitive_value, reference_to, Object, Frame, Mode, running, throwing, ended, World, slot_at}
 use Rattle.machine_nodes.specs.NodeSteps.{all, fitting, IsFirstTaking, Takes}
 use Rattle.machine_nodes.specs.Slots.{AreCaught}
 use Rattle.slot_names.specs.Sharing.{VariablesHaveValues}
 use Rattle.points_to_rules.specs.Facts.{Fact}
-use Rattle.stage_facts.specs.Facts.{none_yet, of_object, Says, SiteFact, some_yet, Tuple}
+use Rattle.stage_facts.specs.Facts.{none_yet, of_object, Says, SiteFact, some_yet}
 use Rattle.stage_facts.specs.Values.{of_return, of_slots, of_throw, View}
 use Rattle.stage_transfer.specs.Stages.{Transfer}
 use Rattle.stage_edges.specs.Rules.{caught, Edge, edge, GoesTo, uncaught}
 use Rattle.stage_steps.specs.Said.{SaysCaught}
-use Rattle.stage_soundness.specs.Describing.{AreErrorFree, ErrsOnNodes, HasEnded, IsDescribed, IsRunning, IsThrowing, method_of}
+use Rattle.stage_soundness.specs.Describing.{AreErrorFree, ErrsOnNodes, IsDescribed}
 use Rattle.stage_soundness.proofs.Described.{described_all}
 use Rattle.stage_soundness.proofs.Known.{Premises}
 

@@ -1,27 +1,24 @@
 -- What is known of a program, of a stage and of closed edges; and of each state of an execution.
-use Rattle.std.proofs.Common.{◌≡◌, ◌≢◌, ◌⊎◌, inl, inr, ℕ, ◌+◌, ◌<◌, false, List, [], ◌∷◌, Option, Some, None, Ok, Contains, refl, sym, ap, ◌∙◌, subst, arith}
+use Rattle.std.proofs.Common.{◌≡◌, ◌≢◌, ◌⊎◌, inl, inr, ℕ, ◌<◌, List, [], ◌∷◌, Option, Some, None, Ok, Contains, refl, sym, ap, ◌∙◌, subst}
 use Rattle.std.specs.Prelude.{slice_get, length}
 use Rattle.std.specs.Option.{option_map}
 use Rattle.std.proofs.lemmas.Option.{same_Some, none-some}
 use Rattle.list_laws.proofs.Members.{contains_cases, contains_none}
-use Rattle.jvm_model.specs.declared.number.ClassNo.{ClassNo}
 use Rattle.jvm_model.specs.declared.number.MethodNo.{MethodNo}
 use Rattle.jvm_model.specs.declared.site.Site.{Site}
-use Rattle.jvm_model.specs.declared.site.SiteKind.{SiteKind}
 use Rattle.jvm_model.specs.declared.site.SiteKind.TheVariants as kinds
 use Rattle.jvm_model.specs.LinkedPrograms.{IsProgram}
 use Rattle.least_sets.specs.Rules.{IsClosedSet}
 use Rattle.op_model.specs.declared.lowered.LoweredMethod.{LoweredMethod}
 use Rattle.op_model.specs.declared.node.Node.{Node}
 use Rattle.op_model.specs.declared.node.Spot.TheVariants as spots
-use Rattle.op_model.specs.declared.op.Op.{Op}
-use Rattle.op_model.specs.declared.op.Op.TheVariants.{Call, NewArray, Return, Throw}
+use Rattle.op_model.specs.declared.op.Op.TheVariants.{NewArray, Throw}
 use Rattle.op_model.specs.Supplies.{Given, GivenAs, IsMapOf}
-use Rattle.machine_bytecode.specs.Objects.{Subject, constant_classes}
+use Rattle.machine_bytecode.specs.Objects.{Subject}
 use Rattle.machine_bytecode.specs.Start.{boot_site}
-use Rattle.machine_bytecode.specs.States.{reference_to, Object, Frame, Mode, running, State, World, slot_at}
+use Rattle.machine_bytecode.specs.States.{reference_to, Object, Frame, Mode, running, State, slot_at}
 use Rattle.machine_nodes.specs.Nodes.{AreStartNodes, IsStartCall, IsStartReturn}
-use Rattle.machine_nodes.specs.NodeSteps.{AtNode, NodeStep}
+use Rattle.machine_nodes.specs.NodeSteps.{NodeStep}
 use Rattle.machine_laws.specs.NodeSurvival.{Survives}
 use Rattle.slot_names.specs.Sharing.{ReadsAlike}
 use Rattle.points_to_rules.specs.Facts.{Fact}
@@ -41,7 +38,7 @@ use Rattle.stage_relations.specs.Laws.{IsStage}
 use Rattle.stage_steps.specs.Said.{IsTracked}
 use Rattle.stage_steps.proofs.Roots.{IsNoConstant}
 use Rattle.stage_soundness.specs.Describing.{AreThrownPlainly, IsDescribed, IsTrackable, method_of}
-use Rattle.stage_soundness.proofs.Placed.{number_as, start_method}
+use Rattle.stage_soundness.proofs.Placed.{number_as}
 
 pub record Premises (x : Subject) (given : Given) (gives : GivenAs) (S : Fact → Type 0) (s : Site) (t : Transfer) (E : Edge → Type 0) : Type 0 where
   pub program : IsProgram x.program

@@ -3,6 +3,7 @@ pub mod PlainThrows
 pub mod Placed
 pub mod Known
 pub mod Alike
+pub mod Standing
 pub mod Waiting
 pub mod Running
 pub mod Returning

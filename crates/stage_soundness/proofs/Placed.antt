@@ -1,19 +1,16 @@
 -- Where a frame stands, as the rules of path edges have it: at a node of its method, or of the start of the program.
-use Rattle.std.proofs.Common.{◌≡◌, ◌⊎◌, inl, inr, ℕ, ◌+◌, ◌<◌, List, [], ◌∷◌, Option, Some, None, Ok, nat_eq, Contains, refl, sym, ap, ◌∙◌, subst, arith}
+use Rattle.std.proofs.Common.{◌≡◌, ℕ, List, Option, Some, Ok, nat_eq, Contains, refl, sym, ap, subst, arith}
 use Rattle.std.specs.Option.{option_map}
 use Rattle.std.proofs.lemmas.Bool.{eqb-true}
-use Rattle.std.proofs.lemmas.Option.{same_Some, none-some}
 use Rattle.list_laws.proofs.Tests.{IsFound, found}
 use Rattle.jvm_model.specs.declared.number.MethodNo.{MethodNo}
 use Rattle.op_model.specs.declared.lowered.LoweredMethod.{LoweredMethod}
 use Rattle.op_model.specs.declared.node.Node.{Node}
-use Rattle.op_model.specs.declared.node.NodeHandler.{NodeHandler}
 use Rattle.op_model.specs.Supplies.{Given, GivenAs, IsMapOf}
 use Rattle.machine_bytecode.specs.Objects.{Subject}
-use Rattle.machine_bytecode.specs.States.{Value, Frame, slot_at}
-use Rattle.machine_nodes.specs.Nodes.{AreStartNodes, HasNodes, of_start, of_method, StandsAt}
+use Rattle.machine_bytecode.specs.States.{Frame, slot_at}
+use Rattle.machine_nodes.specs.Nodes.{HasNodes, of_start, of_method, StandsAt}
 use Rattle.slot_names.specs.Sharing.{ReadsAlike}
-use Rattle.points_to_rules.specs.Rules.{IsNodeOf}
 use Rattle.points_to_rules.specs.WholeMethods.{AreWholeMethods}
 use Rattle.stage_edges.specs.Rules.{IsMethod, IsNode}
 use Rattle.stage_relations.specs.Roots.{AreAlike, HasVariables}

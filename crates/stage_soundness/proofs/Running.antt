@@ -1,10 +1,10 @@
 -- Steps of a frame that runs: an operation that goes on, a call, and the answer of a described method.
-use Rattle.std.proofs.Common.{◌≡◌, ◌≢◌, ◌⊎◌, inl, inr, ℕ, zero, suc, ◌+◌, ◌<◌, Bool, true, false, List, [], ◌∷◌, length, Option, Some, None, Ok, Contains, refl, sym, ap, ◌∙◌, subst, arith}
+use Rattle.std.proofs.Common.{◌≡◌, ℕ, zero, suc, ◌<◌, Bool, true, false, List, [], ◌∷◌, length, Option, Some, None, Ok, Contains, refl, sym, ap, ◌∙◌, subst}
 use Rattle.std.specs.Prelude.{slice_get, slice_set}
-use Rattle.std.specs.Option.{option_map, option_map_or, option_flatten}
+use Rattle.std.specs.Option.{option_map_or, option_flatten}
 use Rattle.std.proofs.lemmas.Bool.{false≢true}
-use Rattle.std.proofs.lemmas.Option.{same_Some, none-some}
-use Rattle.list_laws.proofs.Members.{contains_first, contains_later, contains_none}
+use Rattle.std.proofs.lemmas.Option.{none-some}
+use Rattle.list_laws.proofs.Members.{contains_first, contains_later}
 use Rattle.jvm_model.specs.declared.number.FieldNo.{FieldNo}
 use Rattle.jvm_model.specs.declared.number.MethodNo.{MethodNo}
 use Rattle.jvm_model.specs.declared.site.Site.{Site}
@@ -12,28 +12,21 @@ use Rattle.jvm_model.specs.Lookups.{Signature}
 use Rattle.jvm_model.specs.Programs.{Method, Program}
 use Rattle.jvm_model.specs.Soundness.{is_array}
 use Rattle.jvm_model.specs.Subtypes.{IsSubtype}
-use Rattle.op_model.specs.declared.lowered.LoweredMethod.{LoweredMethod}
 use Rattle.op_model.specs.declared.node.Node.{Node}
-use Rattle.op_model.specs.declared.node.NodeRef.{NodeRef}
-use Rattle.op_model.specs.declared.node.Spot.TheVariants as spots
 use Rattle.op_model.specs.declared.op.Call.{Call as NodeCall}
 use Rattle.op_model.specs.declared.op.CallKind.{CallKind}
 use Rattle.op_model.specs.declared.op.CallKind.TheVariants as call_kinds
 use Rattle.op_model.specs.declared.op.Op.{Op}
-use Rattle.op_model.specs.declared.op.Op.TheVariants.{Call}
 use Rattle.op_model.specs.Supplies.{Given, GivenAs}
 use Rattle.jvm_model.specs.declared.stub.StubResult.{StubResult}
 use Rattle.jvm_model.specs.declared.stub.StubResult.TheVariants as results
 use Rattle.machine_bytecode.specs.Described.{DescribedMethod, Gives, GivesResult}
 use Rattle.machine_bytecode.specs.Events.{HasEvents, moved, unmoved}
 use Rattle.machine_bytecode.specs.Objects.{Subject, Refers}
-use Rattle.machine_bytecode.specs.States.{Value, primitive_value, null_value, reference_to, Contents, Object, Frame, running, State, World, moved_to, waiting, runs_on, slot_at}
-use Rattle.machine_nodes.specs.NodeSteps.{Advances, advances, AtNode, Calls, EntersTarget, enters, GetsResult, gets_result, is_selecting_kind, IsTargetOf, Leads, NodeStep}
-use Rattle.machine_nodes.specs.Slots.{argument_slots, argument_values, AreLeft}
-use Rattle.points_to_rules.specs.Calls.{IsOfFile}
+use Rattle.machine_bytecode.specs.States.{Value, primitive_value, null_value, reference_to, Contents, Frame, State, World, waiting, slot_at}
+use Rattle.machine_nodes.specs.NodeSteps.{Advances, advances, AtNode, Calls, EntersTarget, GetsResult, is_selecting_kind, IsTargetOf, Leads}
+use Rattle.machine_nodes.specs.Slots.{argument_values}
 use Rattle.points_to_rules.specs.Facts.{Fact, Holder, may_call, may_hold, may_run, variable}
-use Rattle.points_to_rules.specs.Rules.{IsSlot}
-use Rattle.slot_names.specs.Variables.{AreReachedNodes}
 use Rattle.points_to_rules.specs.ReadSlots.{read_slots}
 use Rattle.access_paths.specs.declared.root.Root.TheVariants.{Slot, Static, Returned, Thrown}
 use Rattle.coverage.specs.Covering.{Covers, IsCoveredFrame, MayHold}
@@ -43,23 +36,23 @@ use Rattle.coverage.proofs.Frames.{frames_are}
 use Rattle.coverage.proofs.Units.{argument_there}
 use Rattle.coverage.proofs.Values.{among_from}
 use Rattle.stage_facts.specs.Facts.{Says, SiteFact}
-use Rattle.stage_facts.specs.Values.{Cell, cell_value, element_in, field_in, in_element, in_field, in_kept, in_root, of_slots, part_at, root_value}
+use Rattle.stage_facts.specs.Values.{Cell, cell_value, element_in, field_in, in_element, in_field, in_kept, in_root, of_slots, part_at}
 use Rattle.stage_transfer.specs.Calls.{by_call, Entering}
 use Rattle.stage_transfer.specs.Stages.{Transfer}
-use Rattle.stage_edges.specs.Rules.{answers, before, called, Edge, edge, Enters, goes_on, Instance, IsNode, node_at}
-use Rattle.stage_relations.specs.Roots.{AreAlike, HasVariables}
-use Rattle.stage_steps.specs.Said.{BeginsWith, ChangesFields, IsBounded, IsPassed, IsTracked, Results}
-use Rattle.stage_steps.proofs.Calm.{none_new}
+use Rattle.stage_edges.specs.Rules.{answers, called, Edge, Enters, goes_on, Instance, node_at}
+use Rattle.stage_steps.specs.Said.{AreEqual, BeginsWith, ChangesFields, IsBounded, IsPassed, IsTracked, Results}
 use Rattle.stage_steps.proofs.Described.{answer_says}
 use Rattle.stage_steps.proofs.Entering.{enter_says}
 use Rattle.stage_steps.proofs.Events.{event_says, IsObserved, IsReceiverHeld}
 use Rattle.stage_steps.proofs.Kept.{unit_value}
+use Rattle.stage_steps.proofs.Leaving.{Behind}
 use Rattle.stage_steps.proofs.Operations.{next_says}
 use Rattle.stage_steps.proofs.Paths.{default_field, part_push, part_set, Unchanged}
-use Rattle.stage_soundness.specs.Describing.{AreWaiting, IsDescribed, IsRunning, method_of, Waits}
+use Rattle.stage_soundness.specs.Describing.{IsRunning, method_of, waits_so}
 use Rattle.stage_soundness.proofs.Bounded.{bounded_of}
-use Rattle.stage_soundness.proofs.Known.{described_as, Described, described_in, edge_before, IsKnown, method_as, method_is, method_or_start, no_arrays, no_constant, node_in, Premises, tracked_before, tracked_in}
-use Rattle.stage_soundness.proofs.Placed.{IsPlaced, number_as, placed_of}
+use Rattle.stage_soundness.proofs.Known.{described_as, Described, IsKnown, method_as, method_is, no_arrays, no_constant, node_in, Premises, tracked_before, tracked_in}
+use Rattle.stage_soundness.proofs.Placed.{number_as}
+use Rattle.stage_soundness.proofs.Standing.{Stands, stands_at}
 use Rattle.stage_soundness.proofs.Waiting.{more_changes, no_changes, operation_changes, waiting_on}
 
 -- ---- worlds after events
@@ -175,6 +168,50 @@ module _ (x : Subject) (given : Given) (gives : GivenAs) (S : Fact → Type 0) (
       let class : o.class ≡ s.class = (covers.world.objects place o held).of_class ∙ ap (λ (r : Site). r.class) of_site in
       (ap is_array class ∙ k.trackable.no_array, subst (λ (c : List ℕ). IsSubtype x.program x.property.class_name c) (sym class) k.trackable.observed)
 
+  -- ---- methods that are entered
+
+  -- a method is entered from where a frame stands, which waits for it, maybe with other slots
+  pub entered_good : (state : State) (place : ℕ) (f : Frame) (below : List Frame) (n : Node) (h : Stands x given gives S s t E k state.world place f below n) → Newest state f below
+      → (by : Entering) (target : MethodNo) (sent : SiteFact) → Enters x S t (method_of f) h.lowered n target h.here.fact by sent → (now : World) (waits : Bool) (left : List Value) → waits ≡ waits_so by
+      → (behind : Behind S s place now by target sent left) → AreEqual h.lowered n behind.slots → ((m : MethodNo) → ChangesFields S m state.world.heap now.heap)
+      → (slots : List Value) → Says s (t.enter by sent) place now (of_slots slots)
+      → IsRunning x gives S s t E now place (record { method = Some target.0; offset = 0; slots = slots; waits = false })
+      (record { method = f.method; offset = f.offset; slots = left; waits = waits } ∷ below)
+  entered_good state place f below n h new by target sent sends now waits left waits_is behind alike changes slots says = record {
+    entry = t.enter by sent;
+    fact = t.enter by sent;
+    held = k.edges _ _ (Instance.enters (method_of f) h.lowered n h.here.entry h.here.fact sent target by h.is_node sends) (h.held, tt);
+    says = says;
+    waiting = record {
+      called = target;
+      is_called = refl;
+      first = record {
+        lowered = h.lowered;
+        node = n;
+        is_node = h.is_node;
+        at = h.at;
+        runs = new.runs;
+        by = by;
+        waits = waits_is;
+        own = h.here.entry;
+        fact = h.here.fact;
+        sent = sent;
+        held = h.held;
+        enters = sends;
+        entered = refl;
+        slots = behind.slots;
+        world = behind.world;
+        says = behind.says;
+        alike = alike;
+        stays = behind.stays;
+        cleared = behind.cleared;
+        bounded = behind.bounded;
+        changes = behind.changes;
+      };
+      rest = waiting_on x given gives S s t E k place state.world now below (method_of f) h.here.entry (λ m e. changes m) h.here.waiting;
+    };
+  }
+
   -- ---- operations
 
   pub advances_good : (state after : State) (at : AtNode x given state) → Advances x given state after at → IsKnown x given gives S state → (place : ℕ) → IsTracked s place after.world.heap
@@ -182,52 +219,51 @@ module _ (x : Subject) (given : Given) (gives : GivenAs) (S : Fact → Type 0) (
   advances_good state after at a known place tracked d =
       let f = at.frame in
       let n = at.now.node in
-      let p = placed_of x given gives k.map k.whole f at.now in
+      let h = stands_at x given gives S s t E k state at place d in
       let new = newest state f at.below at.frames known in
-      let here : IsRunning x gives S s t E state.world place f at.below = described_in x given gives S s t E k place state running f at.below at.runs at.frames d in
       let before_tracked = tracked_before x given gives S s t E k state after place (advances at a) tracked in
-      let r = next_says x S s t k.laws place p.lowered n here.fact state.world a.world f.slots a.left p.variables (p.equal (known.alike at.runs f at.below at.frames)) a.leads new.bounded
-      (no_constant x given gives S s t E k state place known.covers before_tracked) (no_arrays x given gives S s t E k (method_of f) p.lowered n p.is_node)
-      (tracked_in x given gives S s t E k after _ place a.after tracked) here.says in
-      let held = edge_before x given gives S s t E k (method_of f) here.entry here.fact n f.offset p.at here.held in
+      let r = next_says x S s t k.laws place h.lowered n h.here.fact state.world a.world f.slots a.left h.variables (h.equal (known.alike at.runs f at.below at.frames)) a.leads new.bounded
+      (no_constant x given gives S s t E k state place known.covers before_tracked) (no_arrays x given gives S s t E k (method_of f) h.lowered n h.is_node)
+      (tracked_in x given gives S s t E k after _ place a.after tracked) h.here.says in
       described_as x given gives S s t E k place after _ a.after (record {
-        entry = here.entry;
+        entry = h.here.entry;
         fact = r.fact;
-        held = k.edges _ _ (goes_on (method_of f) p.lowered n here.entry here.fact r.fact a.next p.is_node
-            (λ c e. subst (λ (op : Op). Leads op x state.world f.slots a.left a.world) e a.leads) a.goes r.listed) (held, tt);
+        held = k.edges _ _ (goes_on (method_of f) h.lowered n h.here.entry h.here.fact r.fact a.next h.is_node
+            (λ c e. subst (λ (op : Op). Leads op x state.world f.slots a.left a.world) e a.leads) a.goes r.listed) (h.held, tt);
         says = r.says;
-        waiting = waiting_on x given gives S s t E k place state.world a.world at.below (method_of f) here.entry
-            (λ m e. operation_changes x given gives S s t E k m p.lowered n state.world a.world f.slots a.left (node_in x gives p.lowered n (method_of f) m e p.is_node) (new.runs m e) a.leads) here.waiting;
+        waiting = waiting_on x given gives S s t E k place state.world a.world at.below (method_of f) h.here.entry
+            (λ m e. operation_changes x given gives S s t E k m h.lowered n state.world a.world f.slots a.left (node_in x gives h.lowered n (method_of f) m e h.is_node) (new.runs m e) a.leads) h.here.waiting;
       })
 
   -- ---- calls
 
-  -- a call in a method: what its event gives, and where it goes
-  pub record IsCalling (state : State) (at : AtNode x given state) (calls : Calls x given state at) (place : ℕ) (fact : SiteFact) (p : IsPlaced x given gives k.map k.whole at.frame at.now) : Type 0 where
-    pub results : Results (t.event p.lowered at.now.node calls.call fact) (λ g. Says s g place calls.world (of_slots at.frame.slots))
+  -- a call in a method: where it stands, what its event gives, and where it goes
+  pub record IsCalling (state : State) (at : AtNode x given state) (calls : Calls x given state at) (place : ℕ) : Type 0 where
+    pub stands : Stands x given gives S s t E k state.world place at.frame at.below at.now.node
+    pub results : Results (t.event stands.lowered at.now.node calls.call stands.here.fact) (λ g. Says s g place calls.world (of_slots at.frame.slots))
     pub goes : S (may_call (node_at (method_of at.frame) at.now.node) (number_as calls.target))
     pub quiet : IsQuiet state.world calls.world
 
-  pub call_says : (state : State) (at : AtNode x given state) (calls : Calls x given state at) (place : ℕ) (fact : SiteFact) (target : Method) → slice_get x.program.methods calls.target ≡ Some target
-      → IsKnown x given gives S state → Says s fact place state.world (of_slots at.frame.slots) → IsCalling state at calls place fact (placed_of x given gives k.map k.whole at.frame at.now)
-  call_says state at calls place fact target there known says =
+  pub call_says : (state : State) (at : AtNode x given state) (calls : Calls x given state at) (place : ℕ) (target : Method) → slice_get x.program.methods calls.target ≡ Some target
+      → IsKnown x given gives S state → Described x given gives S s t E k place state → IsCalling state at calls place
+  call_says state at calls place target there known d =
       let f = at.frame in
       let n = at.now.node in
-      let p = placed_of x given gives k.map k.whole f at.now in
+      let i = stands_at x given gives S s t E k state at place d in
       let new = newest state f at.below at.frames known in
       let m = number_as calls.number in
-      let in_method : method_of f ≡ Some m = method_as f calls.number calls.in_method in
-      let node = node_in x gives p.lowered n (method_of f) m in_method p.is_node in
-      let reached = (k.whole m.0 p.lowered node.given).reached in
-      let slots = slots_here x given gives S k.map k.points k.whole state.world.heap f m p.lowered n (record { in_method = calls.in_method; node = node; at = p.at }) new.frame in
-      let held : IsReceiverHeld S p.lowered n calls.call state.world f.slots =
+      let node = node_in x gives i.lowered n (method_of f) m (method_as f calls.number calls.in_method) i.is_node in
+      let whole = k.whole m.0 i.lowered node.given in
+      let slots = slots_here x given gives S k.map k.points k.whole state.world.heap f m i.lowered n (record { in_method = calls.in_method; node = node; at = i.at }) new.frame in
+      let held : IsReceiverHeld S i.lowered n calls.call state.world f.slots =
       λ z h q o argument slot is at_place. subst (λ (j : Holder). S (may_hold j o.site)) (sym slot.is)
       (among_from (MayHold S (variable slot.name)) state.world.heap (slot_at f.slots z) q o
-      (slots z slot.name ((k.whole m.0 p.lowered node.given).reads n z node.stands (subst (λ (op : Op). Contains (read_slots op) z) (sym calls.is_call) (argument_there calls.call.arguments 0 z argument))) slot.named) is at_place) in
+      (slots z slot.name (whole.reads n z node.stands (subst (λ (op : Op). Contains (read_slots op) z) (sym calls.is_call) (argument_there calls.call.arguments 0 z argument))) slot.named) is at_place) in
       record {
-        results = event_says x S s t k.laws place p.lowered n calls.call fact state.world calls.world f.slots reached node.stands (p.equal (known.alike at.runs f at.below at.frames)) calls.events
-            (receives calls.call.kind x.program calls.call calls.resolved state.world (argument_values calls.call.arguments f.slots) calls.target calls.is_target) held (observed state place known.covers) says;
-        goes = subst (λ (j : ℕ). S (may_call (record { method = method_of f; offset = j }) (number_as calls.target))) (sym p.at) (known.informs.called at calls target there);
+        stands = i;
+        results = event_says x S s t k.laws place i.lowered n calls.call i.here.fact state.world calls.world f.slots whole.reached node.stands (i.equal (known.alike at.runs f at.below at.frames)) calls.events
+            (receives calls.call.kind x.program calls.call calls.resolved state.world (argument_values calls.call.arguments f.slots) calls.target calls.is_target) held (observed state place known.covers) i.here.says;
+        goes = subst (λ (j : ℕ). S (may_call (record { method = method_of f; offset = j }) (number_as calls.target))) (sym i.at) (known.informs.called at calls target there);
         quiet = events_quiet x _ _ _ state.world calls.world calls.events;
       }
 
@@ -241,54 +277,26 @@ module _ (x : Subject) (given : Given) (gives : GivenAs) (S : Fact → Type 0) (
       let n = at.now.node in
       let calls = a.calls in
       let c = calls.call in
-      let p = placed_of x given gives k.map k.whole f at.now in
-      let new = newest state f at.below at.frames known in
-      let here : IsRunning x gives S s t E state.world place f at.below = described_in x given gives S s t E k place state running f at.below at.runs at.frames d in
+      let w = calls.world in
+      let target = number_as calls.target in
       let given_as = (k.map.entries calls.target (Ok a.enters.method)).0 a.enters.is_given in
       let coded = (k.whole calls.target a.enters.method given_as).coded in
-      let is = call_says state at calls place here.fact coded.method coded.stands known here.says in
+      let is = call_says state at calls place coded.method coded.stands known d in
+      let h = is.stands in
       let r = is.results in
-      let target = number_as calls.target in
-      let held = edge_before x given gives S s t E k (method_of f) here.entry here.fact n f.offset p.at here.held in
-      let sends : Enters x S t (method_of f) p.lowered n target here.fact (by_call c) r.fact =
-      called c r.fact calls.is_call is.goes (of_file x given gives S k.map k.points k.whole target a.enters.method given_as) r.listed in
-      let entry = t.enter (by_call c) r.fact in
-      let waits : Waits x gives S s t E calls.world place (waiting f a.left) target entry = record {
-        lowered = p.lowered;
-        node = n;
-        is_node = p.is_node;
-        at = p.at;
-        runs = new.runs;
-        by = by_call c;
-        waits = refl;
-        own = here.entry;
-        fact = here.fact;
-        sent = r.fact;
-        held = held;
-        enters = sends;
-        entered = refl;
+      described_as x given gives S s t E k place after _ a.enters.after
+      (entered_good state place f at.below n h (newest state f at.below at.frames known) (by_call c) target r.fact
+      (called c r.fact calls.is_call is.goes (of_file x given gives S k.map k.points k.whole target a.enters.method given_as) r.listed) w true a.left refl (record {
         slots = f.slots;
-        world = calls.world;
+        world = w;
         says = r.says;
-        alike = p.equal (known.alike at.runs f at.below at.frames);
         stays = λ z aside. a.are_left.kept z aside (none-some z);
         cleared = λ z q is_place has. absurd (let bad : primitive_value ≡ reference_to q = sym (a.are_left.cleared z has (none-some z)) ∙ is_place in cc bad);
         bounded = λ z q is_place. subst (λ (u : State). q < length u.world.heap) a.enters.after
             (later.bounded (waiting f a.left) (subst (λ (u : State). Contains u.frames (waiting f a.left)) (sym a.enters.after) (contains_later _ (waiting f a.left) (waiting f a.left ∷ at.below) (contains_first (waiting f a.left) at.below))) z q is_place);
-        changes = no_changes S target calls.world.heap calls.world.heap (λ g q. refl);
-      } in
-      described_as x given gives S s t E k place after _ a.enters.after (record {
-        entry = entry;
-        fact = entry;
-        held = k.edges _ _ (Instance.enters (method_of f) p.lowered n here.entry here.fact r.fact target (by_call c) p.is_node sends) (held, tt);
-        says = enter_says x S s t k.laws place (by_call c) r.fact calls.world f.slots a.enters.slots (begins_with c f.slots a.enters.slots place a.enters.arguments) r.says;
-        waiting = record {
-          called = target;
-          is_called = refl;
-          first = waits;
-          rest = waiting_on x given gives S s t E k place state.world calls.world at.below (method_of f) here.entry (λ m e. quiet_changes state.world calls.world m is.quiet) here.waiting;
-        };
-      })
+        changes = no_changes S target w.heap w.heap (λ g q. refl);
+      }) (h.equal (known.alike at.runs f at.below at.frames)) (λ m. quiet_changes state.world w m is.quiet) a.enters.slots
+      (enter_says x S s t k.laws place (by_call c) r.fact w f.slots a.enters.slots (begins_with c f.slots a.enters.slots place a.enters.arguments) r.says))
 
   -- ---- described methods
 
@@ -299,20 +307,18 @@ module _ (x : Subject) (given : Given) (gives : GivenAs) (S : Fact → Type 0) (
       let n = at.now.node in
       let calls = a.calls in
       let c = calls.call in
-      let p = placed_of x given gives k.map k.whole f at.now in
       let new = newest state f at.below at.frames known in
-      let here : IsRunning x gives S s t E state.world place f at.below = described_in x given gives S s t E k place state running f at.below at.runs at.frames d in
-      let is = call_says state at calls place here.fact a.gives.called.method a.gives.called.stands known here.says in
+      let is = call_says state at calls place a.gives.called.method a.gives.called.stands known d in
+      let h = is.stands in
       let r = is.results in
-      let held = edge_before x given gives S s t E k (method_of f) here.entry here.fact n f.offset p.at here.held in
-      let answer = answer_says x S s t k.laws place (method_of f) p.lowered n c calls.target f r.fact calls.world a.world a.value f.slots a.left refl p.at p.variables
-      (p.equal (known.alike at.runs f at.below at.frames)) (quiet_bounded state.world calls.world f.slots is.quiet new.bounded) a.gives a.are_left (tracked_in x given gives S s t E k after _ place a.after tracked) r.says in
+      let answer = answer_says x S s t k.laws place (method_of f) h.lowered n c calls.target f r.fact calls.world a.world a.value f.slots a.left refl h.at h.variables
+      (h.equal (known.alike at.runs f at.below at.frames)) (quiet_bounded state.world calls.world f.slots is.quiet new.bounded) a.gives a.are_left (tracked_in x given gives S s t E k after _ place a.after tracked) r.says in
       described_as x given gives S s t E k place after _ a.after (record {
-        entry = here.entry;
+        entry = h.here.entry;
         fact = answer.results.fact;
-        held = k.edges _ _ (answers (method_of f) p.lowered n here.entry here.fact r.fact answer.results.fact c (number_as calls.target) answer.stub answer.parameters answer.result a.next
-            p.is_node calls.is_call is.goes answer.is_stub answer.listed a.goes r.listed answer.results.listed) (held, tt);
+        held = k.edges _ _ (answers (method_of f) h.lowered n h.here.entry h.here.fact r.fact answer.results.fact c (number_as calls.target) answer.stub answer.parameters answer.result a.next
+            h.is_node calls.is_call is.goes answer.is_stub answer.listed a.goes r.listed answer.results.listed) (h.held, tt);
         says = answer.results.says;
-        waiting = waiting_on x given gives S s t E k place state.world a.world at.below (method_of f) here.entry
-            (λ m e. more_changes S m state.world.heap calls.world.heap a.world.heap (quiet_changes state.world calls.world m is.quiet) (no_changes S m calls.world.heap a.world.heap (result_fields x calls.target f c f.slots calls.world a.world a.value a.gives))) here.waiting;
+        waiting = waiting_on x given gives S s t E k place state.world a.world at.below (method_of f) h.here.entry
+            (λ m e. more_changes S m state.world.heap calls.world.heap a.world.heap (quiet_changes state.world calls.world m is.quiet) (no_changes S m calls.world.heap a.world.heap (result_fields x calls.target f c f.slots calls.world a.world a.value a.gives))) h.here.waiting;
       })

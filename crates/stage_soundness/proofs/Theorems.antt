@@ -1,5 +1,5 @@
 -- The theorems on path edges and executions, from what their clauses have as premises.
-use Rattle.std.proofs.Common.{◌≡◌, ◌⊎◌, inl, inr, ℕ, Bool, true, false, List, [], ◌∷◌, Some, Ok, Contains, refl, sym, ap, ◌∙◌, subst}
+use Rattle.std.proofs.Common.{◌≡◌, inl, inr, ℕ, false, List, Some, Ok, Contains}
 use Rattle.std.specs.Prelude.{slice_get}
 use Rattle.std.proofs.lemmas.Bool.{cases_Bool}
 use Rattle.jvm_model.specs.declared.site.Site.{Site}
@@ -7,7 +7,6 @@ use Rattle.jvm_model.specs.LinkedPrograms.{IsProgram}
 use Rattle.jvm_model.specs.Names.{IsClassName}
 use Rattle.jvm_model.specs.Soundness.{is_array}
 use Rattle.least_sets.specs.Rules.{IsClosedSet}
-use Rattle.op_model.specs.declared.lowered.LoweredMethod.{LoweredMethod}
 use Rattle.op_model.specs.Supplies.{Given, GivenAs, IsMapOf}
 use Rattle.machine_bytecode.specs.Executions.{Errs}
 use Rattle.machine_bytecode.specs.Objects.{Subject}
@@ -31,7 +30,7 @@ use Rattle.simulation.proofs.CoveredExecutions.{executions_covered}
 use Rattle.simulation.proofs.Supplied.{supplied_runs}
 use Rattle.simulation.proofs.Whole.{supplied_whole}
 use Rattle.simulation.specs.Simulation.{HasEntry, HasExceptions}
-use Rattle.stage_facts.specs.Facts.{of_object, SiteFact, Tuple}
+use Rattle.stage_facts.specs.Facts.{of_object}
 use Rattle.stage_transfer.specs.Settings.{AreAnswersOf, Setting}
 use Rattle.stage_transfer.specs.Stages.{Transfer, transfer_of}
 use Rattle.stage_transfer_laws.proofs.Lawful.{lawful}

@@ -1,7 +1,6 @@
 -- Steps of frames that throw: a new object or one of a slot is thrown, a handler takes it, or the frame goes.
-use Rattle.std.proofs.Common.{codes, ◌≡◌, ◌≢◌, inl, inr, ℕ, Bool, false, List, [], ◌∷◌, ◌++◌, length, Option, Some, None, Contains, refl, sym, ap, ◌∙◌, subst}
+use Rattle.std.proofs.Common.{codes, ◌≡◌, ◌≢◌, inl, inr, ℕ, false, List, [], ◌∷◌, ◌++◌, length, Option, Some, None, Contains, refl, sym, ap, ◌∙◌, subst}
 use Rattle.std.specs.Prelude.{slice_get}
-use Rattle.std.proofs.lemmas.Bool.{false≢true}
 use Rattle.std.proofs.lemmas.Option.{same_Some, none-some}
 use Rattle.list_laws.proofs.Members.{contains_first, contains_none}
 use Rattle.list_laws.proofs.Places.{pushed_at}
@@ -24,13 +23,13 @@ use Rattle.op_model.specs.Supplies.{Given, GivenAs}
 use Rattle.machine_bytecode.specs.Described.{kept_by, ThrowsListed}
 use Rattle.machine_bytecode.specs.Machine.{exception_class, Throwing, ThrowsNew, unwound}
 use Rattle.machine_bytecode.specs.Objects.{Subject}
-use Rattle.machine_bytecode.specs.States.{Value, null_value, reference_to, Object, Frame, running, throwing, State}
+use Rattle.machine_bytecode.specs.States.{Value, null_value, reference_to, Object, Frame, throwing, State}
 use Rattle.machine_bytecode.specs.States.{World, new_object, site_at, slot_at, with_kept, with_object}
 use Rattle.machine_nodes.specs.Nodes.{IsClassNumber, StandsAt}
 use Rattle.machine_nodes.specs.NodeSteps.{AtNode, Catches, GetsException, IsFirstTaking, Raises, Takes, Throws, Unwinds, Wraps}
 use Rattle.machine_nodes.specs.Slots.{AreCaught}
 use Rattle.points_to_rules.specs.Facts.{Fact, may_call, may_hold, thrown_by}
-use Rattle.points_to_rules.specs.Rules.{Lands as LandsIn, StartsAt}
+use Rattle.points_to_rules.specs.Rules.{Lands as LandsIn}
 use Rattle.coverage.specs.Covering.{Covers, MayHold, StandsIn}
 use Rattle.coverage.proofs.Advancing.{slots_here}
 use Rattle.coverage.proofs.Calls.{inside_of, same_method}
@@ -41,21 +40,22 @@ use Rattle.coverage.proofs.Stubs.{fits_at}
 use Rattle.coverage.proofs.Values.{among_from}
 use Rattle.stage_facts.specs.Facts.{Says, SiteFact}
 use Rattle.stage_facts.specs.Values.{field_in, of_slots, of_throw}
-use Rattle.stage_transfer.specs.Calls.{by_call, by_trigger, Entering}
+use Rattle.stage_transfer.specs.Calls.{by_trigger, Entering}
 use Rattle.stage_transfer.specs.Exceptions.{thrown_slot}
 use Rattle.stage_transfer.specs.Stages.{Transfer}
 use Rattle.stage_relations.specs.Roots.{StaysIn}
 use Rattle.stage_edges.specs.Rules.{before, Edge, edge, Enters, GoesTo, Instance, IsNode, IsStub, kept_slots, MayThrow, node_at, ThrowsClass}
 use Rattle.stage_steps.specs.Said.{AreEqual, IsTracked, Results, SaysCaught}
-use Rattle.stage_steps.proofs.Leaving.{Behind, left_exception_says, left_kept_says, waiting_agree}
+use Rattle.stage_steps.proofs.Leaving.{left_exception_says, left_kept_says, waiting_agree}
 use Rattle.stage_steps.proofs.Paths.{default_field, part_push, same_place, Unchanged}
 use Rattle.stage_steps.proofs.Raising.{listed_says, raised_says, throw_says}
-use Rattle.stage_soundness.specs.Describing.{AreWaiting, IsRunning, IsThrowing, Lands, method_of, Waits, waits_so}
+use Rattle.stage_soundness.specs.Describing.{AreWaiting, IsThrowing, Lands, method_of, Waits}
 use Rattle.stage_soundness.proofs.Alike.{alike_node}
-use Rattle.stage_soundness.proofs.Known.{Described, described_as, described_in, edge_before, IsKnown, IsOfMethod, method_is}
+use Rattle.stage_soundness.proofs.Known.{Described, described_as, described_in, IsKnown, IsOfMethod, method_is}
 use Rattle.stage_soundness.proofs.Known.{method_or_start, not_thrown, Premises, start_throws_not, tracked_in, variables_of}
-use Rattle.stage_soundness.proofs.Placed.{IsPlaced, number_as, placed_of}
-use Rattle.stage_soundness.proofs.Waiting.{no_changes, waiting_on}
+use Rattle.stage_soundness.proofs.Placed.{number_as}
+use Rattle.stage_soundness.proofs.Standing.{Stands, stands_at}
+use Rattle.stage_soundness.proofs.Waiting.{behind_of, exit_edge, no_changes, triggered_by, triggered_of, waiting_on}
 
 -- an operation that throws what a slot holds is a throw
 throws_slot : (op : Op) (z : ℕ) → thrown_slot op ≡ Some z → op ≡ Throw z
@@ -155,21 +155,18 @@ module _ (x : Subject) (given : Given) (gives : GivenAs) (S : Fact → Type 0) (
   raises_good state after at a known place tracked d =
       let f = at.frame in
       let n = at.now.node in
-      let p = placed_of x given gives k.map k.whole f at.now in
-      let here : IsRunning x gives S s t E state.world place f at.below = described_in x given gives S s t E k place state running f at.below at.runs
-      at.frames d in
-      throws_new_good state.world f at.below a.class after a.throws p.lowered n p.is_node p.at here.entry here.fact
-      (edge_before x given gives S s t E k (method_of f) here.entry here.fact n f.offset p.at here.held) (p.equal (known.alike at.runs f at.below at.frames))
-      a.number a.listed a.is_class
-      (λ z op. a.of_null z op (listed_plainly (method_of f) p.lowered n p.is_node z a.number a.class op a.listed a.is_class)) place tracked here.says
-      here.waiting
+      let h = stands_at x given gives S s t E k state at place d in
+      throws_new_good state.world f at.below a.class after a.throws h.lowered n h.is_node h.at h.here.entry h.here.fact
+      h.held (h.equal (known.alike at.runs f at.below at.frames)) a.number a.listed a.is_class
+      (λ z op. a.of_null z op (listed_plainly (method_of f) h.lowered n h.is_node z a.number a.class op a.listed a.is_class)) place tracked h.here.says
+      h.here.waiting
 
   -- ---- an object that a slot holds
 
   -- the class of the object, as the rules have it
   class_thrown : (state after : State) (at : AtNode x given state) (a : Throws x given state after at) → Covers x gives S state
-      → (p : IsPlaced x given gives k.map k.whole at.frame at.now) → ThrowsClass x S p.lowered at.now.node a.thrown.to.object.class
-  class_thrown state after at a covers p = elim (method_or_start x gives (method_of f) p.lowered n p.is_node) [
+      → (place : ℕ) (h : Stands x given gives S s t E k state.world place at.frame at.below at.now.node) → ThrowsClass x S h.lowered at.now.node a.thrown.to.object.class
+  class_thrown state after at a covers place h = elim (method_or_start x gives (method_of f) h.lowered n h.is_node) [
     | inl m ↦ of_method m
     | inr start ↦ absurd (start_throws_not x n a.value start a.is_throw)
   ]
@@ -183,16 +180,16 @@ module _ (x : Subject) (given : Given) (gives : GivenAs) (S : Fact → Type 0) (
       to_object : Object
       to_object = a.thrown.to.object
 
-      of_method : IsOfMethod x gives (method_of f) p.lowered → ThrowsClass x S p.lowered n to_object.class
+      of_method : IsOfMethod x gives (method_of f) h.lowered → ThrowsClass x S h.lowered n to_object.class
       of_method m =
           let heap = state.world.heap in
           let to = a.thrown.to in
-          let here : StandsIn gives f m.method p.lowered n =
-          record { in_method = method_is f m.method m.is; node = record { given = m.given; stands = p.is_node.stands }; at = p.at } in
+          let here : StandsIn gives f m.method h.lowered n =
+          record { in_method = method_is f m.method m.is; node = record { given = m.given; stands = h.is_node.stands }; at = h.at } in
           let frames = frames_are x gives S heap state.frames at.below f at.frames covers.frames in
-          let o = operand_of x gives S k.points k.whole m.method p.lowered n (Throw a.value) a.value heap f.slots here.node a.is_throw
+          let o = operand_of x gives S k.points k.whole m.method h.lowered n (Throw a.value) a.value heap f.slots here.node a.is_throw
           (contains_first a.value [])
-          (slots_here x given gives S k.map k.points k.whole heap f m.method p.lowered n here frames.0) in
+          (slots_here x given gives S k.map k.points k.whole heap f m.method h.lowered n here frames.0) in
           ThrowsClass.held a.value o.holder to.object.site a.is_throw o.slot (among_from (MayHold S o.holder) heap (slot_at f.slots a.value) to.place
           to.object o.covered to.is to.held)
           (fits_at x gives S state.world covers.world (codes "java/lang/Throwable") (slot_at f.slots a.value) a.thrown to.place to.object to.is to.held)
@@ -205,30 +202,27 @@ module _ (x : Subject) (given : Given) (gives : GivenAs) (S : Fact → Type 0) (
       let f = at.frame in
       let n = at.now.node in
       let to = a.thrown.to in
-      let p = placed_of x given gives k.map k.whole f at.now in
-      let here : IsRunning x gives S s t E state.world place f at.below = described_in x given gives S s t E k place state running f at.below at.runs
-      at.frames d in
-      let held = edge_before x given gives S s t E k (method_of f) here.entry here.fact n f.offset p.at here.held in
+      let h = stands_at x given gives S s t E k state at place d in
       described_as x given gives S s t E k place after _ a.after (record {
-        lowered = p.lowered;
+        lowered = h.lowered;
         node = n;
-        is_node = p.is_node;
-        at = p.at;
+        is_node = h.is_node;
+        at = h.at;
         object = to.object;
         stands = to.held;
-        entry = here.entry;
+        entry = h.here.entry;
         lands = λ handler spot goes.
-            let r = throw_says x S s t k.laws place p.lowered n a.value handler to.place here.fact state.world f.slots p.variables
-            (p.equal (known.alike at.runs f at.below at.frames)) a.is_throw to.is
-            here.says in
+            let r = throw_says x S s t k.laws place h.lowered n a.value handler to.place h.here.fact state.world f.slots h.variables
+            (h.equal (known.alike at.runs f at.below at.frames)) a.is_throw to.is
+            h.here.says in
             record {
               fact = r.fact;
-              held = k.edges _ _ (Instance.raises (method_of f) p.lowered n here.entry here.fact r.fact to.object.class handler spot p.is_node
-                  (class_thrown state after at a known.covers p) goes r.listed)
-                  (held, tt);
+              held = k.edges _ _ (Instance.raises (method_of f) h.lowered n h.here.entry h.here.fact r.fact to.object.class handler spot h.is_node
+                  (class_thrown state after at a known.covers place h) goes r.listed)
+                  (h.held, tt);
               says = r.says;
             };
-        waiting = here.waiting;
+        waiting = h.here.waiting;
       })
 
   -- ---- where an object lands
@@ -281,25 +275,6 @@ module _ (x : Subject) (given : Given) (gives : GivenAs) (S : Fact → Type 0) (
         (covers.world.objects at.place at.object at.held).of_class,
       )
 
-  -- a frame that waited, now that the method above it is left
-  abbrev behind_of : (now : World) (place : ℕ) (f : Frame) (called : MethodNo) (entry : SiteFact) (w : Waits x gives S s t E now place f called entry)
-      → Behind S s place now w.by called w.sent f.slots
-  behind_of now place f called entry w = record {
-    slots = w.slots;
-    world = w.world;
-    says = w.says;
-    stays = w.stays;
-    cleared = w.cleared;
-    bounded = w.bounded;
-    changes = w.changes;
-  }
-
-  -- the edge where a method throws, as its caller has it
-  exit_edge : (o : Option MethodNo) (called : MethodNo) (entry entered fact : SiteFact) → o ≡ Some called → entry ≡ entered → E (edge o entry spots.Thrown fact)
-      → E (edge (Some called) entered spots.Thrown fact)
-  exit_edge o called entry entered fact is same held =
-      subst (λ (e : SiteFact). E (edge (Some called) e spots.Thrown fact)) same (subst (λ (m : Option MethodNo). E (edge m entry spots.Thrown fact)) is held)
-
   module _ (now : World) (place thrown : ℕ) (class : List ℕ) (caller : Frame) (called : MethodNo) (entry out : SiteFact)
       (w : Waits x gives S s t E now place caller called entry)
       (held : E (edge (Some called) (t.enter w.by w.sent) spots.Thrown out)) (says : Says s out place now (of_throw thrown))
@@ -310,7 +285,7 @@ module _ (x : Subject) (given : Given) (gives : GivenAs) (S : Fact → Type 0) (
         let l = w.lowered in
         let n = w.node in
         let o = method_of caller in
-        let behind = behind_of now place caller called entry w in
+        let behind = behind_of x given gives S s t E k now place caller called entry w in
         let left = left_exception_says x S s t k.laws place l n w.by called w.sent now caller.slots behind thrown out says in
         let r = raised_says x S s t k.laws place l n handler thrown (t.leave l n w.by called w.sent out) now caller.slots (variables_of x gives k.whole o l n
         w.is_node)
@@ -347,8 +322,8 @@ module _ (x : Subject) (given : Given) (gives : GivenAs) (S : Fact → Type 0) (
         stands = at.held;
         entry = w.own;
         lands = λ handler spot goes.
-            let lands = caller_lands state.world place at.place at.object.class caller waiting.called entry out w (exit_edge (method_of at.frame)
-            waiting.called entry (t.enter w.by w.sent) out waiting.is_called w.entered held)
+            let lands = caller_lands state.world place at.place at.object.class caller waiting.called entry out w (exit_edge x given gives S s t E k (method_of at.frame)
+            waiting.called entry (t.enter w.by w.sent) out spots.Thrown waiting.is_called w.entered held)
             says (may_throw state at now covers none waiting.called waiting.is_called) handler spot goes in
             record { fact = lands.fact; held = lands.held; says = lands.says };
         waiting = waiting.rest;
@@ -365,21 +340,6 @@ module _ (x : Subject) (given : Given) (gives : GivenAs) (S : Fact → Type 0) (
 
   -- ---- initialisers that are left
 
-  -- a frame that does not wait for a call waits for an initialiser
-  waits_for_trigger : (waits : Bool) (by : Entering) → waits ≡ false → waits ≡ waits_so by → by ≡ by_trigger
-  waits_for_trigger waits (by_call c) off is = absurd (false≢true (sym off ∙ is))
-  waits_for_trigger waits by_trigger off is = refl
-
-  record IsTriggered (n : Node) (target : MethodNo) (fact sent : SiteFact) : Type 0 where
-    pub starts : StartsAt x.program n target
-    pub same : sent ≡ fact
-
-  triggered_by : (o : Option MethodNo) (l : LoweredMethod) (n : Node) (target : MethodNo) (fact sent : SiteFact) (by : Entering) → by ≡ by_trigger
-      → Enters x S t o l n target fact by sent
-      → IsTriggered n target fact sent
-  triggered_by o l n target fact sent by is (Enters.called c u op goes file listed) = absurd (let bad : by_call c ≡ by_trigger = is in cc bad)
-  triggered_by o l n target fact sent by is (Enters.triggered starts) = record { starts = starts; same = refl }
-
   module _ (now : World) (place thrown : ℕ) (caller : Frame) (rest : List Frame) (called : MethodNo) (entry out : SiteFact)
       (w : Waits x gives S s t E now place caller called entry)
       (held : E (edge (Some called) (t.enter w.by w.sent) spots.Thrown out)) (says : Says s out place now (of_throw thrown)) where
@@ -392,21 +352,17 @@ module _ (x : Subject) (given : Given) (gives : GivenAs) (S : Fact → Type 0) (
         let n = w.node in
         let o = method_of caller in
         let kept = with_kept now (thrown ∷ []) in
-        let by_is : w.by ≡ by_trigger = waits_for_trigger caller.waits w.by awake w.waits in
-        let triggered = triggered_by o l n called w.fact w.sent w.by by_is w.enters in
-        let entered : t.enter w.by w.sent ≡ t.enter by_trigger w.fact = ap (λ (b : Entering). t.enter b w.sent) by_is ∙ ap (t.enter by_trigger)
-        triggered.same in
-        let left : t.leave l n w.by called w.sent out ≡ t.leave l n by_trigger called w.fact out =
-        ap (λ (b : Entering). t.leave l n b called w.sent out) by_is ∙ ap (λ (g : SiteFact). t.leave l n by_trigger called g out) triggered.same in
-        let out_held = subst (λ (e : SiteFact). E (edge (Some called) e spots.Thrown out)) entered held in
+        let by_is : w.by ≡ by_trigger = triggered_of w.by (sym awake ∙ w.waits) in
+        let is = triggered_by x given gives S s t E k o l n called w.fact w.by w.sent w.enters by_is in
+        let out_held = subst (λ (e : SiteFact). E (edge (Some called) e spots.Thrown out)) is.entered held in
         let alike = (alike_node x given gives S s t E k caller caller_at l n w.is_node w.at).0 in
         throws_new_good kept caller rest class after throws l n w.is_node w.at w.own (t.leave l n by_trigger called w.fact out)
-        (k.edges _ _ (Instance.resumes o l n w.own w.fact out called spots.Thrown w.is_node triggered.starts tt) (w.held, (out_held, tt)))
+        (k.edges _ _ (Instance.resumes o l n w.own w.fact out called spots.Thrown w.is_node is.starts tt) (w.held, (out_held, tt)))
         (λ y z same. w.stays y (stays_all y by_is) ∙ w.alike y z same ∙ sym (w.stays z (stays_all z by_is))) number (alike.throws number class listed
         is_class) is_class
-        (λ z op. absurd (throws_untriggered o l n w.is_node z triggered.starts.trigger op triggered.starts.is_trigger)) place tracked
-        (subst (λ (g : SiteFact). Says s g place kept (of_slots caller.slots)) left
-        (left_kept_says x S s t k.laws place l n w.by called w.sent now caller.slots (behind_of now place caller called entry w) by_is thrown out says))
+        (λ z op. absurd (throws_untriggered o l n w.is_node z is.starts.trigger op is.starts.is_trigger)) place tracked
+        (subst (λ (g : SiteFact). Says s g place kept (of_slots caller.slots)) (is.left out)
+        (left_kept_says x S s t k.laws place l n w.by called w.sent now caller.slots (behind_of x given gives S s t E k now place caller called entry w) by_is thrown out says))
         (waiting_on x given gives S s t E k place now kept rest o w.own (λ m e. no_changes S m now.heap kept.heap (λ g p. refl)) waiting)
       where
         stays_all : (z : ℕ) → w.by ≡ by_trigger → StaysIn w.by z
@@ -422,8 +378,8 @@ module _ (x : Subject) (given : Given) (gives : GivenAs) (S : Fact → Type 0) (
       let b : AreWaiting x gives S s t E state.world place (a.caller ∷ a.rest) (method_of f) h.entry =
       subst (λ (fs : List Frame). AreWaiting x gives S s t E state.world place fs (method_of f) h.entry) a.below h.waiting in
       let w = b.first in
-      wrapped_good state.world place at.place a.caller a.rest b.called h.entry out.fact w (exit_edge (method_of f) b.called h.entry (t.enter w.by w.sent)
-      out.fact b.is_called w.entered out.held) out.says
+      wrapped_good state.world place at.place a.caller a.rest b.called h.entry out.fact w (exit_edge x given gives S s t E k (method_of f) b.called h.entry
+      (t.enter w.by w.sent) out.fact spots.Thrown b.is_called w.entered out.held) out.says
       after a.caller_at a.number _ a.triggered a.listed a.is_class a.throws tracked b.rest
 
   -- ---- described methods that throw
@@ -446,33 +402,32 @@ module _ (x : Subject) (given : Given) (gives : GivenAs) (S : Fact → Type 0) (
       subst (λ (y : World). Unchanged w.heap y.heap g) (sym throws.makes.after_is) (push_unchanged (kept_by x target throws.called units w) f throws.class g)
 
   pub gets_exception_good : (state after : State) (at : AtNode x given state) (a : GetsException x given state after at) (place : ℕ)
-      → (here : IsRunning x gives S s t E state.world place at.frame at.below) (p : IsPlaced x given gives k.map k.whole at.frame at.now)
-      → (r : Results (t.event p.lowered at.now.node a.calls.call here.fact) (λ g. Says s g place a.calls.world (of_slots at.frame.slots)))
+      → (h : Stands x given gives S s t E k state.world place at.frame at.below at.now.node)
+      → (r : Results (t.event h.lowered at.now.node a.calls.call h.here.fact) (λ g. Says s g place a.calls.world (of_slots at.frame.slots)))
       → S (may_call (node_at (method_of at.frame) at.now.node) (number_as a.calls.target)) → ((g : FieldNo) → Unchanged state.world.heap a.calls.world.heap g)
-      → IsThrownBy at.frame p.lowered at.now.node a.calls.call a.calls.target place a.thrown r.fact a.world → Described x given gives S s t E k place after
-  gets_exception_good state after at a place here p r goes quiet is =
+      → IsThrownBy at.frame h.lowered at.now.node a.calls.call a.calls.target place a.thrown r.fact a.world → Described x given gives S s t E k place after
+  gets_exception_good state after at a place h r goes quiet is =
       let f = at.frame in
       let n = at.now.node in
       let c = a.calls.call in
-      let held = edge_before x given gives S s t E k (method_of f) here.entry here.fact n f.offset p.at here.held in
       described_as x given gives S s t E k place after _ a.after (record {
-        lowered = p.lowered;
+        lowered = h.lowered;
         node = n;
-        is_node = p.is_node;
-        at = p.at;
+        is_node = h.is_node;
+        at = h.at;
         object = made_by f is.class;
         stands = is.stands;
-        entry = here.entry;
+        entry = h.here.entry;
         lands = λ handler spot way.
             let g = is.results handler in
             record {
               fact = g.fact;
-              held = k.edges _ _ (Instance.described_raises (method_of f) p.lowered n here.entry here.fact r.fact g.fact c (number_as a.calls.target) is.stub
-                  is.parameters is.class handler spot p.is_node
-                  a.calls.is_call goes is.is_stub is.listed way r.listed g.listed) (held, tt);
+              held = k.edges _ _ (Instance.described_raises (method_of f) h.lowered n h.here.entry h.here.fact r.fact g.fact c (number_as a.calls.target) is.stub
+                  is.parameters is.class handler spot h.is_node
+                  a.calls.is_call goes is.is_stub is.listed way r.listed g.listed) (h.held, tt);
               says = g.says;
             };
-        waiting = waiting_on x given gives S s t E k place state.world a.world at.below (method_of f) here.entry
+        waiting = waiting_on x given gives S s t E k place state.world a.world at.below (method_of f) h.here.entry
             (λ m e. no_changes S m state.world.heap a.world.heap
-            (λ g q. exception_unchanged a.calls.world a.world f a.calls.target a.thrown _ a.throws g q ∙ quiet g q)) here.waiting;
+            (λ g q. exception_unchanged a.calls.world a.world f a.calls.target a.thrown _ a.throws g q ∙ quiet g q)) h.here.waiting;
       })

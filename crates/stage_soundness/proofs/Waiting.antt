@@ -1,34 +1,31 @@
 -- Frames that wait, while the frames above them step; and the nodes at which they stand.
-use Rattle.std.proofs.Common.{◌≡◌, ◌≢◌, ◌⊎◌, inl, inr, ℕ, List, [], ◌∷◌, length, Option, Some, None, Ok, Contains, refl, sym, ap, ◌∙◌, subst, arith}
-use Rattle.std.specs.Prelude.{slice_get}
-use Rattle.std.proofs.lemmas.Option.{same_Some, none-some}
-use Rattle.jvm_model.specs.declared.number.ClassNo.{ClassNo}
+use Rattle.std.proofs.Common.{◌≡◌, ◌≢◌, ◌⊎◌, inl, inr, ℕ, false, List, [], ◌∷◌, Option, Some, refl, ap, ◌∙◌, subst}
+use Rattle.std.proofs.lemmas.Bool.{false≢true}
 use Rattle.jvm_model.specs.declared.number.FieldNo.{FieldNo}
 use Rattle.jvm_model.specs.declared.number.MethodNo.{MethodNo}
 use Rattle.jvm_model.specs.declared.site.Site.{Site}
 use Rattle.op_model.specs.declared.lowered.LoweredMethod.{LoweredMethod}
 use Rattle.op_model.specs.declared.node.Node.{Node}
-use Rattle.op_model.specs.declared.node.NodeHandler.{NodeHandler}
-use Rattle.op_model.specs.declared.node.NodeRef.{NodeRef}
-use Rattle.op_model.specs.declared.op.Call.{Call as NodeCall}
+use Rattle.op_model.specs.declared.node.Spot.{Spot}
 use Rattle.op_model.specs.declared.op.Op.{Op}
-use Rattle.op_model.specs.declared.op.Op.TheVariants.{Assign, Load, Store, LoadElement, StoreElement, LoadStatic, StoreStatic, New, NewArray, Constant, Call, Return, Throw, Cast, Probe}
+use Rattle.op_model.specs.declared.op.Op.TheVariants.{Store}
 use Rattle.op_model.specs.Supplies.{Given, GivenAs}
 use Rattle.machine_bytecode.specs.Objects.{Subject}
 use Rattle.machine_bytecode.specs.States.{Value, Object, Frame, World}
 use Rattle.machine_nodes.specs.NodeSteps.{Leads}
 use Rattle.points_to_rules.specs.Facts.{Fact, may_run, may_call, may_write}
-use Rattle.points_to_rules.specs.Rules.{IsNodeOf, node_of}
+use Rattle.points_to_rules.specs.Rules.{IsNodeOf, StartsAt}
 use Rattle.points_to_rules.specs.Writes.{write, target_writes, initialiser_writes}
 use Rattle.stage_facts.specs.Facts.{SiteFact}
-use Rattle.stage_transfer.specs.Calls.{Entering}
+use Rattle.stage_transfer.specs.Calls.{by_call, by_trigger, Entering}
 use Rattle.stage_transfer.specs.Stages.{Transfer}
-use Rattle.stage_edges.specs.Rules.{Edge, Enters, called, triggered, IsNode, node_at}
+use Rattle.stage_edges.specs.Rules.{Edge, edge, Enters, called, triggered, IsNode, node_at}
 use Rattle.stage_steps.specs.Said.{ChangesFields}
+use Rattle.stage_steps.proofs.Leaving.{Behind}
 use Rattle.stage_steps.proofs.Paths.{Unchanged}
 use Rattle.stage_steps.proofs.Shapes.{field_unchanged, shape}
 use Rattle.stage_steps.proofs.Sites.{field_or_not}
-use Rattle.stage_soundness.specs.Describing.{AreWaiting, method_of, Waits}
+use Rattle.stage_soundness.specs.Describing.{AreWaiting, method_of, Waits, waits_so}
 use Rattle.stage_soundness.proofs.Known.{node_in, Premises}
 
 pub no_changes : (S : Fact → Type 0) (m : MethodNo) (before after : List Object) → ((f : FieldNo) → Unchanged before after f) → ChangesFields S m before after
@@ -48,20 +45,12 @@ stores_or_not (Store object g value) f = elim (field_or_not g f) [
   | inl e ↦ inl (object, value, ap (λ (h : FieldNo). Store object h value) e)
   | inr ne ↦ inr (λ a b e. ne (cc e))
 ]
-stores_or_not (Assign moves) f = inr (λ a b e. cc e)
-stores_or_not (Load object field target) f = inr (λ a b e. cc e)
-stores_or_not (LoadElement array target) f = inr (λ a b e. cc e)
-stores_or_not (StoreElement array value) f = inr (λ a b e. cc e)
-stores_or_not (LoadStatic field target) f = inr (λ a b e. cc e)
-stores_or_not (StoreStatic field value) f = inr (λ a b e. cc e)
-stores_or_not (New site target) f = inr (λ a b e. cc e)
-stores_or_not (NewArray sites target) f = inr (λ a b e. cc e)
-stores_or_not (Constant site target) f = inr (λ a b e. cc e)
-stores_or_not (Call call) f = inr (λ a b e. cc e)
-stores_or_not (Return value) f = inr (λ a b e. cc e)
-stores_or_not (Throw value) f = inr (λ a b e. cc e)
-stores_or_not (Cast class z) f = inr (λ a b e. cc e)
-stores_or_not (Probe z) f = inr (λ a b e. cc e)
+stores_or_not op f = inr (λ a b e. cc e)
+
+-- a frame that does not wait for a call waits for an initialiser
+pub triggered_of : (by : Entering) → false ≡ waits_so by → by ≡ by_trigger
+triggered_of (by_call c) e = absurd (false≢true e)
+triggered_of by_trigger e = refl
 
 module _ (x : Subject) (given : Given) (gives : GivenAs) (S : Fact → Type 0) (s : Site) (t : Transfer) (E : Edge → Type 0) (k : Premises x given gives S s t E) where
   -- an operation changes fields that its method may write
@@ -126,3 +115,35 @@ module _ (x : Subject) (given : Given) (gives : GivenAs) (S : Fact → Type 0) (
             ];
           }) a.rest;
     }
+
+  -- ---- methods that are left
+
+  -- a frame that waited, now that the method above it is left
+  abbrev pub behind_of : (now : World) (place : ℕ) (f : Frame) (target : MethodNo) (entry : SiteFact) (a : Waits x gives S s t E now place f target entry)
+      → Behind S s place now a.by target a.sent f.slots
+  behind_of now place f target entry a = record {
+    slots = a.slots;
+    world = a.world;
+    says = a.says;
+    stays = a.stays;
+    cleared = a.cleared;
+    bounded = a.bounded;
+    changes = a.changes;
+  }
+
+  -- the edge where a method is left, as its caller has it
+  pub exit_edge : (o : Option MethodNo) (target : MethodNo) (entry entered fact : SiteFact) (spot : Spot) → o ≡ Some target → entry ≡ entered → E (edge o entry spot fact)
+      → E (edge (Some target) entered spot fact)
+  exit_edge o target entry entered fact spot is same held =
+      subst (λ (e : SiteFact). E (edge (Some target) e spot fact)) same (subst (λ (m : Option MethodNo). E (edge m entry spot fact)) is held)
+
+  -- a frame that waits for an initialiser sent what it knew
+  pub record IsTriggered (l : LoweredMethod) (n : Node) (target : MethodNo) (fact : SiteFact) (by : Entering) (sent : SiteFact) : Type 0 where
+    pub starts : StartsAt x.program n target
+    pub entered : t.enter by sent ≡ t.enter by_trigger fact
+    pub left : (out : SiteFact) → t.leave l n by target sent out ≡ t.leave l n by_trigger target fact out
+
+  pub triggered_by : (o : Option MethodNo) (l : LoweredMethod) (n : Node) (target : MethodNo) (fact : SiteFact) (by : Entering) (sent : SiteFact) → Enters x S t o l n target fact by sent
+      → by ≡ by_trigger → IsTriggered l n target fact by sent
+  triggered_by o l n target fact _ sent (called c u op goes file listed) is = absurd (let bad : by_call c ≡ by_trigger = is in cc bad)
+  triggered_by o l n target fact _ _ (triggered starts) is = record { starts = starts; entered = refl; left = λ out. refl }

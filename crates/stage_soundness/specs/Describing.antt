@@ -1,9 +1,8 @@
 -- Public contracts rest on this module.
 -- What a set of path edges says of the states of executions on nodes: for an object of the site, or one that is not allocated yet, each frame has an
 -- edge whose fact says of it what holds there.
-use Rattle.std.specs.Prelude.{◌≡◌, ◌≢◌, ◌⊎◌, ℕ, ◌+◌, ◌<◌, ◌≤◌, Bool, true, false, List, [], ◌∷◌, length, Option, Some, None, Ok, option_map, slice_get, Contains}
+use Rattle.std.specs.Prelude.{◌≡◌, ◌≢◌, ◌⊎◌, ℕ, ◌<◌, Bool, true, false, List, [], ◌∷◌, length, Option, Some, None, Ok, option_map, slice_get, Contains}
 use Rattle.jvm_model.specs.declared.number.ClassNo.{ClassNo}
-use Rattle.jvm_model.specs.declared.number.FieldNo.{FieldNo}
 use Rattle.jvm_model.specs.declared.number.MethodNo.{MethodNo}
 use Rattle.jvm_model.specs.declared.site.Site.{Site}
 use Rattle.jvm_model.specs.declared.site.SiteKind.TheVariants as kinds
@@ -23,10 +22,9 @@ use Rattle.machine_bytecode.specs.Objects.{Subject}
 use Rattle.machine_bytecode.specs.States.{Value, primitive_value, reference_to, Object, Frame, Mode, running, throwing, ended, World, State, slot_at}
 use Rattle.machine_nodes.specs.Nodes.{IsClassNumber}
 use Rattle.machine_nodes.specs.NodeExecutions.{IsNodeExecution}
-use Rattle.machine_nodes.specs.Slots.{AreCaught}
 use Rattle.points_to_rules.specs.Facts.{Fact, may_run}
 use Rattle.stage_facts.specs.Facts.{SiteFact, none_yet, of_object, Tuple, Says}
-use Rattle.stage_facts.specs.Values.{field_in, part_at, of_slots, of_return, of_throw}
+use Rattle.stage_facts.specs.Values.{of_slots, of_return, of_throw}
 use Rattle.stage_transfer.specs.Calls.{Entering, by_call, by_trigger}
 use Rattle.stage_transfer.specs.Stages.{Transfer}
 use Rattle.stage_edges.specs.Rules.{Edge, edge, Enters, GoesTo, IsExit, IsNode, before}

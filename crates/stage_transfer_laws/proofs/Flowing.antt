@@ -1,7 +1,8 @@
 -- A tuple flows where its roots are rerooted as the operation copies them.
-use Rattle.std.proofs.Common.{◌≡◌, inl, inr, ℕ, false, List, [], ◌∷◌, refl, sym, ap, subst}
+use Rattle.std.proofs.Common.{◌≡◌, inl, inr, ℕ, Bool, false, ◌||◌, List, [], ◌∷◌, refl, sym, ap, subst}
 use Rattle.std.specs.Prelude.{◌≢◌}
 use Rattle.std.specs.List.{Contains}
+use Rattle.std.proofs.lemmas.Bool.{or_parts}
 use Rattle.list_laws.proofs.Members.{contains_first}
 use Rattle.jvm_model.specs.declared.number.FieldNo.{FieldNo}
 use Rattle.op_model.specs.declared.lowered.LoweredMethod.{LoweredMethod}
@@ -14,7 +15,7 @@ use Rattle.stage_facts.specs.Facts.{Tuple}
 use Rattle.stage_transfer.specs.Settings.{among}
 use Rattle.stage_transfer.specs.Changes.{slots_go}
 use Rattle.stage_relations.specs.Roots.{Copied, Doubles, own, gone_slots}
-use Rattle.stage_relations.specs.Relations.{Comes, rooted, Flows, HasFields, Heir, IsMade, IsUnstored, Origin, PutsAway, Reroots, Source as From, Target}
+use Rattle.stage_relations.specs.Relations.{Comes, rooted, Flows, HasFields, Heir, IsComplete, IsMade, IsUnstored, Origin, PutsAway, Reroots, Source as From, Target}
 use Rattle.stage_transfer_laws.proofs.Shapes.{copies_roots, follows_field, shape}
 use Rattle.stage_transfer_laws.proofs.Operations.{quiet_each, quiet_stays}
 
@@ -77,4 +78,18 @@ same_reroots l n op t quiet stays = record {
   may = λ e. e;
   roots = λ e r q copied there. subst (λ (p : Root). Contains t.must (bare p)) (quiet_each op quiet r q copied).0 there;
   fields = λ e x there has. record { path = x; listed = there; goes = own (quiet_stays op quiet x.root (stays x.root)); fields = refl };
+}
+
+-- A tuple whose paths have origins flows, if it is complete where two losses are ruled out.
+pub origins_flow : (l : LoweredMethod) (n : Node) (op : Op) (t : Tuple) (must must_not : List Path) (a b : Bool)
+    → ((y : Path) → Contains must y → Origin l n op t.must y) → ((y : Path) → Contains must_not y → Origin l n op t.must_not y)
+    → (a ≡ false → b ≡ false → IsComplete l n op t.must must)
+    → Flows l n op t (record { unique = t.unique; state = t.state; must = must; may = (t.may || a) || b; must_not = must_not })
+origins_flow l n op t must must_not a b of_must of_must_not complete = record {
+  unique = λ e. e;
+  state = refl;
+  must = of_must;
+  must_not = λ y there. inl (of_must_not y there);
+  may = λ e. (or_parts t.may a (or_parts (t.may || a) b e).0).0;
+  complete = λ e. let off = or_parts (t.may || a) b e in complete (or_parts t.may a off.0).1 off.1;
 }

@@ -18,10 +18,10 @@ use Rattle.stage_transfer.specs.Changes.{Change, begins_at, changed_set, is_lost
 use Rattle.stage_transfer.specs.Operations.{after_load, ends_in, field_of, loaded, loaded_fields, may_be_loaded}
 use Rattle.stage_relations.specs.Roots.{Copied, Doubles, same, own, HasVariables}
 use Rattle.stage_relations.specs.Relations.{Comes, taken, EndsIn, Flows, HasFields, IsComplete, IsUnstored, Origin, path, Target}
-use Rattle.stage_transfer_laws.proofs.Members.{in_filter, in_flat_map, none_passes, of_filter, of_flat_map, three_off}
+use Rattle.stage_transfer_laws.proofs.Members.{in_filter, in_flat_map, none_passes, of_filter, of_flat_map}
 use Rattle.stage_transfer_laws.proofs.Alike.{Knows}
 use Rattle.stage_transfer_laws.proofs.Changed.{added, not_lost, of_changed, staying}
-use Rattle.stage_transfer_laws.proofs.Flowing.{heir_of, origin_of}
+use Rattle.stage_transfer_laws.proofs.Flowing.{heir_of, origin_of, origins_flow}
 use Rattle.stage_transfer_laws.proofs.Operations.{quiet_each, quiet_stays, written_moves}
 use Rattle.stage_transfer_laws.proofs.Shapes.{copies_roots, shape}
 use Rattle.stage_transfer_laws.proofs.Paths.{has_it, is_root, root_is}
@@ -140,15 +140,5 @@ module _ (w : Setting) (knows : Knows w) (l : LoweredMethod) (n : Node) (has : H
 
   pub load_flows : (t : Tuple) → Flows l n op t (after_load w l n object field target t)
   load_flows t =
-      let lost : Bool = list_any (is_lost change (changed_set change t.must)) t.must in
-      let sure : Bool = may_be_loaded object field t.must in
-      record {
-        unique = λ e. e;
-        state = refl;
-        must = load_origin t.must;
-        must_not = λ y there. inl (load_origin t.must_not y there);
-        may = λ e. (three_off t.may lost sure e).0;
-        complete = λ e.
-            let off = three_off t.may lost sure e in
-            load_complete t.must off.1 off.2;
-      }
+      origins_flow l n op t (changed_set change t.must) (changed_set change t.must_not) (list_any (is_lost change (changed_set change t.must)) t.must)
+      (may_be_loaded object field t.must) (load_origin t.must) (load_origin t.must_not) (load_complete t.must)

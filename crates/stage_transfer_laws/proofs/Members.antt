@@ -75,12 +75,6 @@ any_passes {X} p (y ∷ ys) x there passes = elim (contains_cases y x ys there) 
   | inr later ↦ or_right (p y) (list_any p ys) (any_passes p ys x later passes)
 ]
 
-pub three_off : (a b c : Bool) → ((a || b) || c) ≡ false → (a ≡ false) × (b ≡ false) × (c ≡ false)
-three_off a b c off =
-    let outer = or_parts (a || b) c off in
-    let inner = or_parts a b outer.0 in
-    (inner.0, inner.1, outer.1)
-
 -- ---- fronts
 
 pub of_take : {X : Type 0} (n : ℕ) (xs : List X) (x : X) → Contains (take n xs) x → Contains xs x

@@ -1,6 +1,6 @@
 -- What an operation is, as far as the ways of paths go: so one equation says what it is not.
 use Rattle.op_model.specs.declared.op.Op.{Op}
-use Rattle.op_model.specs.declared.op.Op.TheVariants.{Assign, Load, Store, LoadElement, StoreElement, LoadStatic, StoreStatic, New, NewArray, Constant, Call, Return, Throw, Cast, Probe}
+use Rattle.op_model.specs.declared.op.Op.TheVariants.{Assign, Load, Store, StoreElement, LoadStatic, StoreStatic, New}
 
 -- It copies roots; follows a field; puts an object into an array; makes one; or does none of these.
 pub data Shape : Type 0 where
@@ -12,17 +12,10 @@ pub data Shape : Type 0 where
 
 abbrev pub shape : Op → Shape
 shape (Assign moves) = copies_roots
-shape (Load object field target) = follows_field
-shape (Store object field value) = follows_field
-shape (LoadElement array target) = writes_slots
-shape (StoreElement array value) = puts_object
 shape (LoadStatic field target) = copies_roots
 shape (StoreStatic field value) = copies_roots
+shape (Load object field target) = follows_field
+shape (Store object field value) = follows_field
+shape (StoreElement array value) = puts_object
 shape (New site target) = makes_object
-shape (NewArray sites target) = writes_slots
-shape (Constant site target) = writes_slots
-shape (Call call) = writes_slots
-shape (Return value) = writes_slots
-shape (Throw value) = writes_slots
-shape (Cast class z) = writes_slots
-shape (Probe z) = writes_slots
+shape op = writes_slots

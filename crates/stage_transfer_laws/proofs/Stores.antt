@@ -19,11 +19,11 @@ use Rattle.stage_transfer.specs.Changes.{Change, begins_at, changed_set, is_lost
 use Rattle.stage_transfer.specs.Operations.{store_loses, after_store, field_of, is_short, is_stored_field, passes_field, stored, stored_set, unstored as unpassed}
 use Rattle.stage_relations.specs.Roots.{same, own, HasVariables}
 use Rattle.stage_relations.specs.Relations.{Comes, put, Flows, HasFields, Heir, IsComplete, IsOverwritten, IsPut, IsUnstored, Origin, path}
-use Rattle.stage_transfer_laws.proofs.Members.{in_filter, in_flat_map, none_passes, not_among, of_filter, of_flat_map, three_off}
+use Rattle.stage_transfer_laws.proofs.Members.{in_filter, in_flat_map, none_passes, not_among, of_filter, of_flat_map}
 use Rattle.stage_transfer_laws.proofs.Alike.{Knows, alike_itself, are_alike}
 use Rattle.stage_transfer_laws.proofs.Changed.{not_lost, of_changed, staying, target_of_path}
 use Rattle.stage_transfer_laws.proofs.Loads.{is_field}
-use Rattle.stage_transfer_laws.proofs.Flowing.{heir_of, origin_of}
+use Rattle.stage_transfer_laws.proofs.Flowing.{heir_of, origin_of, origins_flow}
 use Rattle.stage_transfer_laws.proofs.Operations.{quiet_each, quiet_stays, written_moves}
 use Rattle.stage_transfer_laws.proofs.Shapes.{copies_roots, shape}
 use Rattle.stage_transfer_laws.proofs.Paths.{has_it, in_set, is_root, of_set, root_is}
@@ -225,15 +225,5 @@ module _ (w : Setting) (knows : Knows w) (l : LoweredMethod) (n : Node) (has : H
 
   pub store_flows : (t : Tuple) → Flows l n op t (after_store w l n object field value t)
   store_flows t =
-      let lost : Bool = list_any (is_lost change (changed_set change (put_in t.must))) (put_in t.must) in
-      let loses : Bool = store_loses w l n object field value t.must in
-      record {
-        unique = λ e. e;
-        state = refl;
-        must = store_origin t.must;
-        must_not = λ y there. inl (store_origin t.must_not y there);
-        may = λ e. (three_off t.may loses lost e).0;
-        complete = λ e.
-            let off = three_off t.may loses lost e in
-            store_complete t.must off.1 off.2;
-      }
+      origins_flow l n op t (changed_set change (put_in t.must)) (changed_set change (put_in t.must_not)) (store_loses w l n object field value t.must)
+      (list_any (is_lost change (changed_set change (put_in t.must))) (put_in t.must)) (store_origin t.must) (store_origin t.must_not) (store_complete t.must)
