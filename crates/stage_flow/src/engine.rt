@@ -23,12 +23,16 @@ impl PathChange<'_> {
         ensures { (w : Setting) (l : RuleMethod) (n : RuleNode) (c : Change) → V.knows slots.now w l n → Makes w l n self.now c
             → IsDraft result (changed c tuple.now) }
     {
+        let Gathering {
+            set: must_not,
+            dropped: _,
+        } = self.gathered(&tuple.must_not);
         Draft {
             unique: tuple.unique,
             state: tuple.state,
             must: self.gathered(&tuple.must),
             may: self.may_after(slots, tuple),
-            must_not: self.gathered(&tuple.must_not),
+            must_not,
         }
     }
 
