@@ -1,6 +1,6 @@
 -- What was gathered in a loop.
 use Rattle.std.proofs.Common.{◌≡◌, ℕ, ◌≤◌, ◌<◌, ◌+◌, List, [], ◌∷◌, ◌++◌, length, take, get_or, sym, ◌∙◌, ap, subst, append-nil}
-use Rattle.std.specs.List.{flat_map}
+use Rattle.std.specs.List.{flat_map, range_with_len}
 use Rattle.std.proofs.lemmas.List.{flat_map_more, take_all, take_more}
 use Rattle.access_paths.specs.Paths.{Path}
 use Rattle.stage_views.specs.declared.gathering.Gathering.{Gathering}
@@ -29,3 +29,12 @@ pub all_gathered : {X : Type 0} (f : X → List Path) (xs : List X) (i : ℕ) (b
     → AreGathered f (take i xs) before after → (paths : List Path) → Gathers before paths → Gathers after (paths ++ flat_map f xs)
 all_gathered {X} f xs i before after past so_far paths gathers =
     subst (λ (ys : List X). Gathers after (paths ++ flat_map f ys)) (take_all i xs past) (so_far.each paths gathers)
+
+-- The same over the numbers from 0 on.
+pub next_gathered : (f : ℕ → List Path) (k : ℕ) (before old new : Gathering)
+    → AreGathered f (range_with_len 0 k) before old → ((paths : List Path) → Gathers old paths → Gathers new (paths ++ f k))
+    → AreGathered f (range_with_len 0 k ++ k ∷ []) before new
+next_gathered f k before old new so_far step = record {
+  each = λ paths gathers.
+      subst (Gathers new) (flat_map_more f paths (range_with_len 0 k) k) (step (paths ++ flat_map f (range_with_len 0 k)) (so_far.each paths gathers));
+}

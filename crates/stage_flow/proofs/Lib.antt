@@ -6,3 +6,6 @@ pub mod Drafted
 pub mod Made
 pub mod Thrown
 pub mod Answered
+pub mod StoredPaths
+pub mod LostByStores
+pub mod StoreDrafted

@@ -8,9 +8,10 @@ use Rattle.op_model.specs.declared.node.Node.{Node}
 use Rattle.access_paths.specs.declared.root.Root.{Root}
 use Rattle.access_paths.specs.declared.root.Root.TheVariants.{Slot, Static, Returned, Thrown}
 use Rattle.access_paths.specs.Paths.{Path, same_path}
+use Rattle.stage_facts.specs.Facts.{Tuple}
 use Rattle.stage_transfer.specs.Settings.{Setting, among}
 use Rattle.stage_transfer.specs.Changes.{begins_at, has_fields, slots_go}
-use Rattle.stage_transfer.specs.Operations.{passes_field}
+use Rattle.stage_transfer.specs.Operations.{after_store, passes_field}
 use Rattle.stage_flow.specs.Shapes.{is_double, is_like}
 use Rattle.stage_flow.specs.declared.store.FieldStore.{FieldStore}
 
@@ -82,3 +83,10 @@ loses_value w l n s x = begins_at (Slot s.value) x && (not (nat_lt (length x.fie
 abbrev pub loses_by : Setting → LoweredMethod → Node → FieldStore → List Path → Path → Bool
 loses_by w l n s set x =
     if passes_field s.field x then not (is_own_field w l n s x) else loses_root w l n s set x || loses_value w l n s x
+
+-- Cells may hold the object afterwards in which no path ends.
+abbrev pub may_after_store : Setting → LoweredMethod → Node → FieldStore → Tuple → Bool
+may_after_store w l n s t = t.may || list_any (loses_by w l n s t.must) t.must
+
+abbrev pub after_field_store : Setting → LoweredMethod → Node → FieldStore → Tuple → Tuple
+after_field_store w l n s t = after_store w l n s.object s.field s.value t
