@@ -9,3 +9,4 @@ pub mod Answered
 pub mod StoredPaths
 pub mod LostByStores
 pub mod StoreDrafted
+pub mod Allocated
