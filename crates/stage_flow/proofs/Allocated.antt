@@ -1,5 +1,5 @@
 -- What an allocation does, by whether the site is that of the facts; and what a store to an array does.
-use Rattle.std.proofs.Common.{◌≡◌, ℕ, true, false, [], ◌∷◌, List, Some, refl, sym, ◌∙◌, ap}
+use Rattle.std.proofs.Common.{◌≡◌, ℕ, true, false, [], ◌∷◌, Some, refl, sym, ◌∙◌, ap}
 use Rattle.std.proofs.lemmas.Bool.{cond-false, cond-true}
 use Rattle.jvm_model.specs.declared.site.Site.{Site}
 use Rattle.op_model.specs.declared.lowered.LoweredMethod.{LoweredMethod}
@@ -25,7 +25,7 @@ module _ (w : Setting) (l : LoweredMethod) (n : Node) (site : Site) (target : �
   own_allocated own =
       nothing_put fact
       ∙ sym (cond-true (same_site site w.site) (after_new w (Some target) (changed (writing w l n (target ∷ []))) fact)
-        (on_tuples (changed (writing w l n (target ∷ []))) fact) own)
+      (on_tuples (changed (writing w l n (target ∷ []))) fact) own)
 
   pub other_allocated : same_site site w.site ≡ false → on_tuples (changed (writing w l n (target ∷ []))) fact ≡ allocated w l n site target fact
   other_allocated other =

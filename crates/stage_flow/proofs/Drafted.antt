@@ -25,7 +25,7 @@ cut_set : (w : Setting) (l : LoweredMethod) (n : Node) (code : PathChange) (set 
     → Gathers g (flat_map (kept_path code) set ++ adds_of code.gain set) → IsCutOf g (changed_set (change_of w l n code) set)
 cut_set w l n code set g gathers =
     let is = subst (λ (ps : List Path). Gathers g (ps ++ adds_of code.gain set))
-      (sym (left_filtered (λ (x : Path). goes_of code.written code.leaving x.root) set)) gathers in
+    (sym (left_filtered (λ (x : Path). goes_of code.written code.leaving x.root) set)) gathers in
     record { set = is.set; dropped = is.dropped }
 
 pub drafted : (w : Setting) (l : LoweredMethod) (n : Node) (code : PathChange) (c : Change) (t : Tuple) (d : Draft) (others : Gathering) → Makes w l n code c

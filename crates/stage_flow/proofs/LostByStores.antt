@@ -1,7 +1,7 @@
 -- Which paths a store loses: the code's test of each path is that of the definitions, of the set before the operands go.
-use Rattle.std.proofs.Common.{◌≡◌, ◌⊎◌, inl, inr, ℕ, ◌+◌, nat_eq, nat_lt, Bool, true, false, cond, not, ◌&&◌, ◌||◌, List, [], ◌∷◌, ◌++◌, length, map, refl, sym, ◌∙◌, ap, subst, if◌then◌else◌}
-use Rattle.std.specs.List.{Contains, filter, flat_map, list_any}
-use Rattle.std.proofs.lemmas.Bool.{and_from, and_parts, both_ways, cond-false, cond-true, eq-eqb, false_from_ne_true, false≢true, not-false, not-true, not_from_false, not_from_true, or_cases, or_left, or_right}
+use Rattle.std.proofs.Common.{◌≡◌, ◌⊎◌, inl, inr, ℕ, nat_eq, nat_lt, Bool, true, false, not, ◌&&◌, ◌||◌, List, [], ◌∷◌, length, map, refl, sym, ◌∙◌, ap, subst}
+use Rattle.std.specs.List.{Contains, filter, list_any}
+use Rattle.std.proofs.lemmas.Bool.{and_from, and_parts, both_ways, cond-false, cond-true, eq-eqb, false_from_ne_true, false≢true, not-true, not_from_false, or_cases, or_left, or_right}
 use Rattle.list_laws.proofs.Members.{contained_in_map, contains_map, contains_none}
 use Rattle.jvm_model.specs.declared.number.FieldNo.{FieldNo}
 use Rattle.op_model.specs.declared.lowered.LoweredMethod.{LoweredMethod}
@@ -9,7 +9,7 @@ use Rattle.op_model.specs.declared.node.Node.{Node}
 use Rattle.access_paths.specs.declared.root.Root.{Root}
 use Rattle.access_paths.specs.declared.root.Root.TheVariants.{Slot, Static, Returned, Thrown}
 use Rattle.access_paths.specs.Paths.{Path, has_path, same_path}
-use Rattle.stage_transfer.specs.Settings.{Setting, alike, among, same_field}
+use Rattle.stage_transfer.specs.Settings.{Setting, alike, same_field}
 use Rattle.stage_transfer.specs.Changes.{begins_at, changed_set, has_fields, is_doubled, is_lost, slots_go, unwritten, with_root, writing}
 use Rattle.stage_transfer.specs.Operations.{field_of, is_short, is_stored_field, passes_field, store_loses, stored, unstored}
 use Rattle.stage_transfer_laws.proofs.Alike.{alike_itself}
@@ -21,7 +21,7 @@ use Rattle.stage_flow.specs.Shapes.{is_double, is_like, may_double}
 use Rattle.stage_flow.specs.Stores.{all_slots, field_by, has_free, is_free, is_owner, is_own_field, loses_by, loses_root, loses_value, operands}
 use Rattle.stage_flow.proofs.Lists.{one_test}
 use Rattle.stage_flow.proofs.OneVariable.{like_is}
-use Rattle.stage_flow.proofs.StoredPaths.{after_store_of, free_inside, in_all_stored, in_new, in_old, like_itself, like_like, of_all_stored, of_stored, short_behind, of_unstored, IsStored, NewPath, OldPath}
+use Rattle.stage_flow.proofs.StoredPaths.{after_store_of, free_inside, in_all_stored, in_new, in_old, like_itself, like_like, of_all_stored, of_stored, short_behind, NewPath, OldPath}
 
 -- ---- roots that double others
 
@@ -70,8 +70,8 @@ in_unwritten : (w : Setting) (l : LoweredMethod) (n : Node) (written : ℕ → B
 in_unwritten w l n written q r d =
     let free = filter (λ (y : ℕ). not (written y)) (alike w l n d.from) in
     let there = contains_map Slot free d.to
-      (in_filter (λ (y : ℕ). not (written y)) (alike w l n d.from) d.to (is_among (alike w l n d.from) d.to (like_is w l n d.from d.to ∙ d.like))
-      (not_from_false (written d.to) d.free)) in
+    (in_filter (λ (y : ℕ). not (written y)) (alike w l n d.from) d.to (is_among (alike w l n d.from) d.to (like_is w l n d.from d.to ∙ d.like))
+    (not_from_false (written d.to) d.free)) in
     subst (λ (p : Root). Contains (unwritten w l n written p) r) (sym d.first) (subst (λ (p : Root). Contains (map Slot free) p) (sym d.second) there)
 
 -- ---- the field itself
@@ -86,20 +86,20 @@ own_field : (w : Setting) (l : LoweredMethod) (n : Node) (s : FieldStore) (x : P
 own_field w l n s x =
     one_test (is_stored_field w l n s.object s.field x) (is_own_field w l n s x)
     (λ is.
-      let found = contained_in_map (λ (z : ℕ). field_of z s.field) (alike w l n s.object) x
-        (has_it (map (λ (z : ℕ). field_of z s.field) (alike w l n s.object)) x is) in
-      let like = sym (like_is w l n s.object found.0) ∙ among_those (alike w l n s.object) found.0 found.1 in
-      subst (λ (p : Path). is_own_field w l n s p ≡ true) found.2
-      (and_from (is_like w l n s.object found.0) (same_path (field_of found.0 s.field) (field_of found.0 s.field)) like
-      (is_path (field_of found.0 s.field) (field_of found.0 s.field) refl)))
+    let found = contained_in_map (λ (z : ℕ). field_of z s.field) (alike w l n s.object) x
+    (has_it (map (λ (z : ℕ). field_of z s.field) (alike w l n s.object)) x is) in
+    let like = sym (like_is w l n s.object found.0) ∙ among_those (alike w l n s.object) found.0 found.1 in
+    subst (λ (p : Path). is_own_field w l n s p ≡ true) found.2
+    (and_from (is_like w l n s.object found.0) (same_path (field_of found.0 s.field) (field_of found.0 s.field)) like
+    (is_path (field_of found.0 s.field) (field_of found.0 s.field) refl)))
     (λ is.
-      let parts = and_parts (is_owner w l n s.object x.root) (same_path x (field_by x.root s.field)) is in
-      let own = own_root w l n s.object x.root parts.0 in
-      let same : field_of own.0 s.field ≡ x = (λ i. field_by (sym own.1 i) s.field) ∙ sym (path_is x (field_by x.root s.field) parts.1) in
-      it_has (map (λ (z : ℕ). field_of z s.field) (alike w l n s.object)) x
-      (subst (λ (p : Path). Contains (map (λ (z : ℕ). field_of z s.field) (alike w l n s.object)) p) same
-      (contains_map (λ (z : ℕ). field_of z s.field) (alike w l n s.object) own.0
-      (is_among (alike w l n s.object) own.0 (like_is w l n s.object own.0 ∙ own.2)))))
+    let parts = and_parts (is_owner w l n s.object x.root) (same_path x (field_by x.root s.field)) is in
+    let own = own_root w l n s.object x.root parts.0 in
+    let same : field_of own.0 s.field ≡ x = (λ i. field_by (sym own.1 i) s.field) ∙ sym (path_is x (field_by x.root s.field) parts.1) in
+    it_has (map (λ (z : ℕ). field_of z s.field) (alike w l n s.object)) x
+    (subst (λ (p : Path). Contains (map (λ (z : ℕ). field_of z s.field) (alike w l n s.object)) p) same
+    (contains_map (λ (z : ℕ). field_of z s.field) (alike w l n s.object) own.0
+    (is_among (alike w l n s.object) own.0 (like_is w l n s.object own.0 ∙ own.2)))))
 
 -- ---- paths that are doubled after a store
 
@@ -127,7 +127,7 @@ module _ (w : Setting) (l : LoweredMethod) (n : Node) (s : FieldStore) (set : Li
       let parts = and_parts (may_double w l n (operands s) y.root found.0.root) (same_path found.0 (with_root found.0.root y)) found.2 in
       let same = path_is found.0 (with_root found.0.root y) parts.1 in
       let old : OldPath s.field set found.0 =
-        record { listed = found.1; passes = ap (λ (p : Path). passes_field s.field p) same ∙ passes } in
+      record { listed = found.1; passes = ap (λ (p : Path). passes_field s.field p) same ∙ passes } in
       doubled_there y found.0.root (of_may_double w l n (operands s) y.root found.0.root parts.0)
       (subst (λ (p : Path). Contains (after_store_of w l n s set) p) same (in_old w l n s set found.0 old))
 
@@ -174,7 +174,7 @@ module _ (w : Setting) (l : LoweredMethod) (n : Node) (s : FieldStore) (set : Li
       let d = of_unwritten w l n (operands s) (Slot s.object) found.root found.listed in
       let from : s.object ≡ d.from = slot_is s.object d.from d.first in
       let free = and_from (not (operands s d.to)) (is_like w l n s.object d.to) (not_from_false (operands s d.to) d.free)
-        (ap (λ (z : ℕ). is_like w l n z d.to) from ∙ d.like) in
+      (ap (λ (z : ℕ). is_like w l n z d.to) from ∙ d.like) in
       any_passes (is_free w l n s) (all_slots l) d.to (free_inside w l n s d.to free) free
     where
       slot_is : (a b : ℕ) → Slot a ≡ Slot b → a ≡ b
@@ -199,7 +199,7 @@ module _ (w : Setting) (l : LoweredMethod) (n : Node) (s : FieldStore) (set : Li
   by_value x passes begins is =
       cond-false (passes_field s.field x) (not (is_own_field w l n s x)) (loses_root w l n s set x || loses_value w l n s x) passes
       ∙ or_right (loses_root w l n s set x) (loses_value w l n s x)
-        (and_from (begins_at (Slot s.value) x) (not (nat_lt (length x.fields) w.depth) || not (has_free w l n s)) begins is)
+      (and_from (begins_at (Slot s.value) x) (not (nat_lt (length x.fields) w.depth) || not (has_free w l n s)) begins is)
 
   -- a test that would be false is true
   refuted : (b : Bool) → (b ≡ true → ⊥) → not b ≡ true
@@ -210,7 +210,7 @@ module _ (w : Setting) (l : LoweredMethod) (n : Node) (s : FieldStore) (set : Li
       let parts = and_parts (has_fields y.fields) (slots_go (operands s) y.root && not (doubled_after y)) is in
       let more = and_parts (slots_go (operands s) y.root) (not (doubled_after y)) parts.1 in
       let alone = refuted (list_any (is_double w l n (operands s) y) set)
-        (λ stands. both_ways (doubled_after y) (not-true (doubled_after y) more.1) (stands_doubled y old.passes stands)) in
+      (λ stands. both_ways (doubled_after y) (not-true (doubled_after y) more.1) (stands_doubled y old.passes stands)) in
       any_passes (loses_by w l n s set) set y old.listed
       (by_root y old.passes
       (and_from (has_fields y.fields) (slots_go (operands s) y.root && not (list_any (is_double w l n (operands s) y) set)) parts.0
@@ -240,7 +240,7 @@ module _ (w : Setting) (l : LoweredMethod) (n : Node) (s : FieldStore) (set : Li
       let found = one_passes (λ (x : Path). not (is_short w x)) all_stored any in
       let made = of_all_stored w l n s set found.0 found.1 in
       let long : not (nat_lt (length made.source.fields) w.depth) ≡ true =
-        ap not (sym (short_behind w (Slot made.slot) s.field made.source.fields) ∙ ap (is_short w) made.is) ∙ found.2 in
+      ap not (sym (short_behind w (Slot made.slot) s.field made.source.fields) ∙ ap (is_short w) made.is) ∙ found.2 in
       any_passes (loses_by w l n s set) set made.source made.old.listed
       (by_value made.source made.old.passes made.begins
       (or_left (not (nat_lt (length made.source.fields) w.depth)) (not (has_free w l n s)) long))
@@ -300,7 +300,7 @@ module _ (w : Setting) (l : LoweredMethod) (n : Node) (s : FieldStore) (set : Li
   short_defined x old begins short none =
       let y : Path = record { root = Slot s.object; fields = s.field ∷ x.fields } in
       let alone = refuted (doubled_after y)
-        (λ doubled. both_ways (has_free w l n s) (not-true (has_free w l n s) none) (doubled_free (s.field ∷ x.fields) doubled)) in
+      (λ doubled. both_ways (has_free w l n s) (not-true (has_free w l n s) none) (doubled_free (s.field ∷ x.fields) doubled)) in
       by_lost (any_passes lost_after (after_store_of w l n s set) y (in_new w l n s set x s.object old begins short object_like)
       (and_from (operands s s.object) (not (doubled_after y))
       (or_left (nat_eq s.object s.object) (nat_eq s.object s.value || false) (eq-eqb s.object s.object refl)) alone))
@@ -319,14 +319,14 @@ module _ (w : Setting) (l : LoweredMethod) (n : Node) (s : FieldStore) (set : Li
   counted_defined : (x : Path) → Contains set x → (b : Bool) → passes_field s.field x ≡ b → loses_by w l n s set x ≡ true → lost_of_store ≡ true
   counted_defined x listed true passes is =
       let own : not (is_own_field w l n s x) ≡ true =
-        sym (cond-true (passes_field s.field x) (not (is_own_field w l n s x)) (loses_root w l n s set x || loses_value w l n s x) passes) ∙ is in
+      sym (cond-true (passes_field s.field x) (not (is_own_field w l n s x)) (loses_root w l n s set x || loses_value w l n s x) passes) ∙ is in
       let test : Path → Bool = λ p. passes_field s.field p && not (is_stored_field w l n s.object s.field p) in
       by_first (any_passes test set x listed
       (and_from (passes_field s.field x) (not (is_stored_field w l n s.object s.field x)) passes (ap not (own_field w l n s x) ∙ own)))
   counted_defined x listed false passes is =
       let old : OldPath s.field set x = record { listed = listed; passes = passes } in
       let either =
-        sym (cond-false (passes_field s.field x) (not (is_own_field w l n s x)) (loses_root w l n s set x || loses_value w l n s x) passes) ∙ is in
+      sym (cond-false (passes_field s.field x) (not (is_own_field w l n s x)) (loses_root w l n s set x || loses_value w l n s x) passes) ∙ is in
       elim (or_cases (loses_root w l n s set x) (loses_value w l n s x) either) [
         | inl root ↦ root_defined x old root
         | inr value ↦ value_defined x old (nat_lt (length x.fields) w.depth) refl value
@@ -336,6 +336,6 @@ module _ (w : Setting) (l : LoweredMethod) (n : Node) (s : FieldStore) (set : Li
   lost_by_store =
       one_test (list_any (loses_by w l n s set) set) lost_of_store
       (λ any.
-        let found = one_passes (loses_by w l n s set) set any in
-        counted_defined found.0 found.1 (passes_field s.field found.0) refl found.2)
+      let found = one_passes (loses_by w l n s set) set any in
+      counted_defined found.0 found.1 (passes_field s.field found.0) refl found.2)
       defined_counts

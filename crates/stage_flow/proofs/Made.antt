@@ -14,14 +14,14 @@ use Rattle.access_paths.specs.declared.root.Root.{Root}
 use Rattle.access_paths.specs.declared.root.Root.TheVariants.{Slot, Static, Returned, Thrown}
 use Rattle.access_paths.specs.Paths.{Path, same_root}
 use Rattle.stage_transfer.specs.Settings.{Setting, alike, among}
-use Rattle.stage_transfer.specs.Changes.{Change, Copy as CopyOf, copied, copying, moved_to, slots_go, unwritten}
+use Rattle.stage_transfer.specs.Changes.{Change, copied, copying, moved_to, slots_go, unwritten}
 use Rattle.stage_transfer.specs.Calls.{giving, written_by}
 use Rattle.stage_transfer.specs.Exceptions.{catching, caught_from, thrown_root, unwinding}
 use Rattle.stage_transfer.specs.Operations.{assigning, every_slot, receiving, returning, storing_static, target_of}
 use Rattle.stage_transfer_laws.proofs.Members.{among_those}
 use Rattle.stage_flow.specs.declared.change.PathChange.{PathChange}
 use Rattle.stage_flow.specs.declared.gain.Gain.{Gain}
-use Rattle.stage_flow.specs.declared.gain.Gain.TheVariants.{Nothing, Copy, Hand, Moves, Load}
+use Rattle.stage_flow.specs.declared.gain.Gain.TheVariants.{Nothing, Copy, Hand, Load}
 use Rattle.stage_flow.specs.declared.written.Written.{Written}
 use Rattle.stage_flow.specs.declared.written.Written.TheVariants as slots
 use Rattle.stage_flow.specs.Shapes.{adds_of, change_of, copy_of, goes_of, hand_of, handed_to, loading, more_doubles, root_copy, targets_of, written_of, IsProper, Makes}
@@ -47,7 +47,7 @@ no_target written = record { writes = λ z there. absurd (contains_none (Slot z)
 
 pub made_writing : (w : Setting) (l : LoweredMethod) (n : Node) (written : Written)
     → Makes w l n (record { written = written; leaving = None; gain = Nothing })
-      (record { adds = λ set. []; goes = slots_go (written_of written); doubles = unwritten w l n (written_of written) })
+    (record { adds = λ set. []; goes = slots_go (written_of written); doubles = unwritten w l n (written_of written) })
 made_writing w l n written =
     made_by w l n (record { written = written; leaving = None; gain = Nothing })
     (record { adds = λ set. []; goes = slots_go (written_of written); doubles = unwritten w l n (written_of written) })
@@ -86,7 +86,7 @@ made_loading w l n object field target =
 
 pub made_static_load : (w : Setting) (l : LoweredMethod) (n : Node) (field : FieldNo) (target : ℕ)
     → Makes w l n (record { written = slots.One target; leaving = None; gain = Copy (Static field) (Slot target) })
-      (copying w l n (target ∷ []) (root_copy (Static field) (Slot target)))
+    (copying w l n (target ∷ []) (root_copy (Static field) (Slot target)))
 made_static_load w l n field target =
     made_by w l n (record { written = slots.One target; leaving = None; gain = Copy (Static field) (Slot target) })
     (copying w l n (target ∷ []) (root_copy (Static field) (Slot target)))
@@ -101,7 +101,7 @@ static_is_no_slot field z e = cc
 
 pub made_static_store : (w : Setting) (l : LoweredMethod) (n : Node) (field : FieldNo) (value : ℕ)
     → Makes w l n (record { written = slots.One value; leaving = Some (Static field); gain = Copy (Slot value) (Static field) })
-      (storing_static w l n field value)
+    (storing_static w l n field value)
 made_static_store w l n field value =
     made_by w l n (record { written = slots.One value; leaving = Some (Static field); gain = Copy (Slot value) (Static field) })
     (storing_static w l n field value)

@@ -1,10 +1,9 @@
 -- The draft of a tuple after a store.
-use Rattle.std.proofs.Common.{◌≡◌, Bool, true, false, ◌||◌, List, length, nat_lt, take, refl, sym, ◌∙◌, ap}
+use Rattle.std.proofs.Common.{◌≡◌, Bool, true, false, ◌||◌, List, length, nat_lt, take, refl, ◌∙◌, ap}
 use Rattle.std.specs.List.{flat_map, list_any}
-use Rattle.std.proofs.lemmas.List.{take_all}
 use Rattle.op_model.specs.declared.lowered.LoweredMethod.{LoweredMethod}
 use Rattle.op_model.specs.declared.node.Node.{Node}
-use Rattle.access_paths.specs.Paths.{Path, most_paths, path_set}
+use Rattle.access_paths.specs.Paths.{Path, most_paths}
 use Rattle.stage_facts.specs.Facts.{Tuple}
 use Rattle.stage_transfer.specs.Settings.{Setting}
 use Rattle.stage_transfer.specs.Operations.{store_loses}
@@ -13,7 +12,7 @@ use Rattle.stage_views.specs.Views.{Gathers}
 use Rattle.stage_flow.specs.declared.draft.Draft.{Draft}
 use Rattle.stage_flow.specs.declared.store.FieldStore.{FieldStore}
 use Rattle.stage_flow.specs.Drafts.{IsCutOf, IsDraft}
-use Rattle.stage_flow.specs.Stores.{after_field_store, given_path, loses_by, may_after_store}
+use Rattle.stage_flow.specs.Stores.{after_field_store, given_path, may_after_store}
 use Rattle.stage_flow.proofs.LostByStores.{left_of_store, lost_after, lost_by_store}
 use Rattle.stage_flow.proofs.StoredPaths.{after_store_of, gathered_kept}
 

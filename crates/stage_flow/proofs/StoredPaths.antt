@@ -1,7 +1,7 @@
 -- The paths of a set after a store, before its operands go; and what is gathered of them.
-use Rattle.std.proofs.Common.{◌≡◌, ◌⊎◌, inl, inr, ℕ, ◌+◌, ◌<◌, nat_eq, nat_le, nat_lt, Bool, true, false, cond, not, ◌&&◌, ◌||◌, List, [], ◌∷◌, ◌++◌, length, map, take, refl, sym, ◌∙◌, ap, subst, arith, append-nil, if◌then◌else◌}
-use Rattle.std.specs.List.{Contains, filter, flat_map, list_any, range_with_len}
-use Rattle.std.proofs.lemmas.Bool.{and_from, and_parts, both_ways, cases_Bool, cond-false, cond-true, eq-eqb, eqb-true, false≢true, leb-true, lt-leb, lt-ltb, le-leb, ltb-true, not-true, not_from_false, or_left}
+use Rattle.std.proofs.Common.{◌≡◌, ◌⊎◌, inl, inr, ℕ, ◌+◌, nat_eq, nat_le, nat_lt, Bool, true, false, cond, not, ◌&&◌, ◌||◌, List, [], ◌∷◌, ◌++◌, length, map, refl, sym, ◌∙◌, ap, subst, arith, append-nil, if◌then◌else◌}
+use Rattle.std.specs.List.{Contains, filter, flat_map, range_with_len}
+use Rattle.std.proofs.lemmas.Bool.{and_from, and_parts, both_ways, cond-false, cond-true, eq-eqb, eqb-true, leb-true, lt-ltb, le-leb, ltb-true, not-true, not_from_false, or_left}
 use Rattle.std.proofs.lemmas.List.{map-id}
 use Rattle.std.proofs.lemmas.List.Elements.{Contains-append_cases, Contains-append_left, Contains-append_right}
 use Rattle.std.proofs.lemmas.List.FromFn.{map-range_with_len_more}
@@ -11,14 +11,14 @@ use Rattle.op_model.specs.declared.lowered.LoweredMethod.{LoweredMethod}
 use Rattle.op_model.specs.declared.node.Node.{Node}
 use Rattle.slot_names.specs.declared.variable.Variable.{Variable}
 use Rattle.access_paths.specs.declared.root.Root.{Root}
-use Rattle.access_paths.specs.declared.root.Root.TheVariants.{Slot, Static, Returned, Thrown}
+use Rattle.access_paths.specs.declared.root.Root.TheVariants.{Slot}
 use Rattle.access_paths.specs.Paths.{Path, path_set}
 use Rattle.access_paths.proofs.SetMembers.{one_set, path_set_ordered}
-use Rattle.stage_transfer.specs.Settings.{Setting, alike, among, same_field, same_variable}
+use Rattle.stage_transfer.specs.Settings.{Setting, alike, same_variable}
 use Rattle.stage_transfer.specs.Changes.{begins_at, slots_go}
 use Rattle.stage_transfer.specs.Operations.{is_short, passes_field, stored, stored_set, unstored}
 use Rattle.stage_transfer_laws.proofs.Alike.{variable_is}
-use Rattle.stage_transfer_laws.proofs.Members.{among_those, in_filter, in_flat_map, in_range, is_among, of_filter, of_flat_map, of_range}
+use Rattle.stage_transfer_laws.proofs.Members.{among_those, in_filter, in_flat_map, in_range, is_among, of_filter, of_flat_map}
 use Rattle.stage_transfer_laws.proofs.Paths.{in_set, of_set}
 use Rattle.stage_flow.specs.declared.store.FieldStore.{FieldStore}
 use Rattle.stage_flow.specs.Shapes.{is_like}
@@ -55,7 +55,7 @@ like_like w l n o z k first second = by (nat_lt o (l.slots + l.stack)) refl firs
         let same = variable_is (w.answers.variable_at l n z) (w.answers.variable_at l n o) ones.1 in
         cond-true (nat_lt z (l.slots + l.stack)) (nat_lt k (l.slots + l.stack) && same_variable (w.answers.variable_at l n k) (w.answers.variable_at l n z)) (nat_eq k z) ones.0
         ∙ and_from (nat_lt k (l.slots + l.stack)) (same_variable (w.answers.variable_at l n k) (w.answers.variable_at l n z)) others.0
-          (subst (λ (v : Variable). same_variable (w.answers.variable_at l n k) v ≡ true) (sym same) others.1)
+        (subst (λ (v : Variable). same_variable (w.answers.variable_at l n k) v ≡ true) (sym same) others.1)
     by false above one other =
         let z_is = eqb-true z o one in
         cond-false (nat_lt z (l.slots + l.stack)) (nat_lt k (l.slots + l.stack) && same_variable (w.answers.variable_at l n k) (w.answers.variable_at l n z)) (nat_eq k z)
@@ -235,19 +235,19 @@ module _ (w : Setting) (l : LoweredMethod) (n : Node) (s : FieldStore) (set : Li
   gathered_kept =
       same_set (flat_map (given_path w l n s) set) kept_of
       (λ y there.
-        let found = of_flat_map (given_path w l n s) set y there in
-        given_kept found.0 y found.1 (passes_field s.field found.0) refl found.2)
+      let found = of_flat_map (given_path w l n s) set y there in
+      given_kept found.0 y found.1 (passes_field s.field found.0) refl found.2)
       (λ y there.
-        let kept = of_filter (λ (x : Path). not (slots_go (operands s) x.root)) (after_store_of w l n s set) y
-          (subst (λ (ps : List Path). Contains ps y) (append-nil (filter (λ (x : Path). not (slots_go (operands s) x.root)) (after_store_of w l n s set))) there) in
-        let stays = not-true (slots_go (operands s) y.root) kept.1 in
-        elim (of_stored y kept.0) [
-          | inl old ↦
-              given_by y y old.listed old.passes
-              (Contains-append_left (own_path s y) (stored_path w l n s y) y
-              (subst (λ (ps : List Path). Contains ps y) (sym (cond-false (slots_go (operands s) y.root) [] (y ∷ []) stays)) (contains_first y [])))
-          | inr new ↦ new_given y new stays
-        ])
+      let kept = of_filter (λ (x : Path). not (slots_go (operands s) x.root)) (after_store_of w l n s set) y
+      (subst (λ (ps : List Path). Contains ps y) (append-nil (filter (λ (x : Path). not (slots_go (operands s) x.root)) (after_store_of w l n s set))) there) in
+      let stays = not-true (slots_go (operands s) y.root) kept.1 in
+      elim (of_stored y kept.0) [
+        | inl old ↦
+            given_by y y old.listed old.passes
+            (Contains-append_left (own_path s y) (stored_path w l n s y) y
+            (subst (λ (ps : List Path). Contains ps y) (sym (cond-false (slots_go (operands s) y.root) [] (y ∷ []) stays)) (contains_first y [])))
+        | inr new ↦ new_given y new stays
+      ])
     where
       new_given : (y : Path) → NewPath w l n s set y → slots_go (operands s) y.root ≡ false → Contains (flat_map (given_path w l n s) set) y
       new_given y new stays =
@@ -257,11 +257,11 @@ module _ (w : Setting) (l : LoweredMethod) (n : Node) (s : FieldStore) (set : Li
           let path : Path = record { root = Slot new.slot; fields = s.field ∷ x.fields } in
           let fields = s.field ∷ x.fields in
           let made =
-            in_flat_map (stored_at w l n s fields) (all_slots l) new.slot path (free_inside w l n s new.slot free)
-            (subst (λ (ps : List Path). Contains ps path) (sym (cond-true (is_free w l n s new.slot) (path ∷ []) [] free)) (contains_first path [])) in
+          in_flat_map (stored_at w l n s fields) (all_slots l) new.slot path (free_inside w l n s new.slot free)
+          (subst (λ (ps : List Path). Contains ps path) (sym (cond-true (is_free w l n s new.slot) (path ∷ []) [] free)) (contains_first path [])) in
           let is_path : stored_path w l n s x ≡ stored_fields w l n s fields =
-            cond-true (begins_at (Slot s.value) x) (if nat_lt (length x.fields) w.depth then stored_fields w l n s fields else []) [] new.begins
-            ∙ cond-true (nat_lt (length x.fields) w.depth) (stored_fields w l n s fields) [] new.short in
+          cond-true (begins_at (Slot s.value) x) (if nat_lt (length x.fields) w.depth then stored_fields w l n s fields else []) [] new.begins
+          ∙ cond-true (nat_lt (length x.fields) w.depth) (stored_fields w l n s fields) [] new.short in
           subst (λ (p : Path). Contains (flat_map (given_path w l n s) set) p) new.is
           (given_by x path new.old.listed new.old.passes
           (Contains-append_right (own_path s x) (stored_path w l n s x) path (subst (λ (ps : List Path). Contains ps path) (sym is_path) made)))

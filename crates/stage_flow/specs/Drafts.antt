@@ -1,4 +1,4 @@
--- Public contracts rest on this module.
+-- This crate's own proofs alone rest on this module.
 -- What is gathered of a tuple, before it gets the normal form of its stage.
 use Rattle.std.specs.Prelude.{◌≡◌, ℕ, List, length, nat_lt, take, Option, Some, None}
 use Rattle.access_paths.specs.declared.root.Root.TheVariants.{Slot}

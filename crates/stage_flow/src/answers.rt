@@ -39,14 +39,7 @@ pub fn after_answer<V: NodeSlots>(
 {
     match answer {
         Answer::Argument(slot) => kept_fact(setting, slots, &giving(call, slot), kept, fact),
-        Answer::Own => new_fact(
-            setting,
-            slots,
-            &writing_call(call),
-            kept,
-            call.result,
-            fact,
-        ),
+        Answer::Own => new_fact(setting, slots, &writing_call(call), kept, call.result, fact),
         Answer::Other => kept_fact(setting, slots, &writing_call(call), kept, fact),
     }
 }

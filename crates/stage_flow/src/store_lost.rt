@@ -51,9 +51,7 @@ impl FieldStore {
         ensures { (w : Setting) (l : RuleMethod) (n : RuleNode) → V.knows slots.now w l n → result ≡ loses_root w l n self.now set.now path.now }
     {
         let written = self.written();
-        has_fields(path)
-            && written.has_root(path.root())
-            && !stands(slots, &written, set, path)
+        has_fields(path) && written.has_root(path.root()) && !stands(slots, &written, set, path)
     }
 
     /// Whether the path is one of the value, and too long behind the field, or there for no slot.

@@ -1,5 +1,4 @@
 use Rattle.std.proofs.Common.{◌≡◌, true, false, [], ◌∷◌, List, map, sym, ◌∙◌, ap}
-use Rattle.jvm_model.specs.declared.site.Site.{Site}
 use Rattle.stage_facts.specs.Facts.{SiteFact}
 use Rattle.stage_facts.specs.Plain.{fact_of}
 use Rattle.stage_transfer.specs.Changes.{writing}

@@ -1,4 +1,4 @@
-use Rattle.std.proofs.Common.{◌≡◌, ℕ, Bool, List, ◌∙◌, ap, subst}
+use Rattle.std.proofs.Common.{ℕ, Bool, ◌∙◌, ap, subst}
 use Rattle.std.specs.List.{list_any}
 use Rattle.access_paths.specs.declared.root.Root.TheVariants.{Slot}
 use Rattle.access_paths.specs.Paths.{bare, has_path}
@@ -12,7 +12,7 @@ pub returns : goal.returns
 returns g c w l n k knows makes =
     let t = c.args.tuple.now in
     let held = c.is_put_away.ensures
-      ∙ ap (λ (u : Tuple). list_any (λ (z : ℕ). has_path u.must (bare (Slot z))) c.args.kept.now) c.tuple.view_is in
+    ∙ ap (λ (u : Tuple). list_any (λ (z : ℕ). has_path u.must (bare (Slot z))) c.args.kept.now) c.tuple.view_is in
     let is = c.with_may.ensures (changed k t) (c.draft.ensures w l n k knows makes) in
     subst (λ (b : Bool). IsDraft c.with_may.result (changed k (with_may b t))) held
     (may_later k t c.is_put_away.result c.with_may.result is)

@@ -1,4 +1,4 @@
-use Rattle.std.proofs.Common.{◌≡◌, ◌<◌, [], List, length, get_or, ◌∙◌, ap, arith}
+use Rattle.std.proofs.Common.{◌<◌, [], List, length, get_or, ◌∙◌, ap, arith}
 use Rattle.access_paths.specs.Paths.{Path}
 use Rattle.stage_flow.specs.Stores.{given_path}
 use Rattle.stage_flow.proofs.Gathered.{all_gathered, more_gathered}
