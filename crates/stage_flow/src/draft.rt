@@ -127,7 +127,7 @@ fn with_slot(set: PathSet, slot: Option<u32>) -> PathSet
 }
 
 /// A tuple of the second stage.
-fn without_paths(unique: bool, state: u8) -> PlainTuple
+pub fn without_paths(unique: bool, state: u8) -> PlainTuple
     ensures { result ≡ record { unique = unique; state = state; must = []; may = true; must_not = [] } }
 {
     PlainTuple {

@@ -5,7 +5,7 @@ ghost use Rattle.std.specs.List.{list_any};
 ghost use Rattle.access_paths.specs.Paths.{bare, has_path};
 ghost use Rattle.op_model.specs.declared.lowered.LoweredMethod.{LoweredMethod as RuleMethod};
 ghost use Rattle.op_model.specs.declared.node.Node.{Node as RuleNode};
-ghost use Rattle.stage_facts.specs.Facts.{Tuple};
+ghost use Rattle.stage_facts.specs.Facts.{Tuple, of_object};
 ghost use Rattle.stage_facts.specs.Plain.{fact_of};
 ghost use Rattle.stage_flow.specs.Drafts.{IsDraft};
 ghost use Rattle.stage_flow.specs.Shapes.{Makes};
@@ -16,7 +16,7 @@ ghost use Rattle.stage_transfer.specs.Stages.{finished};
 ghost use Rattle.stage_views.specs.Views.{facts_of, IsSettingBy};
 
 use crate::change::PathChange;
-use crate::draft::Draft;
+use crate::draft::{Draft, without_paths};
 use access_paths::{Path, PathSet, Root};
 use stage_facts::{PlainFact, PlainTuple};
 use stage_views::{Facts, NodeSlots, StageSetting};
@@ -34,8 +34,24 @@ pub fn changed_fact<V: NodeSlots>(
     match fact {
         PlainFact::NoneYet => Facts::One(PlainFact::NoneYet),
         PlainFact::SomeYet => Facts::One(PlainFact::SomeYet),
-        PlainFact::OfObject(tuple) => Facts::One(change.draft(slots, tuple).finish(setting)),
+        PlainFact::OfObject(tuple) => Facts::One(changed_tuple(setting, slots, change, tuple)),
     }
+}
+
+/// The same, of a tuple. The second stage knows no paths, so there nothing is to be done.
+fn changed_tuple<V: NodeSlots>(
+    setting: &StageSetting<'_>,
+    slots: &V,
+    change: &PathChange<'_>,
+    tuple: &PlainTuple,
+) -> PlainFact
+    ensures { (w : Setting) (l : RuleMethod) (n : RuleNode) (c : Change) → IsSettingBy setting.now w → V.knows slots.now w l n → Makes w l n change.now c
+        → fact_of result ≡ finished w (of_object (changed c tuple.now)) }
+{
+    if setting.stage == 2 {
+        return PlainFact::OfObject(without_paths(tuple.unique, tuple.state));
+    }
+    change.draft(slots, tuple).finish(setting)
 }
 
 /// The objects in some slots are put away, and then the paths of a tuple change.
