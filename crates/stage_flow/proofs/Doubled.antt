@@ -4,7 +4,7 @@ use Rattle.std.specs.List.{Contains, filter, flat_map, list_any}
 use Rattle.std.proofs.Math.Bool.{or-false}
 use Rattle.std.proofs.lemmas.Bool.{and_from, and_parts, both_ways, eq-eqb, eqb-true, false≢true, not-true, or_left}
 use Rattle.std.proofs.lemmas.List.Folds.{list_any-append}
-use Rattle.list_laws.proofs.Members.{contained_in_map, contains_first, contains_later, contains_map, contains_none, contains_only}
+use Rattle.list_laws.proofs.Members.{contained_in_map, contains_first, contains_map, contains_none, contains_only}
 use Rattle.jvm_model.specs.declared.number.FieldNo.{FieldNo}
 use Rattle.op_model.specs.declared.lowered.LoweredMethod.{LoweredMethod}
 use Rattle.op_model.specs.declared.node.Node.{Node}
@@ -15,7 +15,7 @@ use Rattle.access_paths.specs.declared.root.Root.{Root}
 use Rattle.access_paths.specs.declared.root.Root.TheVariants.{Slot, Static, Returned, Thrown}
 use Rattle.access_paths.specs.Paths.{Path, has_path, same_path, same_root}
 use Rattle.stage_transfer.specs.Settings.{Setting, alike, among, same_field}
-use Rattle.stage_transfer.specs.Changes.{Copy as CopyOf, begins_at, changed_set, copied, is_doubled, slots_go, unwritten, with_root}
+use Rattle.stage_transfer.specs.Changes.{Copy as CopyOf, begins_at, changed_set, copied, is_doubled, unwritten, with_root}
 use Rattle.stage_transfer.specs.Operations.{copies_of, loaded_fields, moved_by}
 use Rattle.stage_transfer_laws.proofs.Changed.{added, in_copied, of_changed, of_copied, staying}
 use Rattle.stage_transfer_laws.proofs.Members.{among_those, any_passes, in_filter, is_among, of_filter, of_flat_map, one_passes}
@@ -48,18 +48,18 @@ pub copied_has : (copies : List CopyOf) (set : List Path) (r : Root) (x : Path)
 copied_has copies set r x =
     one_test (has_path (copied copies set) (with_root r x)) (list_any test copies)
     (λ is.
-      let found = of_copied copies set (with_root r x) (has_it (copied copies set) (with_root r x) is) in
-      any_passes test copies found.copy found.made
-      (and_from (same_root found.copy.to r) (has_path set (with_root found.copy.from x))
-      (is_root found.copy.to r (ap (λ (p : Path). p.root) found.is))
-      (it_has set (with_root found.copy.from x)
-      (subst (λ (p : Path). Contains set p) (from_path found.copy.from found.copy.to found.path found.from found.is) found.listed))))
+    let found = of_copied copies set (with_root r x) (has_it (copied copies set) (with_root r x) is) in
+    any_passes test copies found.copy found.made
+    (and_from (same_root found.copy.to r) (has_path set (with_root found.copy.from x))
+    (is_root found.copy.to r (ap (λ (p : Path). p.root) found.is))
+    (it_has set (with_root found.copy.from x)
+    (subst (λ (p : Path). Contains set p) (from_path found.copy.from found.copy.to found.path found.from found.is) found.listed))))
     (λ is.
-      let found = one_passes test copies is in
-      let parts = and_parts (same_root found.0.to r) (has_path set (with_root found.0.from x)) found.2 in
-      it_has (copied copies set) (with_root r x)
-      (subst (λ (q : Root). Contains (copied copies set) (with_root q x)) (root_is found.0.to r parts.0)
-      (in_copied copies set found.0 (with_root found.0.from x) found.1 (has_it set (with_root found.0.from x) parts.1) refl)))
+    let found = one_passes test copies is in
+    let parts = and_parts (same_root found.0.to r) (has_path set (with_root found.0.from x)) found.2 in
+    it_has (copied copies set) (with_root r x)
+    (subst (λ (q : Root). Contains (copied copies set) (with_root q x)) (root_is found.0.to r parts.0)
+    (in_copied copies set found.0 (with_root found.0.from x) found.1 (has_it set (with_root found.0.from x) parts.1) refl)))
   where
     test : CopyOf → Bool
     test c = same_root c.to r && has_path set (with_root c.from x)
@@ -114,8 +114,8 @@ target_of_added (Hand from target) set y there = of_copies (root_copy from (Slot
 target_of_added (Moves moves) set y there =
     of_copies (flat_map (λ (m : Move). copies_of m.source m.target) moves.now) (map (λ (m : Move). Slot m.target) moves.now) set y
     (λ k made.
-      let found = of_flat_map (λ (m : Move). copies_of m.source m.target) moves.now k made in
-      move_target moves.now found.0 found.1 found.0.source k found.2)
+    let found = of_flat_map (λ (m : Move). copies_of m.source m.target) moves.now k made in
+    move_target moves.now found.0 found.1 found.0.source k found.2)
     there
 target_of_added (Load object field target) set y there =
     let found = of_flat_map (λ (p : Path). loaded_fields field target p.fields) (filter (begins_at (Slot object)) set) y there in
@@ -182,9 +182,9 @@ stands_test w l n code proper set x =
     one_test (list_any (has_by w l n code set x) (unwritten w l n (written_of code.written) x.root)) (list_any test set)
     (stands_by w l n code proper set x x.root)
     (λ any.
-      let found = one_passes test set any in
-      let parts = and_parts (may_double w l n (written_of code.written) x.root found.0.root) (same_path found.0 (with_root found.0.root x)) found.2 in
-      double_stands w l n code proper set x x.root found.0 found.0.root refl found.1 parts.0 parts.1)
+    let found = one_passes test set any in
+    let parts = and_parts (may_double w l n (written_of code.written) x.root found.0.root) (same_path found.0 (with_root found.0.root x)) found.2 in
+    double_stands w l n code proper set x x.root found.0 found.0.root refl found.1 parts.0 parts.1)
 
 -- ---- slots that get values
 
@@ -266,8 +266,8 @@ handed_by w l n (Moves moves) set x f has =
     any_flat_map f (λ (m : Move). moved_by w l n x.root m.source m.target) moves.now
     ∙ any_among (λ (m : Move). list_any f (moved_by w l n x.root m.source m.target)) (λ (m : Move). moves_on w l n moves.now set x m.source m.target) moves.now
     (λ m listed.
-      move_by w l n moves.now set x f m.source m.target
-      (has m.target (contains_map (λ (j : Move). Slot j.target) moves.now m listed) ∙ moved_has set moves.now x m.target))
+    move_by w l n moves.now set x f m.source m.target
+    (has m.target (contains_map (λ (j : Move). Slot j.target) moves.now m listed) ∙ moved_has set moves.now x m.target))
 handed_by w l n (Load object field target) set x f has = refl
 
 -- ---- both
@@ -278,4 +278,4 @@ pub doubled_test : (w : Setting) (l : LoweredMethod) (n : Node) (code : PathChan
 doubled_test w l n code proper set x =
     list_any-append (has_by w l n code set x) (unwritten w l n (written_of code.written) x.root) (more_doubles w l n code.gain x.root)
     ∙ (λ i. stands_test w l n code proper set x i
-      || handed_by w l n code.gain set x (has_by w l n code set x) (has_added w l n code proper set x) i)
+    || handed_by w l n code.gain set x (has_by w l n code set x) (has_added w l n code proper set x) i)

@@ -1,17 +1,23 @@
 -- The draft of a tuple that is changed.
-use Rattle.std.proofs.Common.{◌≡◌, List, ◌++◌, sym, ap, subst}
-use Rattle.std.specs.List.{flat_map}
+use Rattle.std.proofs.Common.{◌≡◌, ℕ, ◌≤◌, Bool, true, false, ◌||◌, List, ◌++◌, length, take, Option, Some, None, refl, sym, ◌∙◌, ap, subst}
+use Rattle.std.specs.List.{flat_map, list_any}
+use Rattle.std.proofs.Math.Bool.{or-false, or_comm}
+use Rattle.std.proofs.lemmas.Bool.{le-ltb}
+use Rattle.std.proofs.lemmas.List.{take_all}
 use Rattle.op_model.specs.declared.lowered.LoweredMethod.{LoweredMethod}
 use Rattle.op_model.specs.declared.node.Node.{Node}
-use Rattle.access_paths.specs.Paths.{Path}
+use Rattle.access_paths.specs.declared.root.Root.TheVariants.{Slot}
+use Rattle.access_paths.specs.Paths.{Path, bare, most_paths, with_path}
+use Rattle.access_paths.proofs.Cuts.{take-with}
 use Rattle.stage_facts.specs.Facts.{Tuple}
 use Rattle.stage_transfer.specs.Settings.{Setting}
-use Rattle.stage_transfer.specs.Changes.{Change, changed, changed_set}
+use Rattle.stage_transfer.specs.Changes.{Change, changed, changed_set, is_lost, with_may}
+use Rattle.stage_transfer.specs.Operations.{beside_new}
 use Rattle.stage_views.specs.declared.gathering.Gathering.{Gathering}
 use Rattle.stage_views.specs.Views.{Gathers}
 use Rattle.stage_flow.specs.declared.change.PathChange.{PathChange}
 use Rattle.stage_flow.specs.declared.draft.Draft.{Draft}
-use Rattle.stage_flow.specs.Drafts.{IsCutOf, IsDraft}
+use Rattle.stage_flow.specs.Drafts.{cut_with, IsCutOf, IsDraft}
 use Rattle.stage_flow.specs.Shapes.{adds_of, change_of, goes_of, kept_path, Makes}
 use Rattle.stage_flow.proofs.Lists.{left_filtered}
 
@@ -19,20 +25,72 @@ cut_set : (w : Setting) (l : LoweredMethod) (n : Node) (code : PathChange) (set 
     → Gathers g (flat_map (kept_path code) set ++ adds_of code.gain set) → IsCutOf g (changed_set (change_of w l n code) set)
 cut_set w l n code set g gathers =
     let is = subst (λ (ps : List Path). Gathers g (ps ++ adds_of code.gain set))
-      (sym (left_filtered (λ (x : Path). goes_of code.written code.leaving x.root) set)) gathers in
+    (sym (left_filtered (λ (x : Path). goes_of code.written code.leaving x.root) set)) gathers in
     record { set = is.set; dropped = is.dropped }
 
-pub drafted : (w : Setting) (l : LoweredMethod) (n : Node) (code : PathChange) (c : Change) (t : Tuple) (d : Draft) → Makes w l n code c
+pub drafted : (w : Setting) (l : LoweredMethod) (n : Node) (code : PathChange) (c : Change) (t : Tuple) (d : Draft) (others : Gathering) → Makes w l n code c
     → d.unique ≡ t.unique → d.state ≡ t.state
     → Gathers d.must (flat_map (kept_path code) t.must ++ adds_of code.gain t.must)
     → d.may ≡ (changed (change_of w l n code) t).may
-    → Gathers d.must_not (flat_map (kept_path code) t.must_not ++ adds_of code.gain t.must_not)
+    → d.must_not ≡ others.set → Gathers others (flat_map (kept_path code) t.must_not ++ adds_of code.gain t.must_not)
     → IsDraft d (changed c t)
-drafted w l n code c t d makes unique state must may must_not =
+drafted w l n code c t d others makes unique state must may same must_not =
     subst (λ (k : Change). IsDraft d (changed k t)) makes.same (record {
       unique = unique;
       state = state;
       must = cut_set w l n code t.must d.must must;
       may = may;
-      must_not = cut_set w l n code t.must_not d.must_not must_not;
+      must_not = same ∙ (cut_set w l n code t.must_not others must_not).set;
     })
+
+-- ---- parts of drafts
+
+-- Where the object is put away first, other cells may hold it also afterwards.
+pub may_later : (c : Change) (t : Tuple) (more : Bool) (d : Draft) → IsDraft d (with_may more (changed c t)) → IsDraft d (changed c (with_may more t))
+may_later c t more d is = record {
+  unique = is.unique;
+  state = is.state;
+  must = is.must;
+  may = is.may ∙ or_swap t.may (list_any (is_lost c (changed_set c t.must)) t.must) more;
+  must_not = is.must_not;
+}
+  where
+    or_swap : (a b e : Bool) → ((a || b) || e) ≡ ((a || e) || b)
+    or_swap true b e = refl
+    or_swap false b e = or_comm b e
+
+-- Nothing is put away.
+pub with_none : (t : Tuple) → with_may false t ≡ t
+with_none t =
+    let same = or-false t.may in
+    λ i. record { unique = t.unique; state = t.state; must = t.must; may = same i; must_not = t.must_not }
+
+pub beside_draft : (target : Option ℕ) (t : Tuple) (old new : Draft) → IsDraft old t
+    → new.unique ≡ false → new.state ≡ old.state → new.must ≡ old.must → new.may ≡ old.may → new.must_not ≡ cut_with target old.must_not
+    → IsDraft new (beside_new target t)
+beside_draft None t old new is unique state must may must_not = record {
+  unique = unique;
+  state = state ∙ is.state;
+  must = subst (λ (g : Gathering). IsCutOf g t.must) (sym must) is.must;
+  may = may ∙ is.may;
+  must_not = must_not ∙ is.must_not;
+}
+beside_draft (Some z) t old new is unique state must may must_not = record {
+  unique = unique;
+  state = state ∙ is.state;
+  must = subst (λ (g : Gathering). IsCutOf g t.must) (sym must) is.must;
+  may = may ∙ is.may;
+  must_not =
+      must_not ∙ ap (λ (ps : List Path). take most_paths (with_path (bare (Slot z)) ps)) is.must_not
+      ∙ take-with most_paths (bare (Slot z)) t.must_not;
+}
+
+pub whole_draft : (t : Tuple) (d : Draft) → length t.must ≤ most_paths → length t.must_not ≤ most_paths
+    → d.unique ≡ t.unique → d.state ≡ t.state → d.must.set ≡ t.must → d.must.dropped ≡ false → d.may ≡ t.may → d.must_not ≡ t.must_not → IsDraft d t
+whole_draft t d few few_not unique state must dropped may must_not = record {
+  unique = unique;
+  state = state;
+  must = record { set = must ∙ sym (take_all most_paths t.must few); dropped = dropped ∙ sym (le-ltb most_paths (length t.must) few) };
+  may = may;
+  must_not = must_not ∙ sym (take_all most_paths t.must_not few_not);
+}

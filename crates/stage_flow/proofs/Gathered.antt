@@ -1,8 +1,11 @@
 -- What was gathered in a loop.
-use Rattle.std.proofs.Common.{◌≡◌, ℕ, ◌≤◌, ◌<◌, ◌+◌, List, [], ◌∷◌, ◌++◌, length, take, get_or, sym, ◌∙◌, ap, subst, append-nil}
-use Rattle.std.specs.List.{flat_map}
+use Rattle.std.proofs.Common.{◌≡◌, ℕ, ◌≤◌, ◌<◌, ◌+◌, nat_lt, Bool, true, false, refl, if◌then◌else◌, List, [], ◌∷◌, ◌++◌, length, take, get_or, sym, ◌∙◌, ap, subst, append-nil}
+use Rattle.std.specs.List.{flat_map, list_any, range_with_len}
+use Rattle.std.proofs.lemmas.Bool.{false≢true, le-ltb, or_parts}
 use Rattle.std.proofs.lemmas.List.{flat_map_more, take_all, take_more}
-use Rattle.access_paths.specs.Paths.{Path}
+use Rattle.access_paths.specs.Paths.{Path, most_paths}
+use Rattle.access_paths.specs.Sets.{AreInOrder}
+use Rattle.access_paths.proofs.SetMembers.{path_set_same}
 use Rattle.stage_views.specs.declared.gathering.Gathering.{Gathering}
 use Rattle.stage_views.specs.Views.{Gathers}
 
@@ -29,3 +32,33 @@ pub all_gathered : {X : Type 0} (f : X → List Path) (xs : List X) (i : ℕ) (b
     → AreGathered f (take i xs) before after → (paths : List Path) → Gathers before paths → Gathers after (paths ++ flat_map f xs)
 all_gathered {X} f xs i before after past so_far paths gathers =
     subst (λ (ys : List X). Gathers after (paths ++ flat_map f ys)) (take_all i xs past) (so_far.each paths gathers)
+
+-- The same over the numbers from 0 on.
+pub next_gathered : (f : ℕ → List Path) (k : ℕ) (before old new : Gathering)
+    → AreGathered f (range_with_len 0 k) before old → ((paths : List Path) → Gathers old paths → Gathers new (paths ++ f k))
+    → AreGathered f (range_with_len 0 k ++ k ∷ []) before new
+next_gathered f k before old new so_far step = record {
+  each = λ paths gathers.
+      subst (Gathers new) (flat_map_more f paths (range_with_len 0 k) k) (step (paths ++ flat_map f (range_with_len 0 k)) (so_far.each paths gathers));
+}
+
+-- ---- whole sets
+
+-- All paths of a set are gathered at once.
+pub whole_gathered : (g : Gathering) (set : List Path) → AreInOrder set → length set ≤ most_paths → g.set ≡ set → g.dropped ≡ false → Gathers g set
+whole_gathered g set ordered few same dropped =
+    let is = path_set_same set ordered in
+    record {
+      set = same ∙ sym (take_all most_paths set few) ∙ ap (take most_paths) (sym is);
+      dropped = dropped ∙ sym (le-ltb most_paths (length set) few) ∙ ap (λ (ps : List Path). nat_lt most_paths (length ps)) (sym is);
+    }
+
+-- Where no path is left out, all are left.
+pub none_left_out : {X : Type 0} (p : X → Bool) (xs : List X) → list_any p xs ≡ false → flat_map (λ x. if p x then [] else x ∷ []) xs ≡ xs
+none_left_out p [] none = refl
+none_left_out {X = X} p (x ∷ xs) none = let parts = or_parts (p x) (list_any p xs) none in by (p x) parts.0 (none_left_out p xs parts.1)
+  where
+    by : (b : Bool) → b ≡ false → flat_map (λ y. if p y then [] else y ∷ []) xs ≡ xs
+        → (if b then [] else x ∷ []) ++ flat_map (λ y. if p y then [] else y ∷ []) xs ≡ x ∷ xs
+    by true is rest = absurd (false≢true (sym is))
+    by false is rest = ap (λ (ys : List X). x ∷ ys) rest

@@ -1,5 +1,5 @@
 -- The test whether a slot has the variable of another one.
-use Rattle.std.proofs.Common.{◌≡◌, ℕ, ◌+◌, nat_eq, nat_lt, Bool, true, false, cond, ◌&&◌, [], ◌∷◌, sym, ◌∙◌, ap, arith}
+use Rattle.std.proofs.Common.{◌≡◌, ℕ, ◌+◌, nat_eq, nat_lt, Bool, true, false, cond, ◌&&◌, [], ◌∷◌, arith}
 use Rattle.std.specs.List.{filter, range_with_len}
 use Rattle.std.proofs.Math.Bool.{or-false}
 use Rattle.std.proofs.lemmas.Bool.{and_from, and_parts, lt-ltb, ltb-true}
@@ -14,12 +14,12 @@ among_range : (p : ℕ → Bool) (all y : ℕ) → among (filter p (range_with_l
 among_range p all y =
     one_test (among (filter p (range_with_len 0 all)) y) (nat_lt y all && p y)
     (λ is.
-      let found = of_filter p (range_with_len 0 all) y (is_among (filter p (range_with_len 0 all)) y is) in
-      and_from (nat_lt y all) (p y) (lt-ltb y all (omega (arith, of_range 0 all y found.0))) found.1)
+    let found = of_filter p (range_with_len 0 all) y (is_among (filter p (range_with_len 0 all)) y is) in
+    and_from (nat_lt y all) (p y) (lt-ltb y all (omega (arith, of_range 0 all y found.0))) found.1)
     (λ is.
-      let parts = and_parts (nat_lt y all) (p y) is in
-      among_those (filter p (range_with_len 0 all)) y
-      (in_filter p (range_with_len 0 all) y (in_range 0 all y (omega arith) (omega (arith, ltb-true y all parts.0))) parts.1))
+    let parts = and_parts (nat_lt y all) (p y) is in
+    among_those (filter p (range_with_len 0 all)) y
+    (in_filter p (range_with_len 0 all) y (in_range 0 all y (omega arith) (omega (arith, ltb-true y all parts.0))) parts.1))
 
 pub like_is : (w : Setting) (l : LoweredMethod) (n : Node) (z y : ℕ) → among (alike w l n z) y ≡ is_like w l n z y
 like_is w l n z y = by (nat_lt z (l.slots + l.stack))

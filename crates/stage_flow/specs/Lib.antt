@@ -1,2 +1,4 @@
+pub mod Allocations
 pub mod Drafts
 pub mod Shapes
+pub mod Stores

@@ -1,11 +1,12 @@
 -- This crate's own proofs alone rest on this module.
 -- What the parts of a change, as code, stand for.
-use Rattle.std.specs.Prelude.{◌≡◌, ℕ, ◌+◌, nat_eq, nat_le, nat_lt, Bool, true, false, not, ◌&&◌, ◌||◌, List, [], ◌∷◌, ◌++◌, map, filter, flat_map, Option, Some, None, Contains, if◌then◌else◌}
+use Rattle.std.specs.Prelude.{◌≡◌, ℕ, ◌+◌, nat_eq, nat_le, nat_lt, Bool, true, false, not, ◌&&◌, ◌||◌, List, [], ◌∷◌, ◌++◌, map, flat_map, Option, Some, None, Contains, if◌then◌else◌}
 use Rattle.std.specs.List.{list_any}
 use Rattle.jvm_model.specs.declared.number.FieldNo.{FieldNo}
 use Rattle.op_model.specs.declared.lowered.LoweredMethod.{LoweredMethod}
 use Rattle.op_model.specs.declared.node.Node.{Node}
 use Rattle.op_model.specs.declared.op.Move.{Move}
+use Rattle.op_model.specs.declared.op.Op.{Op}
 use Rattle.op_model.specs.declared.op.Source.{Source}
 use Rattle.op_model.specs.declared.op.Source.TheVariants as sources
 use Rattle.access_paths.specs.declared.root.Root.{Root}
@@ -15,6 +16,7 @@ use Rattle.stage_transfer.specs.Settings.{Setting, among, same_variable}
 use Rattle.stage_transfer.specs.Changes.{Change, Copy as CopyOf, begins_at, copied, moved_to, slots_go, unwritten, with_root}
 use Rattle.stage_transfer.specs.Operations.{copies_of, every_slot, loaded, loaded_fields, moved_by, target_of}
 use Rattle.stage_transfer.specs.Calls.{written_by}
+use Rattle.stage_transfer.specs.Exceptions.{catching, thrown_slot, unwinding}
 use Rattle.stage_flow.specs.declared.change.PathChange.{PathChange}
 use Rattle.stage_flow.specs.declared.gain.Gain.{Gain}
 use Rattle.stage_flow.specs.declared.gain.Gain.TheVariants.{Nothing, Copy, Hand, Moves, Load}
@@ -161,3 +163,28 @@ is_handed w l n (Copy from to) set x = false
 is_handed w l n (Hand from target) set x = reaches w l n from x.root && has_path set (with_root from x)
 is_handed w l n (Moves moves) set x = list_any (λ (m : Move). moves_on w l n moves.now set x m.source m.target) moves.now
 is_handed w l n (Load object field target) set x = false
+
+-- ---- parts of changes
+
+-- The slot, if there is one, gets what the root held.
+abbrev pub hand_of : (from : Root) → (target : Option ℕ) → Gain
+hand_of from None = Nothing
+hand_of from (Some target) = Hand from target
+
+-- The root gets what the slot held, if there is one.
+abbrev pub copy_of : (value : Option ℕ) → (to : Root) → Gain
+copy_of None to = Nothing
+copy_of (Some value) to = Copy (Slot value) to
+
+-- A field is loaded: the target gets the paths behind it.
+abbrev pub loading : Setting → LoweredMethod → Node → (object : ℕ) → FieldNo → (target : ℕ) → Change
+loading w l n object field target = record {
+  adds = loaded object field target;
+  goes = slots_go (among (object ∷ target ∷ []));
+  doubles = unwritten w l n (among (object ∷ target ∷ []));
+}
+
+-- The way into a handler, or out of the method.
+abbrev pub leaving_by : Setting → LoweredMethod → Node → Op → (handler : Option ℕ) → Change
+leaving_by w l n op None = unwinding (thrown_slot op)
+leaving_by w l n op (Some handler) = catching w l n (thrown_slot op)

@@ -22,12 +22,7 @@ pub fn is_like<V: NodeSlots>(slots: &V, first: u32, second: u32) -> bool
 }
 
 /// Whether the second root is a slot of the first one's variable that is not written.
-pub fn may_double<V: NodeSlots>(
-    slots: &V,
-    written: &Written<'_>,
-    first: Root,
-    second: Root,
-) -> bool
+pub fn may_double<V: NodeSlots>(slots: &V, written: &Written<'_>, first: Root, second: Root) -> bool
     ensures { (w : Setting) (l : RuleMethod) (n : RuleNode) → V.knows slots.now w l n
         → result ≡ may_double w l n (written_of written.now) first second }
 {
@@ -40,12 +35,7 @@ pub fn may_double<V: NodeSlots>(
 }
 
 /// The same, of a slot.
-fn may_double_slot<V: NodeSlots>(
-    slots: &V,
-    written: &Written<'_>,
-    first: u32,
-    second: Root,
-) -> bool
+fn may_double_slot<V: NodeSlots>(slots: &V, written: &Written<'_>, first: u32, second: Root) -> bool
     ensures { (w : Setting) (l : RuleMethod) (n : RuleNode) → V.knows slots.now w l n
         → result ≡ may_double w l n (written_of written.now) (Root.Slot first) second }
 {

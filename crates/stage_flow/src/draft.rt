@@ -1,14 +1,16 @@
 //! A tuple while it is gathered, and the fact that it gives.
 
 ghost use Rattle.std.specs.Prelude.{◌≡◌, true, []};
-ghost use Rattle.stage_flow.specs.Drafts.{IsDraft};
 ghost use Rattle.stage_facts.specs.Facts.{Tuple, of_object};
 ghost use Rattle.stage_facts.specs.Plain.{fact_of};
+ghost use Rattle.stage_flow.specs.Drafts.{cut_with, IsDraft};
+ghost use Rattle.stage_transfer.specs.Changes.{with_may};
+ghost use Rattle.stage_transfer.specs.Operations.{beside_new};
 ghost use Rattle.stage_transfer.specs.Settings.{Setting};
 ghost use Rattle.stage_transfer.specs.Stages.{finished};
 ghost use Rattle.stage_views.specs.Views.{IsSettingBy};
 
-use access_paths::PathSet;
+use access_paths::{Path, PathSet, Root};
 use stage_facts::{PlainFact, PlainTuple};
 use stage_views::{Gathering, StageSetting};
 
@@ -17,12 +19,71 @@ use stage_views::{Gathering, StageSetting};
 pub struct Draft {
     pub unique: bool,
     pub state: u8,
+    /// It notes whether must paths were left out.
     pub must: Gathering,
     pub may: bool,
-    pub must_not: Gathering,
+    pub must_not: PathSet,
 }
 
 impl Draft {
+    /// The tuple as it is.
+    pub fn of(tuple: &PlainTuple) -> Draft
+        ensures { IsDraft result tuple.now }
+    {
+        tuple.must.well_formed();
+        tuple.must_not.well_formed();
+        Draft {
+            unique: tuple.unique,
+            state: tuple.state,
+            must: Gathering {
+                set: tuple.must.copied(),
+                dropped: false,
+            },
+            may: tuple.may,
+            must_not: tuple.must_not.copied(),
+        }
+    }
+
+    /// Other cells may hold the object, too, if this is set.
+    pub fn with_may(self, more: bool) -> Draft
+        ensures { (t : Tuple) → IsDraft self t → IsDraft result (with_may more t) }
+    {
+        let Draft {
+            unique,
+            state,
+            must,
+            may,
+            must_not,
+        } = self;
+        Draft {
+            unique,
+            state,
+            must,
+            may: may || more,
+            must_not,
+        }
+    }
+
+    /// The object is not the only one any more: the slot, if there is one, holds a new one.
+    pub fn beside_new(self, target: Option<u32>) -> Draft
+        ensures { (t : Tuple) → IsDraft self t → IsDraft result (beside_new target t) }
+    {
+        let Draft {
+            unique: _,
+            state,
+            must,
+            may,
+            must_not,
+        } = self;
+        Draft {
+            unique: false,
+            state,
+            must,
+            may,
+            must_not: with_slot(must_not, target),
+        }
+    }
+
     /// The tuple as a fact of the stage: in normal form, and with no more paths than a set may have.
     pub fn finish(self, setting: &StageSetting<'_>) -> PlainFact
         ensures { (w : Setting) (t : Tuple) → IsSettingBy setting.now w → IsDraft self t → fact_of result ≡ finished w (of_object t) }
@@ -49,14 +110,24 @@ impl Draft {
                 state,
                 must: set,
                 may: may || dropped,
-                must_not: must_not.set,
+                must_not,
             },
         })
     }
 }
 
+/// The least paths of the set and of the slot, if there is one.
+fn with_slot(set: PathSet, slot: Option<u32>) -> PathSet
+    ensures { result ≡ cut_with slot set }
+{
+    match slot {
+        None => set,
+        Some(slot) => set.add(&Path::new(Root::Slot(slot))).set,
+    }
+}
+
 /// A tuple of the second stage.
-fn without_paths(unique: bool, state: u8) -> PlainTuple
+pub fn without_paths(unique: bool, state: u8) -> PlainTuple
     ensures { result ≡ record { unique = unique; state = state; must = []; may = true; must_not = [] } }
 {
     PlainTuple {

@@ -1,7 +1,7 @@
 //! The engine: what a change makes of a tuple.
 
 ghost use Rattle.std.specs.Prelude.{◌≡◌, List, ◌++◌};
-ghost use Rattle.std.specs.List.{flat_map};
+ghost use Rattle.std.specs.List.{flat_map, list_any};
 ghost use Rattle.access_paths.specs.Paths.{Path as AccessPath};
 ghost use Rattle.op_model.specs.declared.lowered.LoweredMethod.{LoweredMethod as RuleMethod};
 ghost use Rattle.op_model.specs.declared.node.Node.{Node as RuleNode};
@@ -23,12 +23,16 @@ impl PathChange<'_> {
         ensures { (w : Setting) (l : RuleMethod) (n : RuleNode) (c : Change) → V.knows slots.now w l n → Makes w l n self.now c
             → IsDraft result (changed c tuple.now) }
     {
+        let Gathering {
+            set: must_not,
+            dropped: _,
+        } = self.gathered(&tuple.must_not);
         Draft {
             unique: tuple.unique,
             state: tuple.state,
             must: self.gathered(&tuple.must),
             may: self.may_after(slots, tuple),
-            must_not: self.gathered(&tuple.must_not),
+            must_not,
         }
     }
 
@@ -52,10 +56,13 @@ impl PathChange<'_> {
         all
     }
 
-    /// The paths whose roots do not go.
+    /// The paths whose roots do not go. Mostly these are all, and the set is copied as it is.
     fn kept(&self, set: &PathSet) -> Gathering
         ensures { Gathers result (flat_map (kept_path self.now) set.now) }
     {
+        if !self.takes_some(set) {
+            return whole(set);
+        }
         let mut all = Gathering::new();
         for path in set.as_slice() {
             self.keep(path, &mut all);
@@ -72,6 +79,18 @@ impl PathChange<'_> {
         }
     }
 
+    /// Whether the root of some path goes.
+    fn takes_some(&self, set: &PathSet) -> bool
+        ensures { result ≡ list_any (λ (x : AccessPath). goes_of self.now.written self.now.leaving x.root) set.now }
+    {
+        for path in set.as_slice() {
+            if self.takes(path) {
+                return true;
+            }
+        }
+        false
+    }
+
     /// Whether the path's root goes.
     pub fn takes(&self, path: &Path) -> bool
         ensures { result ≡ goes_of self.now.written self.now.leaving path.now.root }
@@ -80,5 +99,16 @@ impl PathChange<'_> {
             None => self.written.has_root(path.root()),
             Some(other) => self.written.has_root(path.root()) || path.begins_at(other),
         }
+    }
+}
+
+/// All paths of the set.
+fn whole(set: &PathSet) -> Gathering
+    ensures { Gathers result set.now }
+{
+    set.well_formed();
+    Gathering {
+        set: set.copied(),
+        dropped: false,
     }
 }

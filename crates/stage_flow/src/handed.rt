@@ -43,13 +43,7 @@ fn is_moved<V: NodeSlots>(slots: &V, moves: &[Move], set: &PathSet, path: &Path)
 }
 
 /// Whether this move hands it on: it is one of a slot of the path's variable, and the path gets to its target.
-fn moves_on<V: NodeSlots>(
-    slots: &V,
-    moves: &[Move],
-    set: &PathSet,
-    path: &Path,
-    step: Move,
-) -> bool
+fn moves_on<V: NodeSlots>(slots: &V, moves: &[Move], set: &PathSet, path: &Path, step: Move) -> bool
     ensures { (w : Setting) (l : RuleMethod) (n : RuleNode) → V.knows slots.now w l n
         → result ≡ moves_on w l n moves.now set.now path.now step.source step.target }
 {

@@ -5,10 +5,25 @@
 #![tactic(auto)]
 
 mod alike;
+mod answers;
 mod change;
+mod changes;
 mod draft;
 mod engine;
+mod exceptions;
 mod gain;
 mod handed;
+mod loads;
 mod lost;
+mod operations;
+mod sites;
+mod store;
+mod store_lost;
+mod stored;
+mod stores;
+mod tuples;
 mod written;
+
+pub use answers::after_answer;
+pub use exceptions::{after_exception, after_raise};
+pub use operations::after_node;

@@ -47,7 +47,7 @@ impl PathChange<'_> {
 }
 
 /// Whether the path follows a field.
-fn has_fields(path: &Path) -> bool
+pub fn has_fields(path: &Path) -> bool
     ensures { result ≡ has_fields path.now.fields }
 {
     match path.fields() {

@@ -1,4 +1,4 @@
-use Rattle.std.proofs.Common.{◌≡◌, ℕ, Option, nat_eq, sym, ◌∙◌, arith}
+use Rattle.std.proofs.Common.{ℕ, Option, nat_eq, sym, ◌∙◌, arith}
 use Rattle.std.specs.Option.{option_to_list}
 use Rattle.std.proofs.lemmas.List.Folds.{list_any_at}
 use Rattle.stage_transfer.specs.Settings.{among}

@@ -1,4 +1,4 @@
-use Rattle.std.proofs.Common.{◌≡◌, nat_eq, sym, ◌∙◌, arith, eq-eqb}
+use Rattle.std.proofs.Common.{nat_eq, sym, ◌∙◌, arith, eq-eqb}
 use Rattle.std.proofs.lemmas.List.Folds.{list_any_at}
 use Rattle.op_model.specs.declared.op.Move.{Move}
 use Rattle.stage_transfer.specs.Operations.{target_of}

@@ -1,4 +1,4 @@
-use Rattle.std.proofs.Common.{◌≡◌, refl, sym, ◌∙◌, ap, subst}
+use Rattle.std.proofs.Common.{refl, sym, ◌∙◌, ap, subst}
 use Rattle.stage_facts.specs.Facts.{Tuple}
 use Rattle.stage_transfer.specs.Changes.{changed}
 use Rattle.stage_flow.specs.declared.draft.Draft.{Draft}
@@ -15,15 +15,15 @@ returns g c w l n k knows makes =
       state = c.tuple.inside.state;
       must = c.tuple.inside.must;
       may = c.tuple.inside.may;
-      must_not = c.tuple.inside.must_not
+      must_not = c.tuple.inside.must_not;
     } in
     let d : Draft = record {
       unique = c.tuple.inside.unique;
       state = c.tuple.inside.state;
       must = c.gathered.result;
       may = c.may_after.result;
-      must_not = c.gathered-2.result
+      must_not = c.gathered-must_not.result.set;
     } in
     let may = c.may_after.ensures w l n knows makes.proper ∙ ap (λ (t : Tuple). (changed (change_of w l n code) t).may) (sym c.tuple.view_is) in
     subst (λ (t : Tuple). IsDraft d (changed k t)) c.tuple.view_is
-    (drafted w l n code k inside d makes refl refl c.gathered.ensures may c.gathered-2.ensures)
+    (drafted w l n code k inside d c.gathered-must_not.result makes refl refl c.gathered.ensures may refl c.gathered-must_not.ensures)

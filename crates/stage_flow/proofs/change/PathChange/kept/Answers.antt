@@ -1,7 +1,15 @@
-use Rattle.std.proofs.Common.{[], length, ap, arith}
-use Rattle.stage_flow.specs.Shapes.{kept_path}
-use Rattle.stage_flow.proofs.Gathered.{all_gathered}
+use Rattle.std.proofs.Common.{[], length, sym, ◌∙◌, ap, subst, arith}
+use Rattle.access_paths.specs.Paths.{Path}
+use Rattle.stage_views.specs.Views.{Gathers}
+use Rattle.stage_flow.specs.Shapes.{goes_of, kept_path}
+use Rattle.stage_flow.proofs.Gathered.{all_gathered, none_left_out}
 use Rattle.stage_flow.proofs.change.PathChange.kept.Goals as goal
+
+pub returns-then-not-takes_some : goal.returns-then-not-takes_some
+returns-then-not-takes_some c =
+    let code = c.args.self.now in
+    let none = none_left_out (λ (x : Path). goes_of code.written code.leaving x.root) c.args.set.now (sym c.takes_some.ensures ∙ c.if-not-takes_some.true) in
+    subst (Gathers c.whole.result) (sym none) c.whole.ensures
 
 pub returns : goal.returns
 returns c =

@@ -1,4 +1,4 @@
-use Rattle.std.proofs.Common.{◌≡◌, List, ◌++◌, sym, ◌∙◌, ap, subst}
+use Rattle.std.proofs.Common.{List, ◌++◌, sym, ◌∙◌, ap, subst}
 use Rattle.access_paths.specs.declared.root.Root.TheVariants.{Slot}
 use Rattle.access_paths.specs.Paths.{Path}
 use Rattle.stage_transfer.specs.Changes.{begins_at}
