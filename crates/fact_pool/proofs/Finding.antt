@@ -1,73 +1,56 @@
--- How a row is found: on the way of its hash.
-use Rattle.std.proofs.Common.{◌≡◌, ◌⊎◌, ℕ, suc, ◌+◌, ◌-◌, ◌<◌, ◌≤◌, List, length, map, get_or, Some, sym, ◌∙◌, ap, arith, inl, inr}
+-- How a row is found: along the chain of its bucket, from the last row down.
+use Rattle.std.proofs.Common.{◌≡◌, ℕ, ◌-◌, ◌<◌, ◌≤◌, List, length, map, get_or, Some, sym, ◌∙◌, ap, subst, arith, inl, inr}
 use Rattle.std.specs.List.{slice_get}
 use Rattle.std.proofs.lemmas.Bool.{cases_eq, cases_lt}
-use Rattle.std.proofs.lemmas.List.{get_or-map, length-map}
-use Rattle.std.proofs.lemmas.Option.{slice_get_within}
-use Rattle.list_laws.proofs.Places.{at_map}
+use Rattle.std.proofs.lemmas.List.{length-map}
+use Rattle.std.proofs.lemmas.Option.{get_or_from_slice_get, slice_get_within}
+use Rattle.list_laws.proofs.Places.{at_map, map_at}
 use Rattle.fact_pool.specs.declared.entry.Entry.{Entry}
-use Rattle.fact_pool.specs.declared.slot.Slot.{Slot}
-use Rattle.fact_pool.specs.Hashes.{hash_of}
-use Rattle.fact_pool.specs.Layout.{ends_of, rows_of}
-use Rattle.fact_pool.specs.Slots.{IsNamed, IsTable, marks_of, names_of, slot_after}
+use Rattle.fact_pool.specs.Chains.{AreLinked, IsLast}
+use Rattle.fact_pool.specs.Hashes.{bucket_of, hash_of}
+use Rattle.fact_pool.specs.Layout.{buckets_of, ends_of, hashes_of, rows_of}
 use Rattle.fact_pool.proofs.RowLists.{length-rows_from}
 
 -- there is an entry for each row
 pub length-rows_of : (words : List ℕ) (entries : List Entry) → length (rows_of words entries) ≡ length entries
 length-rows_of words entries = length-rows_from words 0 (ends_of entries) ∙ length-map entries (λ (e : Entry). e.end)
 
--- what a slot names that is read
-pub name_read : (slots : List Slot) (i : ℕ) (d : Slot) → i < length slots → get_or (names_of slots) i 0 ≡ (get_or slots i d).named
-name_read slots i d l = get_or-map (λ (s : Slot). s.named) slots i d 0 l
+-- a row is in the bucket of its words
+pub in_bucket : (entries : List Entry) (rows : List (List ℕ)) (count r : ℕ) (row : List ℕ) → hashes_of entries ≡ map hash_of rows → slice_get rows r ≡ Some row
+    → slice_get (buckets_of entries count) r ≡ Some (bucket_of (hash_of row) count)
+in_bucket entries rows count r row hashed at =
+    let found = map_at (λ (e : Entry). e.hash) entries r (hash_of row) (ap (λ (hs : List ℕ). slice_get hs r) hashed ∙ at_map hash_of rows r row at) in
+    at_map (λ (e : Entry). bucket_of e.hash count) entries r found.0 found.1 ∙ ap (λ (hash : ℕ). Some (bucket_of hash count)) found.2
 
--- its hash
-pub mark_read : (slots : List Slot) (i : ℕ) (d : Slot) → i < length slots → get_or (marks_of slots) i 0 ≡ (get_or slots i d).hash
-mark_read slots i d l = get_or-map (λ (s : Slot). s.hash) slots i d 0 l
+-- the row that a row of a bucket names is the last one before it in the bucket
+pub next_last : (entries : List Entry) (count bucket r : ℕ) (d : Entry) → AreLinked entries count (length entries)
+    → slice_get (buckets_of entries count) r ≡ Some bucket
+    → IsLast (buckets_of entries count) r bucket (get_or entries r d).next
+next_last entries count bucket r d linked at =
+    let found = map_at (λ (e : Entry). bucket_of e.hash count) entries r bucket at in
+    let last = linked.at_row r found.0 (slice_get_within entries r found.0 found.1) found.1 in
+    let read : get_or entries r d ≡ found.0 = get_or_from_slice_get entries r found.0 d found.1 in
+    subst (λ (e : Entry). IsLast (buckets_of entries count) r bucket e.next) (sym read)
+    (subst (λ (b : ℕ). IsLast (buckets_of entries count) r b found.0.next) found.2 last)
 
--- the row of words is named on the way of their hash
-pub row_named : (words : List ℕ) (entries : List Entry) (slots : List Slot) (wanted : List ℕ) (r : ℕ) → IsTable words entries slots
-    → slice_get (rows_of words entries) r ≡ Some wanted
-    → IsNamed (names_of slots) (length slots) (hash_of wanted) r
-row_named words entries slots wanted r table at =
-    table.named.each r (hash_of wanted) (omega (arith, slice_get_within (rows_of words entries) r wanted at, length-rows_of words entries))
-    (ap (λ (hs : List ℕ). slice_get hs r) table.hashes_are ∙ at_map hash_of (rows_of words entries) r wanted at)
+-- where a chain begins, no later row has the words
+pub none_after : (words : List ℕ) (entries : List Entry) (count named : ℕ) (wanted : List ℕ) → hashes_of entries ≡ map hash_of (rows_of words entries)
+    → IsLast (buckets_of entries count) (length entries) (bucket_of (hash_of wanted) count) named
+    → (r : ℕ) → named ≤ r → slice_get (rows_of words entries) r ≡ Some wanted → ⊥
+none_after words entries count named wanted hashed last r from at =
+    last.none_later r from (omega (arith, slice_get_within (rows_of words entries) r wanted at, length-rows_of words entries))
+    (in_bucket entries (rows_of words entries) count r wanted hashed at)
 
--- a slot has the hash of the row that it names
-pub mark_is : (words : List ℕ) (entries : List Entry) (slots : List Slot) (s row : ℕ) → IsTable words entries slots → get_or (names_of slots) s 0 ≡ suc row
-    → slice_get (map hash_of (rows_of words entries)) row ≡ Some (get_or (marks_of slots) s 0)
-mark_is words entries slots s row table is = ap (λ (hs : List ℕ). slice_get hs row) (sym table.hashes_are) ∙ table.named.marked s row is
-
--- none of the slots that were passed names the row of the words
-pub record Missed (rows : List (List ℕ)) (names : List ℕ) (count hash step : ℕ) (wanted : List ℕ) : Type 0 where
-  pub passed : (k r : ℕ) → k < step → get_or names (slot_after hash k count) 0 ≡ suc r → slice_get rows r ≡ Some wanted → ⊥
-
--- one more slot was passed
-pub missed_more : (rows : List (List ℕ)) (names : List ℕ) (count hash step named : ℕ) (wanted : List ℕ) → Missed rows names count hash step wanted
-    → get_or names (slot_after hash step count) 0 ≡ named
+-- nor after the next of the chain, where the row that was looked at has others
+pub none_after_next : (entries : List Entry) (rows : List (List ℕ)) (count named next : ℕ) (wanted : List ℕ) → hashes_of entries ≡ map hash_of rows → 0 < named
+    → IsLast (buckets_of entries count) (named - 1) (bucket_of (hash_of wanted) count) next
     → (slice_get rows (named - 1) ≡ Some wanted → ⊥)
-    → Missed rows names count hash (step + 1) wanted
-missed_more rows names count hash step named wanted missed is other = record {
-  passed = λ k r l names_r at. elim (cases_eq k step) [
-    | inl same ↦
-        (let there : get_or names (slot_after hash k count) 0 ≡ named = ap (λ (n : ℕ). get_or names (slot_after hash n count) 0) same ∙ is in
-        let row : named - 1 ≡ r = omega (arith, there, names_r) in
-        other (ap (slice_get rows) row ∙ at))
-    | inr apart ↦ missed.passed k r (omega arith) names_r at
-  ];
-}
-
--- where the way comes to an empty slot, or has come by all, there is no such row
-pub none_found : (rows : List (List ℕ)) (names : List ℕ) (count hash step : ℕ) (wanted : List ℕ)
-    → ((r : ℕ) → slice_get rows r ≡ Some wanted → IsNamed names count hash r) → Missed rows names count hash step wanted
-    → (get_or names (slot_after hash step count) 0 ≡ 0) ⊎ (count ≤ step)
-    → (r : ℕ) → slice_get rows r ≡ Some wanted → ⊥
-none_found rows names count hash step wanted named missed ends r at = let is = named r at in elim (cases_lt is.steps step) [
-  | inl less ↦ missed.passed is.steps r less is.there at
-  | inr more ↦ elim ends [
-    | inl none ↦ elim (cases_eq is.steps step) [
-      | inl same ↦ absurd (omega (arith, none, sym (ap (λ (n : ℕ). get_or names (slot_after hash n count) 0) same) ∙ is.there))
-      | inr apart ↦ absurd (omega (arith, none, is.some step (omega arith)))
-    ]
-    | inr all ↦ absurd (omega (arith, all, is.within))
+    → ((r : ℕ) → named ≤ r → slice_get rows r ≡ Some wanted → ⊥)
+    → (r : ℕ) → next ≤ r → slice_get rows r ≡ Some wanted → ⊥
+none_after_next entries rows count named next wanted hashed some last others later r from at = elim (cases_eq r (named - 1)) [
+  | inl same ↦ others (ap (slice_get rows) (sym same) ∙ at)
+  | inr apart ↦ elim (cases_lt r named) [
+    | inl less ↦ last.none_later r from (omega arith) (in_bucket entries rows count r wanted hashed at)
+    | inr more ↦ later r more at
   ]
 ]

@@ -1,10 +1,10 @@
 -- Callers take `Interned`; the other modules serve the proofs of this crate.
 pub mod Adding
+pub mod ChainSteps
 pub mod Finding
+pub mod HashesOfRows
 pub mod Interned
-pub mod Naming
+pub mod Linking
 pub mod Releasing
 pub mod Rooms
 pub mod RowLists
-pub mod Ways
-pub mod Zeros

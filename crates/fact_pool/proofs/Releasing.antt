@@ -1,15 +1,15 @@
 -- The rows after a mark are gone: what stays of the rows, and of the table that finds them.
-use Rattle.std.proofs.Common.{◌≡◌, ℕ, ◌+◌, ◌≤◌, List, length, map, take, sym, ◌∙◌, ap, subst, arith}
+use Rattle.std.proofs.Common.{◌≡◌, ℕ, ◌+◌, ◌≤◌, List, length, map, take, get_or, sym, ◌∙◌, ap, subst, arith}
 use Rattle.std.proofs.lemmas.List.{length-take-le, take-map, take-take}
 use Rattle.std.proofs.lemmas.List.Sums.{sum_by-take-le}
+use Rattle.std.proofs.lemmas.Option.{slice_get_within}
 use Rattle.list_laws.proofs.Places.{in_front}
 use Rattle.fact_pool.specs.declared.entry.Entry.{Entry}
-use Rattle.fact_pool.specs.declared.slot.Slot.{Slot}
-use Rattle.fact_pool.specs.Hashes.{hash_of}
-use Rattle.fact_pool.specs.Layout.{Ascend, ends_of, hashes_of, rows_from, rows_of}
-use Rattle.fact_pool.specs.Slots.{IsTable, Name, marks_of, names_of}
+use Rattle.fact_pool.specs.Chains.{AreHeads, IsLast, IsTable}
+use Rattle.fact_pool.specs.Hashes.{bucket_of, hash_of}
+use Rattle.fact_pool.specs.Layout.{Ascend, buckets_of, ends_of, rows_from, rows_of}
 use Rattle.fact_pool.specs.Rows.{AreDistinct, word_count}
-use Rattle.fact_pool.proofs.Naming.{named_in_front}
+use Rattle.fact_pool.proofs.ChainSteps.{last_in_front}
 use Rattle.fact_pool.proofs.RowLists.{ascend_take, rows_take, same_rows, word_count_from}
 
 -- the words of the rows are all words
@@ -47,20 +47,37 @@ rows_front words entries kept count up is =
     ∙ ap (λ (es : List ℕ). rows_from words 0 es) (sym cut)
     ∙ rows_take words 0 (ends_of entries) kept
 
-pub table_front : (words : List ℕ) (entries : List Entry) (old slots : List Slot) (kept count : ℕ) → IsTable words entries old → kept ≤ length entries
-    → word_count (take kept (rows_of words entries)) ≡ count → Name slots (hashes_of entries) kept
-    → IsTable (take count words) (take kept entries) slots
-table_front words entries old slots kept count table within is named =
+pub table_front : (words : List ℕ) (entries : List Entry) (old heads : List ℕ) (kept count : ℕ) → IsTable words entries old → kept ≤ length entries
+    → word_count (take kept (rows_of words entries)) ≡ count → length heads ≡ length old → AreHeads (buckets_of entries (length old)) kept heads
+    → IsTable (take count words) (take kept entries) heads
+table_front words entries old heads kept count table within is same heads_last =
+    let cut : take kept (buckets_of entries (length heads)) ≡ buckets_of (take kept entries) (length heads) =
+    take-map (λ (e : Entry). bucket_of e.hash (length heads)) kept entries in
     let held : length (take kept entries) ≡ kept = length-take-le kept entries within in
     let all : length (take count words) ≡ count = length-take-le count words (count_within words entries kept count table.ends_ascend is) in
-    let hashes : take kept (hashes_of entries) ≡ hashes_of (take kept entries) = take-map (λ (e : Entry). e.hash) kept entries in
     record {
       ends_ascend = subst (λ (n : ℕ). Ascend 0 (ends_of (take kept entries)) n) (sym all) (ends_front words entries kept count table.ends_ascend is);
-      hashes_are = sym hashes
+      hashes_are = sym (take-map (λ (e : Entry). e.hash) kept entries)
           ∙ ap (take kept) table.hashes_are
           ∙ take-map hash_of kept (rows_of words entries)
           ∙ ap (map hash_of) (sym (rows_front words entries kept count table.ends_ascend is));
-      named = subst (λ (n : ℕ). Name slots (hashes_of (take kept entries)) n) (sym held)
-          (subst (λ (hs : List ℕ). Name slots hs kept) hashes
-          (named_in_front (hashes_of entries) kept (names_of slots) (marks_of slots) (length slots) named));
+      chained = record {
+        heads_last = record {
+          at_bucket = λ b.
+              subst (λ (bs : List ℕ). IsLast bs (length (take kept entries)) b (get_or heads b 0)) cut
+              (last_in_front (buckets_of entries (length heads)) kept (length (take kept entries)) b (get_or heads b 0)
+              (subst (λ (n : ℕ). IsLast (buckets_of entries (length heads)) n b (get_or heads b 0)) (sym held)
+              (subst (λ (n : ℕ). IsLast (buckets_of entries n) kept b (get_or heads b 0)) (sym same) (heads_last.at_bucket b)))
+              (omega arith));
+        };
+        links_last = record {
+          at_row = λ r e below at.
+              let there = in_front entries kept r e at in
+              subst (λ (bs : List ℕ). IsLast bs r (bucket_of e.hash (length heads)) e.next) cut
+              (last_in_front (buckets_of entries (length heads)) kept r (bucket_of e.hash (length heads)) e.next
+              (subst (λ (n : ℕ). IsLast (buckets_of entries n) r (bucket_of e.hash n) e.next) (sym same)
+              (table.chained.links_last.at_row r e (slice_get_within entries r e there.1) there.1))
+              (omega (arith, there.0)));
+        };
+      };
     }

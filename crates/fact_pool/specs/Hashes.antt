@@ -1,4 +1,4 @@
--- This crate's own proofs alone rest on this module.
+-- Proofs of this crate alone rest on this module.
 -- The hash of words. What it is matters to no proof: equal words have equal hashes, since it is a function of the words.
 use Rattle.std.specs.Prelude.{ℕ, ◌*◌, ◌/◌, ◌%◌, ◌^◌, List, fold, bit_xor}
 use Rattle.std.specs.Int.{rotate_left, w64}

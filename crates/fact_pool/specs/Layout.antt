@@ -1,7 +1,8 @@
--- This crate's own proofs alone rest on this module.
+-- Proofs of this crate alone rest on this module.
 -- How rows lie in memory: their words one after another, and an entry for each.
 use Rattle.std.specs.Prelude.{◌≡◌, ℕ, ◌≤◌, List, [], ◌∷◌, drop, map, take}
 use Rattle.fact_pool.specs.declared.entry.Entry.{Entry}
+use Rattle.fact_pool.specs.Hashes.{bucket_of}
 
 -- Where the words of each row end.
 abbrev pub ends_of : List Entry → List ℕ
@@ -10,6 +11,10 @@ ends_of entries = map (λ (e : Entry). e.end) entries
 -- The hash of each row.
 abbrev pub hashes_of : List Entry → List ℕ
 hashes_of entries = map (λ (e : Entry). e.hash) entries
+
+-- The bucket of each row, among so many.
+abbrev pub buckets_of : List Entry → ℕ → List ℕ
+buckets_of entries count = map (λ (e : Entry). bucket_of e.hash count) entries
 
 -- The rows that end at these places, where the first begins at `start`.
 abbrev pub rows_from : List ℕ → ℕ → List ℕ → List (List ℕ)

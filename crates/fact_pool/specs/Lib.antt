@@ -1,5 +1,5 @@
 pub mod Rows
 pub mod Hashes
 pub mod Layout
-pub mod Slots
+pub mod Chains
 pub mod Pools

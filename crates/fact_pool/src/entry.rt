@@ -7,4 +7,6 @@ pub struct Entry {
     pub end: usize,
     /// The hash of its words.
     pub hash: u32,
+    /// One more than the number of the last row before it in its bucket, and 0 where there is none.
+    pub next: u32,
 }

@@ -5,13 +5,12 @@
 //! Begin with specs/Rows.antt, which says what callers see of a pool, and then read src/pool.rt.
 #![tactic(auto)]
 
+mod chains;
 mod entry;
 mod hash;
 mod layout;
 mod pool;
 mod row;
-mod slot;
-mod slots;
 
 pub use pool::FactPool;
 pub use row::{Mark, Row};

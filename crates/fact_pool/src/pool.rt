@@ -5,12 +5,11 @@ ghost use Rattle.std.specs.Prelude.{IfOk, IsOk, MatchOption, OnErr, OnOk, Some};
 ghost use Rattle.fact_pool.specs.Hashes.{hash_of};
 ghost use Rattle.fact_pool.specs.Rows.{AreDistinct, HasSpare, IsInterned, IsMarked, KeepsRoom, row_room, word_count, word_room};
 
+use crate::chains::{empty_heads, find, head_of, link_all, unlink};
 use crate::entry::Entry;
-use crate::hash::hash_of;
+use crate::hash::{bucket_of, hash_of};
 use crate::layout::words_at;
 use crate::row::{Mark, Row};
-use crate::slot::Slot;
-use crate::slots::{empty_slots, find, forget, name_all, name_next, rows_for};
 use std::alloc::{AllocError, Global};
 use std::marker::Model;
 
@@ -20,10 +19,8 @@ pub struct FactPool {
     /// The words of all rows, one after another.
     words: Vec<u32>,
     entries: Vec<Entry>,
-    /// The table by which rows are found.
-    slots: Vec<Slot>,
-    /// How many rows there may be before more memory is taken.
-    room: usize,
+    /// The head of each bucket's chain. There are as many buckets as there may be rows before more memory is taken.
+    heads: Vec<u32>,
     alloc: Global,
 }
 
@@ -47,8 +44,7 @@ impl FactPool {
         FactPool {
             words: Vec::new(alloc),
             entries: Vec::new(alloc),
-            slots: Vec::new(alloc),
-            room: 0,
+            heads: Vec::new(alloc),
             alloc,
         }
     }
@@ -76,7 +72,7 @@ impl FactPool {
     }
 
     /// Makes room for so many more rows and words, and for some beyond them, as a vector does. It answers an error where memory runs out,
-    /// or where there would be room for more than 2^31 rows. Nothing has changed then.
+    /// or where there would be room for more than 2^32 - 1 rows. Nothing has changed then.
     pub fn reserve(&mut self, rows: u32, words: u32) -> Result<(), AllocError>
         ensures rows { self.new.rows ≡ self.old.rows }
         ensures spare { OnOk result (HasSpare self.new rows words) }
@@ -99,16 +95,14 @@ impl FactPool {
     {
         let held = self.entries.len();
         let wanted = held + rows as usize;
-        if wanted <= self.room {
+        if wanted <= self.heads.len() {
             return self.words.reserve(words);
         }
-        let room = rows_for(wanted, self.room)?;
-        let mut slots = empty_slots(self.alloc, room)?;
-        self.entries.reserve_exact(room - held)?;
+        let mut heads = empty_heads(self.alloc, wanted, self.heads.len())?;
+        self.entries.reserve_exact(heads.len() - held)?;
         self.words.reserve(words)?;
-        name_all(&self.entries, &mut slots);
-        self.slots = slots;
-        self.room = room;
+        link_all(&mut self.entries, &mut heads);
+        self.heads = heads;
         Ok(())
     }
 
@@ -138,7 +132,7 @@ impl FactPool {
         requires { hash ≡ hash_of words.now }
         ensures { MatchOption result (Contains self.now.rows words.now → ⊥) (λ row. slice_get self.now.rows row.0 ≡ Some words.now) }
     {
-        find(&self.words, &self.entries, &self.slots, words, hash)
+        find(&self.words, &self.entries, &self.heads, words, hash)
     }
 
     /// Adds a row that is not held, for which there is room. The hash of its words is given.
@@ -152,14 +146,16 @@ impl FactPool {
         ensures room_kept { KeepsRoom self.old self.new }
     {
         let row = self.entries.len() as u32;
+        let next = head_of(&self.heads, hash);
         let Ok(()) = self.words.extend_from_slice(words) else {
             unreachable!()
         };
         let end = self.words.len();
-        let Ok(()) = self.entries.push(Entry { end, hash }) else {
+        let Ok(()) = self.entries.push(Entry { end, hash, next }) else {
             unreachable!()
         };
-        name_next(&mut self.slots, hash, row);
+        let bucket = bucket_of(hash, self.heads.len());
+        self.heads[bucket] = row + 1;
         Row(row)
     }
 
@@ -190,7 +186,7 @@ impl FactPool {
         ensures word_room { word_room self.new ≡ word_room self.old }
     {
         let kept = mark.rows as usize;
-        forget(&self.entries, &mut self.slots, kept);
+        unlink(&self.entries, &mut self.heads, kept);
         self.entries.truncate(kept);
         self.words.truncate(mark.words as usize);
     }

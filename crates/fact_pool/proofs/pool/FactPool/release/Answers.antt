@@ -1,10 +1,9 @@
-use Rattle.std.proofs.Common.{◌≡◌, ◌≤◌, List, length, take, ◌∙◌, sym, ap, subst, arith}
+use Rattle.std.proofs.Common.{◌≡◌, ℕ, ◌≤◌, List, length, take, ◌∙◌, sym, ap, subst, arith}
 use Rattle.std.specs.Vec.{with_items}
 use Rattle.std.proofs.lemmas.List.{with_items_is}
-use Rattle.fact_pool.specs.declared.slot.Slot.{Slot}
 use Rattle.fact_pool.specs.Rows.{PoolRows, row_room, word_count, word_room}
-use Rattle.fact_pool.specs.Layout.{hashes_of, rows_of}
-use Rattle.fact_pool.specs.Slots.{IsTable, Name}
+use Rattle.fact_pool.specs.Chains.{AreHeads, IsTable}
+use Rattle.fact_pool.specs.Layout.{buckets_of, rows_of}
 use Rattle.fact_pool.proofs.Finding.{length-rows_of}
 use Rattle.fact_pool.proofs.Releasing.{rows_front, table_front, distinct_front}
 use Rattle.fact_pool.proofs.Rooms.{row_room_is, word_room_is}
@@ -16,27 +15,26 @@ invariant_of-self c =
     let words = inside.words.items in
     let entries = inside.entries.items in
     let rows = rows_of words entries in
-    let slots = c.forget.new.slots in
+    let heads = c.unlink.new.heads in
     let kept = c.args.mark.rows in
     let before = c.self.invariant in
     let marked : word_count (take kept rows) ≡ c.args.mark.words =
     ap (λ (p : PoolRows). word_count (take kept p.rows)) c.self.view_is ∙ c.requires.words_before in
     let all : length rows ≡ length c.args.self.now.rows = ap (λ (p : PoolRows). length p.rows) c.self.view_is in
     let within : kept ≤ length entries = omega (arith, c.requires.within, length-rows_of words entries) in
-    let same : length slots ≡ length inside.slots.items = c.forget.auto.slots ∙ ap (λ (ss : List Slot). length ss) c.deref_mut.ensures.value in
-    let written : (with_items inside.slots slots).items ≡ slots = with_items_is inside.slots slots (same ∙ sym inside.slots.ok.0) in
-    let named : Name slots (hashes_of entries) kept = rw (c.deref.ensures.value) at c.forget.ensures in
-    let table = table_front words entries inside.slots.items slots kept c.args.mark.words before.table within marked named in
+    let same : length heads ≡ length inside.heads.items = c.unlink.auto.heads ∙ ap length c.deref_mut.ensures.value in
+    let written : (with_items inside.heads heads).items ≡ heads = with_items_is inside.heads heads (same ∙ sym inside.heads.ok.0) in
+    let heads_last : AreHeads (buckets_of entries (length inside.heads.items)) kept heads =
+    rw (c.deref.ensures.value, c.deref_mut.ensures.value) at c.unlink.ensures in
+    let table = table_front words entries inside.heads.items heads kept c.args.mark.words before.table within marked same heads_last in
     record {
-      table = subst (λ (ss : List Slot). IsTable c.truncate-2.new.self.items c.truncate.new.self.items ss) (sym written)
+      table = subst (λ (hs : List ℕ). IsTable c.truncate-2.new.self.items c.truncate.new.self.items hs) (sym written)
           (rw (c.truncate-2.ensures.items, c.truncate.ensures.items) table);
       distinct = rw (c.truncate-2.ensures.items, c.truncate.ensures.items, rows_front words entries kept c.args.mark.words before.table.ends_ascend marked)
           (distinct_front rows kept before.distinct);
-      within = omega (arith, c.truncate.ensures.len, before.within);
+      bucket_each = omega (arith, c.truncate.ensures.len, before.bucket_each);
       entry_each = omega (arith, c.truncate.ensures.capacity, before.entry_each);
-      slot_more = before.slot_more;
       few = before.few;
-      few_rows = before.few_rows;
     }
 
 pub returns-clause-rows : goal.returns-clause-rows
@@ -52,8 +50,8 @@ pub returns-clause-row_room : goal.returns-clause-row_room
 returns-clause-row_room c =
     let inside = c.self.inside in
     let entries = c.truncate.new.self in
-    row_room_is c.truncate-2.new.self.items entries.items entries.len inside.room entries.ok.0 (invariant_of-self c).within
-    ∙ sym (row_room_is inside.words.items inside.entries.items inside.entries.len inside.room inside.entries.ok.0 c.self.invariant.within)
+    row_room_is c.truncate-2.new.self.items entries.items entries.len inside.heads.len entries.ok.0 (invariant_of-self c).bucket_each
+    ∙ sym (row_room_is inside.words.items inside.entries.items inside.entries.len inside.heads.len inside.entries.ok.0 c.self.invariant.bucket_each)
     ∙ ap row_room c.self.view_is
 
 pub returns-clause-word_room : goal.returns-clause-word_room
