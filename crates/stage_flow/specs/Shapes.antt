@@ -37,6 +37,7 @@ abbrev pub goes_of : Written → (leaving : Option Root) → Root → Bool
 goes_of written None r = slots_go (written_of written) r
 goes_of written (Some q) r = slots_go (written_of written) r || same_root q r
 
+-- The copy of what the one root holds to the other.
 abbrev pub root_copy : (from to : Root) → CopyOf
 root_copy from to = record { from = from; to = to }
 
@@ -122,6 +123,7 @@ paths_of_source set (sources.Slot y) to = flat_map (copied_path (Slot y) (Slot t
 paths_of_source set sources.Null to = []
 paths_of_source set sources.Primitive to = []
 
+-- What a move adds.
 abbrev pub moved_paths : List Path → Move → List Path
 moved_paths set m = paths_of_source set m.source m.target
 

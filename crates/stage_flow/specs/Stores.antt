@@ -28,17 +28,21 @@ operands s = among (s.object ∷ s.value ∷ [])
 abbrev pub is_free : Setting → LoweredMethod → Node → FieldStore → ℕ → Bool
 is_free w l n s y = not (operands s y) && is_like w l n s.object y
 
+-- The slots of the method.
 abbrev pub all_slots : LoweredMethod → List ℕ
 all_slots l = range_with_len 0 (l.slots + l.stack)
 
+-- There is such a slot.
 abbrev pub has_free : Setting → LoweredMethod → Node → FieldStore → Bool
 has_free w l n s = list_any (is_free w l n s) (all_slots l)
 
 -- ---- what a path gives
 
+-- The path of these fields by the slot, if that is such a one.
 abbrev pub stored_at : Setting → LoweredMethod → Node → FieldStore → List FieldNo → ℕ → List Path
 stored_at w l n s fields y = if is_free w l n s y then record { root = Slot y; fields = fields } ∷ [] else []
 
+-- The path of these fields by each of them.
 abbrev pub stored_fields : Setting → LoweredMethod → Node → FieldStore → List FieldNo → List Path
 stored_fields w l n s fields = flat_map (stored_at w l n s fields) (all_slots l)
 
@@ -53,6 +57,7 @@ stored_path w l n s x =
 abbrev pub own_path : FieldStore → Path → List Path
 own_path s x = if slots_go (operands s) x.root then [] else x ∷ []
 
+-- What a path gives: nothing, if it follows the field.
 abbrev pub given_path : Setting → LoweredMethod → Node → FieldStore → Path → List Path
 given_path w l n s x = if passes_field s.field x then [] else own_path s x ++ stored_path w l n s x
 
@@ -65,6 +70,7 @@ is_owner w l n object (Static f) = false
 is_owner w l n object Returned = false
 is_owner w l n object Thrown = false
 
+-- The field, of a root.
 abbrev pub field_by : Root → FieldNo → Path
 field_by r field = record { root = r; fields = field ∷ [] }
 
@@ -80,6 +86,7 @@ loses_root w l n s set x = has_fields x.fields && (slots_go (operands s) x.root 
 abbrev pub loses_value : Setting → LoweredMethod → Node → FieldStore → Path → Bool
 loses_value w l n s x = begins_at (Slot s.value) x && (not (nat_lt (length x.fields) w.depth) || not (has_free w l n s))
 
+-- The path is lost: it follows the field and is not the field itself; or it goes with its root, or behind the field.
 abbrev pub loses_by : Setting → LoweredMethod → Node → FieldStore → List Path → Path → Bool
 loses_by w l n s set x =
     if passes_field s.field x then not (is_own_field w l n s x) else loses_root w l n s set x || loses_value w l n s x
@@ -88,5 +95,6 @@ loses_by w l n s set x =
 abbrev pub may_after_store : Setting → LoweredMethod → Node → FieldStore → Tuple → Bool
 may_after_store w l n s t = t.may || list_any (loses_by w l n s t.must) t.must
 
+-- What the store does to a tuple.
 abbrev pub after_field_store : Setting → LoweredMethod → Node → FieldStore → Tuple → Tuple
 after_field_store w l n s t = after_store w l n s.object s.field s.value t
