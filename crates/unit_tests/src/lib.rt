@@ -1,6 +1,6 @@
 //! Tests of the data of class files and programs, of the outside, of the readers, of the rows of facts and of what nodes do to facts: each
-//! public call once on its happy path, and what no clause says. They stand apart from the crates that they test, since a crate with tests is proved twice.
-//! cases_readers has the tables of what is read and refused.
+//! public call once on its happy path, and what no clause says. They stand apart from the crates that they test, since a crate with tests
+//! is proved twice. cases_readers has the tables of what is read and refused.
 #![tactic(auto)]
 
 #[cfg(test)]
