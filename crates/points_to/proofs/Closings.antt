@@ -25,7 +25,7 @@ use Rattle.points_to.specs.declared.refusals.RefusedMethod.{RefusedMethod}
 use Rattle.points_to_rules.specs.declared.running_method.RunningMethod.{RunningMethod}
 use Rattle.points_to_rules.specs.declared.solve_fault.SolveFault.{SolveFault}
 use Rattle.points_to_rules.specs.declared.solve_fault.SolveFault.TheVariants.{PairLimit, Refused, TooMany}
-use Rattle.points_to.specs.declared.closing.Working.{Working}
+use Rattle.points_to.specs.declared.working.Working.{Working}
 use Rattle.points_to.specs.Closing.{IsClosingEnd}
 use Rattle.points_to.specs.Concluding.{SitesBy, ConstraintsBy, IsKnownIndex, IsKnownItem, ResolvesIn, FollowsFrom, RefusedBy, AddsCallsBy, AddsMethodsBy}
 use Rattle.grouped_lists.specs.Groups.{values_at}
@@ -101,14 +101,14 @@ module _ (old new : GivenAs) (same : IsSameSupply old new) where
 
 -- what is told of an item that was taken in, by what the supply gave at first
 pub concluded : (p : Program) (old now : GivenAs) → IsSameSupply old now → (item : Item) (v w : Working) → IsTakenIn p now item v w
-    → IsConcluded p old v.found.tables w.found.tables v.index.sites.groups.items w.index.sites.groups.items v.index.constraints.groups.items w.index.constraints.groups.items v.found.refusals.call w.found.refusals.call
-    v.found.refusals.method w.found.refusals.method v.methods.items w.methods.items item w.steps.items
+    → IsConcluded p old v.found.work.tables w.found.work.tables v.index.sites.groups.items w.index.sites.groups.items v.index.constraints.groups.items w.index.constraints.groups.items v.found.refusals.call w.found.refusals.call
+    v.found.refusals.method w.found.refusals.method v.methods.items w.methods.items item w.found.work.steps.items
 concluded p old now same item v w made = record {
   grows = made.grows;
   apart = made.apart;
   indexed = made.indexed;
-  adds = adds_as_before p old now same v.found.tables (values_at w.index.sites.groups.items) (values_at w.index.constraints.groups.items) item w.found.tables [] w.steps.items made.adds;
-  calls = calls_as_before old now same item v.found.tables.calls w.found.tables.calls made.calls;
+  adds = adds_as_before p old now same v.found.work.tables (values_at w.index.sites.groups.items) (values_at w.index.constraints.groups.items) item w.found.work.tables [] w.found.work.steps.items made.adds;
+  calls = calls_as_before old now same item v.found.work.tables.calls w.found.work.tables.calls made.calls;
   lacks = made.lacks;
   refused = refused_as_before old now same item v.found.refusals.method w.found.refusals.method made.refused;
   methods = methods_as_before old now same item v.methods.items w.methods.items made.methods;
@@ -168,7 +168,7 @@ start_end p gives entry limit n steps items failure (inr (made, end)) =
 
 -- where what follows from an item was taken in up to the limit, and the items were derived
 pub taken_end : (p : Program) (gives now : GivenAs) (entry : MethodNo) (limit : ℕ) (item : Item) (v w : Working) (failure : Failure SolveFault)
-    → (IsTakenIn p now item v w → IsDerivedList p gives entry w.found.tables w.queue.items.keys) → IsTakingEnd (IsTakenIn p now item v w) w.queue.items.keys limit failure
+    → (IsTakenIn p now item v w → IsDerivedList p gives entry w.found.work.tables w.queue.items.keys) → IsTakingEnd (IsTakenIn p now item v w) w.queue.items.keys limit failure
     → IsClosingEnd p gives entry limit failure
 taken_end p gives now entry limit item v w failure derived (inl room) = room_end p gives entry limit failure room
-taken_end p gives now entry limit item v w failure derived (inr (made, end)) = closing_end p gives entry limit w.found.tables w.queue.items.keys failure made.apart (derived made) made.items_apart end
+taken_end p gives now entry limit item v w failure derived (inr (made, end)) = closing_end p gives entry limit w.found.work.tables w.queue.items.keys failure made.apart (derived made) made.items_apart end

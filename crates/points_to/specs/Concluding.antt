@@ -1,5 +1,5 @@
 -- This crate's own proofs alone rest on this module.
--- What follows from an item, by its number, together with those of one place that came before it.
+-- What follows from an item, by its number, together with the items of its place that came before it.
 use Rattle.std.specs.Prelude.{◌≡◌, ◌⊎◌, ◌↔◌, ℕ, List, [], ◌∷◌, ◌++◌, length, Some, Ok, Err, Contains, slice_get}
 use Rattle.jvm_model.specs.declared.number.MethodNo.{MethodNo}
 use Rattle.jvm_model.specs.declared.number.SiteNo.{SiteNo}
@@ -32,7 +32,7 @@ SitesBy = ℕ → List SiteNo
 abbrev pub ConstraintsBy : Type 0
 ConstraintsBy = ℕ → List ConstraintNo
 
--- They are those of the items.
+-- The sites and the constraints of each place are what the items say of it.
 pub record IsIndex (sites : SitesBy) (constraints : ConstraintsBy) (items : List Item) : Type 0 where
   pub sites_are : (place : PlaceNo) (site : SiteNo) → Contains (sites place.0) site ↔ Contains items (Holds place site)
   pub constraints_are : (place : PlaceNo) (constraint : ConstraintNo) → Contains (constraints place.0) constraint ↔ Contains items (Constrains place constraint)
@@ -103,7 +103,7 @@ RefusedBy gives (Runs method) r = IsRefusedAs gives method r
 RefusedBy gives (Calls call target) r = ⊥
 RefusedBy gives (Constrains place constraint) r = ⊥
 
--- The calls that are numbered by it: those of the method that is given, or none.
+-- The calls that are numbered by it: the calls of the method that is given, or none.
 pub record AddsGivenCalls (gives : GivenAs) (number : ℕ) (old new : List CallSite) : Type 0 where
   pub method : LoweredMethod
   pub given : gives number (Ok method)

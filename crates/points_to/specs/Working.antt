@@ -5,17 +5,17 @@ use Rattle.grouped_lists.specs.Groups.{values_at}
 use Rattle.jvm_model.specs.Programs.{Program}
 use Rattle.points_to_calls.specs.KeptAnswers.{AreRight}
 use Rattle.points_to_numbers.specs.Numbered.{Numbered, none_numbered}
-use Rattle.points_to.specs.declared.closing.Working.{Working}
+use Rattle.points_to.specs.declared.working.Working.{Working}
 
 -- Nothing is taken in, numbered, kept or refused yet.
 pub record IsFresh (w : Working) : Type 0 where
   pub items : w.queue.items.keys ≡ []
   pub pairs : w.queue.pairs ≡ 0
-  pub tables : w.found.tables ≡ none_numbered
+  pub tables : w.found.work.tables ≡ none_numbered
   pub answers : (p : Program) (n : Numbered) → AreRight p n w.found.answers
   pub call : w.found.refusals.call ≡ None
   pub method : w.found.refusals.method ≡ None
   pub sites : (place : ℕ) → values_at w.index.sites.groups.items place ≡ []
   pub constraints : (place : ℕ) → values_at w.index.constraints.groups.items place ≡ []
   pub methods : w.methods.items ≡ []
-  pub steps : w.steps.items ≡ []
+  pub steps : w.found.work.steps.items ≡ []

@@ -14,74 +14,16 @@ ghost use Rattle.points_to.specs.Taking.{IsStarted, IsTakenIn, IsTakingEnd};
 ghost use Rattle.points_to.specs.Working.{IsFresh};
 
 use crate::conclude::conclude;
-use crate::found::Found;
-use crate::index::Index;
 use crate::queue::Queue;
-use crate::refusals::Refusals;
-use crate::solution::Solution;
 use crate::start::start_items;
+use crate::working::{Closing, Working};
 use failure::Failure;
 use jvm_model::MethodNo;
 use op_model::Supply;
-use points_to_numbers::{Item, Tables};
-use points_to_rules::{RunningMethod, SolveFailure};
+use points_to_numbers::{Item, Work};
+use points_to_rules::SolveFailure;
 use program_model::program::Program;
 use std::alloc::Global;
-
-/// The least items by numbers with the methods that may run and have code, and the first refusals.
-#[derive(Drop)]
-pub(crate) struct Closing {
-    pub(crate) solution: Solution,
-    pub(crate) refusals: Refusals,
-}
-
-/// What the loop works on: the items, what was found besides, the sites and the constraints of what is done, the methods, and what follows from one
-/// item. It is one value, so that a failure has one value to drop.
-#[derive(Drop)]
-pub(crate) struct Working {
-    pub(crate) queue: Queue,
-    pub(crate) found: Found,
-    pub(crate) index: Index,
-    pub(crate) methods: Vec<RunningMethod>,
-    pub(crate) steps: Vec<Item>,
-}
-
-impl Working {
-    /// Nothing. It takes no memory.
-    fn new(alloc: Global) -> Self
-        ensures { IsFresh result }
-    {
-        Working {
-            queue: Queue::new(alloc),
-            found: Found::new(alloc),
-            index: Index::new(alloc),
-            methods: Vec::new(alloc),
-            steps: Vec::new(alloc),
-        }
-    }
-
-    /// What the solver answers of it: the items with the numbers and the methods, and the refusals. The rest is dropped.
-    fn into_closing(self) -> Closing
-        ensures tables { result.solution.tables ≡ self.found.tables }
-        ensures items { result.solution.items ≡ self.queue }
-        ensures methods { result.solution.methods ≡ self.methods }
-        ensures refusals { result.refusals ≡ self.found.refusals }
-    {
-        let Found {
-            tables,
-            answers: _answers,
-            refusals,
-        } = self.found;
-        Closing {
-            solution: Solution {
-                tables,
-                items: self.queue,
-                methods: self.methods,
-            },
-            refusals,
-        }
-    }
-}
 
 /// The least items and the first refusals. A refused method leads to nothing.
 pub(crate) fn close<S: Supply>(
@@ -99,13 +41,12 @@ pub(crate) fn close<S: Supply>(
     ensures end { IfErr result (IsClosingEnd program.now (S.gives supply.old) entry pair_limit) }
 {
     let mut working = Working::new(alloc);
-    let closed = close_over(alloc, program, supply, entry, pair_limit, &mut working);
+    let closed = close_over(program, supply, entry, pair_limit, &mut working);
     closed.and(Ok(working.into_closing()))
 }
 
 /// Takes in what follows from the start and from each item, until nothing is new.
 fn close_over<S: Supply>(
-    alloc: Global,
     program: &Program,
     supply: &mut S,
     entry: MethodNo,
@@ -116,59 +57,54 @@ fn close_over<S: Supply>(
     requires supply { IsSupplyOf program.now (S.gives supply.old) }
     requires limit { 0 < pair_limit }
     requires fresh { IsFresh working.old }
-    ensures closed { OnOk result (IsClosed program.now (S.gives supply.old) entry pair_limit working.new.found.tables working.new.queue.items.keys working.new.found.refusals.call working.new.found.refusals.method working.new.methods.items) }
+    ensures closed { OnOk result (IsClosed program.now (S.gives supply.old) entry pair_limit working.new.found.work.tables working.new.queue.items.keys working.new.found.refusals.call working.new.found.refusals.method working.new.methods.items) }
     ensures same { IsSameSupply (S.gives supply.old) (S.gives supply.new) }
     ensures end { IfErr result (IsClosingEnd program.now (S.gives supply.old) entry pair_limit) }
 {
     take_start(
-        alloc,
         program,
-        &mut working.found.tables,
-        &mut working.queue,
         entry,
         pair_limit,
-        &mut working.steps,
+        &mut working.queue,
+        &mut working.found.work,
     )?;
     let mut done = 0;
     while done < working.queue.len() {
         let item = working.queue.at(done);
-        take_in(alloc, program, supply, item, pair_limit, working)?;
+        take_in(program, supply, item, pair_limit, working)?;
         done += 1;
     }
-    working.found.tables.apart();
+    working.found.work.tables.apart();
     Ok(())
 }
 
 /// Takes in what the start leads to.
 fn take_start(
-    alloc: Global,
     program: &Program,
-    tables: &mut Tables,
-    queue: &mut Queue,
     entry: MethodNo,
     pair_limit: u64,
-    steps: &mut Vec<Item>,
+    queue: &mut Queue,
+    work: &mut Work,
 ) -> Result<(), SolveFailure>
     requires entry { IsMethodNumber program.now entry.0 }
-    requires calls { length tables.old.calls ≡ 0 }
+    requires calls { length work.old.tables.calls ≡ 0 }
     requires items { queue.old.items.keys ≡ [] }
     requires pairs { queue.old.pairs ≡ 0 }
     requires limit { 0 < pair_limit }
-    requires steps { steps.old.items ≡ [] }
-    ensures started { OnOk result (IsStarted program.now entry tables.new steps.new.items queue.new.items.keys) }
-    ensures held { OnOk result (All (Contains queue.new.items.keys) steps.new.items) }
+    requires steps { work.old.steps.items ≡ [] }
+    ensures started { OnOk result (IsStarted program.now entry work.new.tables work.new.steps.items queue.new.items.keys) }
+    ensures held { OnOk result (All (Contains queue.new.items.keys) work.new.steps.items) }
     ensures counted { queue.new.pairs ≡ pairs_among queue.new.items.keys }
     ensures room { OnOk result (queue.new.pairs < pair_limit) }
-    ensures end { IfErr result (IsTakingEnd (IsStarted program.now entry tables.new steps.new.items queue.new.items.keys) queue.new.items.keys pair_limit) }
+    ensures end { IfErr result (IsTakingEnd (IsStarted program.now entry work.new.tables work.new.steps.items queue.new.items.keys) queue.new.items.keys pair_limit) }
 {
-    start_items(alloc, program, tables, entry, steps).map_err(Failure::widen)?;
-    tables.apart();
-    queue.take_all(steps, pair_limit)
+    start_items(program, entry, work).map_err(Failure::widen)?;
+    work.tables.apart();
+    queue.take_all(&work.steps, pair_limit)
 }
 
 /// Takes in what follows from an item, and puts the item in the index.
 fn take_in<S: Supply>(
-    alloc: Global,
     program: &Program,
     supply: &mut S,
     item: Item,
@@ -176,31 +112,23 @@ fn take_in<S: Supply>(
     working: &mut Working,
 ) -> Result<(), SolveFailure>
     requires supply { IsSupplyOf program.now (S.gives supply.old) }
-    requires item { IsKnownItem program.now working.old.found.tables item }
-    requires index { IsKnownIndex program.now working.old.found.tables (values_at working.old.index.sites.groups.items) (values_at working.old.index.constraints.groups.items) }
-    requires answers { AreRight program.now working.old.found.tables working.old.found.answers }
+    requires item { IsKnownItem program.now working.old.found.work.tables item }
+    requires index { IsKnownIndex program.now working.old.found.work.tables (values_at working.old.index.sites.groups.items) (values_at working.old.index.constraints.groups.items) }
+    requires answers { AreRight program.now working.old.found.work.tables working.old.found.answers }
     requires apart { IsWithoutDoubles working.old.queue.items.keys }
     requires counted { working.old.queue.pairs ≡ pairs_among working.old.queue.items.keys }
     requires room { working.old.queue.pairs < pair_limit }
     ensures taken { OnOk result (IsTakenIn program.now (S.gives supply.old) item working.old working.new) }
-    ensures held { OnOk result (All (Contains working.new.queue.items.keys) working.new.steps.items) }
+    ensures held { OnOk result (All (Contains working.new.queue.items.keys) working.new.found.work.steps.items) }
     ensures counted { working.new.queue.pairs ≡ pairs_among working.new.queue.items.keys }
     ensures room { OnOk result (working.new.queue.pairs < pair_limit) }
-    ensures answers { OnOk result (AreRight program.now working.new.found.tables working.new.found.answers) }
+    ensures answers { OnOk result (AreRight program.now working.new.found.work.tables working.new.found.answers) }
     ensures same { IsSameSupply (S.gives supply.old) (S.gives supply.new) }
     ensures end { IfErr result (IsTakingEnd (IsTakenIn program.now (S.gives supply.old) item working.old working.new) working.new.queue.items.keys pair_limit) }
 {
-    conclude(
-        alloc,
-        program,
-        supply,
-        &mut working.found,
-        &mut working.index,
-        &mut working.methods,
-        item,
-        &mut working.steps,
-    )
-    .map_err(Failure::widen)?;
-    working.found.tables.apart();
-    working.queue.take_all(&working.steps, pair_limit)
+    conclude(program, supply, item, working).map_err(Failure::widen)?;
+    working.found.work.tables.apart();
+    working
+        .queue
+        .take_all(&working.found.work.steps, pair_limit)
 }

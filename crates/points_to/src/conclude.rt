@@ -1,4 +1,4 @@
-//! What follows from an item, together with those of one place that came before it.
+//! What follows from an item, together with the items of its place that came before it.
 
 ghost use Rattle.std.specs.Prelude.{◌≡◌, ◌⊎◌, length, [], OnOk};
 ghost use Rattle.program_model.specs.Numbers.{IsMethodNumber};
@@ -13,8 +13,8 @@ ghost use Rattle.points_to.specs.Passing.{NotesCalls, NotesMethods};
 ghost use Rattle.points_to.specs.Concluding.{AddsCallsBy, AddsGivenCalls, AddsMethod, AddsMethodsBy, FollowsFrom, IsCallItem, IsGivenItem, IsKnownIndex, IsKnownItem, IsRefusedAs, LacksBy, RefusedBy, ResolvesIn};
 
 use crate::found::Found;
-use crate::index::Index;
 use crate::refusals::RefusedMethod;
+use crate::working::Working;
 use entry_points::is_coded;
 use failure::Failure;
 use jvm_model::MethodNo;
@@ -25,66 +25,68 @@ use points_to_numbers::{CallNo, Item};
 use points_to_rules::RunningMethod;
 use program_index::index_failure::IndexFailure;
 use program_model::program::Program;
-use std::alloc::Global;
 
-/// What follows from an item together with those in the index, which then has it too. A method that is given as nodes is added to `methods`,
-/// with the variables of its slots.
+/// What follows from an item together with the items in the index, which then has it too. A method that is given as nodes is added to the
+/// methods, with the variables of its slots.
 pub(crate) fn conclude<S: Supply>(
-    alloc: Global,
     program: &Program,
     supply: &mut S,
-    found: &mut Found,
-    index: &mut Index,
-    methods: &mut Vec<RunningMethod>,
     item: Item,
-    steps: &mut Vec<Item>,
+    working: &mut Working,
 ) -> Result<(), IndexFailure>
     requires supply { IsSupplyOf program.now (S.gives supply.old) }
-    requires item { IsKnownItem program.now found.old.tables item }
-    requires index { IsKnownIndex program.now found.old.tables (values_at index.old.sites.groups.items) (values_at index.old.constraints.groups.items) }
-    requires answers { AreRight program.now found.old.tables found.old.answers }
-    ensures indexed { OnOk result (IsIndexed index.old.sites.groups.items index.new.sites.groups.items index.old.constraints.groups.items index.new.constraints.groups.items item) }
-    ensures grows { OnOk result (Grows found.old.tables found.new.tables) }
-    ensures answers { OnOk result (AreRight program.now found.new.tables found.new.answers) }
-    ensures adds { OnOk result (Adds found.new.tables (FollowsFrom program.now (S.gives supply.old) found.old.tables (values_at index.new.sites.groups.items) (values_at index.new.constraints.groups.items) item) [] steps.new.items) }
-    ensures calls { OnOk result (AddsCallsBy (S.gives supply.old) item found.old.tables.calls found.new.tables.calls) }
-    ensures lacks { OnOk result (NotesCalls (LacksBy program.now found.old.tables (values_at index.new.sites.groups.items) (values_at index.new.constraints.groups.items) item) found.old.refusals.call found.new.refusals.call) }
-    ensures refused { OnOk result (NotesMethods (RefusedBy (S.gives supply.old) item) found.old.refusals.method found.new.refusals.method) }
-    ensures methods { OnOk result (AddsMethodsBy (S.gives supply.old) item methods.old.items methods.new.items) }
+    requires item { IsKnownItem program.now working.old.found.work.tables item }
+    requires index { IsKnownIndex program.now working.old.found.work.tables (values_at working.old.index.sites.groups.items) (values_at working.old.index.constraints.groups.items) }
+    requires answers { AreRight program.now working.old.found.work.tables working.old.found.answers }
+    ensures indexed { OnOk result (IsIndexed working.old.index.sites.groups.items working.new.index.sites.groups.items working.old.index.constraints.groups.items working.new.index.constraints.groups.items item) }
+    ensures grows { OnOk result (Grows working.old.found.work.tables working.new.found.work.tables) }
+    ensures answers { OnOk result (AreRight program.now working.new.found.work.tables working.new.found.answers) }
+    ensures adds { OnOk result (Adds working.new.found.work.tables (FollowsFrom program.now (S.gives supply.old) working.old.found.work.tables (values_at working.new.index.sites.groups.items) (values_at working.new.index.constraints.groups.items) item) [] working.new.found.work.steps.items) }
+    ensures calls { OnOk result (AddsCallsBy (S.gives supply.old) item working.old.found.work.tables.calls working.new.found.work.tables.calls) }
+    ensures lacks { OnOk result (NotesCalls (LacksBy program.now working.old.found.work.tables (values_at working.new.index.sites.groups.items) (values_at working.new.index.constraints.groups.items) item) working.old.found.refusals.call working.new.found.refusals.call) }
+    ensures refused { OnOk result (NotesMethods (RefusedBy (S.gives supply.old) item) working.old.found.refusals.method working.new.found.refusals.method) }
+    ensures methods { OnOk result (AddsMethodsBy (S.gives supply.old) item working.old.methods.items working.new.methods.items) }
+    ensures queue { working.new.queue ≡ working.old.queue }
     ensures same { IsSameSupply (S.gives supply.old) (S.gives supply.new) }
 {
-    steps.clear();
+    working.found.work.steps.clear();
     match item {
         Item::Holds(place, site) => {
-            index.sites.add(place.0, site)?;
-            found.pass_to_each(alloc, program, index.constraints.get(place.0), site, steps)
+            working.index.sites.add(place.0, site)?;
+            let constraints = working.index.constraints.get(place.0);
+            working.found.pass_to_each(program, constraints, site)
         }
-        Item::Runs(method) => run(alloc, program, supply, found, methods, method, steps),
-        Item::Calls(call, target) => call_target(alloc, program, found, call, target, steps),
+        Item::Runs(method) => run(
+            program,
+            supply,
+            method,
+            &mut working.found,
+            &mut working.methods,
+        ),
+        Item::Calls(call, target) => call_target(program, call, target, &mut working.found),
         Item::Constrains(place, constraint) => {
-            index.constraints.add(place.0, constraint)?;
-            found.pass_each(alloc, program, constraint, index.sites.get(place.0), steps)
+            working.index.constraints.add(place.0, constraint)?;
+            let sites = working.index.sites.get(place.0);
+            working.found.pass_each(program, constraint, sites)
         }
     }
 }
 
 /// Takes a method that may run from the supplier, if it has code: what its nodes lead to, or a refusal that is noted.
 fn run<S: Supply>(
-    alloc: Global,
     program: &Program,
     supply: &mut S,
+    method: MethodNo,
     found: &mut Found,
     methods: &mut Vec<RunningMethod>,
-    method: MethodNo,
-    steps: &mut Vec<Item>,
 ) -> Result<(), IndexFailure>
     requires supply { IsSupplyOf program.now (S.gives supply.old) }
     requires method { IsMethodNumber program.now method.0 }
-    requires answers { AreRight program.now found.old.tables found.old.answers }
-    ensures grows { OnOk result (Grows found.old.tables found.new.tables) }
-    ensures answers { OnOk result (AreRight program.now found.new.tables found.new.answers) }
-    ensures adds { OnOk result (Adds found.new.tables (IsGivenItem program.now (S.gives supply.old) method.0) steps.old.items steps.new.items) }
-    ensures calls { OnOk result (AddsGivenCalls (S.gives supply.old) method.0 found.old.tables.calls found.new.tables.calls ⊎ (length found.new.tables.calls ≡ length found.old.tables.calls)) }
+    requires answers { AreRight program.now found.old.work.tables found.old.answers }
+    ensures grows { OnOk result (Grows found.old.work.tables found.new.work.tables) }
+    ensures answers { OnOk result (AreRight program.now found.new.work.tables found.new.answers) }
+    ensures adds { OnOk result (Adds found.new.work.tables (IsGivenItem program.now (S.gives supply.old) method.0) found.old.work.steps.items found.new.work.steps.items) }
+    ensures calls { OnOk result (AddsGivenCalls (S.gives supply.old) method.0 found.old.work.tables.calls found.new.work.tables.calls ⊎ (length found.new.work.tables.calls ≡ length found.old.work.tables.calls)) }
     ensures refused { OnOk result (NotesMethods (IsRefusedAs (S.gives supply.old) method) found.old.refusals.method found.new.refusals.method) }
     ensures methods { OnOk result (AddsMethod (S.gives supply.old) method.0 methods.old.items methods.new.items) }
     ensures call { found.new.refusals.call ≡ found.old.refusals.call }
@@ -93,9 +95,9 @@ fn run<S: Supply>(
     if !is_coded(program, method) {
         return Ok(());
     }
-    match supply.lowered(alloc, method) {
+    match supply.lowered(found.work.alloc, method) {
         Ok(lowered) => {
-            let names = method_items(alloc, program, &mut found.tables, &lowered, steps)?;
+            let names = method_items(program, &lowered, &mut found.work)?;
             methods.push(RunningMethod {
                 method: lowered,
                 names,
@@ -114,26 +116,24 @@ fn run<S: Supply>(
 
 /// What a call leads to that goes to a target. The call of the start leads to nothing.
 fn call_target(
-    alloc: Global,
     program: &Program,
-    found: &mut Found,
     call: CallNo,
     target: MethodNo,
-    steps: &mut Vec<Item>,
+    found: &mut Found,
 ) -> Result<(), IndexFailure>
-    requires call { IsNumbered found.old.tables.calls call.0 }
+    requires call { IsNumbered found.old.work.tables.calls call.0 }
     requires target { IsMethodNumber program.now target.0 }
-    requires resolved { ResolvesIn program.now found.old.tables call.0 }
-    requires answers { AreRight program.now found.old.tables found.old.answers }
-    ensures grows { OnOk result (Grows found.old.tables found.new.tables) }
-    ensures answers { OnOk result (AreRight program.now found.new.tables found.new.answers) }
-    ensures adds { OnOk result (Adds found.new.tables (IsCallItem program.now found.old.tables call.0 target) steps.old.items steps.new.items) }
-    ensures calls { OnOk result (length found.new.tables.calls ≡ length found.old.tables.calls) }
+    requires resolved { ResolvesIn program.now found.old.work.tables call.0 }
+    requires answers { AreRight program.now found.old.work.tables found.old.answers }
+    ensures grows { OnOk result (Grows found.old.work.tables found.new.work.tables) }
+    ensures answers { OnOk result (AreRight program.now found.new.work.tables found.new.answers) }
+    ensures adds { OnOk result (Adds found.new.work.tables (IsCallItem program.now found.old.work.tables call.0 target) found.old.work.steps.items found.new.work.steps.items) }
+    ensures calls { OnOk result (length found.new.work.tables.calls ≡ length found.old.work.tables.calls) }
     ensures refusals { found.new.refusals ≡ found.old.refusals }
 {
-    if found.tables.call_of(call).at.method.is_none() {
+    if found.work.tables.call_of(call).at.method.is_none() {
         return Ok(());
     }
-    target_items(alloc, program, &mut found.tables, call, target, steps)?;
+    target_items(program, call, target, &mut found.work)?;
     Ok(())
 }

@@ -1,6 +1,6 @@
 //! What was found besides the items: the numbers, and the first refusals; and how objects are passed to constraints.
 
-ghost use Rattle.std.specs.Prelude.{◌≡◌, length, Some, None, All, OnOk};
+ghost use Rattle.std.specs.Prelude.{◌≡◌, [], length, Some, None, All, OnOk};
 ghost use Rattle.jvm_model.specs.Programs.{Program as LinkedProgram};
 ghost use Rattle.points_to_calls.specs.KeptAnswers.{AreRight};
 ghost use Rattle.points_to_numbers.specs.Numbered.{Numbered, Grows, IsNumbered, none_numbered};
@@ -10,15 +10,15 @@ ghost use Rattle.points_to.specs.Passing.{IsKnownConstraint, IsPassed, IsLackOf,
 use crate::refusals::{Refusals, RefusedCall};
 use jvm_model::{Reason, SiteNo};
 use points_to_calls::{Answers, pass};
-use points_to_numbers::{Constraint, ConstraintNo, Item, Tables};
+use points_to_numbers::{Constraint, ConstraintNo, Tables, Work};
 use program_index::index_failure::IndexFailure;
 use program_model::program::Program;
 use std::alloc::Global;
 
-/// The numbers that were given, the answers that are kept of classes, and the first refusals.
+/// The numbers that were given with the items that follow, the answers that are kept of classes, and the first refusals.
 #[derive(Drop)]
 pub(crate) struct Found {
-    pub(crate) tables: Tables,
+    pub(crate) work: Work,
     pub(crate) answers: Answers,
     pub(crate) refusals: Refusals,
 }
@@ -26,13 +26,14 @@ pub(crate) struct Found {
 impl Found {
     /// Nothing. It takes no memory.
     pub(crate) fn new(alloc: Global) -> Self
-        ensures tables { result.tables ≡ none_numbered }
+        ensures tables { result.work.tables ≡ none_numbered }
+        ensures steps { result.work.steps.items ≡ [] }
         ensures answers { (p : LinkedProgram) (n : Numbered) → AreRight p n result.answers }
         ensures call { result.refusals.call ≡ None }
         ensures method { result.refusals.method ≡ None }
     {
         Found {
-            tables: Tables::new(alloc),
+            work: Work::new(alloc),
             answers: Answers::new(alloc),
             refusals: Refusals::new(),
         }
@@ -41,24 +42,22 @@ impl Found {
     /// Passes an object of a site to each of some constraints.
     pub(crate) fn pass_to_each(
         &mut self,
-        alloc: Global,
         program: &Program,
         constraints: &[ConstraintNo],
         site: SiteNo,
-        steps: &mut Vec<Item>,
     ) -> Result<(), IndexFailure>
-        requires constraints { All (λ (constraint : ConstraintNo). IsKnownConstraint program.now self.old.tables constraint) constraints.now }
-        requires site { IsNumbered self.old.tables.sites site.0 }
-        requires answers { AreRight program.now self.old.tables self.old.answers }
-        ensures grows { OnOk result (Grows self.old.tables self.new.tables) }
-        ensures calls { OnOk result (length self.new.tables.calls ≡ length self.old.tables.calls) }
-        ensures answers { OnOk result (AreRight program.now self.new.tables self.new.answers) }
-        ensures adds { OnOk result (Adds self.new.tables (PassesToSome program.now self.old.tables constraints.now site) steps.old.items steps.new.items) }
-        ensures lacks { OnOk result (NotesCalls (LacksForSome program.now self.old.tables constraints.now site) self.old.refusals.call self.new.refusals.call) }
+        requires constraints { All (λ (constraint : ConstraintNo). IsKnownConstraint program.now self.old.work.tables constraint) constraints.now }
+        requires site { IsNumbered self.old.work.tables.sites site.0 }
+        requires answers { AreRight program.now self.old.work.tables self.old.answers }
+        ensures grows { OnOk result (Grows self.old.work.tables self.new.work.tables) }
+        ensures calls { OnOk result (length self.new.work.tables.calls ≡ length self.old.work.tables.calls) }
+        ensures answers { OnOk result (AreRight program.now self.new.work.tables self.new.answers) }
+        ensures adds { OnOk result (Adds self.new.work.tables (PassesToSome program.now self.old.work.tables constraints.now site) self.old.work.steps.items self.new.work.steps.items) }
+        ensures lacks { OnOk result (NotesCalls (LacksForSome program.now self.old.work.tables constraints.now site) self.old.refusals.call self.new.refusals.call) }
         ensures method { self.new.refusals.method ≡ self.old.refusals.method }
     {
         for constraint in constraints {
-            self.pass(alloc, program, *constraint, site, steps)?;
+            self.pass(program, *constraint, site)?;
         }
         Ok(())
     }
@@ -66,24 +65,22 @@ impl Found {
     /// Passes an object of each of some sites to a constraint.
     pub(crate) fn pass_each(
         &mut self,
-        alloc: Global,
         program: &Program,
         constraint: ConstraintNo,
         sites: &[SiteNo],
-        steps: &mut Vec<Item>,
     ) -> Result<(), IndexFailure>
-        requires constraint { IsKnownConstraint program.now self.old.tables constraint }
-        requires sites { All (λ (site : SiteNo). IsNumbered self.old.tables.sites site.0) sites.now }
-        requires answers { AreRight program.now self.old.tables self.old.answers }
-        ensures grows { OnOk result (Grows self.old.tables self.new.tables) }
-        ensures calls { OnOk result (length self.new.tables.calls ≡ length self.old.tables.calls) }
-        ensures answers { OnOk result (AreRight program.now self.new.tables self.new.answers) }
-        ensures adds { OnOk result (Adds self.new.tables (PassesSome program.now self.old.tables constraint sites.now) steps.old.items steps.new.items) }
-        ensures lacks { OnOk result (NotesCalls (LacksSome program.now self.old.tables constraint sites.now) self.old.refusals.call self.new.refusals.call) }
+        requires constraint { IsKnownConstraint program.now self.old.work.tables constraint }
+        requires sites { All (λ (site : SiteNo). IsNumbered self.old.work.tables.sites site.0) sites.now }
+        requires answers { AreRight program.now self.old.work.tables self.old.answers }
+        ensures grows { OnOk result (Grows self.old.work.tables self.new.work.tables) }
+        ensures calls { OnOk result (length self.new.work.tables.calls ≡ length self.old.work.tables.calls) }
+        ensures answers { OnOk result (AreRight program.now self.new.work.tables self.new.answers) }
+        ensures adds { OnOk result (Adds self.new.work.tables (PassesSome program.now self.old.work.tables constraint sites.now) self.old.work.steps.items self.new.work.steps.items) }
+        ensures lacks { OnOk result (NotesCalls (LacksSome program.now self.old.work.tables constraint sites.now) self.old.refusals.call self.new.refusals.call) }
         ensures method { self.new.refusals.method ≡ self.old.refusals.method }
     {
         for site in sites {
-            self.pass(alloc, program, constraint, *site, steps)?;
+            self.pass(program, constraint, *site)?;
         }
         Ok(())
     }
@@ -91,33 +88,23 @@ impl Found {
     /// Passes an object of a site to a constraint: adds what the constraint makes of it, and notes the call that lacks a target for it.
     fn pass(
         &mut self,
-        alloc: Global,
         program: &Program,
         constraint: ConstraintNo,
         site: SiteNo,
-        steps: &mut Vec<Item>,
     ) -> Result<(), IndexFailure>
-        requires constraint { IsKnownConstraint program.now self.old.tables constraint }
-        requires site { IsNumbered self.old.tables.sites site.0 }
-        requires answers { AreRight program.now self.old.tables self.old.answers }
-        ensures grows { OnOk result (Grows self.old.tables self.new.tables) }
-        ensures calls { OnOk result (length self.new.tables.calls ≡ length self.old.tables.calls) }
-        ensures answers { OnOk result (AreRight program.now self.new.tables self.new.answers) }
-        ensures adds { OnOk result (Adds self.new.tables (IsPassed program.now self.old.tables constraint site) steps.old.items steps.new.items) }
-        ensures lacks { OnOk result (NotesCalls (IsLackOf program.now self.old.tables constraint site) self.old.refusals.call self.new.refusals.call) }
+        requires constraint { IsKnownConstraint program.now self.old.work.tables constraint }
+        requires site { IsNumbered self.old.work.tables.sites site.0 }
+        requires answers { AreRight program.now self.old.work.tables self.old.answers }
+        ensures grows { OnOk result (Grows self.old.work.tables self.new.work.tables) }
+        ensures calls { OnOk result (length self.new.work.tables.calls ≡ length self.old.work.tables.calls) }
+        ensures answers { OnOk result (AreRight program.now self.new.work.tables self.new.answers) }
+        ensures adds { OnOk result (Adds self.new.work.tables (IsPassed program.now self.old.work.tables constraint site) self.old.work.steps.items self.new.work.steps.items) }
+        ensures lacks { OnOk result (NotesCalls (IsLackOf program.now self.old.work.tables constraint site) self.old.refusals.call self.new.refusals.call) }
         ensures method { self.new.refusals.method ≡ self.old.refusals.method }
     {
         program.well_formed();
-        let lacks = pass(
-            alloc,
-            program,
-            &mut self.tables,
-            &mut self.answers,
-            constraint,
-            site,
-            steps,
-        )?;
-        note_lack(&self.tables, &mut self.refusals, constraint, lacks);
+        let lacks = pass(program, &mut self.answers, constraint, site, &mut self.work)?;
+        note_lack(&self.work.tables, &mut self.refusals, constraint, lacks);
         Ok(())
     }
 }

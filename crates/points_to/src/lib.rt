@@ -15,6 +15,7 @@ mod refused;
 mod solution;
 mod solver;
 mod start;
+mod working;
 
 pub use queue::Queue;
 pub use solution::Solution;

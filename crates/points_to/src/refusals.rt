@@ -20,7 +20,7 @@ pub(crate) struct RefusedMethod {
     pub(crate) refusal: Refusal,
 }
 
-/// Of the calls and of the methods that were noted the first ones.
+/// The first of the calls, and of the methods, that were noted.
 #[derive(Drop)]
 pub(crate) struct Refusals {
     pub(crate) call: Option<RefusedCall>,

@@ -7,10 +7,11 @@ ghost use Rattle.points_to.specs.Refusing.{IsNamed, IsOfCoded, IsRefusing};
 ghost use Rattle.points_to.specs.Solutions.{IsSolved};
 ghost use Rattle.points_to_rules.specs.Solutions.{IsSolveEnd, IsSupplyOf};
 
-use crate::closing::{Closing, close};
+use crate::closing::close;
 use crate::refusals::Refusals;
 use crate::refused::first_refusal;
 use crate::solution::Solution;
+use crate::working::Closing;
 use failure::Failure;
 use jvm_model::MethodNo;
 use op_model::Supply;

@@ -10,7 +10,7 @@ ghost use Rattle.points_to.specs.Starting.{ArgumentItem, EntryItem, IsArgument, 
 use crate::initialisers::initialiser_items;
 use jvm_model::{MethodNo, Sequence};
 use op_model::{CallKind, NodeRef};
-use points_to_numbers::{CallNo, CallSite, CatchChain, Item, Tables, add_holding, boot_site};
+use points_to_numbers::{CallNo, CallSite, CatchChain, Item, Tables, Work, boot_site};
 use points_to_rules::Place;
 use program_index::index_failure::IndexFailure;
 use program_model::program::Program;
@@ -19,37 +19,30 @@ use std::alloc::Global;
 
 /// Adds what the start leads to.
 pub(crate) fn start_items(
-    alloc: Global,
     program: &Program,
-    tables: &mut Tables,
     entry: MethodNo,
-    steps: &mut Vec<Item>,
+    work: &mut Work,
 ) -> Result<(), IndexFailure>
     requires entry { IsMethodNumber program.now entry.0 }
-    requires calls { length tables.old.calls ≡ 0 }
-    ensures adds { OnOk result (Adds tables.new (StartItem program.now entry) steps.old.items steps.new.items) }
-    ensures call { OnOk result (IsStartCall tables.new.calls) }
+    requires calls { length work.old.tables.calls ≡ 0 }
+    ensures adds { OnOk result (Adds work.new.tables (StartItem program.now entry) work.old.steps.items work.new.steps.items) }
+    ensures call { OnOk result (IsStartCall work.new.tables.calls) }
 {
-    entry_items(alloc, tables, entry, steps)?;
-    argument_items(program, tables, entry, steps)?;
-    initialiser_items(alloc, program, tables, entry, steps)?;
+    entry_items(entry, work)?;
+    argument_items(program, entry, work)?;
+    initialiser_items(program, entry, work)?;
     Ok(())
 }
 
 /// Adds that the entry runs, and is called from the start.
-fn entry_items(
-    alloc: Global,
-    tables: &mut Tables,
-    entry: MethodNo,
-    steps: &mut Vec<Item>,
-) -> Result<(), IndexFailure>
-    requires { length tables.old.calls ≡ 0 }
-    ensures adds { OnOk result (Adds tables.new (EntryItem entry) steps.old.items steps.new.items) }
-    ensures call { OnOk result (IsStartCall tables.new.calls) }
+fn entry_items(entry: MethodNo, work: &mut Work) -> Result<(), IndexFailure>
+    requires { length work.old.tables.calls ≡ 0 }
+    ensures adds { OnOk result (Adds work.new.tables (EntryItem entry) work.old.steps.items work.new.steps.items) }
+    ensures call { OnOk result (IsStartCall work.new.tables.calls) }
 {
-    let call = start_call(alloc, tables, entry)?;
-    steps.push(Item::Runs(entry))?;
-    steps.push(Item::Calls(call, entry))?;
+    let call = start_call(work.alloc, &mut work.tables, entry)?;
+    work.steps.push(Item::Runs(entry))?;
+    work.steps.push(Item::Calls(call, entry))?;
     Ok(())
 }
 
@@ -78,42 +71,33 @@ fn start_call(alloc: Global, tables: &mut Tables, entry: MethodNo) -> Result<Cal
     Ok(call)
 }
 
-/// Adds what the parameter of the entry holds, if it has one.
-fn argument_items(
-    program: &Program,
-    tables: &mut Tables,
-    entry: MethodNo,
-    steps: &mut Vec<Item>,
-) -> Result<(), IndexFailure>
+/// Adds an array of strings to the points-to set of the parameter of the entry, if it has one.
+fn argument_items(program: &Program, entry: MethodNo, work: &mut Work) -> Result<(), IndexFailure>
     requires { IsMethodNumber program.now entry.0 }
-    ensures grows { OnOk result (Grows tables.old tables.new) }
-    ensures calls { OnOk result (length tables.new.calls ≡ length tables.old.calls) }
-    ensures adds { OnOk result (Adds tables.new (ArgumentItem program.now entry) steps.old.items steps.new.items) }
+    ensures grows { OnOk result (Grows work.old.tables work.new.tables) }
+    ensures calls { OnOk result (length work.new.tables.calls ≡ length work.old.tables.calls) }
+    ensures adds { OnOk result (Adds work.new.tables (ArgumentItem program.now entry) work.old.steps.items work.new.steps.items) }
 {
     if program.method(entry).signature.descriptor == b"()V".as_slice() {
         return Ok(());
     }
-    string_items(tables, entry, steps)?;
+    string_items(entry, work)?;
     Ok(())
 }
 
-/// Adds that the parameter of the entry holds an array of strings.
-fn string_items(
-    tables: &mut Tables,
-    entry: MethodNo,
-    steps: &mut Vec<Item>,
-) -> Result<(), IndexFailure>
-    ensures grows { OnOk result (Grows tables.old tables.new) }
-    ensures calls { OnOk result (length tables.new.calls ≡ length tables.old.calls) }
-    ensures adds { OnOk result (Adds tables.new (IsArgument entry) steps.old.items steps.new.items) }
+/// Adds an array of strings to the points-to set of the parameter of the entry.
+fn string_items(entry: MethodNo, work: &mut Work) -> Result<(), IndexFailure>
+    ensures grows { OnOk result (Grows work.old.tables work.new.tables) }
+    ensures calls { OnOk result (length work.new.tables.calls ≡ length work.old.tables.calls) }
+    ensures adds { OnOk result (Adds work.new.tables (IsArgument entry) work.old.steps.items work.new.steps.items) }
 {
-    let array = boot_site(tables, b"[Ljava/lang/String;")?;
-    let string = boot_site(tables, b"java/lang/String")?;
+    let array = boot_site(&mut work.tables, b"[Ljava/lang/String;")?;
+    let string = boot_site(&mut work.tables, b"java/lang/String")?;
     let parameter = Variable::Parameter {
         method: entry,
         slot: 0,
     };
-    add_holding(tables, steps, Place::Variable(parameter), array)?;
-    add_holding(tables, steps, Place::Elements(array), string)?;
+    work.add_holding(Place::Variable(parameter), array)?;
+    work.add_holding(Place::Elements(array), string)?;
     Ok(())
 }

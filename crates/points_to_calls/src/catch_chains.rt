@@ -14,7 +14,7 @@ use points_to_numbers::{CatchChain, CatchChainNo, Tables};
 use points_to_rules::PlaceNo;
 use program_model::program::Program;
 
-/// Where an exception of a class goes: the place of the first handler that takes it, or else that outside of the method.
+/// Where an exception of a class goes: the place of the first handler that takes it, or else the place outside of the method.
 pub(crate) fn lands(
     program: &Program,
     tables: &Tables,
@@ -27,7 +27,7 @@ pub(crate) fn lands(
     goes_to(program, tables.catch_chain_of(catch_chain), class)
 }
 
-/// The same by the entry of the catch chain.
+/// Where an exception of a class goes, by the entry of the catch chain.
 fn goes_to(program: &Program, catch_chain: &CatchChain, class: &[u8]) -> PlaceNo
     ensures { GoesTo program.now class.now catch_chain.now.catch_clauses catch_chain.now.outside result }
 {

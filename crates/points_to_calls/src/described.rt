@@ -15,13 +15,13 @@ use crate::catch_chains::lands;
 use crate::descriptors::{read_descriptor, unit_of};
 use crate::giving::{give, give_results};
 use crate::origin::Origin;
+use crate::receiver::Receiver;
 use jvm_model::result_class::result_class;
 use jvm_model::{Descriptor, SiteKind, SiteNo, StubArgument, StubMethod, StubResult};
-use points_to_numbers::{CallNo, Item, SiteKey, Tables};
+use points_to_numbers::{CallNo, Item, SiteKey, Tables, Work};
 use points_to_rules::Place;
 use program_index::index_failure::IndexFailure;
 use program_model::program::Program;
-use std::alloc::Global;
 
 /// A described method, its descriptor, and the object that selects it, if that is looked at alone.
 #[derive(Drop)]
@@ -59,43 +59,41 @@ fn argument_origin(description: &Description<'_>, argument: StubArgument) -> Opt
 /// Adds what the library keeps of an argument.
 fn keep_argument(
     program: &Program,
-    tables: &mut Tables,
     call: CallNo,
     description: &Description<'_>,
     argument: StubArgument,
-    steps: &mut Vec<Item>,
+    work: &mut Work,
 ) -> Result<(), IndexFailure>
-    requires call { IsNumbered tables.old.calls call.0 }
-    requires resolved { ResolvesIn program.now tables.old call.0 }
+    requires call { IsNumbered work.old.tables.calls call.0 }
+    requires resolved { ResolvesIn program.now work.old.tables call.0 }
     requires read { IsReadOf description.now.stub.now.descriptor description.now.descriptor.now }
-    requires receiver { (r : Option Site) × IsReceiverAt tables.old description.now.receiver r }
-    ensures { OnOk result ((site : CallSite) (r : Option Site) → slice_get tables.old.calls call.0 ≡ Some site → IsReceiverAt tables.old description.now.receiver r
-        → Makes tables.old tables.new (ArgumentKept program.now site description.now.stub.now r argument) steps.old.items steps.new.items) }
+    requires receiver { (r : Option Site) × IsReceiverAt work.old.tables description.now.receiver r }
+    ensures { OnOk result ((site : CallSite) (r : Option Site) → slice_get work.old.tables.calls call.0 ≡ Some site → IsReceiverAt work.old.tables description.now.receiver r
+        → Makes work.old.tables work.new.tables (ArgumentKept program.now site description.now.stub.now r argument) work.old.steps.items work.new.steps.items) }
 {
     let Some(origin) = argument_origin(description, argument) else {
         return Ok(());
     };
-    let kept = tables.place(Place::Kept)?;
-    give(program, tables, call, origin, kept, steps)
+    let kept = work.tables.place(Place::Kept)?;
+    give(program, call, origin, kept, work)
 }
 
 /// Adds what the library keeps of all arguments.
 fn keep_arguments(
     program: &Program,
-    tables: &mut Tables,
     call: CallNo,
     description: &Description<'_>,
-    steps: &mut Vec<Item>,
+    work: &mut Work,
 ) -> Result<(), IndexFailure>
-    requires call { IsNumbered tables.old.calls call.0 }
-    requires resolved { ResolvesIn program.now tables.old call.0 }
+    requires call { IsNumbered work.old.tables.calls call.0 }
+    requires resolved { ResolvesIn program.now work.old.tables call.0 }
     requires read { IsReadOf description.now.stub.now.descriptor description.now.descriptor.now }
-    requires receiver { (r : Option Site) × IsReceiverAt tables.old description.now.receiver r }
-    ensures { OnOk result ((site : CallSite) (r : Option Site) → slice_get tables.old.calls call.0 ≡ Some site → IsReceiverAt tables.old description.now.receiver r
-        → Makes tables.old tables.new (KeptItem program.now site description.now.stub.now r) steps.old.items steps.new.items) }
+    requires receiver { (r : Option Site) × IsReceiverAt work.old.tables description.now.receiver r }
+    ensures { OnOk result ((site : CallSite) (r : Option Site) → slice_get work.old.tables.calls call.0 ≡ Some site → IsReceiverAt work.old.tables description.now.receiver r
+        → Makes work.old.tables work.new.tables (KeptItem program.now site description.now.stub.now r) work.old.steps.items work.new.steps.items) }
 {
     for argument in description.stub.keeps.as_slice() {
-        keep_argument(program, tables, call, description, *argument, steps)?;
+        keep_argument(program, call, description, *argument, work)?;
     }
     Ok(())
 }
@@ -183,42 +181,40 @@ fn result_origin(
 /// Adds what the places of the result get by a listed result.
 fn give_result(
     program: &Program,
-    tables: &mut Tables,
     call: CallNo,
     description: &Description<'_>,
     outcome: &StubResult,
-    steps: &mut Vec<Item>,
+    work: &mut Work,
 ) -> Result<(), IndexFailure>
-    requires call { IsNumbered tables.old.calls call.0 }
-    requires resolved { ResolvesIn program.now tables.old call.0 }
+    requires call { IsNumbered work.old.tables.calls call.0 }
+    requires resolved { ResolvesIn program.now work.old.tables call.0 }
     requires read { IsReadOf description.now.stub.now.descriptor description.now.descriptor.now }
-    requires receiver { (r : Option Site) × IsReceiverAt tables.old description.now.receiver r }
-    ensures { OnOk result ((site : CallSite) (r : Option Site) → slice_get tables.old.calls call.0 ≡ Some site → IsReceiverAt tables.old description.now.receiver r
-        → Makes tables.old tables.new (ResultGot program.now site description.now.stub.now r outcome.now) steps.old.items steps.new.items) }
+    requires receiver { (r : Option Site) × IsReceiverAt work.old.tables description.now.receiver r }
+    ensures { OnOk result ((site : CallSite) (r : Option Site) → slice_get work.old.tables.calls call.0 ≡ Some site → IsReceiverAt work.old.tables description.now.receiver r
+        → Makes work.old.tables work.new.tables (ResultGot program.now site description.now.stub.now r outcome.now) work.old.steps.items work.new.steps.items) }
 {
-    let Some(origin) = result_origin(tables, call, description, outcome)? else {
+    let Some(origin) = result_origin(&mut work.tables, call, description, outcome)? else {
         return Ok(());
     };
-    give_results(program, tables, call, origin, steps)
+    give_results(program, call, origin, work)
 }
 
 /// Adds what the places of the result get by all listed results.
 fn give_all(
     program: &Program,
-    tables: &mut Tables,
     call: CallNo,
     description: &Description<'_>,
-    steps: &mut Vec<Item>,
+    work: &mut Work,
 ) -> Result<(), IndexFailure>
-    requires call { IsNumbered tables.old.calls call.0 }
-    requires resolved { ResolvesIn program.now tables.old call.0 }
+    requires call { IsNumbered work.old.tables.calls call.0 }
+    requires resolved { ResolvesIn program.now work.old.tables call.0 }
     requires read { IsReadOf description.now.stub.now.descriptor description.now.descriptor.now }
-    requires receiver { (r : Option Site) × IsReceiverAt tables.old description.now.receiver r }
-    ensures { OnOk result ((site : CallSite) (r : Option Site) → slice_get tables.old.calls call.0 ≡ Some site → IsReceiverAt tables.old description.now.receiver r
-        → Makes tables.old tables.new (GotItem program.now site description.now.stub.now r) steps.old.items steps.new.items) }
+    requires receiver { (r : Option Site) × IsReceiverAt work.old.tables description.now.receiver r }
+    ensures { OnOk result ((site : CallSite) (r : Option Site) → slice_get work.old.tables.calls call.0 ≡ Some site → IsReceiverAt work.old.tables description.now.receiver r
+        → Makes work.old.tables work.new.tables (GotItem program.now site description.now.stub.now r) work.old.steps.items work.new.steps.items) }
 {
     for outcome in description.stub.returns.as_slice() {
-        give_result(program, tables, call, description, outcome, steps)?;
+        give_result(program, call, description, outcome, work)?;
     }
     Ok(())
 }
@@ -226,93 +222,86 @@ fn give_all(
 /// Adds that an exception of a class is thrown by a call.
 fn throw_class(
     program: &Program,
-    tables: &mut Tables,
     call: CallNo,
     class: &[u8],
-    steps: &mut Vec<Item>,
+    work: &mut Work,
 ) -> Result<(), IndexFailure>
-    requires { IsNumbered tables.old.calls call.0 }
-    ensures { OnOk result ((site : CallSite) → slice_get tables.old.calls call.0 ≡ Some site
-        → Makes tables.old tables.new (ClassThrown program.now site class.now) steps.old.items steps.new.items) }
+    requires { IsNumbered work.old.tables.calls call.0 }
+    ensures { OnOk result ((site : CallSite) → slice_get work.old.tables.calls call.0 ≡ Some site
+        → Makes work.old.tables work.new.tables (ClassThrown program.now site class.now) work.old.steps.items work.new.steps.items) }
 {
-    let catch_chain = tables.call_of(call).catch_chain;
-    let to = lands(program, tables, catch_chain, class);
-    let site = allocated(tables, call, SiteKind::Thrown, class)?;
-    steps.push(Item::Holds(to, site))?;
+    let catch_chain = work.tables.call_of(call).catch_chain;
+    let to = lands(program, &work.tables, catch_chain, class);
+    let site = allocated(&mut work.tables, call, SiteKind::Thrown, class)?;
+    work.steps.push(Item::Holds(to, site))?;
     Ok(())
 }
 
 /// Adds that exceptions of all listed classes are thrown by a call.
 fn throw_all(
     program: &Program,
-    tables: &mut Tables,
     call: CallNo,
     stub: &StubMethod,
-    steps: &mut Vec<Item>,
+    work: &mut Work,
 ) -> Result<(), IndexFailure>
-    requires { IsNumbered tables.old.calls call.0 }
-    ensures { OnOk result ((site : CallSite) → slice_get tables.old.calls call.0 ≡ Some site
-        → Makes tables.old tables.new (ThrownItem program.now site stub.now) steps.old.items steps.new.items) }
+    requires { IsNumbered work.old.tables.calls call.0 }
+    ensures { OnOk result ((site : CallSite) → slice_get work.old.tables.calls call.0 ≡ Some site
+        → Makes work.old.tables work.new.tables (ThrownItem program.now site stub.now) work.old.steps.items work.new.steps.items) }
 {
     for class in stub.throws.as_slice() {
-        throw_class(program, tables, call, class.as_slice(), steps)?;
+        throw_class(program, call, class.as_slice(), work)?;
     }
     Ok(())
 }
 
 /// Adds what a call of a described method leads to. An abstract description has nothing.
 pub(crate) fn stub_items(
-    alloc: Global,
     program: &Program,
-    tables: &mut Tables,
     call: CallNo,
     stub: &StubMethod,
-    steps: &mut Vec<Item>,
+    work: &mut Work,
 ) -> Result<(), IndexFailure>
-    requires call { IsNumbered tables.old.calls call.0 }
-    requires resolved { ResolvesIn program.now tables.old call.0 }
-    ensures { OnOk result ((site : CallSite) → slice_get tables.old.calls call.0 ≡ Some site
-        → Makes tables.old tables.new (StubItem program.now site stub.now) steps.old.items steps.new.items) }
+    requires call { IsNumbered work.old.tables.calls call.0 }
+    requires resolved { ResolvesIn program.now work.old.tables call.0 }
+    ensures { OnOk result ((site : CallSite) → slice_get work.old.tables.calls call.0 ≡ Some site
+        → Makes work.old.tables work.new.tables (StubItem program.now site stub.now) work.old.steps.items work.new.steps.items) }
 {
     if stub.is_abstract {
         return Ok(());
     }
-    let descriptor = read_descriptor(alloc, stub)?;
+    let descriptor = read_descriptor(work.alloc, stub)?;
     let description = Description {
         stub,
         descriptor: &descriptor,
         receiver: None,
     };
-    keep_arguments(program, tables, call, &description, steps)?;
-    give_all(program, tables, call, &description, steps)?;
-    throw_all(program, tables, call, stub, steps)
+    keep_arguments(program, call, &description, work)?;
+    give_all(program, call, &description, work)?;
+    throw_all(program, call, stub, work)
 }
 
 /// Adds what a described method keeps and gives of an object that selects it.
 pub(crate) fn receiver_items(
-    alloc: Global,
     program: &Program,
-    tables: &mut Tables,
-    call: CallNo,
+    receiver: Receiver,
     stub: &StubMethod,
-    receiver: SiteNo,
-    steps: &mut Vec<Item>,
+    work: &mut Work,
 ) -> Result<(), IndexFailure>
-    requires call { IsNumbered tables.old.calls call.0 }
-    requires resolved { ResolvesIn program.now tables.old call.0 }
-    requires receiver { IsNumbered tables.old.sites receiver.0 }
-    ensures { OnOk result ((site : CallSite) (s : Site) → slice_get tables.old.calls call.0 ≡ Some site → slice_get tables.old.sites receiver.0 ≡ Some s
-        → Makes tables.old tables.new (ReceiverItem program.now site stub.now s) steps.old.items steps.new.items) }
+    requires call { IsNumbered work.old.tables.calls receiver.call.0 }
+    requires resolved { ResolvesIn program.now work.old.tables receiver.call.0 }
+    requires receiver { IsNumbered work.old.tables.sites receiver.site.0 }
+    ensures { OnOk result ((site : CallSite) (s : Site) → slice_get work.old.tables.calls receiver.call.0 ≡ Some site → slice_get work.old.tables.sites receiver.site.0 ≡ Some s
+        → Makes work.old.tables work.new.tables (ReceiverItem program.now site stub.now s) work.old.steps.items work.new.steps.items) }
 {
     if stub.is_abstract {
         return Ok(());
     }
-    let descriptor = read_descriptor(alloc, stub)?;
+    let descriptor = read_descriptor(work.alloc, stub)?;
     let description = Description {
         stub,
         descriptor: &descriptor,
-        receiver: Some(receiver),
+        receiver: Some(receiver.site),
     };
-    keep_arguments(program, tables, call, &description, steps)?;
-    give_all(program, tables, call, &description, steps)
+    keep_arguments(program, receiver.call, &description, work)?;
+    give_all(program, receiver.call, &description, work)
 }

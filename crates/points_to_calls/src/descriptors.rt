@@ -39,7 +39,8 @@ pub(crate) fn unit_of(
     }
 }
 
-/// The same by the kinds of the parameters: the receiver is the first unit, and a parameter, counted from 1, comes after those before it.
+/// The unit of an argument by the kinds of the parameters: the receiver is the first unit, and a parameter, counted from 1, comes after the
+/// parameters before it.
 fn unit_by_kinds(is_static: bool, kinds: &[Kind], argument: StubArgument) -> usize
     requires { sum_by kind_units kinds.now ≤ 255 }
     ensures { result ≡ unit_by_kinds is_static kinds.now argument }

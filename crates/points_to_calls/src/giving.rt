@@ -1,4 +1,4 @@
-//! What places get by a call.
+//! The constraints of a call: from its arguments, and to the places of its result.
 
 ghost use Rattle.std.specs.Prelude.{◌≡◌, Some, slice_get, IfOk, OnOk};
 ghost use Rattle.program_model.specs.Numbers.{IsMethodNumber};
@@ -13,25 +13,24 @@ use crate::origin::Origin;
 use crate::reading::{argument_of, result_count, result_of};
 use jvm_model::MethodNo;
 use op_model::CallKind;
-use points_to_numbers::{CallNo, Constraint, Item, Tables, add_constraint};
+use points_to_numbers::{CallNo, Constraint, Item, Tables, Work};
 use points_to_rules::{Place, PlaceNo};
 use program_index::index_failure::IndexFailure;
 use program_model::program::Program;
 
-/// Adds that each object of a place goes to a constraint.
+/// Adds a constraint to a place.
 pub(crate) fn add_constraint_at(
-    tables: &mut Tables,
     place: PlaceNo,
     constraint: Constraint,
-    steps: &mut Vec<Item>,
+    work: &mut Work,
 ) -> Result<(), IndexFailure>
-    requires place { IsNumbered tables.old.holders place.0 }
-    requires constraint { (u : ItemConstraint) × IsConstraintAt tables.old constraint u }
-    ensures { OnOk result ((h : Holder) (u : ItemConstraint) → slice_get tables.old.holders place.0 ≡ Some h → IsConstraintAt tables.old constraint u
-        → Makes tables.old tables.new (λ x. x ≡ constrained h u) steps.old.items steps.new.items) }
+    requires place { IsNumbered work.old.tables.holders place.0 }
+    requires constraint { (u : ItemConstraint) × IsConstraintAt work.old.tables constraint u }
+    ensures { OnOk result ((h : Holder) (u : ItemConstraint) → slice_get work.old.tables.holders place.0 ≡ Some h → IsConstraintAt work.old.tables constraint u
+        → Makes work.old.tables work.new.tables (λ x. x ≡ constrained h u) work.old.steps.items work.new.steps.items) }
 {
-    let constraint = tables.constraint(constraint)?;
-    steps.push(Item::Constrains(place, constraint))?;
+    let constraint = work.tables.constraint(constraint)?;
+    work.steps.push(Item::Constrains(place, constraint))?;
     Ok(())
 }
 
@@ -59,7 +58,7 @@ fn first_constraint(
     }
 }
 
-/// The same of any unit of the arguments of a call.
+/// The constraint to which the objects of any unit of the arguments of a call go, where they are given to a place.
 fn unit_constraint(
     program: &Program,
     tables: &mut Tables,
@@ -82,62 +81,55 @@ fn unit_constraint(
     first_constraint(program, tables, kind, resolved, to)
 }
 
-/// Adds that a place gets what a unit of the arguments of a call holds.
+/// Adds the constraint of a unit of the arguments of a call that gives it to a place.
 fn give_unit(
     program: &Program,
-    tables: &mut Tables,
     call: CallNo,
     unit: usize,
     to: PlaceNo,
-    steps: &mut Vec<Item>,
+    work: &mut Work,
 ) -> Result<(), IndexFailure>
-    requires call { IsNumbered tables.old.calls call.0 }
-    requires resolved { ResolvesIn program.now tables.old call.0 }
-    requires to { IsNumbered tables.old.holders to.0 }
-    ensures { OnOk result ((site : ItemCallSite) (h : Holder) → slice_get tables.old.calls call.0 ≡ Some site → slice_get tables.old.holders to.0 ≡ Some h
-        → Makes tables.old tables.new (GetsUnit program.now site unit h) steps.old.items steps.new.items) }
+    requires call { IsNumbered work.old.tables.calls call.0 }
+    requires resolved { ResolvesIn program.now work.old.tables call.0 }
+    requires to { IsNumbered work.old.tables.holders to.0 }
+    ensures { OnOk result ((site : ItemCallSite) (h : Holder) → slice_get work.old.tables.calls call.0 ≡ Some site → slice_get work.old.tables.holders to.0 ≡ Some h
+        → Makes work.old.tables work.new.tables (GetsUnit program.now site unit h) work.old.steps.items work.new.steps.items) }
 {
-    let Some(from) = argument_of(tables, call, unit) else {
+    let Some(from) = argument_of(&work.tables, call, unit) else {
         return Ok(());
     };
-    let Some(constraint) = unit_constraint(program, tables, call, unit, to)? else {
+    let Some(constraint) = unit_constraint(program, &mut work.tables, call, unit, to)? else {
         return Ok(());
     };
-    add_constraint_at(tables, from, constraint, steps)
+    add_constraint_at(from, constraint, work)
 }
 
-/// Adds that a place gets an origin.
+/// Adds that a place gets an origin: the objects of a site, or a constraint of another place.
 pub(crate) fn give(
     program: &Program,
-    tables: &mut Tables,
     call: CallNo,
     origin: Origin,
     to: PlaceNo,
-    steps: &mut Vec<Item>,
+    work: &mut Work,
 ) -> Result<(), IndexFailure>
-    requires call { IsNumbered tables.old.calls call.0 }
-    requires resolved { ResolvesIn program.now tables.old call.0 }
-    requires origin { (g : RuleOrigin) × IsOriginAt tables.old origin g }
-    requires to { IsNumbered tables.old.holders to.0 }
-    ensures { OnOk result ((site : ItemCallSite) (g : RuleOrigin) (h : Holder) → slice_get tables.old.calls call.0 ≡ Some site → IsOriginAt tables.old origin g
-        → slice_get tables.old.holders to.0 ≡ Some h → Makes tables.old tables.new (Gets program.now site g h) steps.old.items steps.new.items) }
+    requires call { IsNumbered work.old.tables.calls call.0 }
+    requires resolved { ResolvesIn program.now work.old.tables call.0 }
+    requires origin { (g : RuleOrigin) × IsOriginAt work.old.tables origin g }
+    requires to { IsNumbered work.old.tables.holders to.0 }
+    ensures { OnOk result ((site : ItemCallSite) (g : RuleOrigin) (h : Holder) → slice_get work.old.tables.calls call.0 ≡ Some site → IsOriginAt work.old.tables origin g
+        → slice_get work.old.tables.holders to.0 ≡ Some h → Makes work.old.tables work.new.tables (Gets program.now site g h) work.old.steps.items work.new.steps.items) }
 {
     match origin {
-        Origin::Unit(unit) => give_unit(program, tables, call, unit, to, steps),
+        Origin::Unit(unit) => give_unit(program, call, unit, to, work),
         Origin::Made(site) => {
-            steps.push(Item::Holds(to, site))?;
+            work.steps.push(Item::Holds(to, site))?;
             Ok(())
         }
         Origin::Fitting(class) => {
-            add_constraint(tables, steps, Place::Kept, Constraint::FilterTo(class, to))
+            work.add_constraint(Place::Kept, Constraint::FilterTo(class, to))
         }
         Origin::Returned(method) => {
-            add_constraint(
-                tables,
-                steps,
-                Place::Returned(method),
-                Constraint::CopyTo(to),
-            )
+            work.add_constraint(Place::Returned(method), Constraint::CopyTo(to))
         }
     }
 }
@@ -145,40 +137,38 @@ pub(crate) fn give(
 /// Adds that the place of the result at one of the call's successors gets an origin.
 fn give_at(
     program: &Program,
-    tables: &mut Tables,
     call: CallNo,
     origin: Origin,
     number: usize,
-    steps: &mut Vec<Item>,
+    work: &mut Work,
 ) -> Result<(), IndexFailure>
-    requires call { IsNumbered tables.old.calls call.0 }
-    requires resolved { ResolvesIn program.now tables.old call.0 }
-    requires origin { (g : RuleOrigin) × IsOriginAt tables.old origin g }
-    ensures { OnOk result ((site : ItemCallSite) (g : RuleOrigin) → slice_get tables.old.calls call.0 ≡ Some site → IsOriginAt tables.old origin g
-        → Makes tables.old tables.new (GetsAt program.now site g number) steps.old.items steps.new.items) }
+    requires call { IsNumbered work.old.tables.calls call.0 }
+    requires resolved { ResolvesIn program.now work.old.tables call.0 }
+    requires origin { (g : RuleOrigin) × IsOriginAt work.old.tables origin g }
+    ensures { OnOk result ((site : ItemCallSite) (g : RuleOrigin) → slice_get work.old.tables.calls call.0 ≡ Some site → IsOriginAt work.old.tables origin g
+        → Makes work.old.tables work.new.tables (GetsAt program.now site g number) work.old.steps.items work.new.steps.items) }
 {
-    let Some(to) = result_of(tables, call, number) else {
+    let Some(to) = result_of(&work.tables, call, number) else {
         return Ok(());
     };
-    give(program, tables, call, origin, to, steps)
+    give(program, call, origin, to, work)
 }
 
 /// Adds that each place of the result of a call gets an origin.
 pub(crate) fn give_results(
     program: &Program,
-    tables: &mut Tables,
     call: CallNo,
     origin: Origin,
-    steps: &mut Vec<Item>,
+    work: &mut Work,
 ) -> Result<(), IndexFailure>
-    requires call { IsNumbered tables.old.calls call.0 }
-    requires resolved { ResolvesIn program.now tables.old call.0 }
-    requires origin { (g : RuleOrigin) × IsOriginAt tables.old origin g }
-    ensures { OnOk result ((site : ItemCallSite) (g : RuleOrigin) → slice_get tables.old.calls call.0 ≡ Some site → IsOriginAt tables.old origin g
-        → Makes tables.old tables.new (ResultsGet program.now site g) steps.old.items steps.new.items) }
+    requires call { IsNumbered work.old.tables.calls call.0 }
+    requires resolved { ResolvesIn program.now work.old.tables call.0 }
+    requires origin { (g : RuleOrigin) × IsOriginAt work.old.tables origin g }
+    ensures { OnOk result ((site : ItemCallSite) (g : RuleOrigin) → slice_get work.old.tables.calls call.0 ≡ Some site → IsOriginAt work.old.tables origin g
+        → Makes work.old.tables work.new.tables (ResultsGet program.now site g) work.old.steps.items work.new.steps.items) }
 {
-    for number in 0..result_count(tables, call) {
-        give_at(program, tables, call, origin, number, steps)?;
+    for number in 0..result_count(&work.tables, call) {
+        give_at(program, call, origin, number, work)?;
     }
     Ok(())
 }

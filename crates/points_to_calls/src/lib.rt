@@ -14,6 +14,7 @@ mod origin;
 mod passing;
 mod plain;
 mod reading;
+mod receiver;
 mod selecting;
 mod selection;
 mod targets;

@@ -12,39 +12,38 @@ ghost use Rattle.points_to_numbers.specs.Steps.{Adds};
 
 use crate::kept::Answers;
 use crate::plain::pass_plain;
+use crate::receiver::Receiver;
 use crate::selecting::select_items;
 use jvm_model::{Reason, SiteNo};
-use points_to_numbers::{Constraint, ConstraintNo, Item, Tables};
+use points_to_numbers::{Constraint, ConstraintNo, Work};
 use program_index::index_failure::IndexFailure;
 use program_model::program::Program;
-use std::alloc::Global;
 
 /// Adds what a constraint makes of an object of its place; and why it lacks the target of its call, if it does.
 pub fn pass(
-    alloc: Global,
     program: &Program,
-    tables: &mut Tables,
     answers: &mut Answers,
     constraint: ConstraintNo,
     site: SiteNo,
-    steps: &mut Vec<Item>,
+    work: &mut Work,
 ) -> Result<Option<Reason>, IndexFailure>
-    requires constraint { IsNumbered tables.old.constraints constraint.0 }
-    requires site { IsNumbered tables.old.sites site.0 }
-    requires resolved { (c : CallSite) → slice_get tables.old.constraints constraint.0 ≡ Some (dispatch c) → IsMethodNumber program.now c.resolved.0 }
-    requires answers { AreRight program.now tables.old answers.old }
-    ensures grows { OnOk result (Grows tables.old tables.new) }
-    ensures calls { OnOk result (length tables.new.calls ≡ length tables.old.calls) }
-    ensures adds { OnOk result ((u : ItemConstraint) (s : Site) → slice_get tables.old.constraints constraint.0 ≡ Some u → slice_get tables.old.sites site.0 ≡ Some s
-        → Adds tables.new (Passed program.now u s) steps.old.items steps.new.items) }
-    ensures lacks { IfOk result (λ lacks. (u : ItemConstraint) (s : Site) → slice_get tables.old.constraints constraint.0 ≡ Some u → slice_get tables.old.sites site.0 ≡ Some s
+    requires constraint { IsNumbered work.old.tables.constraints constraint.0 }
+    requires site { IsNumbered work.old.tables.sites site.0 }
+    requires resolved { (c : CallSite) → slice_get work.old.tables.constraints constraint.0 ≡ Some (dispatch c) → IsMethodNumber program.now c.resolved.0 }
+    requires answers { AreRight program.now work.old.tables answers.old }
+    ensures grows { OnOk result (Grows work.old.tables work.new.tables) }
+    ensures calls { OnOk result (length work.new.tables.calls ≡ length work.old.tables.calls) }
+    ensures adds { OnOk result ((u : ItemConstraint) (s : Site) → slice_get work.old.tables.constraints constraint.0 ≡ Some u → slice_get work.old.tables.sites site.0 ≡ Some s
+        → Adds work.new.tables (Passed program.now u s) work.old.steps.items work.new.steps.items) }
+    ensures lacks { IfOk result (λ lacks. (u : ItemConstraint) (s : Site) → slice_get work.old.tables.constraints constraint.0 ≡ Some u → slice_get work.old.tables.sites site.0 ≡ Some s
         → ConstraintLacks program.now u s lacks) }
-    ensures answers { OnOk result (AreRight program.now tables.new answers.new) }
+    ensures answers { OnOk result (AreRight program.now work.new.tables answers.new) }
 {
-    let entry = tables.constraint_of(constraint);
+    let entry = work.tables.constraint_of(constraint);
     let Constraint::Dispatch(call) = entry else {
-        pass_plain(program, tables, answers, entry, site, steps)?;
+        pass_plain(program, answers, entry, site, work)?;
         return Ok(None);
     };
-    select_items(alloc, program, tables, answers, call, site, steps)
+    let receiver = Receiver { call, site };
+    select_items(program, answers, receiver, work)
 }

@@ -1,4 +1,4 @@
-//! What constraints make of an object that select no target.
+//! What constraints that select no target make of an object.
 
 ghost use Rattle.std.specs.Prelude.{◌≡◌, ℕ, List, Some, slice_get, codes, OnOk};
 ghost use Rattle.jvm_model.specs.declared.site.Site.{Site};
@@ -15,7 +15,7 @@ use crate::giving::add_constraint_at;
 use crate::kept::{Answers, fits_kept};
 use hierarchy::fits;
 use jvm_model::SiteNo;
-use points_to_numbers::{CatchChainNo, ClassNameNo, Constraint, Item, Tables, add_constraint};
+use points_to_numbers::{CatchChainNo, ClassNameNo, Constraint, Item, Tables, Work};
 use points_to_rules::{Place, PlaceNo};
 use program_index::index_failure::IndexFailure;
 use program_model::program::Program;
@@ -28,7 +28,7 @@ pub(crate) fn class_of(tables: &Tables, site: SiteNo) -> &[u8]
     tables.name_of(tables.site_of(site).class)
 }
 
-/// Adds that the objects of a site land where an exception of their class goes.
+/// Adds the objects of an allocation site to the points-to set of the place where an exception of their class lands.
 fn land(
     program: &Program,
     tables: &Tables,
@@ -46,82 +46,91 @@ fn land(
     Ok(())
 }
 
-/// Adds that a place holds the objects of a site, if they fit a class.
+/// A filter constraint: the objects that fit a class go to a place.
+#[derive(Clone, Copy)]
+struct Filter {
+    class: ClassNameNo,
+    to: PlaceNo,
+}
+
+/// Adds the objects of an allocation site to the points-to set of the place to which a filter leads, if they fit its class.
 fn pass_if_fits(
     program: &Program,
-    tables: &Tables,
     answers: &mut Answers,
-    upper: ClassNameNo,
-    to: PlaceNo,
+    filter: Filter,
     site: SiteNo,
-    steps: &mut Vec<Item>,
+    work: &mut Work,
 ) -> Result<(), IndexFailure>
-    requires upper { IsNumbered tables.now.classes upper.0 }
-    requires site { IsNumbered tables.now.sites site.0 }
-    requires answers { AreRight program.now tables.now answers.old }
-    ensures made { OnOk result ((name : List ℕ) (h : Holder) (s : Site) → slice_get tables.now.classes upper.0 ≡ Some name
-        → slice_get tables.now.holders to.0 ≡ Some h
-        → slice_get tables.now.sites site.0 ≡ Some s → Makes tables.now tables.now (FittingPassed program.now name h s) steps.old.items steps.new.items) }
-    ensures answers { AreRight program.now tables.now answers.new }
+    requires class { IsNumbered work.old.tables.classes filter.class.0 }
+    requires site { IsNumbered work.old.tables.sites site.0 }
+    requires answers { AreRight program.now work.old.tables answers.old }
+    ensures made { OnOk result ((name : List ℕ) (h : Holder) (s : Site) → slice_get work.old.tables.classes filter.class.0 ≡ Some name
+        → slice_get work.old.tables.holders filter.to.0 ≡ Some h
+        → slice_get work.old.tables.sites site.0 ≡ Some s → Makes work.old.tables work.new.tables (FittingPassed program.now name h s) work.old.steps.items work.new.steps.items) }
+    ensures answers { AreRight program.now work.old.tables answers.new }
 {
-    let lower = tables.site_of(site).class;
-    let does_fit = fits_kept(program, tables, answers, upper, lower)?;
+    let lower = work.tables.site_of(site).class;
+    let does_fit = fits_kept(program, &work.tables, answers, filter.class, lower)?;
     if does_fit {
-        steps.push(Item::Holds(to, site))?;
+        work.steps.push(Item::Holds(filter.to, site))?;
     }
     Ok(())
 }
 
-/// Adds what a constraint makes of an object of its place that does not select a target by it.
+/// Adds what a constraint that selects no target makes of an object of its place.
 pub(crate) fn pass_plain(
     program: &Program,
-    tables: &mut Tables,
     answers: &mut Answers,
     constraint: Constraint,
     site: SiteNo,
-    steps: &mut Vec<Item>,
+    work: &mut Work,
 ) -> Result<(), IndexFailure>
-    requires constraint { (u : ItemConstraint) × IsConstraintAt tables.old constraint u }
-    requires site { IsNumbered tables.old.sites site.0 }
-    requires answers { AreRight program.now tables.old answers.old }
-    ensures made { OnOk result ((u : ItemConstraint) (s : Site) → IsConstraintAt tables.old constraint u → slice_get tables.old.sites site.0 ≡ Some s
-        → Makes tables.old tables.new (PlainPassed program.now u s) steps.old.items steps.new.items) }
-    ensures answers { AreRight program.now tables.old answers.new }
+    requires constraint { (u : ItemConstraint) × IsConstraintAt work.old.tables constraint u }
+    requires site { IsNumbered work.old.tables.sites site.0 }
+    requires answers { AreRight program.now work.old.tables answers.old }
+    ensures made { OnOk result ((u : ItemConstraint) (s : Site) → IsConstraintAt work.old.tables constraint u → slice_get work.old.tables.sites site.0 ≡ Some s
+        → Makes work.old.tables work.new.tables (PlainPassed program.now u s) work.old.steps.items work.new.steps.items) }
+    ensures answers { AreRight program.now work.old.tables answers.new }
 {
     match constraint {
         Constraint::CopyTo(to) => {
-            steps.push(Item::Holds(to, site))?;
+            work.steps.push(Item::Holds(to, site))?;
             Ok(())
         }
         Constraint::FilterTo(class, to) => {
-            pass_if_fits(program, tables, answers, class, to, site, steps)
+            pass_if_fits(program, answers, Filter { class, to }, site, work)
         }
         Constraint::LoadField(field, to) => {
-            add_constraint(
-                tables,
-                steps,
-                Place::Field(site, field),
-                Constraint::CopyTo(to),
-            )
+            work.add_constraint(Place::Field(site, field), Constraint::CopyTo(to))
         }
         Constraint::StoreField(field, from) => {
-            let to = tables.place(Place::Field(site, field))?;
-            add_constraint_at(tables, from, Constraint::CopyTo(to), steps)
+            let to = work.tables.place(Place::Field(site, field))?;
+            add_constraint_at(from, Constraint::CopyTo(to), work)
         }
         Constraint::LoadElements(to) => {
-            add_constraint(tables, steps, Place::Elements(site), Constraint::CopyTo(to))
+            work.add_constraint(Place::Elements(site), Constraint::CopyTo(to))
         }
         Constraint::StoreElements(from) => {
-            let to = tables.place(Place::Elements(site))?;
-            add_constraint_at(tables, from, Constraint::CopyTo(to), steps)
+            let to = work.tables.place(Place::Elements(site))?;
+            add_constraint_at(from, Constraint::CopyTo(to), work)
         }
         Constraint::ThrowTo(catch_chain) => {
-            if fits(program, b"java/lang/Throwable", class_of(tables, site)) {
-                return land(program, tables, catch_chain, site, steps);
+            if fits(
+                program,
+                b"java/lang/Throwable",
+                class_of(&work.tables, site),
+            ) {
+                return land(program, &work.tables, catch_chain, site, &mut work.steps);
             }
             Ok(())
         }
-        Constraint::RethrowTo(catch_chain) => land(program, tables, catch_chain, site, steps),
+        Constraint::RethrowTo(catch_chain) => land(
+            program,
+            &work.tables,
+            catch_chain,
+            site,
+            &mut work.steps,
+        ),
         Constraint::Dispatch(_) => Ok(()),
     }
 }

@@ -17,35 +17,35 @@ ghost use Rattle.points_to_numbers.specs.Numbered.{IsNumbered};
 use crate::answer_keys::SelectKey;
 use crate::described::receiver_items;
 use crate::kept::{Answers, selected_kept};
-use jvm_model::{AccessFlag, MethodNo, Reason, SiteNo};
+use crate::receiver::Receiver;
+use jvm_model::{AccessFlag, MethodNo, Reason};
 use op_model::CallKind;
-use points_to_numbers::{CallNo, Item, Tables, add_holding};
+use points_to_numbers::{Item, Tables, Work};
 use points_to_rules::Place;
 use program_index::index_failure::IndexFailure;
 use program_model::method_body::MethodBody;
 use program_model::program::Program;
 use slot_names::Variable;
-use std::alloc::{AllocError, Global};
+use std::alloc::AllocError;
 
 /// What a call selects by an object of a site, if it selects by its object and may be made on this one.
 fn selected(
     program: &Program,
     tables: &Tables,
     answers: &mut Answers,
-    call: CallNo,
-    site: SiteNo,
+    receiver: Receiver,
 ) -> Result<Option<Result<MethodNo, Reason>>, AllocError>
-    requires call { IsNumbered tables.now.calls call.0 }
-    requires site { IsNumbered tables.now.sites site.0 }
-    requires resolved { ResolvesIn program.now tables.now call.0 }
+    requires call { IsNumbered tables.now.calls receiver.call.0 }
+    requires site { IsNumbered tables.now.sites receiver.site.0 }
+    requires resolved { ResolvesIn program.now tables.now receiver.call.0 }
     requires answers { AreRight program.now tables.now answers.old }
-    ensures selected { IfOk result (λ answer. (c : CallSite) (s : Site) → slice_get tables.now.calls call.0 ≡ Some c
-        → slice_get tables.now.sites site.0 ≡ Some s
+    ensures selected { IfOk result (λ answer. (c : CallSite) (s : Site) → slice_get tables.now.calls receiver.call.0 ≡ Some c
+        → slice_get tables.now.sites receiver.site.0 ≡ Some s
         → IsOnlyAnswer (SelectsFor c.kind program.now c.resolved s) answer) }
     ensures answers { AreRight program.now tables.now answers.new }
 {
-    let entry = tables.call_of(call);
-    let class = tables.site_of(site).class;
+    let entry = tables.call_of(receiver.call);
+    let class = tables.site_of(receiver.site).class;
     let resolved = entry.resolved;
     match entry.kind {
         CallKind::Virtual => {
@@ -82,83 +82,72 @@ fn is_undescribed(program: &Program, method: MethodNo) -> bool
 
 /// Adds what a selected target keeps and gives of the object, where a stub describes it.
 fn described_items(
-    alloc: Global,
     program: &Program,
-    tables: &mut Tables,
-    call: CallNo,
-    site: SiteNo,
+    receiver: Receiver,
     target: MethodNo,
-    steps: &mut Vec<Item>,
+    work: &mut Work,
 ) -> Result<(), IndexFailure>
-    requires call { IsNumbered tables.old.calls call.0 }
-    requires site { IsNumbered tables.old.sites site.0 }
-    requires resolved { ResolvesIn program.now tables.old call.0 }
+    requires call { IsNumbered work.old.tables.calls receiver.call.0 }
+    requires site { IsNumbered work.old.tables.sites receiver.site.0 }
+    requires resolved { ResolvesIn program.now work.old.tables receiver.call.0 }
     requires target { IsMethodNumber program.now target.0 }
-    ensures { OnOk result ((c : CallSite) (s : Site) → slice_get tables.old.calls call.0 ≡ Some c → slice_get tables.old.sites site.0 ≡ Some s
-        → Makes tables.old tables.new (DescribedItem program.now c s target) steps.old.items steps.new.items) }
+    ensures { OnOk result ((c : CallSite) (s : Site) → slice_get work.old.tables.calls receiver.call.0 ≡ Some c → slice_get work.old.tables.sites receiver.site.0 ≡ Some s
+        → Makes work.old.tables work.new.tables (DescribedItem program.now c s target) work.old.steps.items work.new.steps.items) }
 {
     match program.method_body(target) {
         MethodBody::InFile { .. } => Ok(()),
-        MethodBody::Described(stub) => {
-            receiver_items(alloc, program, tables, call, stub, site, steps)
-        }
+        MethodBody::Described(stub) => { receiver_items(program, receiver, stub, work) }
     }
 }
 
 /// Adds what an object leads to that selects this target.
 fn chosen_items(
-    alloc: Global,
     program: &Program,
-    tables: &mut Tables,
-    call: CallNo,
-    site: SiteNo,
+    receiver: Receiver,
     target: MethodNo,
-    steps: &mut Vec<Item>,
+    work: &mut Work,
 ) -> Result<(), IndexFailure>
-    requires call { IsNumbered tables.old.calls call.0 }
-    requires site { IsNumbered tables.old.sites site.0 }
-    requires resolved { ResolvesIn program.now tables.old call.0 }
+    requires call { IsNumbered work.old.tables.calls receiver.call.0 }
+    requires site { IsNumbered work.old.tables.sites receiver.site.0 }
+    requires resolved { ResolvesIn program.now work.old.tables receiver.call.0 }
     requires target { IsMethodNumber program.now target.0 }
-    ensures { OnOk result ((c : CallSite) (s : Site) → slice_get tables.old.calls call.0 ≡ Some c → slice_get tables.old.sites site.0 ≡ Some s
-        → Makes tables.old tables.new (TargetItem program.now c s target) steps.old.items steps.new.items) }
+    ensures { OnOk result ((c : CallSite) (s : Site) → slice_get work.old.tables.calls receiver.call.0 ≡ Some c → slice_get work.old.tables.sites receiver.site.0 ≡ Some s
+        → Makes work.old.tables work.new.tables (TargetItem program.now c s target) work.old.steps.items work.new.steps.items) }
 {
-    steps.push(Item::Calls(call, target))?;
-    let receiver = Variable::Parameter {
+    work.steps.push(Item::Calls(receiver.call, target))?;
+    let parameter = Variable::Parameter {
         method: target,
         slot: 0,
     };
-    add_holding(tables, steps, Place::Variable(receiver), site)?;
-    described_items(alloc, program, tables, call, site, target, steps)
+    work.add_holding(Place::Variable(parameter), receiver.site)?;
+    described_items(program, receiver, target, work)
 }
 
 /// Adds what an object of a site leads to that may select the target of a call; and gives the reason why the call has no target for it, if it has
 /// none.
 pub(crate) fn select_items(
-    alloc: Global,
     program: &Program,
-    tables: &mut Tables,
     answers: &mut Answers,
-    call: CallNo,
-    site: SiteNo,
-    steps: &mut Vec<Item>,
+    receiver: Receiver,
+    work: &mut Work,
 ) -> Result<Option<Reason>, IndexFailure>
-    requires call { IsNumbered tables.old.calls call.0 }
-    requires site { IsNumbered tables.old.sites site.0 }
-    requires resolved { ResolvesIn program.now tables.old call.0 }
-    requires answers { AreRight program.now tables.old answers.old }
-    ensures adds { OnOk result ((c : CallSite) (s : Site) → slice_get tables.old.calls call.0 ≡ Some c → slice_get tables.old.sites site.0 ≡ Some s
-        → Makes tables.old tables.new (SelectItem program.now c s) steps.old.items steps.new.items) }
-    ensures lacks { IfOk result (λ lacks. (c : CallSite) (s : Site) → slice_get tables.old.calls call.0 ≡ Some c → slice_get tables.old.sites site.0 ≡ Some s
+    requires call { IsNumbered work.old.tables.calls receiver.call.0 }
+    requires site { IsNumbered work.old.tables.sites receiver.site.0 }
+    requires resolved { ResolvesIn program.now work.old.tables receiver.call.0 }
+    requires answers { AreRight program.now work.old.tables answers.old }
+    ensures adds { OnOk result ((c : CallSite) (s : Site) → slice_get work.old.tables.calls receiver.call.0 ≡ Some c → slice_get work.old.tables.sites receiver.site.0 ≡ Some s
+        → Makes work.old.tables work.new.tables (SelectItem program.now c s) work.old.steps.items work.new.steps.items) }
+    ensures lacks { IfOk result (λ lacks. (c : CallSite) (s : Site) → slice_get work.old.tables.calls receiver.call.0 ≡ Some c → slice_get work.old.tables.sites receiver.site.0 ≡ Some s
         → CallLacks program.now c s lacks) }
-    ensures answers { AreRight program.now tables.old answers.new }
+    ensures answers { AreRight program.now work.old.tables answers.new }
 {
-    let answer = selected(program, tables, answers, call, site)?;
+    let answer = selected(program, &work.tables, answers, receiver)?;
     let Some(chosen) = answer else {
         return Ok(None);
     };
     match chosen {
         Ok(target) => {
-            chosen_items(alloc, program, tables, call, site, target, steps)?;
+            chosen_items(program, receiver, target, work)?;
             if is_undescribed(program, target) {
                 return Ok(Some(Reason::NoStub));
             }

@@ -14,7 +14,7 @@ use jvm_model::grammar::is_array;
 use jvm_model::{MethodNo, Reason};
 use program_model::program::Program;
 
-/// The class from which the method is selected that a call on an object of a class goes to: an array has those of java/lang/Object.
+/// The class from which the method is selected that a call on an object of a class goes to: an array has the methods of java/lang/Object.
 fn selecting_class(class: &[u8]) -> &[u8]
     ensures { result.now ≡ selecting_class class.now }
 {

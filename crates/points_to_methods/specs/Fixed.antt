@@ -1,5 +1,5 @@
 -- Public contracts rest on this module.
--- Places that stand for one thing whatever is numbered, and what is done with their objects.
+-- Places that stand for one thing whatever is numbered, and the constraints between them.
 use Rattle.points_to_constraints.specs.Items.{Constraint, filter_to, copy_to, load_elements, load_field, store_elements, store_field}
 use Rattle.points_to_methods.specs.declared.adding.FixedPlace.{FixedPlace}
 use Rattle.points_to_methods.specs.declared.adding.FixedPlace.TheVariants as fixed_places
@@ -15,7 +15,7 @@ holder_of fixed_places.Kept = kept_objects
 holder_of (fixed_places.Returned method) = returned_by method
 holder_of (fixed_places.Thrown method) = thrown_by method
 
--- What is done for a holder.
+-- The constraint of a kind, with the holder to which it leads, or from which it stores.
 abbrev pub constraint_by : Passing → Holder → Constraint
 constraint_by passings.To to = copy_to to
 constraint_by (passings.Fitting class) to = filter_to class.now to

@@ -1,4 +1,4 @@
-//! Items that are added to a list of steps, by places that stand for one thing whatever is numbered.
+//! Constraints, and objects of allocation sites, that are added for places which stand for one thing whatever is numbered.
 
 ghost use Rattle.std.specs.Prelude.{◌≡◌, length, Some, slice_get, IfOk, OnOk};
 ghost use Rattle.jvm_model.specs.declared.site.Site.{Site};
@@ -9,7 +9,7 @@ ghost use Rattle.points_to_rules.specs.Facts.{Holder, may_hold};
 ghost use Rattle.points_to_numbers.specs.Numbered.{Grows, IsHolderAt, IsNumbered, IsConstraintAt, Numbered};
 
 use jvm_model::{FieldNo, MethodNo, SiteNo};
-use points_to_numbers::{Constraint, Item, Tables, add_constraint, add_holding};
+use points_to_numbers::{Constraint, Tables, Work};
 use points_to_rules::{Place, PlaceNo};
 use program_index::index_failure::IndexFailure;
 use slot_names::Variable;
@@ -24,21 +24,28 @@ pub enum FixedPlace {
     Thrown(MethodNo),
 }
 
-/// What is done with the objects of a place for another one.
+/// The kind of a constraint between two places: it passes on the objects of the first one.
 #[derive(Clone, Copy)]
 pub enum Passing<'a> {
-    /// The other place holds them too.
+    /// Copy: the second place holds them too.
     To,
-    /// The other place holds them too, where they fit the class.
+    /// Filter: the second place holds them too, where they fit the class.
     Fitting(&'a [u8]),
-    /// What their field holds, the other place holds.
+    /// Load: what their field holds, the second place holds.
     LoadField(FieldNo),
-    /// What the other place holds, their field holds.
+    /// Store: what the second place holds, their field holds.
     StoreField(FieldNo),
-    /// What their elements hold, the other place holds.
+    /// Load of arrays: what their elements hold, the second place holds.
     LoadElements,
-    /// What the other place holds, their elements hold.
+    /// Store of arrays: what the second place holds, their elements hold.
     StoreElements,
+}
+
+/// A constraint whose second place is still open.
+#[derive(Clone, Copy)]
+pub struct Outgoing<'a> {
+    pub from: FixedPlace,
+    pub passing: Passing<'a>,
 }
 
 /// The key of a place.
@@ -54,7 +61,7 @@ pub fn key_of(place: FixedPlace) -> Place
     }
 }
 
-/// The key of what is done for a place.
+/// The key of a constraint whose second place is numbered.
 fn constraint_of(
     tables: &mut Tables,
     passing: Passing<'_>,
@@ -75,33 +82,27 @@ fn constraint_of(
     })
 }
 
-/// Adds what is done with the objects of a place for another one.
+/// Adds a constraint between two places.
 pub fn pass(
-    tables: &mut Tables,
-    steps: &mut Vec<Item>,
     from: FixedPlace,
     passing: Passing<'_>,
     to: FixedPlace,
+    work: &mut Work,
 ) -> Result<(), IndexFailure>
-    ensures { OnOk result (Makes tables.old tables.new (λ x. x ≡ constrained (holder_of from) (constraint_by passing.entry (holder_of to))) steps.old.items steps.new.items) }
+    ensures { OnOk result (Makes work.old.tables work.new.tables (λ x. x ≡ constrained (holder_of from) (constraint_by passing.entry (holder_of to))) work.old.steps.items work.new.steps.items) }
 {
-    let to = tables.place(key_of(to))?;
-    let constraint = constraint_of(tables, passing, to)?;
-    add_constraint(tables, steps, key_of(from), constraint)?;
+    let to = work.tables.place(key_of(to))?;
+    let constraint = constraint_of(&mut work.tables, passing, to)?;
+    work.add_constraint(key_of(from), constraint)?;
     Ok(())
 }
 
-/// Adds that a place may refer to the objects of a site.
-pub fn hold(
-    tables: &mut Tables,
-    steps: &mut Vec<Item>,
-    place: FixedPlace,
-    site: SiteNo,
-) -> Result<(), IndexFailure>
-    requires { IsNumbered tables.old.sites site.0 }
-    ensures { (s : Site) → slice_get tables.old.sites site.0 ≡ Some s
-        → OnOk result (Makes tables.old tables.new (λ x. x ≡ known (may_hold (holder_of place) s)) steps.old.items steps.new.items) }
+/// Adds the objects of an allocation site to the points-to set of a place.
+pub fn hold(place: FixedPlace, site: SiteNo, work: &mut Work) -> Result<(), IndexFailure>
+    requires { IsNumbered work.old.tables.sites site.0 }
+    ensures { (s : Site) → slice_get work.old.tables.sites site.0 ≡ Some s
+        → OnOk result (Makes work.old.tables work.new.tables (λ x. x ≡ known (may_hold (holder_of place) s)) work.old.steps.items work.new.steps.items) }
 {
-    add_holding(tables, steps, key_of(place), site)?;
+    work.add_holding(key_of(place), site)?;
     Ok(())
 }

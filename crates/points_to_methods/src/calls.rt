@@ -17,27 +17,24 @@ use crate::call_sites::call_site;
 use crate::{NamedMethod, key_of, slot_place};
 use jvm_model::MethodNo;
 use op_model::{Call, CallKind};
-use points_to_numbers::{CallNo, Constraint, Item, Tables, add_constraint};
+use points_to_numbers::{CallNo, Constraint, Item, Work};
 use program_index::index_failure::IndexFailure;
-use std::alloc::Global;
 
 /// Adds what the call of a node leads to. The call gets a number.
 pub(crate) fn call_items(
-    alloc: Global,
     at: &NamedMethod<'_>,
     node: usize,
     call: &Call,
-    tables: &mut Tables,
-    steps: &mut Vec<Item>,
+    work: &mut Work,
 ) -> Result<(), IndexFailure>
     requires known { IsNamed at.now }
     requires there { HasNode at.now node }
     ensures { (n : Node) → slice_get at.now.method.now.nodes node ≡ Some n → n.op ≡ operations.Call call.now
-        → OnOk result (AddsNode at.now.method.now n tables.old tables.new (CallNodeItem at.now.method.now.method at.now.method.now n call.now) steps.old.items steps.new.items) }
+        → OnOk result (AddsNode at.now.method.now n work.old.tables work.new.tables (CallNodeItem at.now.method.now.method at.now.method.now n call.now) work.old.steps.items work.new.steps.items) }
 {
-    let number = call_site(alloc, at, node, call, tables)?;
-    chosen_items(number, call.chosen, steps)?;
-    select_items(at, node, call, number, tables, steps)?;
+    let number = call_site(work.alloc, at, node, call, &mut work.tables)?;
+    chosen_items(number, call.chosen, &mut work.steps)?;
+    select_items(at, node, call, number, work)?;
     Ok(())
 }
 
@@ -57,21 +54,20 @@ fn chosen_items(
     Ok(())
 }
 
-/// Adds that a call selects its targets by the objects of its first argument, if it does.
+/// Adds a dispatch constraint of the first argument of a call, if the call selects its targets by that.
 fn select_items(
     at: &NamedMethod<'_>,
     node: usize,
     call: &Call,
     number: CallNo,
-    tables: &mut Tables,
-    steps: &mut Vec<Item>,
+    work: &mut Work,
 ) -> Result<(), IndexFailure>
     requires known { IsNamed at.now }
     requires there { HasNode at.now node }
-    requires numbered { IsNumbered tables.old.calls number.0 }
-    ensures { (n : Node) (site : CallSite) → slice_get at.now.method.now.nodes node ≡ Some n → slice_get tables.old.calls number.0 ≡ Some site
+    requires numbered { IsNumbered work.old.tables.calls number.0 }
+    ensures { (n : Node) (site : CallSite) → slice_get at.now.method.now.nodes node ≡ Some n → slice_get work.old.tables.calls number.0 ≡ Some site
         → IsCallSite at.now.method.now.method at.now.method.now n call.now site
-        → OnOk result (Makes tables.old tables.new (SelectingItem call.now.kind site) steps.old.items steps.new.items) }
+        → OnOk result (Makes work.old.tables work.new.tables (SelectingItem call.now.kind site) work.old.steps.items work.new.steps.items) }
 {
     if !is_selecting(call.kind) {
         return Ok(());
@@ -80,7 +76,7 @@ fn select_items(
         return Ok(());
     };
     let place = key_of(slot_place(at, node, slot));
-    add_constraint(tables, steps, place, Constraint::Dispatch(number))?;
+    work.add_constraint(place, Constraint::Dispatch(number))?;
     Ok(())
 }
 

@@ -21,51 +21,38 @@ use crate::named::{NamedMethod, slot_place};
 use hierarchy::fits;
 use jvm_model::{ClassNo, SiteKind, SiteNo};
 use op_model::NodeHandler;
-use points_to_numbers::{Constraint, Item, SiteKey, Tables, add_constraint};
+use points_to_numbers::{Constraint, SiteKey, Tables, Work};
 use program_index::index_failure::IndexFailure;
 use program_model::program::Program;
-use std::alloc::Global;
 
-/// Adds that what a slot holds is thrown at a node.
+/// Adds a throw constraint of a slot, by the catch chain of its node.
 pub(crate) fn throw_slot(
-    alloc: Global,
     at: &NamedMethod<'_>,
     node: usize,
     value: u32,
-    tables: &mut Tables,
-    steps: &mut Vec<Item>,
+    work: &mut Work,
 ) -> Result<(), IndexFailure>
     requires known { IsNamed at.now }
     requires there { HasNode at.now node }
     ensures { (n : Node) → slice_get at.now.method.now.nodes node ≡ Some n
-        → OnOk result (Makes tables.old tables.new (OpItem (operations.Throw value) at.now.program.now at.now.method.now.method at.now.method.now n) steps.old.items steps.new.items) }
+        → OnOk result (Makes work.old.tables work.new.tables (OpItem (operations.Throw value) at.now.program.now at.now.method.now.method at.now.method.now n) work.old.steps.items work.new.steps.items) }
 {
-    let catch_chain = catch_chain_of(alloc, at, node, tables)?;
+    let catch_chain = catch_chain_of(work.alloc, at, node, &mut work.tables)?;
     let from = slot_place(at, node, value);
-    add_constraint(
-        tables,
-        steps,
-        key_of(from),
-        Constraint::ThrowTo(catch_chain),
-    )?;
+    work.add_constraint(key_of(from), Constraint::ThrowTo(catch_chain))?;
     Ok(())
 }
 
-/// Adds what a node may throw itself: a new object of each of its classes, held where it lands.
-pub fn raise_items(
-    at: &NamedMethod<'_>,
-    node: usize,
-    tables: &mut Tables,
-    steps: &mut Vec<Item>,
-) -> Result<(), IndexFailure>
+/// Adds a new object of each class that a node may throw itself to the points-to set of the place where it lands.
+pub fn raise_items(at: &NamedMethod<'_>, node: usize, work: &mut Work) -> Result<(), IndexFailure>
     requires known { IsNamed at.now }
     requires there { HasNode at.now node }
     ensures { (n : Node) → slice_get at.now.method.now.nodes node ≡ Some n
-        → OnOk result (Makes tables.old tables.new (RaiseItem at.now.program.now at.now.method.now.method at.now.method.now n) steps.old.items steps.new.items) }
+        → OnOk result (Makes work.old.tables work.new.tables (RaiseItem at.now.program.now at.now.method.now.method at.now.method.now n) work.old.steps.items work.new.steps.items) }
 {
     let throws = &at.method.nodes.as_slice()[node].throws;
     for class in throws.as_slice() {
-        raise_class(at, node, *class, tables, steps)?;
+        raise_class(at, node, *class, work)?;
     }
     Ok(())
 }
@@ -75,18 +62,17 @@ fn raise_class(
     at: &NamedMethod<'_>,
     node: usize,
     class: ClassNo,
-    tables: &mut Tables,
-    steps: &mut Vec<Item>,
+    work: &mut Work,
 ) -> Result<(), IndexFailure>
     requires known { IsNamed at.now }
     requires there { HasNode at.now node }
     requires class { IsClassNumber at.now.program.now class.0 }
     ensures { (n : Node) → slice_get at.now.method.now.nodes node ≡ Some n
-        → OnOk result (Makes tables.old tables.new (RaisesOf at.now.program.now at.now.method.now n class) steps.old.items steps.new.items) }
+        → OnOk result (Makes work.old.tables work.new.tables (RaisesOf at.now.program.now at.now.method.now n class) work.old.steps.items work.new.steps.items) }
 {
     let name = at.program.class_name(class);
-    let site = raised_site(at, node, name, tables)?;
-    hold(tables, steps, raised_place(at, node, name), site)?;
+    let site = raised_site(at, node, name, &mut work.tables)?;
+    hold(raised_place(at, node, name), site, work)?;
     Ok(())
 }
 
@@ -114,7 +100,7 @@ fn raised_site(
     Ok(number)
 }
 
-/// The place of an object of a class that is thrown at a node: that of the first handler that takes it, or else that of what the method throws.
+/// The place of an object of a class that is thrown at a node: where the first handler begins that takes it, or else what the method throws.
 fn raised_place(at: &NamedMethod<'_>, node: usize, class: &[u8]) -> FixedPlace
     requires known { IsNamed at.now }
     requires there { HasNode at.now node }

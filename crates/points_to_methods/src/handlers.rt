@@ -1,4 +1,4 @@
-//! What the local variables hold at a node, they hold where its handlers begin.
+//! Copy constraints from the local variables at a node to those where its handlers begin.
 
 ghost use Rattle.std.specs.Prelude.{◌≡◌, Some, slice_get, OnOk};
 ghost use Rattle.op_model.specs.declared.node.Node.{Node};
@@ -9,39 +9,33 @@ ghost use Rattle.points_to_methods.specs.Slots.{HandsTo};
 
 use crate::named::{NamedMethod, node_at};
 use crate::slots::{SlotAt, pass_slot};
-use points_to_numbers::{Item, Tables};
+use points_to_numbers::Work;
 use program_index::index_failure::IndexFailure;
 
-/// Adds what the handlers of a node get.
-pub fn handle_items(
-    at: &NamedMethod<'_>,
-    node: usize,
-    tables: &mut Tables,
-    steps: &mut Vec<Item>,
-) -> Result<(), IndexFailure>
+/// Adds the copy constraints from a node to its handlers.
+pub fn handle_items(at: &NamedMethod<'_>, node: usize, work: &mut Work) -> Result<(), IndexFailure>
     requires known { IsNamed at.now }
     requires there { HasNode at.now node }
     ensures { (n : Node) → slice_get at.now.method.now.nodes node ≡ Some n
-        → OnOk result (Makes tables.old tables.new (HandleItem at.now.method.now n) steps.old.items steps.new.items) }
+        → OnOk result (Makes work.old.tables work.new.tables (HandleItem at.now.method.now n) work.old.steps.items work.new.steps.items) }
 {
     let handlers = &at.method.nodes.as_slice()[node].handlers;
     for handler in handlers.as_slice() {
-        handle_at(at, node, handler.target, tables, steps)?;
+        handle_at(at, node, handler.target, work)?;
     }
     Ok(())
 }
 
-/// Adds what the local variables get at the handler of an offset.
+/// Adds a copy constraint from each local variable at a node to the same one at the handler of an offset.
 fn handle_at(
     at: &NamedMethod<'_>,
     node: usize,
     offset: u32,
-    tables: &mut Tables,
-    steps: &mut Vec<Item>,
+    work: &mut Work,
 ) -> Result<(), IndexFailure>
     requires known { IsNamed at.now }
     requires there { HasNode at.now node }
-    ensures { OnOk result (Makes tables.old tables.new (HandsTo at.now.method.now (names_at at.now) node offset) steps.old.items steps.new.items) }
+    ensures { OnOk result (Makes work.old.tables work.new.tables (HandsTo at.now.method.now (names_at at.now) node offset) work.old.steps.items work.new.steps.items) }
 {
     let Some(next) = node_at(at, offset) else {
         return Ok(());
@@ -49,7 +43,7 @@ fn handle_at(
     for slot in 0..at.method.slots {
         let from = SlotAt { node, slot };
         let to = SlotAt { node: next, slot };
-        pass_slot(at, from, to, tables, steps)?;
+        pass_slot(at, from, to, work)?;
     }
     Ok(())
 }

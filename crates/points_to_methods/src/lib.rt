@@ -26,7 +26,7 @@ mod statics;
 mod triggers;
 
 pub use accesses::pass_after;
-pub use adding::{FixedPlace, Passing, hold, key_of, pass};
+pub use adding::{FixedPlace, Outgoing, Passing, hold, key_of, pass};
 pub use catch_chains::catch_chain_of;
 pub use enters::enter_items;
 pub use exceptions::raise_items;

@@ -13,25 +13,23 @@ use crate::adding::{FixedPlace, Passing};
 use crate::exceptions::throw_slot;
 use crate::makes::{make_arrays, make_site};
 use crate::named::NamedMethod;
+use crate::slots::SlotAt;
 use op_model::Op;
-use points_to_numbers::{Item, Tables};
+use points_to_numbers::Work;
 use program_index::index_failure::IndexFailure;
-use std::alloc::Global;
 
 /// Adds what an operation of a node leads to that is no call and no load of a static field.
 pub fn op_items(
-    alloc: Global,
     at: &NamedMethod<'_>,
     node: usize,
     op: &Op,
-    tables: &mut Tables,
-    steps: &mut Vec<Item>,
+    work: &mut Work,
 ) -> Result<(), IndexFailure>
     requires known { IsNamed at.now }
     requires there { HasNode at.now node }
     requires simple { IsSimple op.now }
     ensures { (n : Node) → slice_get at.now.method.now.nodes node ≡ Some n
-        → OnOk result (Makes tables.old tables.new (OpItem op.now at.now.program.now at.now.method.now.method at.now.method.now n) steps.old.items steps.new.items) }
+        → OnOk result (Makes work.old.tables work.new.tables (OpItem op.now at.now.program.now at.now.method.now.method at.now.method.now n) work.old.steps.items work.new.steps.items) }
 {
     match op {
         Op::Load {
@@ -40,12 +38,13 @@ pub fn op_items(
             target,
         } => read_slot(
             at,
-            node,
-            *object,
+            SlotAt {
+                node,
+                slot: *object,
+            },
             Passing::LoadField(*field),
             *target,
-            tables,
-            steps,
+            work,
         ),
         Op::Store {
             object,
@@ -53,59 +52,45 @@ pub fn op_items(
             value,
         } => write_slot(
             at,
-            node,
-            *object,
+            SlotAt {
+                node,
+                slot: *object,
+            },
             Passing::StoreField(*field),
             *value,
-            tables,
-            steps,
+            work,
         ),
         Op::LoadElement { array, target } => read_slot(
             at,
-            node,
-            *array,
+            SlotAt { node, slot: *array },
             Passing::LoadElements,
             *target,
-            tables,
-            steps,
+            work,
         ),
         Op::StoreElement { array, value } => write_slot(
             at,
-            node,
-            *array,
+            SlotAt { node, slot: *array },
             Passing::StoreElements,
             *value,
-            tables,
-            steps,
+            work,
         ),
         Op::StoreStatic { field, value } => leave_slot(
             at,
-            node,
-            *value,
+            SlotAt { node, slot: *value },
             FixedPlace::Static(*field),
-            tables,
-            steps,
+            work,
         ),
-        Op::New { site, target } => make_site(at, node, site, *target, tables, steps),
-        Op::Constant { site, target } => make_site(at, node, site, *target, tables, steps),
-        Op::NewArray { sites, target } => make_arrays(
-            at,
-            node,
-            sites.as_slice(),
-            *target,
-            tables,
-            steps,
-        ),
-        Op::Return { value } => return_slot(at, node, *value, tables, steps),
-        Op::Throw { value } => throw_slot(alloc, at, node, *value, tables, steps),
+        Op::New { site, target } => make_site(at, node, site, *target, work),
+        Op::Constant { site, target } => make_site(at, node, site, *target, work),
+        Op::NewArray { sites, target } => make_arrays(at, node, sites.as_slice(), *target, work),
+        Op::Return { value } => return_slot(at, node, *value, work),
+        Op::Throw { value } => throw_slot(at, node, *value, work),
         Op::Cast { class, slot } => read_slot(
             at,
-            node,
-            *slot,
+            SlotAt { node, slot: *slot },
             Passing::Fitting(class.as_slice()),
             *slot,
-            tables,
-            steps,
+            work,
         ),
         Op::Assign(_) => Ok(()),
         Op::Probe { slot: _ } => Ok(()),
@@ -117,23 +102,22 @@ pub fn op_items(
     }
 }
 
-/// Adds that the method returns what a slot holds, if there is one.
+/// Adds a copy constraint from the slot that is returned, if there is one, to what the method returns.
 fn return_slot(
     at: &NamedMethod<'_>,
     node: usize,
     value: Option<u32>,
-    tables: &mut Tables,
-    steps: &mut Vec<Item>,
+    work: &mut Work,
 ) -> Result<(), IndexFailure>
     requires known { IsNamed at.now }
     requires there { HasNode at.now node }
     ensures { (n : Node) → slice_get at.now.method.now.nodes node ≡ Some n
-        → OnOk result (Makes tables.old tables.new (OpItem (operations.Return value) at.now.program.now at.now.method.now.method at.now.method.now n) steps.old.items steps.new.items) }
+        → OnOk result (Makes work.old.tables work.new.tables (OpItem (operations.Return value) at.now.program.now at.now.method.now.method at.now.method.now n) work.old.steps.items work.new.steps.items) }
 {
     let Some(slot) = value else {
         return Ok(());
     };
     let to = FixedPlace::Returned(at.method.method);
-    leave_slot(at, node, slot, to, tables, steps)?;
+    leave_slot(at, SlotAt { node, slot }, to, work)?;
     Ok(())
 }

@@ -1,4 +1,4 @@
-//! What one slot holds that another one holds at another node.
+//! Copy constraints from a slot at a node to a slot at another one.
 
 ghost use Rattle.std.specs.Prelude.{OnOk};
 ghost use Rattle.points_to_numbers.specs.Steps.{Makes};
@@ -7,7 +7,7 @@ ghost use Rattle.points_to_methods.specs.Slots.{PassesSlot};
 
 use crate::adding::{Passing, pass};
 use crate::named::{NamedMethod, slot_place};
-use points_to_numbers::{Item, Tables};
+use points_to_numbers::Work;
 use program_index::index_failure::IndexFailure;
 
 /// A slot at a node.
@@ -17,21 +17,20 @@ pub(crate) struct SlotAt {
     pub(crate) slot: u32,
 }
 
-/// Adds that what a slot holds at a node, another one holds at another node.
+/// Adds a copy constraint from a slot at a node to a slot at another one.
 pub(crate) fn pass_slot(
     at: &NamedMethod<'_>,
     from: SlotAt,
     to: SlotAt,
-    tables: &mut Tables,
-    steps: &mut Vec<Item>,
+    work: &mut Work,
 ) -> Result<(), IndexFailure>
     requires known { IsNamed at.now }
     requires from { HasNode at.now from.node }
     requires to { HasNode at.now to.node }
-    ensures { OnOk result (Makes tables.old tables.new (PassesSlot (names_at at.now) from.node from.slot to.node to.slot) steps.old.items steps.new.items) }
+    ensures { OnOk result (Makes work.old.tables work.new.tables (PassesSlot (names_at at.now) from.node from.slot to.node to.slot) work.old.steps.items work.new.steps.items) }
 {
     let source = slot_place(at, from.node, from.slot);
     let target = slot_place(at, to.node, to.slot);
-    pass(tables, steps, source, Passing::To, target)?;
+    pass(source, Passing::To, target, work)?;
     Ok(())
 }

@@ -8,9 +8,9 @@ ghost use Rattle.points_to_methods.specs.Known.{HasNode, IsNamed};
 ghost use Rattle.points_to_rules.specs.Rules.{BeginsWith};
 ghost use Rattle.points_to_numbers.specs.Steps.{Makes};
 
-use crate::{FixedPlace, NamedMethod, Passing, hold, pass_after};
+use crate::{FixedPlace, NamedMethod, Outgoing, Passing, hold, pass_after};
 use jvm_model::FieldNo;
-use points_to_numbers::{Item, Tables, boot_site};
+use points_to_numbers::{Work, boot_site};
 use program_index::index_failure::IndexFailure;
 use program_model::program::Program;
 
@@ -20,29 +20,24 @@ pub(crate) fn load_static(
     node: usize,
     field: FieldNo,
     target: u32,
-    tables: &mut Tables,
-    steps: &mut Vec<Item>,
+    work: &mut Work,
 ) -> Result<(), IndexFailure>
     requires known { IsNamed at.now }
     requires there { HasNode at.now node }
     requires field { IsFieldNumber at.now.program.now field.0 }
     ensures { (n : Node) → slice_get at.now.method.now.nodes node ≡ Some n
-        → OnOk result (Makes tables.old tables.new (LoadStaticItem at.now.program.now at.now.method.now n field target) steps.old.items steps.new.items) }
+        → OnOk result (Makes work.old.tables work.new.tables (LoadStaticItem at.now.program.now at.now.method.now n field target) work.old.steps.items work.new.steps.items) }
 {
-    pass_after(
-        at,
-        node,
-        FixedPlace::Static(field),
-        Passing::To,
-        target,
-        tables,
-        steps,
-    )?;
+    let outgoing = Outgoing {
+        from: FixedPlace::Static(field),
+        passing: Passing::To,
+    };
+    pass_after(at, node, outgoing, target, work)?;
     let Some(class) = first_class(at.program, field) else {
         return Ok(());
     };
-    let site = boot_site(tables, class)?;
-    hold(tables, steps, FixedPlace::Static(field), site)?;
+    let site = boot_site(&mut work.tables, class)?;
+    hold(FixedPlace::Static(field), site, work)?;
     Ok(())
 }
 

@@ -19,8 +19,8 @@ pub struct CatchChain {
     pub outside: PlaceNo,
 }
 
-/// A call: its node, how it chooses its target, the place of each unit of its arguments, those of its result, and where what its targets throw
-/// goes.
+/// A call: its node, how it chooses its target, the place of each unit of its arguments, the places of its result, and where
+/// what its targets throw goes.
 #[derive(Debug, Drop)]
 pub struct CallSite {
     pub at: NodeRef,

@@ -28,20 +28,20 @@ pub struct SiteKey {
     pub class: ClassNameNo,
 }
 
-/// What is done with each object of a place.
+/// A constraint of a place: where each object in its points-to set goes.
 #[derive(Clone, Copy, Debug, PartialEq, Eq, Hash)]
 pub enum Constraint {
-    /// The other place holds it too.
+    /// A copy constraint: the other place holds it too.
     CopyTo(PlaceNo),
-    /// The other place holds it too, where it fits the class.
+    /// A filter constraint: the other place holds it too, where it fits the class.
     FilterTo(ClassNameNo, PlaceNo),
-    /// What its field holds, the other place holds.
+    /// A load constraint: what its field holds, the other place holds.
     LoadField(FieldNo, PlaceNo),
-    /// What the other place holds, its field holds.
+    /// A store constraint: what the other place holds, its field holds.
     StoreField(FieldNo, PlaceNo),
-    /// What its elements hold, the other place holds.
+    /// A load constraint of arrays: what its elements hold, the other place holds.
     LoadElements(PlaceNo),
-    /// What the other place holds, its elements hold.
+    /// A store constraint of arrays: what the other place holds, its elements hold.
     StoreElements(PlaceNo),
     /// It is thrown, where it is a `Throwable`.
     ThrowTo(CatchChainNo),

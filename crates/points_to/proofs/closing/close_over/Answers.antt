@@ -13,19 +13,19 @@ pub returns-in_err-take_start-clause-end : goal.returns-in_err-take_start-clause
 returns-in_err-take_start-clause-end g c =
     let gives : ℕ → Result LoweredMethod Refusal → Type 0 = g.S.Supply.gives c.args.supply.now in
     let e = err_from_is_err_and c.from_residual.result c.from_residual.ensures.1 in
-    rw (e.1, e.2) (start_end c.args.program.now gives c.args.entry c.args.pair_limit c.take_start.new.tables c.take_start.new.steps.items c.take_start.new.queue.items.keys c.in_err-take_start.field-0.0
+    rw (e.1, e.2) (start_end c.args.program.now gives c.args.entry c.args.pair_limit c.take_start.new.work.tables c.take_start.new.work.steps.items c.take_start.new.queue.items.keys c.in_err-take_start.field-0.0
     c.in_err-take_start.ensures.end)
 
 pub loop-done-init : goal.loop-done-init
 loop-done-init g c =
     let p = c.args.program.now in
     let gives : ℕ → Result LoweredMethod Refusal → Type 0 = g.S.Supply.gives c.args.supply.now in
-    let n = c.take_start.new.tables in
+    let n = c.take_start.new.work.tables in
     let made = c.in_ok-take_start.ensures.started in
     record {
       counted = c.in_ok-take_start.ensures.counted;
       room = c.in_ok-take_start.ensures.room;
-      so_far = rw (c.requires.fresh.call, c.requires.fresh.method, c.requires.fresh.methods) (so_far_start p gives c.args.entry n c.take_start.new.steps.items c.take_start.new.queue.items.keys made.call made.adds made.takes
+      so_far = rw (c.requires.fresh.call, c.requires.fresh.method, c.requires.fresh.methods) (so_far_start p gives c.args.entry n c.take_start.new.work.steps.items c.take_start.new.queue.items.keys made.call made.adds made.takes
           (values_at c.args.working.now.index.sites.groups.items) (values_at c.args.working.now.index.constraints.groups.items) c.requires.fresh.sites c.requires.fresh.constraints c.in_ok-take_start.ensures.held);
       same = same_itself gives;
       answers = c.requires.fresh.answers p n;
@@ -75,6 +75,6 @@ loop-done-preserved g c =
 pub returns-clause-closed : goal.returns-clause-closed
 returns-clause-closed g c =
     let gives : ℕ → Result LoweredMethod Refusal → Type 0 = g.S.Supply.gives c.args.supply.now in
-    closed_when_done c.args.program.now gives c.args.entry c.args.pair_limit c.loop-done.working.found.tables c.loop-done.working.queue.items.keys (values_at c.loop-done.working.index.sites.groups.items) (values_at c.loop-done.working.index.constraints.groups.items)
+    closed_when_done c.args.program.now gives c.args.entry c.args.pair_limit c.loop-done.working.found.work.tables c.loop-done.working.queue.items.keys (values_at c.loop-done.working.index.sites.groups.items) (values_at c.loop-done.working.index.constraints.groups.items)
     c.loop-done.working.found.refusals.call c.loop-done.working.found.refusals.method c.loop-done.working.methods.items c.loop-done.done c.loop-done.invariant.so_far (omega (arith, c.len.ensures.count, c.loop-done-test.false)) c.len.ensures.apart c.apart.ensures
     (omega (arith, c.loop-done.invariant.counted, c.loop-done.invariant.room))

@@ -10,9 +10,9 @@ abbrev pub invariant-loop-done : goal.invariant-loop-done
 invariant-loop-done g l = record {
   counted : l.working.queue.pairs ≡ pairs_among l.working.queue.items.keys;
   room : l.working.queue.pairs < l.pair_limit;
-  so_far : IsSoFar l.program (g.S.Supply.gives l.fn.supply) l.fn.entry l.working.found.tables l.working.queue.items.keys (values_at l.working.index.sites.groups.items) (values_at l.working.index.constraints.groups.items) l.working.found.refusals.call l.working.found.refusals.method l.working.methods.items l.done;
+  so_far : IsSoFar l.program (g.S.Supply.gives l.fn.supply) l.fn.entry l.working.found.work.tables l.working.queue.items.keys (values_at l.working.index.sites.groups.items) (values_at l.working.index.constraints.groups.items) l.working.found.refusals.call l.working.found.refusals.method l.working.methods.items l.done;
   same : IsSameSupply (g.S.Supply.gives l.fn.supply) (g.S.Supply.gives l.supply);
-  answers : AreRight l.program l.working.found.tables l.working.found.answers;
+  answers : AreRight l.program l.working.found.work.tables l.working.found.answers;
 }
 
 abbrev pub decreases-loop-done : goal.decreases-loop-done

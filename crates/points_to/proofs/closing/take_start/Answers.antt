@@ -15,8 +15,8 @@ use Rattle.points_to.proofs.closing.take_start.Goals as goal
 pub returns-clause-started : goal.returns-clause-started
 returns-clause-started c =
     let p = c.args.program.now in
-    let n = c.start_items.new.tables in
-    let steps = c.start_items.new.steps.items in
+    let n = c.start_items.new.work.tables in
+    let steps = c.start_items.new.work.steps.items in
     let new = c.take_all.new.self.items.keys in
     let from_none = subst (λ (xs : List Item). Adds n (StartItem p c.args.entry) xs steps) c.requires.steps (handed_ok _ c.start_items.result _ _ c.in_ok-map_err.ensures.cases c.start_items.ensures.adds) in
     let over = subst (λ (xs : List Item). Takes xs c.deref.result.now new) c.requires.items c.take_all.ensures.takes in
@@ -37,8 +37,8 @@ returns-in_err-map_err-clause-end c =
 pub returns-clause-end : goal.returns-clause-end
 returns-clause-end c =
     let p = c.args.program.now in
-    let n = c.start_items.new.tables in
-    let steps = c.start_items.new.steps.items in
+    let n = c.start_items.new.work.tables in
+    let steps = c.start_items.new.work.steps.items in
     let new = c.take_all.new.self.items.keys in
     let from_none = subst (λ (xs : List Item). Adds n (StartItem p c.args.entry) xs steps) c.requires.steps (handed_ok _ c.start_items.result _ _ c.in_ok-map_err.ensures.cases c.start_items.ensures.adds) in
     let over = subst (λ (xs : List Item). Takes xs c.deref.result.now new) c.requires.items c.take_all.ensures.takes in

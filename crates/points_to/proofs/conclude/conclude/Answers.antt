@@ -17,24 +17,24 @@ use Rattle.points_to.proofs.conclude.conclude.Goals as goal
 
 pub pass_to_each-requires-clause-constraints : goal.pass_to_each-requires-clause-constraints
 pass_to_each-requires-clause-constraints g c k d l =
-    c.requires.index.constraints_known c.in-Holds.place.0 (get_or c.get.result.now k d)
-    (subst (λ (xs : List ConstraintNo). Contains xs (get_or c.get.result.now k d)) c.get.ensures (Contains-get_or c.get.result.now k d l))
+    c.requires.index.constraints_known c.in-Holds.place.0 (get_or c.get-constraints.result.now k d)
+    (subst (λ (xs : List ConstraintNo). Contains xs (get_or c.get-constraints.result.now k d)) c.get-constraints.ensures (Contains-get_or c.get-constraints.result.now k d l))
 
 pub pass_each-requires-clause-sites : goal.pass_each-requires-clause-sites
 pass_each-requires-clause-sites g c k d l =
-    c.requires.index.sites_known c.in-Constrains.place.0 (get_or c.get-in-Constrains.result.now k d)
-    (subst (λ (xs : List SiteNo). Contains xs (get_or c.get-in-Constrains.result.now k d)) c.get-in-Constrains.ensures (Contains-get_or c.get-in-Constrains.result.now k d l))
+    c.requires.index.sites_known c.in-Constrains.place.0 (get_or c.get-sites.result.now k d)
+    (subst (λ (xs : List SiteNo). Contains xs (get_or c.get-sites.result.now k d)) c.get-sites.ensures (Contains-get_or c.get-sites.result.now k d l))
 
 pub returns-in_ok-add-in-Holds-clause-adds : goal.returns-in_ok-add-in-Holds-clause-adds
-returns-in_ok-add-in-Holds-clause-adds g c = rw c.in-Holds.is (rw (c.get.ensures, c.clear.ensures.items) at c.pass_to_each.ensures.adds)
+returns-in_ok-add-in-Holds-clause-adds g c = rw c.in-Holds.is (rw (c.get-constraints.ensures, c.clear.ensures.items) at c.pass_to_each.ensures.adds)
 
 pub returns-in_ok-add-in-Holds-clause-lacks : goal.returns-in_ok-add-in-Holds-clause-lacks
-returns-in_ok-add-in-Holds-clause-lacks g c = rw c.in-Holds.is (rw c.get.ensures at c.pass_to_each.ensures.lacks)
+returns-in_ok-add-in-Holds-clause-lacks g c = rw c.in-Holds.is (rw c.get-constraints.ensures at c.pass_to_each.ensures.lacks)
 
 pub returns-in_ok-add-in-Holds-clause-refused : goal.returns-in_ok-add-in-Holds-clause-refused
 returns-in_ok-add-in-Holds-clause-refused g c =
     let gives : ℕ → Result LoweredMethod Refusal → Type 0 = g.S.Supply.gives c.args.supply.now in
-    let old = c.args.found.now.refusals.method in
+    let old = c.args.working.now.found.refusals.method in
     on_always c.pass_to_each.result _ (subst (λ (o : Option RefusedMethod). NotesMethods (RefusedBy gives c.args.item) old o) (sym c.pass_to_each.ensures.method)
     (methods_none (RefusedBy gives c.args.item) old (λ method. rw c.in-Holds.is (λ no_method. absurd no_method))))
 
@@ -43,35 +43,35 @@ returns-in-Runs-clause-adds g c = rw c.in-Runs.is (rw c.clear.ensures.items at c
 
 pub returns-in-Runs-clause-lacks : goal.returns-in-Runs-clause-lacks
 returns-in-Runs-clause-lacks g c =
-    let old = c.args.found.now.refusals.call in
-    on_always c.run.result _ (subst (λ (o : Option RefusedCall). NotesCalls (LacksBy c.args.program.now c.args.found.now.tables (values_at c.args.index.now.sites.groups.items) (values_at c.args.index.now.constraints.groups.items) c.args.item) old o) (sym c.run.ensures.call)
-    (calls_none (LacksBy c.args.program.now c.args.found.now.tables (values_at c.args.index.now.sites.groups.items) (values_at c.args.index.now.constraints.groups.items) c.args.item) old (λ call. rw c.in-Runs.is (λ no_call. absurd no_call))))
+    let old = c.args.working.now.found.refusals.call in
+    on_always c.run.result _ (subst (λ (o : Option RefusedCall). NotesCalls (LacksBy c.args.program.now c.args.working.now.found.work.tables (values_at c.args.working.now.index.sites.groups.items) (values_at c.args.working.now.index.constraints.groups.items) c.args.item) old o) (sym c.run.ensures.call)
+    (calls_none (LacksBy c.args.program.now c.args.working.now.found.work.tables (values_at c.args.working.now.index.sites.groups.items) (values_at c.args.working.now.index.constraints.groups.items) c.args.item) old (λ call. rw c.in-Runs.is (λ no_call. absurd no_call))))
 
 pub returns-in-Calls-clause-adds : goal.returns-in-Calls-clause-adds
 returns-in-Calls-clause-adds g c = rw c.in-Calls.is (rw c.clear.ensures.items at c.call_target.ensures.adds)
 
 pub returns-in-Calls-clause-lacks : goal.returns-in-Calls-clause-lacks
 returns-in-Calls-clause-lacks g c =
-    let old = c.args.found.now.refusals.call in
-    on_always c.call_target.result _ (subst (λ (o : Option RefusedCall). NotesCalls (LacksBy c.args.program.now c.args.found.now.tables (values_at c.args.index.now.sites.groups.items) (values_at c.args.index.now.constraints.groups.items) c.args.item) old o) (sym (ap (λ (r : Refusals). r.call) c.call_target.ensures.refusals))
-    (calls_none (LacksBy c.args.program.now c.args.found.now.tables (values_at c.args.index.now.sites.groups.items) (values_at c.args.index.now.constraints.groups.items) c.args.item) old (λ call. rw c.in-Calls.is (λ no_call. absurd no_call))))
+    let old = c.args.working.now.found.refusals.call in
+    on_always c.call_target.result _ (subst (λ (o : Option RefusedCall). NotesCalls (LacksBy c.args.program.now c.args.working.now.found.work.tables (values_at c.args.working.now.index.sites.groups.items) (values_at c.args.working.now.index.constraints.groups.items) c.args.item) old o) (sym (ap (λ (r : Refusals). r.call) c.call_target.ensures.refusals))
+    (calls_none (LacksBy c.args.program.now c.args.working.now.found.work.tables (values_at c.args.working.now.index.sites.groups.items) (values_at c.args.working.now.index.constraints.groups.items) c.args.item) old (λ call. rw c.in-Calls.is (λ no_call. absurd no_call))))
 
 pub returns-in-Calls-clause-refused : goal.returns-in-Calls-clause-refused
 returns-in-Calls-clause-refused g c =
     let gives : ℕ → Result LoweredMethod Refusal → Type 0 = g.S.Supply.gives c.args.supply.now in
-    let old = c.args.found.now.refusals.method in
+    let old = c.args.working.now.found.refusals.method in
     on_always c.call_target.result _ (subst (λ (o : Option RefusedMethod). NotesMethods (RefusedBy gives c.args.item) old o) (sym (ap (λ (r : Refusals). r.method) c.call_target.ensures.refusals))
     (methods_none (RefusedBy gives c.args.item) old (λ method. rw c.in-Calls.is (λ no_method. absurd no_method))))
 
 pub returns-in_ok-add-in-Constrains-clause-adds : goal.returns-in_ok-add-in-Constrains-clause-adds
-returns-in_ok-add-in-Constrains-clause-adds g c = rw c.in-Constrains.is (rw (c.get-in-Constrains.ensures, c.clear.ensures.items) at c.pass_each.ensures.adds)
+returns-in_ok-add-in-Constrains-clause-adds g c = rw c.in-Constrains.is (rw (c.get-sites.ensures, c.clear.ensures.items) at c.pass_each.ensures.adds)
 
 pub returns-in_ok-add-in-Constrains-clause-lacks : goal.returns-in_ok-add-in-Constrains-clause-lacks
-returns-in_ok-add-in-Constrains-clause-lacks g c = rw c.in-Constrains.is (rw c.get-in-Constrains.ensures at c.pass_each.ensures.lacks)
+returns-in_ok-add-in-Constrains-clause-lacks g c = rw c.in-Constrains.is (rw c.get-sites.ensures at c.pass_each.ensures.lacks)
 
 pub returns-in_ok-add-in-Constrains-clause-refused : goal.returns-in_ok-add-in-Constrains-clause-refused
 returns-in_ok-add-in-Constrains-clause-refused g c =
     let gives : ℕ → Result LoweredMethod Refusal → Type 0 = g.S.Supply.gives c.args.supply.now in
-    let old = c.args.found.now.refusals.method in
+    let old = c.args.working.now.found.refusals.method in
     on_always c.pass_each.result _ (subst (λ (o : Option RefusedMethod). NotesMethods (RefusedBy gives c.args.item) old o) (sym c.pass_each.ensures.method)
     (methods_none (RefusedBy gives c.args.item) old (λ method. rw c.in-Constrains.is (λ no_method. absurd no_method))))

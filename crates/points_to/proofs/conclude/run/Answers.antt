@@ -12,7 +12,7 @@ use Rattle.points_to.proofs.conclude.run.Goals as goal
 pub returns-then-not-is_coded-clause-adds : goal.returns-then-not-is_coded-clause-adds
 returns-then-not-is_coded-clause-adds g c =
     let gives : ℕ → Result LoweredMethod Refusal → Type 0 = g.S.Supply.gives c.args.supply.now in
-    adds_none c.args.found.now.tables (IsGivenItem c.args.program.now gives c.args.method.0) c.args.steps.now.items
+    adds_none c.args.found.now.work.tables (IsGivenItem c.args.program.now gives c.args.method.0) c.args.found.now.work.steps.items
     (λ x h. let coded = c.is_coded.ensures.1 (c.requires.supply.coded c.args.method.0 (Ok h.method) h.given) in let not = c.if-not-is_coded.true in cc)
 
 pub returns-then-not-is_coded-clause-refused : goal.returns-then-not-is_coded-clause-refused
@@ -25,7 +25,7 @@ pub returns-in_ok-push-in-Ok-clause-adds : goal.returns-in_ok-push-in-Ok-clause-
 returns-in_ok-push-in-Ok-clause-adds g c =
     let p = c.args.program.now in
     let gives : ℕ → Result LoweredMethod Refusal → Type 0 = g.S.Supply.gives c.args.supply.now in
-    adds_same c.method_items.new.tables (MethodItem p c.in-Ok.lowered) (IsGivenItem p gives c.args.method.0) c.args.steps.now.items c.method_items.new.steps.items
+    adds_same c.method_items.new.work.tables (MethodItem p c.in-Ok.lowered) (IsGivenItem p gives c.args.method.0) c.args.found.now.work.steps.items c.method_items.new.work.steps.items
     (given_items gives (g.met.S.Supply.one_answer c.args.supply.now) c.args.method p c.in-Ok.lowered c.in-Ok.ensures.found)
     c.in_ok-names-in-Ok.ensures.adds
 
@@ -39,7 +39,7 @@ pub returns-in-Err-Cause-clause-adds : goal.returns-in-Err-Cause-clause-adds
 returns-in-Err-Cause-clause-adds g c =
     let gives : ℕ → Result LoweredMethod Refusal → Type 0 = g.S.Supply.gives c.args.supply.now in
     let refused : gives c.args.method.0 (Err c.in-Err-Cause.refusal) = rw c.in-Err-Cause.field-0-is at c.in-Err-Cause.ensures.failed in
-    adds_none c.args.found.now.tables (IsGivenItem c.args.program.now gives c.args.method.0) c.args.steps.now.items
+    adds_none c.args.found.now.work.tables (IsGivenItem c.args.program.now gives c.args.method.0) c.args.found.now.work.steps.items
     (refused_ungiven gives (g.met.S.Supply.one_answer c.args.supply.now) c.args.method c.args.program.now c.in-Err-Cause.refusal refused)
 
 pub returns-in-Err-Cause-clause-refused : goal.returns-in-Err-Cause-clause-refused
@@ -71,5 +71,5 @@ returns-in-Err-Cause-clause-methods g c =
 
 pub returns-in_ok-push-in-Ok-clause-answers : goal.returns-in_ok-push-in-Ok-clause-answers
 returns-in_ok-push-in-Ok-clause-answers g c =
-    grown_right c.args.program.now c.args.found.now.tables c.method_items.new.tables c.args.found.now.answers
+    grown_right c.args.program.now c.args.found.now.work.tables c.method_items.new.work.tables c.args.found.now.answers
     c.in_ok-names-in-Ok.ensures.grows c.requires.answers

@@ -8,4 +8,4 @@ use Rattle.points_to.proofs.initialisers.initialiser_items.Given as goal
 
 abbrev pub invariant-loop-initialiser : goal.invariant-loop-initialiser
 invariant-loop-initialiser l =
-    Makes l.initial.tables l.tables (OfOne (λ (i : MethodNo) (x : RuleItem). IsInitiated i x) (take l.initialiser-index l.initialiser-items)) l.initial.steps.items l.steps.items
+    Makes l.initial.work.tables l.work.tables (OfOne (λ (i : MethodNo) (x : RuleItem). IsInitiated i x) (take l.initialiser-index l.initialiser-items)) l.initial.work.steps.items l.work.steps.items

@@ -23,5 +23,5 @@ returns-clause-adds c =
       stands = stands;
       some = λ e. true≢false ((sym ((bytes_eq-Decides text plain_descriptor).1 (ap (λ (s : Signature). s.descriptor) (sym view.signature) ∙ e))) ∙ is_plain);
     } in
-    adds_same c.string_items.new.tables (IsArgument entry) (ArgumentItem p entry) c.args.steps.now.items c.string_items.new.steps.items
+    adds_same c.string_items.new.work.tables (IsArgument entry) (ArgumentItem p entry) c.args.work.now.steps.items c.string_items.new.work.steps.items
     (λ x. ((λ h. (has, h)), (λ h. h.1))) c.in_ok-string_items.ensures.adds

@@ -10,7 +10,7 @@ pub returns-clause-adds : goal.returns-clause-adds
 returns-clause-adds c =
     let entry = c.args.entry in
     let call = c.in_ok-call.call in
-    let steps = c.args.steps.now.items in
+    let steps = c.args.work.now.steps.items in
     let n = c.start_call.new.tables in
     let items = c.in_ok-push-2.ensures.items ∙ ap (λ (xs : List Item). xs ++ Calls call entry ∷ []) c.in_ok-push.ensures.items in
     subst (λ (xs : List Item). Adds n (EntryItem entry) steps xs) (sym items) (entry_added n entry call steps c.in_ok-call.ensures.number)

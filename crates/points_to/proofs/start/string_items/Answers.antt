@@ -22,14 +22,14 @@ add_holding-requires-2-clause-place c =
 pub returns-clause-adds : goal.returns-clause-adds
 returns-clause-adds c =
     let n = c.boot_site-2.new.tables in
-    let m = c.add_holding.new.tables in
-    let o = c.add_holding-2.new.tables in
+    let m = c.add_holding.new.self.tables in
+    let o = c.add_holding-2.new.self.tables in
     let entry = c.args.entry in
     let array = c.in_ok-array.array in
     let string = c.in_ok-string.string in
-    let a = c.args.steps.now.items in
-    let b = c.add_holding.new.steps.items in
-    let d = c.add_holding-2.new.steps.items in
+    let a = c.args.work.now.steps.items in
+    let b = c.add_holding.new.self.steps.items in
+    let d = c.add_holding-2.new.self.steps.items in
     let at_n = c.in_ok-string.ensures.grows.sites array.0 argument_site c.in_ok-array.ensures.stands in
     let at_m = c.in_ok-add_holding.ensures.grows.sites array.0 argument_site at_n in
     let string_at_m = c.in_ok-add_holding.ensures.grows.sites string.0 (boot_site string_name) c.in_ok-string.ensures.stands in
@@ -45,9 +45,9 @@ returns-clause-adds c =
 
 pub returns-clause-grows : goal.returns-clause-grows
 returns-clause-grows c =
-    let k = c.args.tables.now in
+    let k = c.args.work.now.tables in
     let l = c.boot_site.new.tables in
     let n = c.boot_site-2.new.tables in
-    let m = c.add_holding.new.tables in
-    let o = c.add_holding-2.new.tables in
+    let m = c.add_holding.new.self.tables in
+    let o = c.add_holding-2.new.self.tables in
     grows_on k m o (grows_on k n m (grows_on k l n c.in_ok-array.ensures.grows c.in_ok-string.ensures.grows) c.in_ok-add_holding.ensures.grows) c.in_ok-add_holding-2.ensures.grows

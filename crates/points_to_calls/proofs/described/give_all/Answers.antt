@@ -14,12 +14,12 @@ give_result-requires-clause-call c =
 pub give_result-requires-clause-resolved : goal.give_result-requires-clause-resolved
 give_result-requires-clause-resolved c =
     let (site, at) = c.requires.call in let (r, is) = c.requires.receiver in
-    resolves_on c.args.program.now c.args.tables.now c.loop-outcome.tables c.args.call.0 (c.loop-outcome.invariant site r at is).grows c.requires.call c.requires.resolved
+    resolves_on c.args.program.now c.args.work.now.tables c.loop-outcome.work.tables c.args.call.0 (c.loop-outcome.invariant site r at is).grows c.requires.call c.requires.resolved
 
 pub give_result-requires-clause-receiver : goal.give_result-requires-clause-receiver
 give_result-requires-clause-receiver c =
     let (site, at) = c.requires.call in let (r, is) = c.requires.receiver in
-    (r, receiver_on c.args.tables.now c.loop-outcome.tables c.args.description.now.receiver r (c.loop-outcome.invariant site r at is).grows is)
+    (r, receiver_on c.args.work.now.tables c.loop-outcome.work.tables c.args.description.now.receiver r (c.loop-outcome.invariant site r at is).grows is)
 
 pub loop-outcome-preserved : goal.loop-outcome-preserved
 loop-outcome-preserved c = λ site r at is.
@@ -27,13 +27,13 @@ loop-outcome-preserved c = λ site r at is.
     let long = ap length c.as_slice-outcome-items.ensures in
     let within : i < length stub.returns = omega (arith, long) in
     let before = c.loop-outcome.invariant site r at is in
-    let made = c.in_ok-give_result.ensures site r (before.grows.calls c.args.call.0 site at) (receiver_on c.args.tables.now c.loop-outcome.tables c.args.description.now.receiver r before.grows is) in
-    makes_next (ResultGot c.args.program.now site stub r) c.args.tables.now c.loop-outcome.tables c.give_result.new.tables stub.returns i c.outcome-item.result c.args.steps.now.items c.loop-outcome.steps.items c.give_result.new.steps.items
+    let made = c.in_ok-give_result.ensures site r (before.grows.calls c.args.call.0 site at) (receiver_on c.args.work.now.tables c.loop-outcome.work.tables c.args.description.now.receiver r before.grows is) in
+    makes_next (ResultGot c.args.program.now site stub r) c.args.work.now.tables c.loop-outcome.work.tables c.give_result.new.work.tables stub.returns i c.outcome-item.result c.args.work.now.steps.items c.loop-outcome.work.steps.items c.give_result.new.work.steps.items
     within (c.outcome-item.is ∙ ap (λ (ys : List StubResult). get_or ys i c.outcome-item.result) c.as_slice-outcome-items.ensures) before made
 
 pub returns : goal.returns
 returns c = λ site r at is.
     let stub = c.args.description.now.stub.now in
     let long = ap length c.as_slice-outcome-items.ensures in
-    makes_all (ResultGot c.args.program.now site stub r) c.args.tables.now c.loop-outcome.tables stub.returns c.loop-outcome.outcome-index c.args.steps.now.items c.loop-outcome.steps.items (omega (arith, long))
+    makes_all (ResultGot c.args.program.now site stub r) c.args.work.now.tables c.loop-outcome.work.tables stub.returns c.loop-outcome.outcome-index c.args.work.now.steps.items c.loop-outcome.work.steps.items (omega (arith, long))
     (c.loop-outcome.invariant site r at is)

@@ -12,11 +12,11 @@ pub returns : goal.returns
 returns c =
     IfOk-weaker c.give.result _ _
     (λ done made site r at is.
-    let p = c.args.program.now in let n = c.args.tables.now in let m = c.place.new.self in let o = c.give.new.tables in let stub = c.args.description.now.stub.now in
+    let p = c.args.program.now in let n = c.args.work.now.tables in let m = c.place.new.self in let o = c.give.new.work.tables in let stub = c.args.description.now.stub.now in
     let kept = c.in_ok-kept.ensures in
     let (g, is_g, gives, only) = c.in-Some.ensures n r is in
     let gets = λ (k : RuleOrigin) (x : RuleItem). Gets p site k kept_objects x in
-    makes_grown n m o (ArgumentKept p site stub r c.args.argument) c.args.steps.now.items c.give.new.steps.items kept.grows kept.calls
-    (only_origin p n m o site (ArgumentGives stub r c.args.argument) c.args.steps.now.items c.give.new.steps.items gets g gives only
+    makes_grown n m o (ArgumentKept p site stub r c.args.argument) c.args.work.now.steps.items c.give.new.work.steps.items kept.grows kept.calls
+    (only_origin p n m o site (ArgumentGives stub r c.args.argument) c.args.work.now.steps.items c.give.new.work.steps.items gets g gives only
     (made site g kept_objects (kept.grows.calls c.args.call.0 site at) (origin_on n m c.in-Some.origin g kept.grows is_g) (kept.stands kept_objects refl))))
     c.give.ensures

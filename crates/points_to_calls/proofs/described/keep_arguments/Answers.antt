@@ -16,12 +16,12 @@ keep_argument-requires-clause-call c =
 pub keep_argument-requires-clause-resolved : goal.keep_argument-requires-clause-resolved
 keep_argument-requires-clause-resolved c =
     let (site, at) = c.requires.call in let (r, is) = c.requires.receiver in
-    resolves_on c.args.program.now c.args.tables.now c.loop-argument.tables c.args.call.0 (c.loop-argument.invariant site r at is).grows c.requires.call c.requires.resolved
+    resolves_on c.args.program.now c.args.work.now.tables c.loop-argument.work.tables c.args.call.0 (c.loop-argument.invariant site r at is).grows c.requires.call c.requires.resolved
 
 pub keep_argument-requires-clause-receiver : goal.keep_argument-requires-clause-receiver
 keep_argument-requires-clause-receiver c =
     let (site, at) = c.requires.call in let (r, is) = c.requires.receiver in
-    (r, receiver_on c.args.tables.now c.loop-argument.tables c.args.description.now.receiver r (c.loop-argument.invariant site r at is).grows is)
+    (r, receiver_on c.args.work.now.tables c.loop-argument.work.tables c.args.description.now.receiver r (c.loop-argument.invariant site r at is).grows is)
 
 pub loop-argument-preserved : goal.loop-argument-preserved
 loop-argument-preserved c = λ site r at is.
@@ -29,13 +29,13 @@ loop-argument-preserved c = λ site r at is.
     let long = ap length c.as_slice-argument-items.ensures in
     let within : i < length stub.keeps = omega (arith, long) in
     let before = c.loop-argument.invariant site r at is in
-    let made = c.in_ok-keep_argument.ensures site r (before.grows.calls c.args.call.0 site at) (receiver_on c.args.tables.now c.loop-argument.tables c.args.description.now.receiver r before.grows is) in
-    makes_next (ArgumentKept c.args.program.now site stub r) c.args.tables.now c.loop-argument.tables c.keep_argument.new.tables stub.keeps i (get_or xs i This) c.args.steps.now.items c.loop-argument.steps.items c.keep_argument.new.steps.items
+    let made = c.in_ok-keep_argument.ensures site r (before.grows.calls c.args.call.0 site at) (receiver_on c.args.work.now.tables c.loop-argument.work.tables c.args.description.now.receiver r before.grows is) in
+    makes_next (ArgumentKept c.args.program.now site stub r) c.args.work.now.tables c.loop-argument.work.tables c.keep_argument.new.work.tables stub.keeps i (get_or xs i This) c.args.work.now.steps.items c.loop-argument.work.steps.items c.keep_argument.new.work.steps.items
     within (ap (λ (ys : List StubArgument). get_or ys i This) c.as_slice-argument-items.ensures ∙ get_or_default stub.keeps i This (get_or xs i This) within) before made
 
 pub returns : goal.returns
 returns c = λ site r at is.
     let stub = c.args.description.now.stub.now in
     let long = ap length c.as_slice-argument-items.ensures in
-    makes_all (ArgumentKept c.args.program.now site stub r) c.args.tables.now c.loop-argument.tables stub.keeps c.loop-argument.argument-index c.args.steps.now.items c.loop-argument.steps.items (omega (arith, long))
+    makes_all (ArgumentKept c.args.program.now site stub r) c.args.work.now.tables c.loop-argument.work.tables stub.keeps c.loop-argument.argument-index c.args.work.now.steps.items c.loop-argument.work.steps.items (omega (arith, long))
     (c.loop-argument.invariant site r at is)

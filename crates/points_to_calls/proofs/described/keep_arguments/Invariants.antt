@@ -10,5 +10,5 @@ use Rattle.points_to_calls.proofs.described.keep_arguments.Given as goal
 
 abbrev pub invariant-loop-argument : goal.invariant-loop-argument
 invariant-loop-argument l =
-    (site : CallSite) (r : Option Site) → slice_get l.fn.tables.calls l.call.0 ≡ Some site → IsReceiverAt l.fn.tables l.description.receiver r
-    → Makes l.fn.tables l.tables (OfOne (ArgumentKept l.program site l.description.stub.now r) (take l.argument-index l.description.stub.now.keeps)) l.fn.steps.items l.steps.items
+    (site : CallSite) (r : Option Site) → slice_get l.fn.work.tables.calls l.call.0 ≡ Some site → IsReceiverAt l.fn.work.tables l.description.receiver r
+    → Makes l.fn.work.tables l.work.tables (OfOne (ArgumentKept l.program site l.description.stub.now r) (take l.argument-index l.description.stub.now.keeps)) l.fn.work.steps.items l.work.steps.items

@@ -14,13 +14,13 @@ loop-class-preserved c = λ site at.
     let within : i < length stub.throws = omega (arith, long) in
     let before = c.loop-class.invariant site at in
     let made = c.in_ok-throw_class.ensures site (before.grows.calls c.args.call.0 site at) in
-    makes_next (ClassThrown c.args.program.now site) c.args.tables.now c.loop-class.tables c.throw_class.new.tables stub.throws i c.class-item.result c.args.steps.now.items c.loop-class.steps.items c.throw_class.new.steps.items
+    makes_next (ClassThrown c.args.program.now site) c.args.work.now.tables c.loop-class.work.tables c.throw_class.new.work.tables stub.throws i c.class-item.result c.args.work.now.steps.items c.loop-class.work.steps.items c.throw_class.new.work.steps.items
     within (c.class-item.is ∙ ap (λ (ys : List (List ℕ)). get_or ys i c.class-item.result) c.as_slice-class-items.ensures) before
-    (subst (λ (name : List ℕ). Makes c.loop-class.tables c.throw_class.new.tables (ClassThrown c.args.program.now site name) c.loop-class.steps.items c.throw_class.new.steps.items) c.as_slice.ensures made)
+    (subst (λ (name : List ℕ). Makes c.loop-class.work.tables c.throw_class.new.work.tables (ClassThrown c.args.program.now site name) c.loop-class.work.steps.items c.throw_class.new.work.steps.items) c.as_slice.ensures made)
 
 pub returns : goal.returns
 returns c = λ site at.
     let stub = c.args.stub.now in
     let long = ap length c.as_slice-class-items.ensures in
-    makes_all (ClassThrown c.args.program.now site) c.args.tables.now c.loop-class.tables stub.throws c.loop-class.class-index c.args.steps.now.items c.loop-class.steps.items (omega (arith, long))
+    makes_all (ClassThrown c.args.program.now site) c.args.work.now.tables c.loop-class.work.tables stub.throws c.loop-class.class-index c.args.work.now.steps.items c.loop-class.work.steps.items (omega (arith, long))
     (c.loop-class.invariant site at)

@@ -8,5 +8,5 @@ use Rattle.points_to_calls.proofs.described.throw_all.Given as goal
 
 abbrev pub invariant-loop-class : goal.invariant-loop-class
 invariant-loop-class l =
-    (site : CallSite) → slice_get l.fn.tables.calls l.call.0 ≡ Some site
-    → Makes l.fn.tables l.tables (OfOne (ClassThrown l.program site) (take l.class-index l.stub.throws)) l.fn.steps.items l.steps.items
+    (site : CallSite) → slice_get l.fn.work.tables.calls l.call.0 ≡ Some site
+    → Makes l.fn.work.tables l.work.tables (OfOne (ClassThrown l.program site) (take l.class-index l.stub.throws)) l.fn.work.steps.items l.work.steps.items

@@ -8,5 +8,5 @@ use Rattle.points_to_calls.proofs.giving.give_results.Given as goal
 
 abbrev pub invariant-loop-number : goal.invariant-loop-number
 invariant-loop-number l =
-    (site : ItemCallSite) (g : RuleOrigin) → slice_get l.fn.tables.calls l.call.0 ≡ Some site → IsOriginAt l.fn.tables l.origin g
-    → Makes l.fn.tables l.tables (OfOneBelow (GetsAt l.program site g) l.number) l.fn.steps.items l.steps.items
+    (site : ItemCallSite) (g : RuleOrigin) → slice_get l.fn.work.tables.calls l.call.0 ≡ Some site → IsOriginAt l.fn.work.tables l.origin g
+    → Makes l.fn.work.tables l.work.tables (OfOneBelow (GetsAt l.program site g) l.number) l.fn.work.steps.items l.work.steps.items

@@ -14,26 +14,26 @@ pub add_holding-requires-clause-place : goal.add_holding-requires-clause-place
 add_holding-requires-clause-place c = (variable (Parameter c.args.target 0), refl)
 
 pub described_items-requires-clause-call : goal.described_items-requires-clause-call
-described_items-requires-clause-call c = let (site, at) = c.requires.call in (site, c.in_ok-add_holding.ensures.grows.calls c.args.call.0 site at)
+described_items-requires-clause-call c = let (site, at) = c.requires.call in (site, c.in_ok-add_holding.ensures.grows.calls c.args.receiver.call.0 site at)
 
 pub described_items-requires-clause-site : goal.described_items-requires-clause-site
-described_items-requires-clause-site c = let (s, there) = c.requires.site in (s, c.in_ok-add_holding.ensures.grows.sites c.args.site.0 s there)
+described_items-requires-clause-site c = let (s, there) = c.requires.site in (s, c.in_ok-add_holding.ensures.grows.sites c.args.receiver.site.0 s there)
 
 pub described_items-requires-clause-resolved : goal.described_items-requires-clause-resolved
 described_items-requires-clause-resolved c =
-    resolves_on c.args.program.now c.args.tables.now c.add_holding.new.tables c.args.call.0 c.in_ok-add_holding.ensures.grows c.requires.call c.requires.resolved
+    resolves_on c.args.program.now c.args.work.now.tables c.add_holding.new.self.tables c.args.receiver.call.0 c.in_ok-add_holding.ensures.grows c.requires.call c.requires.resolved
 
 pub returns : goal.returns
 returns c =
     IfOk-weaker c.described_items.result _ _
     (λ done made site s at there.
     let p = c.args.program.now in let target = c.args.target in
-    let n = c.args.tables.now in let m = c.add_holding.new.tables in let o = c.described_items.new.tables in
-    let a = c.args.steps.now.items in let b = c.push.new.self.items in let d = c.add_holding.new.steps.items in let e = c.described_items.new.steps.items in
+    let n = c.args.work.now.tables in let m = c.add_holding.new.self.tables in let o = c.described_items.new.work.tables in
+    let a = c.args.work.now.steps.items in let b = c.push.new.self.items in let d = c.add_holding.new.self.steps.items in let e = c.described_items.new.work.steps.items in
     let h = variable (Parameter target 0) in let held = c.in_ok-add_holding.ensures in
-    let called = makes_one n (λ (x : RuleItem). x ≡ known (may_call site.at target)) a b (Calls c.args.call target) (known (may_call site.at target)) c.in_ok-push.ensures.items (site, at, refl) refl (λ y q. q) in
+    let called = makes_one n (λ (x : RuleItem). x ≡ known (may_call site.at target)) a b (Calls c.args.receiver.call target) (known (may_call site.at target)) c.in_ok-push.ensures.items (site, at, refl) refl (λ y q. q) in
     let received = makes_held n m (places.Variable (Parameter target 0)) h s b d refl held.grows held.calls (held.adds s there) in
     let first = makes_both n n m (λ (x : RuleItem). x ≡ known (may_call site.at target)) (λ (x : RuleItem). x ≡ known (may_hold h s)) a b d called received in
     makes_both n m o (λ (x : RuleItem). (x ≡ known (may_call site.at target)) ⊎ (x ≡ known (may_hold h s))) (DescribedItem p site s target) a d e first
-    (made site s (held.grows.calls c.args.call.0 site at) (held.grows.sites c.args.site.0 s there)))
+    (made site s (held.grows.calls c.args.receiver.call.0 site at) (held.grows.sites c.args.receiver.site.0 s there)))
     c.described_items.ensures

@@ -11,7 +11,7 @@ pub returns-in-InFile : goal.returns-in-InFile
 returns-in-InFile c = λ site s at there.
     let p = c.args.program.now in let (m, stands) = method_there p c.args.target.0 c.requires.target in
     let of = file_by_view p c.args.target m c.in-InFile.file c.in-InFile.number stands (c.in-InFile.ensures m stands) in
-    makes_none c.args.tables.now (DescribedItem p site s c.args.target) c.args.steps.now.items (λ x (stub, by, part). not_both p c.args.target stub of by)
+    makes_none c.args.work.now.tables (DescribedItem p site s c.args.target) c.args.work.now.steps.items (λ x (stub, by, part). not_both p c.args.target stub of by)
 
 pub returns-in-Described : goal.returns-in-Described
 returns-in-Described c =
@@ -19,6 +19,6 @@ returns-in-Described c =
     let stub = c.in-Described.stub.now in
     IfOk-weaker c.receiver_items.result _ _
     (λ done made site s at there.
-    makes_same c.args.tables.now c.receiver_items.new.tables (ReceiverItem p site stub s) (DescribedItem p site s c.args.target) c.args.steps.now.items c.receiver_items.new.steps.items
+    makes_same c.args.work.now.tables c.receiver_items.new.work.tables (ReceiverItem p site stub s) (DescribedItem p site s c.args.target) c.args.work.now.steps.items c.receiver_items.new.work.steps.items
     (receiver_described p site s c.args.target stub m stands (described_by_view m c.in-Described.stub (c.in-Described.ensures m stands))) (made site s at there))
     c.receiver_items.ensures

@@ -21,7 +21,7 @@ returns-then-is_undescribed-clause-adds c = λ site s at there.
     let p = c.args.program.now in let target = c.in-Ok.target in
     let (selects, only) = only_matched (SelectsFor site.kind p site.resolved s) c.in_ok-answer.answer c.in-Some.chosen (Ok c.in-Ok.target)
     c.in-Some.is c.in-Ok.is (c.in_ok-answer.ensures.selected site s at there) in
-    makes_same c.args.tables.now c.chosen_items.new.tables (TargetItem p site s target) (SelectItem p site s) c.args.steps.now.items c.chosen_items.new.steps.items
+    makes_same c.args.work.now.tables c.chosen_items.new.work.tables (TargetItem p site s target) (SelectItem p site s) c.args.work.now.steps.items c.chosen_items.new.work.steps.items
     (by_target p site s target selects only) (c.in_ok-chosen_items-in-Ok.ensures site s at there)
 
 pub returns-then-is_undescribed-clause-lacks : goal.returns-then-is_undescribed-clause-lacks
@@ -36,7 +36,7 @@ returns-else-is_undescribed-clause-adds c = λ site s at there.
     let p = c.args.program.now in let target = c.in-Ok.target in
     let (selects, only) = only_matched (SelectsFor site.kind p site.resolved s) c.in_ok-answer.answer c.in-Some.chosen (Ok c.in-Ok.target)
     c.in-Some.is c.in-Ok.is (c.in_ok-answer.ensures.selected site s at there) in
-    makes_same c.args.tables.now c.chosen_items.new.tables (TargetItem p site s target) (SelectItem p site s) c.args.steps.now.items c.chosen_items.new.steps.items
+    makes_same c.args.work.now.tables c.chosen_items.new.work.tables (TargetItem p site s target) (SelectItem p site s) c.args.work.now.steps.items c.chosen_items.new.work.steps.items
     (by_target p site s target selects only) (c.in_ok-chosen_items-in-Ok.ensures site s at there)
 
 pub returns-else-is_undescribed-clause-lacks : goal.returns-else-is_undescribed-clause-lacks
@@ -51,7 +51,7 @@ returns-in-Err-clause-adds c = λ site s at there.
     let p = c.args.program.now in
     let (selects, only) = only_matched (SelectsFor site.kind p site.resolved s) c.in_ok-answer.answer c.in-Some.chosen (Err c.in-Err.reason)
     c.in-Some.is c.in-Err.is (c.in_ok-answer.ensures.selected site s at there) in
-    makes_none c.args.tables.now (SelectItem p site s) c.args.steps.now.items (reason_selected p site s c.in-Err.reason only)
+    makes_none c.args.work.now.tables (SelectItem p site s) c.args.work.now.steps.items (reason_selected p site s c.in-Err.reason only)
 
 pub is_undescribed-requires : goal.is_undescribed-requires
 is_undescribed-requires c =
@@ -65,7 +65,7 @@ returns-in_default-clause-adds c = λ site s at there.
     let p = c.args.program.now in
     let none = subst (λ (o : Option (Result MethodNo Reason)). IsOnlyAnswer (SelectsFor site.kind p site.resolved s) o) c.in_default.is
     (c.in_ok-answer.ensures.selected site s at there) in
-    makes_none c.args.tables.now (SelectItem p site s) c.args.steps.now.items (none_selected p site s none)
+    makes_none c.args.work.now.tables (SelectItem p site s) c.args.work.now.steps.items (none_selected p site s none)
 
 pub returns-in_default-clause-lacks : goal.returns-in_default-clause-lacks
 returns-in_default-clause-lacks c = λ site s at there.

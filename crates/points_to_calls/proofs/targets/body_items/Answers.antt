@@ -12,7 +12,7 @@ returns-in-InFile c =
     let p = c.args.program.now in let (m, stands) = method_there p c.args.target.0 c.requires.target in
     IfOk-weaker c.file_items.result _ _
     (λ done made site at.
-    makes_same c.args.tables.now c.file_items.new.tables (FileItem site c.args.target) (BodyItem p site c.args.target) c.args.steps.now.items c.file_items.new.steps.items
+    makes_same c.args.work.now.tables c.file_items.new.work.tables (FileItem site c.args.target) (BodyItem p site c.args.target) c.args.work.now.steps.items c.file_items.new.work.steps.items
     (file_body p site c.args.target (file_by_view p c.args.target m c.in-InFile.file c.in-InFile.number stands (c.in-InFile.ensures m stands))) (made site at))
     c.file_items.ensures
 
@@ -22,6 +22,6 @@ returns-in-Described c =
     let stub = c.in-Described.stub.now in
     IfOk-weaker c.stub_items.result _ _
     (λ done made site at.
-    makes_same c.args.tables.now c.stub_items.new.tables (StubItem p site stub) (BodyItem p site c.args.target) c.args.steps.now.items c.stub_items.new.steps.items
+    makes_same c.args.work.now.tables c.stub_items.new.work.tables (StubItem p site stub) (BodyItem p site c.args.target) c.args.work.now.steps.items c.stub_items.new.work.steps.items
     (stub_body p site c.args.target stub m stands (described_by_view m c.in-Described.stub (c.in-Described.ensures m stands))) (made site at))
     c.stub_items.ensures

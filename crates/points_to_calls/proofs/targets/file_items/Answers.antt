@@ -22,9 +22,9 @@ pub returns : goal.returns
 returns c =
     on_ok_three c.add_constraint.result c.add_constraint.ensures.grows c.add_constraint.ensures.calls c.add_constraint.ensures.adds
     (λ grows calls adds site at.
-    let n = c.args.tables.now in let m = c.give_results.new.tables in let o = c.add_constraint.new.tables in
+    let n = c.args.work.now.tables in let m = c.give_results.new.work.tables in let o = c.add_constraint.new.self.tables in
     let made = c.in_ok-give_results.ensures site (returned c.args.target) at refl in
     makes_both n m o (ResultsGet c.args.program.now site (returned c.args.target)) (λ (x : RuleItem). x ≡ constrained (thrown_by c.args.target) (rethrow_to site.catch_chain))
-    c.args.steps.now.items c.give_results.new.steps.items c.add_constraint.new.steps.items made
-    (makes_constrained m o (places.Thrown c.args.target) (constraints.RethrowTo c.call_of.result.now.catch_chain) (thrown_by c.args.target) (rethrow_to site.catch_chain) c.give_results.new.steps.items c.add_constraint.new.steps.items
+    c.args.work.now.steps.items c.give_results.new.work.steps.items c.add_constraint.new.self.steps.items made
+    (makes_constrained m o (places.Thrown c.args.target) (constraints.RethrowTo c.call_of.result.now.catch_chain) (thrown_by c.args.target) (rethrow_to site.catch_chain) c.give_results.new.work.steps.items c.add_constraint.new.self.steps.items
     refl (site.catch_chain, (c.call_of.ensures site (made.grows.calls c.args.call.0 site at)).catch_chain, refl) grows calls adds))

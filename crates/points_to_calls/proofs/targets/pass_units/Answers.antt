@@ -10,11 +10,11 @@ pass_unit-requires c = let (site, at) = c.requires in (site, (c.loop-unit.invari
 pub loop-unit-preserved : goal.loop-unit-preserved
 loop-unit-preserved c = λ site at.
     let before = c.loop-unit.invariant site at in
-    makes_below_next (PassesUnit site c.args.target) c.args.tables.now c.loop-unit.tables c.pass_unit.new.tables c.loop-unit.unit c.args.steps.now.items c.loop-unit.steps.items c.pass_unit.new.steps.items
+    makes_below_next (PassesUnit site c.args.target) c.args.work.now.tables c.loop-unit.work.tables c.pass_unit.new.work.tables c.loop-unit.unit c.args.work.now.steps.items c.loop-unit.work.steps.items c.pass_unit.new.work.steps.items
     before (c.in_ok-pass_unit.ensures site (before.grows.calls c.args.call.0 site at))
 
 pub returns : goal.returns
 returns c = λ site at.
-    units_passed c.args.tables.now c.loop-unit.tables site c.args.target c.loop-unit.unit c.args.steps.now.items c.loop-unit.steps.items
+    units_passed c.args.work.now.tables c.loop-unit.work.tables site c.args.target c.loop-unit.unit c.args.work.now.steps.items c.loop-unit.work.steps.items
     (let count = c.argument_count-unit-end.ensures site at in omega (arith, count))
     (c.loop-unit.invariant site at)

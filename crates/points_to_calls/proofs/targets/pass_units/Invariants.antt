@@ -8,5 +8,5 @@ use Rattle.points_to_calls.proofs.targets.pass_units.Given as goal
 
 abbrev pub invariant-loop-unit : goal.invariant-loop-unit
 invariant-loop-unit l =
-    (site : CallSite) → slice_get l.fn.tables.calls l.call.0 ≡ Some site
-    → Makes l.fn.tables l.tables (OfOneBelow (PassesUnit site l.target) l.unit) l.fn.steps.items l.steps.items
+    (site : CallSite) → slice_get l.fn.work.tables.calls l.call.0 ≡ Some site
+    → Makes l.fn.work.tables l.work.tables (OfOneBelow (PassesUnit site l.target) l.unit) l.fn.work.steps.items l.work.steps.items

@@ -17,13 +17,13 @@ body_items-requires-clause-call c = let (site, at) = c.requires.call in (site, (
 pub body_items-requires-clause-resolved : goal.body_items-requires-clause-resolved
 body_items-requires-clause-resolved c =
     let (site, at) = c.requires.call in
-    resolves_on c.args.program.now c.args.tables.now c.pass_units.new.tables c.args.call.0 (c.in_ok-pass_units.ensures site at).grows c.requires.call c.requires.resolved
+    resolves_on c.args.program.now c.args.work.now.tables c.pass_units.new.work.tables c.args.call.0 (c.in_ok-pass_units.ensures site at).grows c.requires.call c.requires.resolved
 
 pub returns-clause-grows : goal.returns-clause-grows
 returns-clause-grows c =
     let (site, at) = c.requires.call in
     let passed = c.in_ok-pass_units.ensures site at in
-    grows_on c.args.tables.now c.pass_units.new.tables c.body_items.new.tables passed.grows (c.in_ok-body_items.ensures site (passed.grows.calls c.args.call.0 site at)).grows
+    grows_on c.args.work.now.tables c.pass_units.new.work.tables c.body_items.new.work.tables passed.grows (c.in_ok-body_items.ensures site (passed.grows.calls c.args.call.0 site at)).grows
 
 pub returns-clause-calls : goal.returns-clause-calls
 returns-clause-calls c =
@@ -34,8 +34,8 @@ returns-clause-calls c =
 pub returns-clause-adds : goal.returns-clause-adds
 returns-clause-adds c = λ site at.
     let p = c.args.program.now in let target = c.args.target in
-    let n = c.args.tables.now in let m = c.pass_units.new.tables in let o = c.body_items.new.tables in
-    let a = c.args.steps.now.items in let b = c.push.new.self.items in let d = c.pass_units.new.steps.items in let e = c.body_items.new.steps.items in
+    let n = c.args.work.now.tables in let m = c.pass_units.new.work.tables in let o = c.body_items.new.work.tables in
+    let a = c.args.work.now.steps.items in let b = c.push.new.self.items in let d = c.pass_units.new.work.steps.items in let e = c.body_items.new.work.steps.items in
     let ran = makes_one n (λ (x : RuleItem). x ≡ known (may_run target)) a b (Runs target) (known (may_run target)) c.in_ok-push.ensures.items refl refl (λ y q. q) in
     let passed = c.in_ok-pass_units.ensures site at in
     let given = c.in_ok-body_items.ensures site (passed.grows.calls c.args.call.0 site at) in

@@ -14,7 +14,7 @@ use Rattle.points_to_methods.proofs.accesses.hold_after.Goals as goal
 pub loop-offset-init : goal.loop-offset-init
 loop-offset-init c = λ s there.
     let l = c.args.at.now.method.now in
-    makes_start (MadeAt l (names_at c.args.at.now) (λ to. known (may_hold to s)) c.args.target) c.args.tables.now c.as_slice-offset-items.result.now c.args.steps.now.items
+    makes_start (MadeAt l (names_at c.args.at.now) (λ to. known (may_hold to s)) c.args.target) c.args.work.now.tables c.as_slice-offset-items.result.now c.args.work.now.steps.items
 
 pub hold_at-requires-clause-site : goal.hold_at-requires-clause-site
 hold_at-requires-clause-site c = let (s, there) = c.requires.site in (s, (c.loop-offset.invariant s there).grows.sites c.args.site.0 s there)
@@ -22,8 +22,8 @@ hold_at-requires-clause-site c = let (s, there) = c.requires.site in (s, (c.loop
 pub loop-offset-preserved : goal.loop-offset-preserved
 loop-offset-preserved c = λ s there.
     let l = c.args.at.now.method.now in
-    makes_next_read (MadeAt l (names_at c.args.at.now) (λ to. known (may_hold to s)) c.args.target) c.args.tables.now c.loop-offset.tables c.hold_at.new.tables c.as_slice-offset-items.result.now c.loop-offset.offset-index 0
-    c.args.steps.now.items c.loop-offset.steps.items c.hold_at.new.steps.items c.loop-offset-test.true (c.loop-offset.invariant s there) (c.in_ok-hold_at.ensures s ((c.loop-offset.invariant s there).grows.sites c.args.site.0 s there))
+    makes_next_read (MadeAt l (names_at c.args.at.now) (λ to. known (may_hold to s)) c.args.target) c.args.work.now.tables c.loop-offset.work.tables c.hold_at.new.work.tables c.as_slice-offset-items.result.now c.loop-offset.offset-index 0
+    c.args.work.now.steps.items c.loop-offset.work.steps.items c.hold_at.new.work.steps.items c.loop-offset-test.true (c.loop-offset.invariant s there) (c.in_ok-hold_at.ensures s ((c.loop-offset.invariant s there).grows.sites c.args.site.0 s there))
 
 pub returns : goal.returns
 returns c = λ n s at there.
@@ -32,9 +32,9 @@ returns c = λ n s at there.
     let items = c.as_slice-offset-items.result.now in
     let same : read ≡ n = read_node l.nodes c.as_slice.result.now c.args.node n read c.as_slice.ensures c.requires.there c.index-as_slice-node.is at in
     let make : Holder → Item = (λ to. known (may_hold to s)) in
-    let all = makes_all (MadeAt l (names_at c.args.at.now) make c.args.target) c.args.tables.now c.loop-offset.tables items c.loop-offset.offset-index c.args.steps.now.items c.loop-offset.steps.items
+    let all = makes_all (MadeAt l (names_at c.args.at.now) make c.args.target) c.args.work.now.tables c.loop-offset.work.tables items c.loop-offset.offset-index c.args.work.now.steps.items c.loop-offset.work.steps.items
     (omega arith) (c.loop-offset.invariant s there) in
-    let of_node = subst (λ (xs : List ℕ). Makes c.args.tables.now c.loop-offset.tables (OfOne (MadeAt l (names_at c.args.at.now) make c.args.target) xs) c.args.steps.now.items c.loop-offset.steps.items)
+    let of_node = subst (λ (xs : List ℕ). Makes c.args.work.now.tables c.loop-offset.work.tables (OfOne (MadeAt l (names_at c.args.at.now) make c.args.target) xs) c.args.work.now.steps.items c.loop-offset.work.steps.items)
     (c.as_slice-offset-items.ensures ∙ ap (λ (m : Node). m.successors) (sym c.index-as_slice-node.is ∙ same)) all in
-    makes_same c.args.tables.now c.loop-offset.tables _ _ c.args.steps.now.items c.loop-offset.steps.items
+    makes_same c.args.work.now.tables c.loop-offset.work.tables _ _ c.args.work.now.steps.items c.loop-offset.work.steps.items
     (made_after c.args.at.now.program.now l (names_at c.args.at.now) c.requires.known c.args.node n at make c.args.target) of_node

@@ -11,5 +11,5 @@ use Rattle.points_to_methods.proofs.accesses.hold_after.Given as goal
 
 abbrev pub invariant-loop-offset : goal.invariant-loop-offset
 invariant-loop-offset l =
-    (s : Site) → slice_get l.fn.tables.sites l.site.0 ≡ Some s
-    → Makes l.fn.tables l.tables (OfOne (MadeAt l.at.method.now (names_at l.at) (λ to. known (may_hold to s)) l.target) (take l.offset-index l.offset-items)) l.fn.steps.items l.steps.items
+    (s : Site) → slice_get l.fn.work.tables.sites l.site.0 ≡ Some s
+    → Makes l.fn.work.tables l.work.tables (OfOne (MadeAt l.at.method.now (names_at l.at) (λ to. known (may_hold to s)) l.target) (take l.offset-index l.offset-items)) l.fn.work.steps.items l.work.steps.items

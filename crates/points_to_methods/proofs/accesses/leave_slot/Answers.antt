@@ -8,7 +8,7 @@ use Rattle.points_to_methods.proofs.accesses.leave_slot.Goals as goal
 pub returns : goal.returns
 returns c = λ n at.
     let l = c.args.at.now.method.now in
-    makes_same c.args.tables.now c.pass.new.tables _ _ c.args.steps.now.items c.pass.new.steps.items
-    (made_here c.args.at.now.program.now l (names_at c.args.at.now) c.requires.known c.args.node n at (λ from. constrained from (copy_to (holder_of c.args.to))) c.args.slot
-    (holder_of c.slot_place-from.result) c.slot_place-from.ensures)
+    makes_same c.args.work.now.tables c.pass.new.work.tables _ _ c.args.work.now.steps.items c.pass.new.work.steps.items
+    (made_here c.args.at.now.program.now l (names_at c.args.at.now) c.requires.known c.args.from.node n at (λ h. constrained h (copy_to (holder_of c.args.to))) c.args.from.slot
+    (holder_of c.slot_place-source.result) c.slot_place-source.ensures)
     c.in_ok-pass.ensures

@@ -9,4 +9,4 @@ use Rattle.points_to_methods.proofs.accesses.pass_after.Given as goal
 
 abbrev pub invariant-loop-offset : goal.invariant-loop-offset
 invariant-loop-offset l =
-    Makes l.fn.tables l.tables (OfOne (MadeAt l.at.method.now (names_at l.at) (λ to. constrained (holder_of l.from) (constraint_by l.passing to)) l.target) (take l.offset-index l.offset-items)) l.fn.steps.items l.steps.items
+    Makes l.fn.work.tables l.work.tables (OfOne (MadeAt l.at.method.now (names_at l.at) (λ to. constrained (holder_of l.outgoing.from) (constraint_by l.outgoing.passing to)) l.target) (take l.offset-index l.offset-items)) l.fn.work.steps.items l.work.steps.items

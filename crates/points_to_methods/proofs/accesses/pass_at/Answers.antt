@@ -10,13 +10,13 @@ use Rattle.points_to_methods.proofs.accesses.pass_at.Goals as goal
 pub returns-in_default : goal.returns-in_default
 returns-in_default c =
     let l = c.args.at.now.method.now in
-    makes_none c.args.tables.now (MadeAt l (names_at c.args.at.now) (λ to. constrained (holder_of c.args.from) (constraint_by c.args.passing to)) c.args.target c.args.offset) c.args.steps.now.items
+    makes_none c.args.work.now.tables (MadeAt l (names_at c.args.at.now) (λ to. constrained (holder_of c.args.outgoing.from) (constraint_by c.args.outgoing.passing to)) c.args.target c.args.offset) c.args.work.now.steps.items
     (λ x (next, stands, rest). c.in_default.ensures.place next stands)
 
 pub returns : goal.returns
 returns c =
     let l = c.args.at.now.method.now in
-    let make : Holder → Item = (λ to. constrained (holder_of c.args.from) (constraint_by c.args.passing to)) in
-    makes_same c.args.tables.now c.pass.new.tables _ (MadeAt l (names_at c.args.at.now) make c.args.target c.args.offset) c.args.steps.now.items c.pass.new.steps.items
+    let make : Holder → Item = (λ to. constrained (holder_of c.args.outgoing.from) (constraint_by c.args.outgoing.passing to)) in
+    makes_same c.args.work.now.tables c.pass.new.work.tables _ (MadeAt l (names_at c.args.at.now) make c.args.target c.args.offset) c.args.work.now.steps.items c.pass.new.work.steps.items
     (made_at c.args.at.now.program.now l (names_at c.args.at.now) c.requires make c.args.target c.args.offset c.in-Some.next (holder_of c.slot_place-to.result) c.in-Some.ensures.place c.slot_place-to.ensures)
     c.in_ok-pass.ensures

@@ -9,7 +9,7 @@ use Rattle.points_to_methods.proofs.accesses.write_slot.Goals as goal
 pub returns : goal.returns
 returns c = λ n at.
     let l = c.args.at.now.method.now in
-    makes_same c.args.tables.now c.pass.new.tables _ (WritesItem l n c.args.slot c.args.value (constraint_by c.args.passing)) c.args.steps.now.items c.pass.new.steps.items
-    (made_of_two c.args.at.now.program.now l (names_at c.args.at.now) c.requires.known c.args.node n at (λ into from. constrained into (constraint_by c.args.passing from)) c.args.slot c.args.value
-    (holder_of c.slot_place-into.result) (holder_of c.slot_place-from.result) c.slot_place-into.ensures c.slot_place-from.ensures)
+    makes_same c.args.work.now.tables c.pass.new.work.tables _ (WritesItem l n c.args.into.slot c.args.value (constraint_by c.args.passing)) c.args.work.now.steps.items c.pass.new.work.steps.items
+    (made_of_two c.args.at.now.program.now l (names_at c.args.at.now) c.requires.known c.args.into.node n at (λ into from. constrained into (constraint_by c.args.passing from)) c.args.into.slot c.args.value
+    (holder_of c.slot_place-from.result) (holder_of c.slot_place-to.result) c.slot_place-from.ensures c.slot_place-to.ensures)
     c.in_ok-pass.ensures

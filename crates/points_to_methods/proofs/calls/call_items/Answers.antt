@@ -20,12 +20,12 @@ pub returns : goal.returns
 returns c = λ n at op.
     let l = c.args.at.now.method.now in
     let call = c.args.call.now in
-    let one = c.args.tables.now in
+    let one = c.args.work.now.tables in
     let two = c.call_site.new.tables in
-    let three = c.select_items.new.tables in
-    let before = c.args.steps.now.items in
+    let three = c.select_items.new.work.tables in
+    let before = c.args.work.now.steps.items in
     let between = c.chosen_items.new.steps.items in
-    let after = c.select_items.new.steps.items in
+    let after = c.select_items.new.work.steps.items in
     let facts = c.in_ok-number.ensures in
     let (site, is_site, stands) = facts.stands n at in
     let chosen = c.in_ok-chosen_items.ensures two site stands in

@@ -12,16 +12,16 @@ use Rattle.points_to_methods.proofs.calls.select_items.Goals as goal
 
 pub returns-then-not-is_selecting : goal.returns-then-not-is_selecting
 returns-then-not-is_selecting c = λ n site at stands is_site.
-    makes_none c.args.tables.now (SelectingItem c.args.call.now.kind site) c.args.steps.now.items
+    makes_none c.args.work.now.tables (SelectingItem c.args.call.now.kind site) c.args.work.now.steps.items
     (not_selecting c.args.call.now site (λ kind. false≢true (sym c.if-not-is_selecting.true ∙ c.is_selecting.ensures ∙ kind)))
 
 pub returns-in_default : goal.returns-in_default
 returns-in_default c = λ n site at stands is_site.
-    makes_none c.args.tables.now (SelectingItem c.args.call.now.kind site) c.args.steps.now.items
+    makes_none c.args.work.now.tables (SelectingItem c.args.call.now.kind site) c.args.work.now.steps.items
     (without_first c.args.at.now.method.now.method c.args.at.now.method.now n c.args.call.now site is_site (sym c.in_default.ensures))
 
 pub add_constraint-requires-clause-place : goal.add_constraint-requires-clause-place
-add_constraint-requires-clause-place c = (holder_of c.slot_place.result, c.key_of-place.ensures c.args.tables.now)
+add_constraint-requires-clause-place c = (holder_of c.slot_place.result, c.key_of-place.ensures c.args.work.now.tables)
 
 pub add_constraint-requires-clause-constraint : goal.add_constraint-requires-clause-constraint
 add_constraint-requires-clause-constraint c = let (site, stands) = c.requires.numbered in (dispatch site, (site, stands, refl))
@@ -29,10 +29,10 @@ add_constraint-requires-clause-constraint c = let (site, stands) = c.requires.nu
 pub returns : goal.returns
 returns c = λ n site at stands is_site.
     let l = c.args.at.now.method.now in
-    let one = c.args.tables.now in
-    let two = c.add_constraint.new.tables in
-    let before = c.args.steps.now.items in
-    let after = c.add_constraint.new.steps.items in
+    let one = c.args.work.now.tables in
+    let two = c.add_constraint.new.self.tables in
+    let before = c.args.work.now.steps.items in
+    let after = c.add_constraint.new.self.steps.items in
     let h = holder_of c.slot_place.result in
     let facts = c.in_ok-add_constraint.ensures in
     let kind : is_selecting_kind c.args.call.now.kind ≡ true = sym c.is_selecting.ensures ∙ c.if-not-is_selecting.false in

@@ -6,4 +6,4 @@ use Rattle.points_to_methods.proofs.enters.enter_slots.Given as goal
 
 abbrev pub invariant-loop-slot : goal.invariant-loop-slot
 invariant-loop-slot l =
-    Makes l.fn.tables l.tables (OfOneBelow (EntersSlot (names_at l.at) l.at.method.now.method) l.slot) l.fn.steps.items l.steps.items
+    Makes l.fn.work.tables l.work.tables (OfOneBelow (EntersSlot (names_at l.at) l.at.method.now.method) l.slot) l.fn.work.steps.items l.work.steps.items

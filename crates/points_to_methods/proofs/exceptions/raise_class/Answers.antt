@@ -19,11 +19,11 @@ returns c = λ n at.
     let p = c.args.at.now.program.now in
     let l = c.args.at.now.method.now in
     let name = c.class_name-name.result.now in
-    let one = c.args.tables.now in
+    let one = c.args.work.now.tables in
     let two = c.raised_site.new.tables in
-    let three = c.hold.new.tables in
-    let before = c.args.steps.now.items in
-    let after = c.hold.new.steps.items in
+    let three = c.hold.new.work.tables in
+    let before = c.args.work.now.steps.items in
+    let after = c.hold.new.work.steps.items in
     let to = holder_of c.raised_place.result in
     let site = site_of kinds.Thrown l.method n name in
     makes_same one three _ (RaisesOf p l n c.args.class) before after

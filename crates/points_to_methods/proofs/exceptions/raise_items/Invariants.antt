@@ -9,4 +9,4 @@ use Rattle.points_to_methods.proofs.exceptions.raise_items.Given as goal
 abbrev pub invariant-loop-class : goal.invariant-loop-class
 invariant-loop-class l =
     (n : Node) → slice_get l.at.method.now.nodes l.node ≡ Some n
-    → Makes l.fn.tables l.tables (OfOne (RaisesOf l.at.program.now l.at.method.now n) (take l.class-index l.class-items)) l.fn.steps.items l.steps.items
+    → Makes l.fn.work.tables l.work.tables (OfOne (RaisesOf l.at.program.now l.at.method.now n) (take l.class-index l.class-items)) l.fn.work.steps.items l.work.steps.items

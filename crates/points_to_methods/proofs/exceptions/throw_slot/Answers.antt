@@ -25,11 +25,11 @@ pub returns : goal.returns
 returns c = λ n at.
     let p = c.args.at.now.program.now in
     let l = c.args.at.now.method.now in
-    let one = c.args.tables.now in
+    let one = c.args.work.now.tables in
     let two = c.catch_chain_of.new.tables in
-    let three = c.add_constraint.new.tables in
-    let before = c.args.steps.now.items in
-    let after = c.add_constraint.new.steps.items in
+    let three = c.add_constraint.new.self.tables in
+    let before = c.args.work.now.steps.items in
+    let after = c.add_constraint.new.self.steps.items in
     let from = holder_of c.slot_place-from.result in
     let facts = c.in_ok-add_constraint.ensures in
     let (catch_chain, is_catch_chain, stands) = c.in_ok-catch_chain.ensures.stands n at in

@@ -7,4 +7,4 @@ use Rattle.points_to_methods.proofs.flows.flow_items.Given as goal
 
 abbrev pub invariant-loop-offset : goal.invariant-loop-offset
 invariant-loop-offset l =
-    Makes l.fn.tables l.tables (OfOne (λ (offset : ℕ). FlowsTo l.at.method.now (names_at l.at) l.from.op l.node offset) (take l.offset-index l.offset-items)) l.fn.steps.items l.steps.items
+    Makes l.fn.work.tables l.work.tables (OfOne (λ (offset : ℕ). FlowsTo l.at.method.now (names_at l.at) l.from.op l.node offset) (take l.offset-index l.offset-items)) l.fn.work.steps.items l.work.steps.items

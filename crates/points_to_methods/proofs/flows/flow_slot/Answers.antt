@@ -9,11 +9,11 @@ use Rattle.points_to_methods.proofs.flows.flow_slot.Goals as goal
 pub returns-in-Keeps : goal.returns-in-Keeps
 returns-in-Keeps c =
     subst (λ (e : Effect). OnOk c.pass_slot.result
-    (Makes c.args.tables.now c.pass_slot.new.tables (PassesBy (names_at c.args.at.now) c.args.node c.args.next c.args.slot (effect_of e)) c.args.steps.now.items c.pass_slot.new.steps.items))
+    (Makes c.args.work.now.tables c.pass_slot.new.work.tables (PassesBy (names_at c.args.at.now) c.args.node c.args.to.node c.args.to.slot (effect_of e)) c.args.work.now.steps.items c.pass_slot.new.work.steps.items))
     (sym c.in-Keeps.is) c.pass_slot.ensures
 
 pub returns-in-Moves : goal.returns-in-Moves
 returns-in-Moves c =
     subst (λ (e : Effect). OnOk c.pass_slot-in-Moves.result
-    (Makes c.args.tables.now c.pass_slot-in-Moves.new.tables (PassesBy (names_at c.args.at.now) c.args.node c.args.next c.args.slot (effect_of e)) c.args.steps.now.items c.pass_slot-in-Moves.new.steps.items))
+    (Makes c.args.work.now.tables c.pass_slot-in-Moves.new.work.tables (PassesBy (names_at c.args.at.now) c.args.node c.args.to.node c.args.to.slot (effect_of e)) c.args.work.now.steps.items c.pass_slot-in-Moves.new.work.steps.items))
     (sym c.in-Moves.is) c.pass_slot-in-Moves.ensures

@@ -7,4 +7,4 @@ use Rattle.points_to_methods.proofs.flows.flow_slots.Given as goal
 
 abbrev pub invariant-loop-slot : goal.invariant-loop-slot
 invariant-loop-slot l =
-    Makes l.fn.tables l.tables (OfOneBelow (λ z. PassesBy (names_at l.at) l.node l.next z (effect_on z l.op)) l.slot) l.fn.steps.items l.steps.items
+    Makes l.fn.work.tables l.work.tables (OfOneBelow (λ z. PassesBy (names_at l.at) l.node l.next z (effect_on z l.op)) l.slot) l.fn.work.steps.items l.work.steps.items

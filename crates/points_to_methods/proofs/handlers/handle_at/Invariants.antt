@@ -6,4 +6,4 @@ use Rattle.points_to_methods.proofs.handlers.handle_at.Given as goal
 
 abbrev pub invariant-loop-slot : goal.invariant-loop-slot
 invariant-loop-slot l =
-    Makes l.fn.tables l.tables (OfOneBelow (λ z. PassesSlot (names_at l.at) l.node z l.next z) l.slot) l.fn.steps.items l.steps.items
+    Makes l.fn.work.tables l.work.tables (OfOneBelow (λ z. PassesSlot (names_at l.at) l.node z l.next z) l.slot) l.fn.work.steps.items l.work.steps.items

@@ -15,14 +15,14 @@ use Rattle.points_to_methods.proofs.handlers.handle_items.Goals as goal
 pub loop-handler-init : goal.loop-handler-init
 loop-handler-init c =
     let l = c.args.at.now.method.now in
-    makes_start (λ (h : NodeHandler). HandsTo l (names_at c.args.at.now) c.args.node h.target) c.args.tables.now c.as_slice-handler-items.result.now c.args.steps.now.items
+    makes_start (λ (h : NodeHandler). HandsTo l (names_at c.args.at.now) c.args.node h.target) c.args.work.now.tables c.as_slice-handler-items.result.now c.args.work.now.steps.items
 
 pub loop-handler-preserved : goal.loop-handler-preserved
 loop-handler-preserved c =
     let l = c.args.at.now.method.now in
     let P : NodeHandler → Item → Type 0 = λ h. HandsTo l (names_at c.args.at.now) c.args.node h.target in
-    makes_next_read P c.args.tables.now c.loop-handler.tables c.handle_at.new.tables c.as_slice-handler-items.result.now c.loop-handler.handler-index _
-    c.args.steps.now.items c.loop-handler.steps.items c.handle_at.new.steps.items c.loop-handler-test.true c.loop-handler.invariant c.in_ok-handle_at.ensures
+    makes_next_read P c.args.work.now.tables c.loop-handler.work.tables c.handle_at.new.work.tables c.as_slice-handler-items.result.now c.loop-handler.handler-index _
+    c.args.work.now.steps.items c.loop-handler.work.steps.items c.handle_at.new.work.steps.items c.loop-handler-test.true c.loop-handler.invariant c.in_ok-handle_at.ensures
 
 pub returns : goal.returns
 returns c = λ n at.
@@ -32,9 +32,9 @@ returns c = λ n at.
     let items = c.as_slice-handler-items.result.now in
     let same : read ≡ n = read_node l.nodes c.as_slice.result.now c.args.node n read c.as_slice.ensures c.requires.there c.index-as_slice-node.is at in
     let P : NodeHandler → Item → Type 0 = λ h. HandsTo l names c.args.node h.target in
-    let all = makes_all P c.args.tables.now c.loop-handler.tables items c.loop-handler.handler-index c.args.steps.now.items c.loop-handler.steps.items
+    let all = makes_all P c.args.work.now.tables c.loop-handler.work.tables items c.loop-handler.handler-index c.args.work.now.steps.items c.loop-handler.work.steps.items
     (omega arith) c.loop-handler.invariant in
-    let of_node = subst (λ (xs : List NodeHandler). Makes c.args.tables.now c.loop-handler.tables (OfOne P xs) c.args.steps.now.items c.loop-handler.steps.items)
+    let of_node = subst (λ (xs : List NodeHandler). Makes c.args.work.now.tables c.loop-handler.work.tables (OfOne P xs) c.args.work.now.steps.items c.loop-handler.work.steps.items)
     (c.as_slice-handler-items.ensures ∙ ap (λ (m : Node). m.handlers) (sym c.index-as_slice-node.is ∙ same)) all in
-    makes_same c.args.tables.now c.loop-handler.tables _ (HandleItem l n) c.args.steps.now.items c.loop-handler.steps.items
+    makes_same c.args.work.now.tables c.loop-handler.work.tables _ (HandleItem l n) c.args.work.now.steps.items c.loop-handler.work.steps.items
     (handled c.args.at.now.program.now l names c.requires.known c.args.node n at) of_node

@@ -8,4 +8,4 @@ use Rattle.points_to_methods.proofs.handlers.handle_items.Given as goal
 
 abbrev pub invariant-loop-handler : goal.invariant-loop-handler
 invariant-loop-handler l =
-    Makes l.fn.tables l.tables (OfOne (λ (h : NodeHandler). HandsTo l.at.method.now (names_at l.at) l.node h.target) (take l.handler-index l.handler-items)) l.fn.steps.items l.steps.items
+    Makes l.fn.work.tables l.work.tables (OfOne (λ (h : NodeHandler). HandsTo l.at.method.now (names_at l.at) l.node h.target) (take l.handler-index l.handler-items)) l.fn.work.steps.items l.work.steps.items

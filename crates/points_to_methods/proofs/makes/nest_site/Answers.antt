@@ -10,13 +10,13 @@ add_holding-requires-clause-place c = (elements_of c.args.outer.now, (c.args.out
 
 pub returns : goal.returns
 returns c =
-    let one = c.args.tables.now in
+    let one = c.args.work.now.tables in
     let two = c.number_site.new.tables in
     let three = c.number_site-2.new.tables in
-    let four = c.add_holding.new.tables in
+    let four = c.add_holding.new.self.tables in
     let outer = c.args.outer.now in
-    let before = c.args.steps.now.items in
-    let after = c.add_holding.new.steps.items in
+    let before = c.args.work.now.steps.items in
+    let after = c.add_holding.new.self.steps.items in
     let facts = c.in_ok-add_holding.ensures in
     makes_grown one two four _ before after c.in_ok-array.ensures.grows c.in_ok-array.ensures.calls
     (makes_grown two three four _ before after c.in_ok-element.ensures.grows c.in_ok-element.ensures.calls

@@ -4,4 +4,4 @@ use Rattle.points_to_methods.specs.Arrays.{NestsAt}
 use Rattle.points_to_methods.proofs.makes.nest_sites.Given as goal
 
 abbrev pub invariant-loop-place : goal.invariant-loop-place
-invariant-loop-place l = Makes l.fn.tables l.tables (OfOneBelow (NestsAt l.sites) l.place) l.fn.steps.items l.steps.items
+invariant-loop-place l = Makes l.fn.work.tables l.work.tables (OfOneBelow (NestsAt l.sites) l.place) l.fn.work.steps.items l.work.steps.items

@@ -8,14 +8,14 @@ pub names_of-requires : goal.names_of-requires
 names_of-requires c = c.requires.reached
 
 pub loop-node-init : goal.loop-node-init
-loop-node-init c = taken_start c.args.program.now c.args.method.now c.args.tables.now c.args.steps.now.items
+loop-node-init c = taken_start c.args.program.now c.args.method.now c.args.work.now.tables c.args.work.now.steps.items
 
 pub loop-node-preserved : goal.loop-node-preserved
 loop-node-preserved c =
     let l = c.args.method.now in
     let (n, at) = stands_below l.nodes c.loop-node.node (omega arith) in
     taken_next c.args.program.now l (record { ascend = c.requires.reached.ascend }) c.loop-node.node n at
-    c.args.tables.now c.loop-node.tables c.node_items.new.tables c.args.steps.now.items c.loop-node.steps.items c.node_items.new.steps.items
+    c.args.work.now.tables c.loop-node.work.tables c.node_items.new.work.tables c.args.work.now.steps.items c.loop-node.work.steps.items c.node_items.new.work.steps.items
     c.loop-node.invariant (c.in_ok-node_items.ensures n at)
 
 pub returns-clause-grows : goal.returns-clause-grows
@@ -23,11 +23,11 @@ returns-clause-grows c = c.loop-node.invariant.grows
 
 pub returns-clause-calls : goal.returns-clause-calls
 returns-clause-calls c =
-    all_calls c.args.method.now c.loop-node.node c.args.tables.now.calls c.loop-node.tables.calls c.loop-node.invariant.grows.calls c.loop-node.invariant.calls
+    all_calls c.args.method.now c.loop-node.node c.args.work.now.tables.calls c.loop-node.work.tables.calls c.loop-node.invariant.grows.calls c.loop-node.invariant.calls
 
 pub returns-clause-adds : goal.returns-clause-adds
 returns-clause-adds c =
-    taken_all c.args.program.now c.args.method.now c.loop-node.node c.args.tables.now c.loop-node.tables c.args.steps.now.items c.loop-node.steps.items (omega arith) c.loop-node.invariant
+    taken_all c.args.program.now c.args.method.now c.loop-node.node c.args.work.now.tables c.loop-node.work.tables c.args.work.now.steps.items c.loop-node.work.steps.items (omega arith) c.loop-node.invariant
 
 pub returns-clause-names : goal.returns-clause-names
 returns-clause-names c = c.in_ok-names.ensures

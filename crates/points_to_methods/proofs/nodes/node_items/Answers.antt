@@ -7,14 +7,14 @@ pub returns : goal.returns
 returns c = λ n at.
     let p = c.args.at.now.program.now in
     let l = c.args.at.now.method.now in
-    let old = c.args.tables.now in
-    let before = c.args.steps.now.items in
-    let flow = c.flow_items.new in
-    let enter = c.enter_items.new in
-    let handle = c.handle_items.new in
-    let operation = c.operation_items.new in
-    let raise = c.raise_items.new in
-    let trigger = c.trigger_items.new in
+    let old = c.args.work.now.tables in
+    let before = c.args.work.now.steps.items in
+    let flow = c.flow_items.new.work in
+    let enter = c.enter_items.new.work in
+    let handle = c.handle_items.new.work in
+    let operation = c.operation_items.new.work in
+    let raise = c.raise_items.new.work in
+    let trigger = c.trigger_items.new.work in
     node_same l n old trigger.tables (PartItem p l n) (NodeItem p l.method l n) before trigger.steps.items (all_parts p l n)
     (node_before l n old raise.tables trigger.tables _ (TriggerItem p l.method l n) before raise.steps.items trigger.steps.items
     (node_before l n old operation.tables raise.tables _ (RaiseItem p l.method l n) before operation.steps.items raise.steps.items

@@ -18,19 +18,19 @@ returns-in-Call c = λ n at.
     let l = c.args.at.now.method.now in
     let read = operation_read l.nodes c.as_slice.result.now c.args.node n c.index-as_slice-node.result c.as_slice.ensures c.requires.there c.index-as_slice-node.is at in
     let is = sym read ∙ c.in-Call.is in
-    operation_is c.call_items.result c.args.at.now.program.now l n c.args.tables.now c.call_items.new.tables c.args.steps.now.items c.call_items.new.steps.items _ is
+    operation_is c.call_items.result c.args.at.now.program.now l n c.args.work.now.tables c.call_items.new.work.tables c.args.work.now.steps.items c.call_items.new.work.steps.items _ is
     (c.call_items.ensures n at is)
 
 pub returns-in-LoadStatic : goal.returns-in-LoadStatic
 returns-in-LoadStatic c = λ n at.
     let l = c.args.at.now.method.now in
     let read = operation_read l.nodes c.as_slice.result.now c.args.node n c.index-as_slice-node.result c.as_slice.ensures c.requires.there c.index-as_slice-node.is at in
-    simple_made c.load_static.result c.args.at.now.program.now l n c.args.tables.now c.load_static.new.tables c.args.steps.now.items c.load_static.new.steps.items _
+    simple_made c.load_static.result c.args.at.now.program.now l n c.args.work.now.tables c.load_static.new.work.tables c.args.work.now.steps.items c.load_static.new.work.steps.items _
     (sym c.in-LoadStatic.is ∙ read) (c.load_static.ensures n at)
 
 pub returns-in_default : goal.returns-in_default
 returns-in_default c = λ n at.
     let l = c.args.at.now.method.now in
     let read = operation_read l.nodes c.as_slice.result.now c.args.node n c.index-as_slice-node.result c.as_slice.ensures c.requires.there c.index-as_slice-node.is at in
-    simple_made c.op_items.result c.args.at.now.program.now l n c.args.tables.now c.op_items.new.tables c.args.steps.now.items c.op_items.new.steps.items _
+    simple_made c.op_items.result c.args.at.now.program.now l n c.args.work.now.tables c.op_items.new.work.tables c.args.work.now.steps.items c.op_items.new.work.steps.items _
     read (c.op_items.ensures n at)

@@ -7,5 +7,5 @@ use Rattle.points_to_methods.proofs.operations.return_slot.Goals as goal
 pub returns : goal.returns
 returns c = λ n at.
     let l = c.args.at.now.method.now in
-    subst (λ (value : Option ℕ). Makes c.args.tables.now c.leave_slot.new.tables (OpItem (Return value) c.args.at.now.program.now l.method l n) c.args.steps.now.items c.leave_slot.new.steps.items)
+    subst (λ (value : Option ℕ). Makes c.args.work.now.tables c.leave_slot.new.work.tables (OpItem (Return value) c.args.at.now.program.now l.method l n) c.args.work.now.steps.items c.leave_slot.new.work.steps.items)
     (sym c.in-Some.is) (c.in_ok-leave_slot.ensures n at)

@@ -13,4 +13,4 @@ returns c =
     let from = c.args.from in
     let to = c.args.to in
     let same : constrained (holder_of c.slot_place-source.result) (copy_to (holder_of c.slot_place-target.result)) ≡ constrained (slot_holder names from.node from.slot) (copy_to (slot_holder names to.node to.slot)) = cc in
-    makes_item c.args.tables.now c.pass.new.tables _ _ c.args.steps.now.items c.pass.new.steps.items same c.in_ok-pass.ensures
+    makes_item c.args.work.now.tables c.pass.new.work.tables _ _ c.args.work.now.steps.items c.pass.new.work.steps.items same c.in_ok-pass.ensures

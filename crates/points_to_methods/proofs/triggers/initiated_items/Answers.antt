@@ -14,12 +14,12 @@ add_constraint-requires-clause-constraint c = (copy_to kept_objects, (kept_objec
 pub returns : goal.returns
 returns c =
     let i = c.args.initialiser in
-    let one = c.args.tables.now in
+    let one = c.args.work.now.tables in
     let two = c.place.new.self in
-    let three = c.add_constraint.new.tables in
-    let before = c.args.steps.now.items in
+    let three = c.add_constraint.new.self.tables in
+    let before = c.args.work.now.steps.items in
     let pushed = c.push.new.self.items in
-    let after = c.add_constraint.new.steps.items in
+    let after = c.add_constraint.new.self.steps.items in
     let facts = c.in_ok-add_constraint.ensures in
     let Run : RuleItem → Type 0 = (λ x. x ≡ known (may_run i)) in
     let Keep : RuleItem → Type 0 = (λ x. x ≡ constrained (thrown_by i) (copy_to kept_objects)) in

@@ -17,7 +17,7 @@ returns-in_default c = λ n at.
     let p = c.args.at.now.program.now in
     let l = c.args.at.now.method.now in
     let is_trigger : n.trigger ≡ None = trigger_read l.nodes c.as_slice.result.now c.args.node n _ None c.as_slice.ensures at c.in_default.is in
-    makes_none c.args.tables.now (TriggerItem p l.method l n) c.args.steps.now.items (none_started p l n (untriggered p n is_trigger))
+    makes_none c.args.work.now.tables (TriggerItem p l.method l n) c.args.work.now.steps.items (none_started p l n (untriggered p n is_trigger))
 
 pub coded_initialisers-requires : goal.coded_initialisers-requires
 coded_initialisers-requires c =
@@ -37,11 +37,11 @@ returns-then-is_empty c = λ n at.
     let within = trigger_numbered p l c.requires.known.in_program c.args.node n at class is_trigger in
     let no_more : vec_len found ≡ 0 = eqb-true (vec_len found) 0 (sym c.is_empty.ensures ∙ c.if-is_empty.true) in
     let empty : length found.items ≡ 0 = omega (arith, found.ok, no_more) in
-    makes_none c.args.tables.now (TriggerItem p l.method l n) c.args.steps.now.items (none_started p l n (none_found p n class is_trigger within found.items c.in_ok-initialisers.ensures empty))
+    makes_none c.args.work.now.tables (TriggerItem p l.method l n) c.args.work.now.steps.items (none_started p l n (none_found p n class is_trigger within found.items c.in_ok-initialisers.ensures empty))
 
 pub loop-initialiser-init : goal.loop-initialiser-init
 loop-initialiser-init c = λ catch_chain stands.
-    makes_start (λ (i : MethodNo). IsStarted i catch_chain) c.catch_chain_of.new.tables c.deref-initialiser-items.result.now c.args.steps.now.items
+    makes_start (λ (i : MethodNo). IsStarted i catch_chain) c.catch_chain_of.new.tables c.deref-initialiser-items.result.now c.args.work.now.steps.items
 
 pub started_items-requires : goal.started_items-requires
 started_items-requires c =
@@ -52,19 +52,19 @@ started_items-requires c =
 pub loop-initialiser-preserved : goal.loop-initialiser-preserved
 loop-initialiser-preserved c = λ catch_chain stands.
     let made = c.loop-initialiser.invariant catch_chain stands in
-    makes_next_read (λ (i : MethodNo). IsStarted i catch_chain) c.catch_chain_of.new.tables c.loop-initialiser.tables c.started_items.new.tables c.deref-initialiser-items.result.now c.loop-initialiser.initialiser-index _
-    c.args.steps.now.items c.loop-initialiser.steps.items c.started_items.new.steps.items c.loop-initialiser-test.true made
+    makes_next_read (λ (i : MethodNo). IsStarted i catch_chain) c.catch_chain_of.new.tables c.loop-initialiser.work.tables c.started_items.new.work.tables c.deref-initialiser-items.result.now c.loop-initialiser.initialiser-index _
+    c.args.work.now.steps.items c.loop-initialiser.work.steps.items c.started_items.new.work.steps.items c.loop-initialiser-test.true made
     (c.in_ok-started_items.ensures catch_chain (made.grows.catch_chains c.in_ok-catch_chain.catch_chain.0 catch_chain stands))
 
 pub returns : goal.returns
 returns c = λ n at.
     let p = c.args.at.now.program.now in
     let l = c.args.at.now.method.now in
-    let one = c.args.tables.now in
+    let one = c.args.work.now.tables in
     let two = c.catch_chain_of.new.tables in
-    let three = c.loop-initialiser.tables in
-    let before = c.args.steps.now.items in
-    let after = c.loop-initialiser.steps.items in
+    let three = c.loop-initialiser.work.tables in
+    let before = c.args.work.now.steps.items in
+    let after = c.loop-initialiser.work.steps.items in
     let class = c.in-Some.class in
     let found = c.in_ok-initialisers.initialisers.items in
     let items = c.deref-initialiser-items.result.now in

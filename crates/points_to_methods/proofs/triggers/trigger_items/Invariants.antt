@@ -9,5 +9,5 @@ use Rattle.points_to_methods.proofs.triggers.trigger_items.Given as goal
 
 abbrev pub invariant-loop-initialiser : goal.invariant-loop-initialiser
 invariant-loop-initialiser l =
-    (catch_chain : CatchChain) → slice_get l.initial.tables.catch_chains l.catch_chain.0 ≡ Some catch_chain
-    → Makes l.initial.tables l.tables (OfOne (λ (i : MethodNo). IsStarted i catch_chain) (take l.initialiser-index l.initialiser-items)) l.fn.steps.items l.steps.items
+    (catch_chain : CatchChain) → slice_get l.initial.work.tables.catch_chains l.catch_chain.0 ≡ Some catch_chain
+    → Makes l.initial.work.tables l.work.tables (OfOne (λ (i : MethodNo). IsStarted i catch_chain) (take l.initialiser-index l.initialiser-items)) l.fn.work.steps.items l.work.steps.items

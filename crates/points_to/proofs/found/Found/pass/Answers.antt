@@ -9,18 +9,18 @@ use Rattle.points_to.proofs.found.Found.pass.Goals as goal
 
 pub returns-clause-adds : goal.returns-clause-adds
 returns-clause-adds c =
-    let n = c.args.self.now.tables in
+    let n = c.args.self.now.work.tables in
     let p = c.args.program.now in
     let constraint = c.args.constraint in
     let site = c.args.site in
     let adds = c.in_ok-lacks.ensures.adds in
-    adds_same c.pass.new.tables _ (IsPassed p n constraint site) c.args.steps.now.items c.pass.new.steps.items (passed_here p n constraint site c.requires.constraint.numbered c.requires.site)
+    adds_same c.pass.new.work.tables _ (IsPassed p n constraint site) c.args.self.now.work.steps.items c.pass.new.work.steps.items (passed_here p n constraint site c.requires.constraint.numbered c.requires.site)
     (adds c.requires.constraint.numbered.0 c.requires.site.0 c.requires.constraint.numbered.1 c.requires.site.1)
 
 pub returns-clause-lacks : goal.returns-clause-lacks
 returns-clause-lacks c =
-    let n = c.args.self.now.tables in
-    let m = c.pass.new.tables in
+    let n = c.args.self.now.work.tables in
+    let m = c.pass.new.work.tables in
     let p = c.args.program.now in
     let constraint = c.args.constraint in
     let site = c.args.site in

@@ -7,10 +7,10 @@ use Rattle.points_to.proofs.found.Found.pass_each.Given as goal
 
 abbrev pub invariant-loop-site : goal.invariant-loop-site
 invariant-loop-site l = record {
-  grows : Grows l.initial.self.tables l.self.tables;
-  calls : length l.self.tables.calls ≡ length l.initial.self.tables.calls;
-  answers : AreRight l.program l.self.tables l.self.answers;
-  adds : Adds l.self.tables (PassesSome l.program l.initial.self.tables l.constraint (take l.site-index l.sites)) l.initial.steps.items l.steps.items;
-  lacks : NotesCalls (LacksSome l.program l.initial.self.tables l.constraint (take l.site-index l.sites)) l.initial.self.refusals.call l.self.refusals.call;
+  grows : Grows l.initial.self.work.tables l.self.work.tables;
+  calls : length l.self.work.tables.calls ≡ length l.initial.self.work.tables.calls;
+  answers : AreRight l.program l.self.work.tables l.self.answers;
+  adds : Adds l.self.work.tables (PassesSome l.program l.initial.self.work.tables l.constraint (take l.site-index l.sites)) l.initial.self.work.steps.items l.self.work.steps.items;
+  lacks : NotesCalls (LacksSome l.program l.initial.self.work.tables l.constraint (take l.site-index l.sites)) l.initial.self.refusals.call l.self.refusals.call;
   method : l.self.refusals.method ≡ l.initial.self.refusals.method;
 }

@@ -7,10 +7,10 @@ use Rattle.points_to.proofs.found.Found.pass_to_each.Given as goal
 
 abbrev pub invariant-loop-constraint : goal.invariant-loop-constraint
 invariant-loop-constraint l = record {
-  grows : Grows l.initial.self.tables l.self.tables;
-  calls : length l.self.tables.calls ≡ length l.initial.self.tables.calls;
-  answers : AreRight l.program l.self.tables l.self.answers;
-  adds : Adds l.self.tables (PassesToSome l.program l.initial.self.tables (take l.constraint-index l.constraints) l.site) l.initial.steps.items l.steps.items;
-  lacks : NotesCalls (LacksForSome l.program l.initial.self.tables (take l.constraint-index l.constraints) l.site) l.initial.self.refusals.call l.self.refusals.call;
+  grows : Grows l.initial.self.work.tables l.self.work.tables;
+  calls : length l.self.work.tables.calls ≡ length l.initial.self.work.tables.calls;
+  answers : AreRight l.program l.self.work.tables l.self.answers;
+  adds : Adds l.self.work.tables (PassesToSome l.program l.initial.self.work.tables (take l.constraint-index l.constraints) l.site) l.initial.self.work.steps.items l.self.work.steps.items;
+  lacks : NotesCalls (LacksForSome l.program l.initial.self.work.tables (take l.constraint-index l.constraints) l.site) l.initial.self.refusals.call l.self.refusals.call;
   method : l.self.refusals.method ≡ l.initial.self.refusals.method;
 }
