@@ -60,7 +60,7 @@ pub fn call_number(calls: &IndexSet<NodeRef>, call: NodeRef) -> Option<usize>
     calls.get_index_of(&call)
 }
 
-/// Whether a site is among those of ascending numbers, by halving.
+/// Whether a site is among sites of ascending numbers, by halving.
 pub fn is_among(sites: &[SiteNo], site: SiteNo) -> bool
     requires { DoAscend site_number sites.now }
     ensures { IsTrue result ↔ Contains sites.now site }
