@@ -53,10 +53,10 @@ pub record IsNodeThere (methods : List LoweredMethod) (running : List MethodNo) 
   pub runs : Contains running m
   pub stands : Contains lowered.nodes n
 
--- The writes are those of the methods that may run, by their own nodes.
+-- The writes are what the nodes of methods that may run store to.
 pub record AreStores (methods : List LoweredMethod) (running : List MethodNo) (writes : List FieldWrite) : Type 0 where
   pub each : (m : MethodNo) (field : FieldNo) → Contains writes (record { method = m; field = field }) ↔ ((n : Node) × IsNodeThere methods running m n × StoresTo n field)
 
--- The edges are those of the methods that may run.
+-- The edges are what methods that may run call and start.
 pub record AreEdges (p : Program) (methods : List LoweredMethod) (s : Sets) (edges : List Edge) : Type 0 where
   pub each : (callee caller : MethodNo) → Contains edges (record { callee = callee; caller = caller }) ↔ ((n : Node) × IsNodeThere methods s.running.keys caller n × LeadsTo p s caller n callee)

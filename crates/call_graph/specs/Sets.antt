@@ -35,7 +35,7 @@ pub record AreSetsOf (n : Numbered) (items : List Item) (s : Sets) : Type 0 wher
   pub listed : AreListed s
   pub called : AreCalled s
 
--- The sets are those of one item more.
+-- The sets have one item more.
 pub record TakesItem (n : Numbered) (item : Item) (old new : Sets) : Type 0 where
   pub goes : (items : List Item) → AreSetsOf n items old → AreSetsOf n (items ++ item ∷ []) new
 

@@ -58,31 +58,23 @@ fn add_running(
     if !sets.running.contains(&method.method) {
         return Ok(());
     }
-    add_nodes(
-        alloc,
-        program,
-        method.method,
-        method.nodes.as_slice(),
-        sets,
-        edges,
-    )
+    add_nodes(alloc, program, method, sets, edges)
 }
 
-/// Adds that a method calls and starts what nodes of it lead to.
+/// Adds that a method calls and starts what its nodes lead to.
 fn add_nodes(
     alloc: Global,
     program: &Program,
-    method: MethodNo,
-    nodes: &[Node],
+    method: &LoweredMethod,
     sets: &Sets,
     edges: &mut IndexSet<Edge>,
 ) -> Result<(), AllocError>
-    requires { All (NamesNumbers program.now) nodes.now }
-    ensures { OnOk result (AreAdded (OfOne (IsEdgeOf program.now sets.now method) nodes.now) edges.old.keys edges.new.keys) }
+    requires { All (NamesNumbers program.now) method.now.nodes }
+    ensures { OnOk result (AreAdded (OfOne (IsEdgeOf program.now sets.now method.now.method) method.now.nodes) edges.old.keys edges.new.keys) }
 {
-    for node in nodes {
-        add_targets(method, node, sets, edges)?;
-        add_initialisers(alloc, program, method, node, edges)?;
+    for node in method.nodes.as_slice() {
+        add_targets(method.method, node, sets, edges)?;
+        add_initialisers(alloc, program, method.method, node, edges)?;
     }
     Ok(())
 }

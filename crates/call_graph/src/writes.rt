@@ -1,4 +1,4 @@
-//! The instance fields that methods may write: the least set that has their own writes, and with those of a method those of its callers.
+//! The instance fields that methods may write: the least set that has their own writes, and of each method the writes of its callees.
 
 ghost use Rattle.std.specs.Prelude.{IfOk, OnOk};
 ghost use Rattle.slot_names.specs.Branches.{Extends};

@@ -1,7 +1,4 @@
-use Rattle.std.proofs.Common.{List, subst}
 use Rattle.std.proofs.lemmas.Result.{on_ok_weaker}
-use Rattle.op_model.specs.declared.node.Node.{Node}
-use Rattle.ground.specs.Added.{AreAdded, OfOne}
 use Rattle.call_graph.specs.Edges.{IsEdgeOf}
 use Rattle.ground.proofs.ExactKeys.{same_methods, tells_methods}
 use Rattle.ground.proofs.KeySets.{is_there}
@@ -17,5 +14,5 @@ returns c =
     let b = c.add_nodes.new.edges.keys in
     let runs = (is_there same_methods tells_methods s.running.keys l.method c.contains.result c.contains.ensures).0 c.if-not-contains.false in
     on_ok_weaker c.add_nodes.result
-    (λ added. of_running s.running.keys of_node l runs a b (subst (λ (nodes : List Node). AreAdded (OfOne (of_node l.method) nodes) a b) c.as_slice.ensures added))
+    (λ added. of_running s.running.keys of_node l runs a b added)
     c.add_nodes.ensures
