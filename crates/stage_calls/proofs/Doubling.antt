@@ -14,7 +14,8 @@ use Rattle.stage_transfer.specs.Settings.{Setting, alike, among}
 use Rattle.stage_transfer.specs.Changes.{has_fields, unwritten, with_root}
 use Rattle.stage_transfer.specs.Calls.{Entering, is_handed_on, is_slot, joins, left_set, written_on}
 use Rattle.stage_transfer_laws.proofs.Members.{among_those, any_passes, in_filter, is_among, of_filter, one_passes}
-use Rattle.stage_transfer_laws.proofs.Paths.{has_it, in_set, is_path, it_has, of_set, path_is}
+use Rattle.access_paths.proofs.KeyOrders.{same_is_one}
+use Rattle.stage_transfer_laws.proofs.Paths.{has_it, in_set, is_path, it_has, of_set}
 use Rattle.stage_calls.specs.Testing.{doubles, holds_afterwards, is_doubled_slot, is_left_out_of}
 use Rattle.stage_calls.proofs.SlotTests.{one_test}
 
@@ -46,7 +47,7 @@ to_doubled w l n by target caller exit x slot any =
     let q = found.0 in
     let parts = and_parts (holds_afterwards w l n by slot q.root) _ found.2 in
     let more = and_parts _ (joins w by target q) parts.1 in
-    let same : with_root q.root x ≡ q = path_is (with_root q.root x) q more.0 in
+    let same : with_root q.root x ≡ q = same_is_one (with_root q.root x) q more.0 in
     let joined : Contains (set_of w by target caller exit) q =
     Contains-append_right (filter (handed by) exit) (filter (joins w by target) caller) q (in_filter (joins w by target) caller q found.1 more.1) in
     let has : has_path (left_set w by target caller exit) (with_root q.root x) ≡ true =

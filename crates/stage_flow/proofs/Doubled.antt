@@ -19,7 +19,8 @@ use Rattle.stage_transfer.specs.Changes.{Copy as CopyOf, begins_at, changed_set,
 use Rattle.stage_transfer.specs.Operations.{copies_of, loaded_fields, moved_by}
 use Rattle.stage_transfer_laws.proofs.Changed.{added, in_copied, of_changed, of_copied, staying}
 use Rattle.stage_transfer_laws.proofs.Members.{among_those, any_passes, in_filter, is_among, of_filter, of_flat_map, one_passes}
-use Rattle.stage_transfer_laws.proofs.Paths.{has_it, is_path, is_root, it_has, path_is, root_is}
+use Rattle.access_paths.proofs.KeyOrders.{same_is_one}
+use Rattle.stage_transfer_laws.proofs.Paths.{has_it, is_path, is_root, it_has, root_is}
 use Rattle.stage_flow.specs.declared.change.PathChange.{PathChange}
 use Rattle.stage_flow.specs.declared.gain.Gain.{Gain}
 use Rattle.stage_flow.specs.declared.gain.Gain.TheVariants.{Nothing, Copy, Hand, Moves, Load}
@@ -167,7 +168,7 @@ double_stands w l n code proper set x (Slot z) p (Slot y) is there may same =
     any_passes (has_by w l n code set x) (map Slot (filter (λ (k : ℕ). not (written k)) (alike w l n z))) (Slot y)
     (contains_map Slot (filter (λ (k : ℕ). not (written k)) (alike w l n z)) y (in_filter (λ (k : ℕ). not (written k)) (alike w l n z) y like parts.0))
     (it_has (after_of w l n code set) (with_root (Slot y) x)
-    (subst (λ (r : Path). Contains (after_of w l n code set) r) (path_is p (with_root (Slot y) x) same) (staying (change_of w l n code) set p there stays)))
+    (subst (λ (r : Path). Contains (after_of w l n code set) r) (same_is_one p (with_root (Slot y) x) same) (staying (change_of w l n code) set p there stays)))
 double_stands w l n code proper set x (Slot z) p (Static f) is there may same = absurd (false≢true may)
 double_stands w l n code proper set x (Slot z) p Returned is there may same = absurd (false≢true may)
 double_stands w l n code proper set x (Slot z) p Thrown is there may same = absurd (false≢true may)

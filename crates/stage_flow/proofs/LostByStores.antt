@@ -15,7 +15,8 @@ use Rattle.stage_transfer.specs.Operations.{field_of, is_short, is_stored_field,
 use Rattle.stage_transfer_laws.proofs.Alike.{alike_itself}
 use Rattle.stage_transfer_laws.proofs.Changed.{doubled_by, of_changed, staying}
 use Rattle.stage_transfer_laws.proofs.Members.{among_those, any_passes, in_filter, is_among, of_filter, one_passes}
-use Rattle.stage_transfer_laws.proofs.Paths.{has_it, is_path, it_has, path_is}
+use Rattle.access_paths.proofs.KeyOrders.{same_is_one}
+use Rattle.stage_transfer_laws.proofs.Paths.{has_it, is_path, it_has}
 use Rattle.stage_flow.specs.declared.store.FieldStore.{FieldStore}
 use Rattle.stage_flow.specs.Shapes.{is_double, is_like, may_double}
 use Rattle.stage_flow.specs.Stores.{all_slots, field_by, has_free, is_free, is_owner, is_own_field, loses_by, loses_root, loses_value, operands}
@@ -95,7 +96,7 @@ own_field w l n s x =
     (λ is.
     let parts = and_parts (is_owner w l n s.object x.root) (same_path x (field_by x.root s.field)) is in
     let own = own_root w l n s.object x.root parts.0 in
-    let same : field_of own.0 s.field ≡ x = (λ i. field_by (sym own.1 i) s.field) ∙ sym (path_is x (field_by x.root s.field) parts.1) in
+    let same : field_of own.0 s.field ≡ x = (λ i. field_by (sym own.1 i) s.field) ∙ sym (same_is_one x (field_by x.root s.field) parts.1) in
     it_has (map (λ (z : ℕ). field_of z s.field) (alike w l n s.object)) x
     (subst (λ (p : Path). Contains (map (λ (z : ℕ). field_of z s.field) (alike w l n s.object)) p) same
     (contains_map (λ (z : ℕ). field_of z s.field) (alike w l n s.object) own.0
@@ -125,7 +126,7 @@ module _ (w : Setting) (l : LoweredMethod) (n : Node) (s : FieldStore) (set : Li
   stands_doubled y passes any =
       let found = one_passes (is_double w l n (operands s) y) set any in
       let parts = and_parts (may_double w l n (operands s) y.root found.0.root) (same_path found.0 (with_root found.0.root y)) found.2 in
-      let same = path_is found.0 (with_root found.0.root y) parts.1 in
+      let same = same_is_one found.0 (with_root found.0.root y) parts.1 in
       let old : OldPath s.field set found.0 =
       record { listed = found.1; passes = ap (λ (p : Path). passes_field s.field p) same ∙ passes } in
       doubled_there y found.0.root (of_may_double w l n (operands s) y.root found.0.root parts.0)
