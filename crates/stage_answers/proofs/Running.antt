@@ -143,6 +143,45 @@ module _ {F : Type 0} (I J : List F → F → Type 0) (P : F → Type 0) (keeps 
   pub derivable_kept : (fact : F) → IsDerivable I fact → IsDerivable J fact
   derivable_kept fact d = (d.0, derivation_kept (d.0 ++ fact ∷ []) d.1)
 
+-- ---- verdicts of a stage, by instances that go over
+
+module _ (x : Subject) (S : Fact → Type 0) (w : Setting) (limit : ℕ) (from to : GivenAs) (runs : IsClosedSet (StageInstance x from S w) (Runs S))
+    (over : (premises : List Edge) (edge : Edge) → Hold (Runs S) premises → StageInstance x from S w premises edge → StageInstance x to S w premises edge) where
+  abbrev From : List Edge → Edge → Type 0
+  From = StageInstance x from S w
+
+  abbrev To : List Edge → Edge → Type 0
+  To = StageInstance x to S w
+
+  over_all : (edges : List Edge) → All (IsDerivable From) edges → All (IsDerivable To) edges
+  over_all edges = All-weaker (IsDerivable From) (IsDerivable To) (derivable_kept From To (Runs S) runs over) edges
+
+  pub safe_over : ((premises : List Edge) (edge : Edge) → Hold (Runs S) premises → To premises edge → From premises edge) → IsSafeBelow x from S w limit
+      → IsSafeBelow x to S w limit
+  safe_over back is =
+      let all : All (Runs S) is.edges = All-weaker (IsDerivable From) (Runs S) (λ e d. derivable_in_closed From (Runs S) e d runs) is.edges is.are.least.derivable in
+      record {
+        setting = is.setting;
+        edges = is.edges;
+        are = record {
+          least = record {
+            closed = λ premises edge instance hold.
+                is.are.least.closed premises edge
+                (back premises edge (Hold-larger (Contains is.edges) (Runs S) (λ e there. All-contains (Runs S) is.edges e all there) premises hold) instance) hold;
+            derivable = over_all is.edges is.are.least.derivable;
+          };
+          apart = is.are.apart;
+        };
+        few = is.few;
+        no_error = is.no_error;
+      }
+
+  pub limit_over : IsAtLimit x from S w limit → IsAtLimit x to S w limit
+  limit_over is = record {
+    setting = is.setting;
+    many = record { facts = is.many.facts; derivable = over_all is.many.facts is.many.derivable; apart = is.many.apart; count = is.many.count };
+  }
+
 -- ---- the same edges by two suppliers
 
 module _ (x : Subject) (S : Fact → Type 0) (base listed : GivenAs) (closed : IsClosedSet (AnyInstance x.program base (record { 0 = x.entry })) S)
@@ -165,56 +204,14 @@ module _ (x : Subject) (S : Fact → Type 0) (base listed : GivenAs) (closed : I
   listed_runs : IsClosedSet Listed (Runs S)
   listed_runs premises edge instance hold = base_runs premises edge (into_base premises edge hold instance) hold
 
-  module _ (limit : ℕ) where
-    pub safe_in_base : IsSafeBelow x listed S w limit → IsSafeBelow x base S w limit
-    safe_in_base is =
-        let all : All (Runs S) is.edges = All-weaker (IsDerivable Listed) (Runs S) (λ e d. derivable_in_closed Listed (Runs S) e d listed_runs) is.edges is.are.least.derivable in
-        record {
-          setting = is.setting;
-          edges = is.edges;
-          are = record {
-            least = record {
-              closed = λ premises edge instance hold.
-                  is.are.least.closed premises edge
-                  (into_listed premises edge (Hold-larger (Contains is.edges) (Runs S) (λ e there. All-contains (Runs S) is.edges e all there) premises hold) instance) hold;
-              derivable = All-weaker (IsDerivable Listed) (IsDerivable Base) (derivable_kept Listed Base (Runs S) listed_runs into_base) is.edges is.are.least.derivable;
-            };
-            apart = is.are.apart;
-          };
-          few = is.few;
-          no_error = is.no_error;
-        }
+  pub safe_in_base : (limit : ℕ) → IsSafeBelow x listed S w limit → IsSafeBelow x base S w limit
+  safe_in_base limit = safe_over x S w limit listed base listed_runs into_base into_listed
 
-    pub safe_in_listed : IsSafeBelow x base S w limit → IsSafeBelow x listed S w limit
-    safe_in_listed is =
-        let all : All (Runs S) is.edges = All-weaker (IsDerivable Base) (Runs S) (λ e d. derivable_in_closed Base (Runs S) e d base_runs) is.edges is.are.least.derivable in
-        record {
-          setting = is.setting;
-          edges = is.edges;
-          are = record {
-            least = record {
-              closed = λ premises edge instance hold.
-                  is.are.least.closed premises edge
-                  (into_base premises edge (Hold-larger (Contains is.edges) (Runs S) (λ e there. All-contains (Runs S) is.edges e all there) premises hold) instance) hold;
-              derivable = All-weaker (IsDerivable Base) (IsDerivable Listed) (derivable_kept Base Listed (Runs S) base_runs into_listed) is.edges is.are.least.derivable;
-            };
-            apart = is.are.apart;
-          };
-          few = is.few;
-          no_error = is.no_error;
-        }
+  pub safe_in_listed : (limit : ℕ) → IsSafeBelow x base S w limit → IsSafeBelow x listed S w limit
+  safe_in_listed limit = safe_over x S w limit base listed base_runs into_listed into_base
 
-    many_over : (I J : List Edge → Edge → Type 0) → ((e : Edge) → IsDerivable I e → IsDerivable J e) → HasAtLeast I (λ (e : Edge). Some e) limit
-        → HasAtLeast J (λ (e : Edge). Some e) limit
-    many_over I J over many = record {
-      facts = many.facts;
-      derivable = All-weaker (IsDerivable I) (IsDerivable J) over many.facts many.derivable;
-      apart = many.apart;
-      count = many.count;
-    }
+  pub limit_in_base : (limit : ℕ) → IsAtLimit x listed S w limit → IsAtLimit x base S w limit
+  limit_in_base limit = limit_over x S w limit listed base listed_runs into_base
 
-    pub limit_in_base : IsAtLimit x listed S w limit → IsAtLimit x base S w limit
-    limit_in_base is = record { setting = is.setting; many = many_over Listed Base (derivable_kept Listed Base (Runs S) listed_runs into_base) is.many }
-
-    pub limit_in_listed : IsAtLimit x base S w limit → IsAtLimit x listed S w limit
-    limit_in_listed is = record { setting = is.setting; many = many_over Base Listed (derivable_kept Base Listed (Runs S) base_runs into_listed) is.many }
+  pub limit_in_listed : (limit : ℕ) → IsAtLimit x base S w limit → IsAtLimit x listed S w limit
+  limit_in_listed limit = limit_over x S w limit base listed base_runs into_listed
