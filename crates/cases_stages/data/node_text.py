@@ -87,11 +87,12 @@ class Constant:
 
 @dataclass
 class Call:
-    """A call: its resolved method, the target if no object is needed for it, and the slots of its units; None for a
-    primitive."""
+    """A call: its resolved method, the target if no object is needed for it, the name and the descriptor in the
+    instruction, and the slots of its units; None for a primitive."""
     kind: str
     resolved: str
     chosen: Optional[str]
+    named: str
     arguments: list[Optional[int]]
     result: Optional[int]
 
@@ -215,13 +216,15 @@ def read_moves(words: Words) -> Moves:
 def read_call(words: Words) -> Call:
     kind, resolved = words.next(), words.next()
     chosen = words.next() if words.takes("chosen") else None
-    words.next(), words.next()  # the name in the instruction
+    words.takes("named")
+    named = words.next()
     arguments: list[Optional[int]] = []
     if words.takes("args"):
         while words.peek() == "." or (words.peek() or "").isdecimal():
             word = words.next()
             arguments.append(None if word == "." else int(word))
-    return Call(kind, resolved, chosen, arguments, words.named("result") if words.peek() == "result" else None)
+    result = words.named("result") if words.peek() == "result" else None
+    return Call(kind, resolved, chosen, named, arguments, result)
 
 
 def read_load(words: Words) -> Operation:

@@ -1,10 +1,13 @@
-//! The program of the files of a case.
+//! The program of the files of a case, or why there is none, or no solution.
 
 use crate::members::{Members, members_of};
-use anyhow::Result;
+use anyhow::{Result, bail};
 use cases_files::{CaseFailure, is_refusal, link_case, read_all_stubs, read_files};
+use failure::Failure;
+use jvm_model::reason_word;
+use points_to_rules::{SolveFailure, SolveFault};
 use program_model::program::Program;
-use std::alloc::Global;
+use std::alloc::{AllocError, Global};
 use ts_outside::Tree;
 
 /// The program of a case, and the members of its classes.
@@ -30,4 +33,23 @@ pub fn tell_failure<R: Print>(rt: &R, failure: CaseFailure) -> Result<()> {
         return Ok(());
     }
     Err(failure.into())
+}
+
+/// Prints why a program has no solution of the points-to analysis. Want of memory is handed on.
+pub fn tell_end<R: Print>(rt: &R, failure: SolveFailure) -> Result<()> {
+    match failure {
+        Failure::Cause(SolveFault::PairLimit(limit)) => {
+            println!(rt; "end limit {limit}")?;
+            Ok(())
+        }
+        Failure::Cause(SolveFault::Refused(refusal)) => {
+            let file = refusal.file.as_str();
+            let offset = refusal.offset;
+            let reason = reason_word(refusal.reason);
+            println!(rt; "end refused {file} {offset} {reason}")?;
+            Ok(())
+        }
+        Failure::Cause(SolveFault::TooMany) => bail!("there is too much to number"),
+        Failure::OutOfMemory => Err(AllocError.into()),
+    }
 }

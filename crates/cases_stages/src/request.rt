@@ -12,6 +12,8 @@ pub enum Kind {
     Nodes,
     /// The points-to sets.
     Sets,
+    /// The path edges.
+    Edges,
 }
 
 /// How much of the points-to sets is printed.
@@ -57,6 +59,7 @@ pub fn request_of(alloc: Global, words: &[String]) -> Result<Option<Request>> {
         ("links", 2) => cases(alloc, Kind::Links, words[1].as_str()),
         ("nodes", 2) => cases(alloc, Kind::Nodes, words[1].as_str()),
         ("sets", 2) => cases(alloc, Kind::Sets, words[1].as_str()),
+        ("edges", 2) => cases(alloc, Kind::Edges, words[1].as_str()),
         ("sets", 3 | 4) => one(alloc, &words[1..], Amount::Everything),
         ("counts", 3 | 4) => one(alloc, &words[1..], Amount::Counts),
         _ => Ok(None),

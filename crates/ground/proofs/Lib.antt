@@ -14,5 +14,6 @@ pub mod Fronts
 pub mod Adding
 mod AscendingNumbers
 mod PutInOrder
+mod ThrownPlaces
 mod NodePlaces
 mod LoneSites

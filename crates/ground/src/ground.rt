@@ -6,9 +6,11 @@ ghost use Rattle.jvm_model.specs.declared.number.SiteNo.{SiteNo as RuleSiteNo};
 ghost use Rattle.jvm_model.specs.declared.site.Site.{Site as RuleSite};
 ghost use Rattle.program_model.specs.Numbers.{IsMethodNumber};
 ghost use Rattle.op_model.specs.declared.lowered.LoweredMethod.{LoweredMethod as RuleMethod};
+ghost use Rattle.op_model.specs.declared.node.Node.{Node as RuleNode};
 ghost use Rattle.op_model.specs.declared.node.NodeRef.{NodeRef as RuleNodeRef};
+ghost use Rattle.slot_names.specs.Variables.{IsVariable};
 ghost use Rattle.least_sets.specs.Rules.{IsWithoutDoubles};
-ghost use Rattle.points_to_rules.specs.Facts.{Holder, may_call, may_hold, may_run, may_write, variable as variable_holder};
+ghost use Rattle.points_to_rules.specs.Facts.{Holder, may_call, may_hold, may_run, may_write, thrown_by, variable as variable_holder};
 ghost use Rattle.points_to_rules.specs.Places.{IsHolderIn};
 ghost use Rattle.points_to_rules.specs.WholeMethods.{IsWholeMethod};
 ghost use Rattle.ground.specs.declared.lists.FieldWrite.{FieldWrite as RuleWrite};
@@ -168,6 +170,16 @@ impl<'p> Ground<'p> {
         *self.lists.places.get_index(place.0 as usize).unwrap()
     }
 
+    /// The variable of a slot at a node.
+    pub fn variable(&self, at: NodePlace, slot: u32) -> Variable
+        requires { HasNode self.now at }
+        ensures { (l : RuleMethod) (n : RuleNode) → slice_get self.now.methods at.method ≡ Some l → slice_get l.nodes at.node ≡ Some n → IsVariable l n slot result }
+    {
+        let named = &self.lists.methods[at.method];
+        let node = place_number(&named.method, at.node);
+        named.names.variable(node, slot)
+    }
+
     /// The place of a slot at a node; `None` where nothing is known of it, so that it refers to no object.
     pub fn place_of_slot(&self, at: NodePlace, slot: u32) -> Option<PlaceNo>
         requires { HasNode self.now at }
@@ -175,9 +187,8 @@ impl<'p> Ground<'p> {
         ensures found { IfSome result (λ place. (h : Holder) → IsSlotOf self.now at slot h → slice_get self.now.holders place.0 ≡ Some h) }
         ensures none { IfNone result ((h : Holder) → IsSlotOf self.now at slot h → AreSitesOf self.now h []) }
     {
-        let named = &self.lists.methods[at.method];
-        let node = place_number(&named.method, at.node);
-        self.place_with(named.names.variable(node, slot))
+        self.well_formed();
+        self.place_with(self.variable(at, slot))
     }
 
     /// The place of a variable.
@@ -211,6 +222,19 @@ impl<'p> Ground<'p> {
     {
         match self.place_of_slot(at, slot) {
             Some(place) => self.sites_at(place),
+            None => &[],
+        }
+    }
+
+    /// The sites of the objects that a method may throw, in the order of their numbers.
+    pub fn sites_thrown_by(&self, method: MethodNo) -> &[SiteNo]
+        ensures sites { AreSitesOf self.now (thrown_by method) result.now }
+        ensures ascend { DoAscend site_number result.now }
+        ensures within { (site : RuleSiteNo) → Contains result.now site → site.0 < length self.now.sites }
+    {
+        let _count = self.lists.places.len();
+        match self.lists.places.get_index_of(&Place::Thrown(method)) {
+            Some(number) => self.sites_at(PlaceNo(number as u32)),
             None => &[],
         }
     }

@@ -1,7 +1,7 @@
 -- What constraints make of objects, when the tables have grown: the numbers that were there stand for the same.
-use Rattle.std.proofs.Common.{◌≡◌, ◌↔◌, ℕ, ◌+◌, ◌<◌, List, Option, Some, length, take, get_or, sym, ◌∙◌, subst}
+use Rattle.std.proofs.Common.{◌≡◌, ◌↔◌, ℕ, ◌+◌, ◌<◌, ◌≤◌, List, Option, Some, length, take, get_or, refl, sym, ◌∙◌, subst}
 use Rattle.std.specs.List.{slice_get}
-use Rattle.std.proofs.lemmas.List.{get_or_default}
+use Rattle.std.proofs.lemmas.List.{get_or_default, take_all}
 use Rattle.std.proofs.lemmas.Option.{same_Some}
 use Rattle.jvm_model.specs.declared.number.SiteNo.{SiteNo}
 use Rattle.jvm_model.specs.declared.reason.Reason.{Reason}
@@ -9,14 +9,16 @@ use Rattle.jvm_model.specs.declared.site.Site.{Site}
 use Rattle.jvm_model.specs.Programs.{Program}
 use Rattle.points_to_constraints.specs.ItemRules.{Passed}
 use Rattle.points_to_constraints.specs.Items.{Constraint as ItemConstraint, dispatch, Item as RuleItem}
-use Rattle.points_to_numbers.specs.declared.item.Item.{Item}
+use Rattle.points_to_calls.specs.KeptAnswers.{AreRight}
 use Rattle.points_to_numbers.specs.declared.keys.ConstraintNo.{ConstraintNo}
 use Rattle.points_to_numbers.specs.Numbered.{Numbered, Extends, Grows, IsNumbered}
 use Rattle.points_to_numbers.specs.Steps.{Adds}
-use Rattle.points_to_numbers.proofs.Adding.{adds_same, adds_next}
+use Rattle.points_to_numbers.proofs.Adding.{adds_next, adds_same, adds_start, OfOne}
+use Rattle.points_to_numbers.proofs.Growing.{grows_on, grows_same}
+use Rattle.points_to.specs.declared.found.Found.{Found}
 use Rattle.points_to.specs.declared.refusals.RefusedCall.{RefusedCall}
-use Rattle.points_to.specs.Passing.{IsKnownConstraint, SelectsAt, IsPassed, IsLackOf, NotesReason, NotesCalls, PassesToSome, PassesSome, LacksForSome, LacksSome}
-use Rattle.points_to.proofs.Noting.{calls_same, calls_next}
+use Rattle.points_to.specs.Passing.{IsKnownConstraint, SelectsAt, IsPassed, IsLackOf, NotesReason, NotesCalls}
+use Rattle.points_to.proofs.Noting.{calls_next, calls_same, calls_start, OfSome}
 
 -- what stands at a number that was there before
 stood_before : {X : Type 0} (old new : List X) → Extends old new → (k : ℕ) → IsNumbered old k → (x : X) → slice_get new k ≡ Some x → slice_get old k ≡ Some x
@@ -66,33 +68,57 @@ still_known p n m grows constraint known = record {
   resolved = λ call selects. known.resolved call (stood_before n.constraints m.constraints grows.constraints constraint.0 known.numbered (dispatch call) selects);
 }
 
--- ---- one more of several constraints, or sites
+-- ---- several constraints, or several sites
 
-module _ (p : Program) (n m o : Numbered) (grows : Grows n m) (more : Grows m o) where
-  pub to_each_more : (constraints : List ConstraintNo) (site : SiteNo) (i : ℕ) (d : ConstraintNo) (a b c : List Item) → i < length constraints → IsNumbered n.constraints (get_or constraints i d).0 → IsNumbered n.sites site.0
-      → Adds m (PassesToSome p n (take i constraints) site) a b → Adds o (IsPassed p m (get_or constraints i d) site) b c → Adds o (PassesToSome p n (take (i + 1) constraints) site) a c
-  to_each_more constraints site i d a b c l known_constraint known_site before now =
-      let constraint = get_or constraints i d in
-      adds_next (λ (u : ConstraintNo) (x : RuleItem). IsPassed p n u site x) m o constraints i constraint a b c l (get_or_default constraints i d constraint l) before more
-      (adds_same o (IsPassed p m constraint site) (IsPassed p n constraint site) b c (passed_before n m grows constraint known_constraint p site known_site) now)
+-- The constraint got the object.
+pub record IsPassedOn (p : Program) (constraint : ConstraintNo) (site : SiteNo) (old new : Found) : Type 0 where
+  pub grows : Grows old.work.tables new.work.tables
+  pub calls : length new.work.tables.calls ≡ length old.work.tables.calls
+  pub answers : AreRight p new.work.tables new.answers
+  pub adds : Adds new.work.tables (IsPassed p old.work.tables constraint site) old.work.steps.items new.work.steps.items
+  pub lacks : NotesCalls (IsLackOf p old.work.tables constraint site) old.refusals.call new.refusals.call
+  pub method : new.refusals.method ≡ old.refusals.method
 
-  pub each_more : (constraint : ConstraintNo) (sites : List SiteNo) (i : ℕ) (d : SiteNo) (a b c : List Item) → i < length sites → IsNumbered n.constraints constraint.0 → IsNumbered n.sites (get_or sites i d).0
-      → Adds m (PassesSome p n constraint (take i sites)) a b → Adds o (IsPassed p m constraint (get_or sites i d)) b c → Adds o (PassesSome p n constraint (take (i + 1) sites)) a c
-  each_more constraint sites i d a b c l known_constraint known_site before now =
-      let site = get_or sites i d in
-      adds_next (λ (s : SiteNo) (x : RuleItem). IsPassed p n constraint s x) m o sites i site a b c l (get_or_default sites i d site l) before more
-      (adds_same o (IsPassed p m constraint site) (IsPassed p n constraint site) b c (passed_before n m grows constraint known_constraint p site known_site) now)
+-- The constraint of each got the object of its site.
+pub record ArePassedOn {K : Type 0} (p : Program) (constraint : K → ConstraintNo) (site : K → SiteNo) (ks : List K) (old new : Found) : Type 0 where
+  pub grows : Grows old.work.tables new.work.tables
+  pub calls : length new.work.tables.calls ≡ length old.work.tables.calls
+  pub answers : AreRight p new.work.tables new.answers
+  pub adds : Adds new.work.tables (OfOne (λ (k : K) (x : RuleItem). IsPassed p old.work.tables (constraint k) (site k) x) ks) old.work.steps.items new.work.steps.items
+  pub lacks : NotesCalls (OfSome (λ (k : K) (c : RefusedCall). IsLackOf p old.work.tables (constraint k) (site k) c) ks) old.refusals.call new.refusals.call
+  pub method : new.refusals.method ≡ old.refusals.method
 
-  pub to_each_lacks : (constraints : List ConstraintNo) (site : SiteNo) (i : ℕ) (d : ConstraintNo) (a b c : Option RefusedCall) → i < length constraints → IsNumbered n.constraints (get_or constraints i d).0 → IsNumbered n.sites site.0
-      → NotesCalls (LacksForSome p n (take i constraints) site) a b → NotesCalls (IsLackOf p m (get_or constraints i d) site) b c → NotesCalls (LacksForSome p n (take (i + 1) constraints) site) a c
-  to_each_lacks constraints site i d a b c l known_constraint known_site before now =
-      let constraint = get_or constraints i d in
-      calls_next (λ (u : ConstraintNo) (x : RefusedCall). IsLackOf p n u site x) constraints i constraint a b c l (get_or_default constraints i d constraint l) before
-      (calls_same (IsLackOf p m constraint site) (IsLackOf p n constraint site) b c (lack_before n m grows constraint known_constraint p site known_site) now)
+module _ {K : Type 0} (p : Program) (constraint : K → ConstraintNo) (site : K → SiteNo) (ks : List K) where
+  pub passed_none : (old : Found) → AreRight p old.work.tables old.answers → ArePassedOn p constraint site (take 0 ks) old old
+  passed_none old right = record {
+    grows = grows_same old.work.tables;
+    calls = refl;
+    answers = right;
+    adds = adds_start (λ (k : K) (x : RuleItem). IsPassed p old.work.tables (constraint k) (site k) x) old.work.tables ks old.work.steps.items;
+    lacks = calls_start (λ (k : K) (c : RefusedCall). IsLackOf p old.work.tables (constraint k) (site k) c) ks old.refusals.call;
+    method = refl;
+  }
 
-  pub each_lacks : (constraint : ConstraintNo) (sites : List SiteNo) (i : ℕ) (d : SiteNo) (a b c : Option RefusedCall) → i < length sites → IsNumbered n.constraints constraint.0 → IsNumbered n.sites (get_or sites i d).0
-      → NotesCalls (LacksSome p n constraint (take i sites)) a b → NotesCalls (IsLackOf p m constraint (get_or sites i d)) b c → NotesCalls (LacksSome p n constraint (take (i + 1) sites)) a c
-  each_lacks constraint sites i d a b c l known_constraint known_site before now =
-      let site = get_or sites i d in
-      calls_next (λ (s : SiteNo) (x : RefusedCall). IsLackOf p n constraint s x) sites i site a b c l (get_or_default sites i d site l) before
-      (calls_same (IsLackOf p m constraint site) (IsLackOf p n constraint site) b c (lack_before n m grows constraint known_constraint p site known_site) now)
+  -- one more
+  pub passed_next : (i : ℕ) (d : K) (a b c : Found) → i < length ks → IsNumbered a.work.tables.constraints (constraint (get_or ks i d)).0 → IsNumbered a.work.tables.sites (site (get_or ks i d)).0
+      → ArePassedOn p constraint site (take i ks) a b → IsPassedOn p (constraint (get_or ks i d)) (site (get_or ks i d)) b c → ArePassedOn p constraint site (take (i + 1) ks) a c
+  passed_next i d a b c within known_constraint known_site before now =
+      let k = get_or ks i d in
+      let n = a.work.tables in
+      let m = b.work.tables in
+      let o = c.work.tables in
+      let adds = adds_same o (IsPassed p m (constraint k) (site k)) (IsPassed p n (constraint k) (site k)) b.work.steps.items c.work.steps.items
+      (passed_before n m before.grows (constraint k) known_constraint p (site k) known_site) now.adds in
+      let lacks = calls_same (IsLackOf p m (constraint k) (site k)) (IsLackOf p n (constraint k) (site k)) b.refusals.call c.refusals.call
+      (lack_before n m before.grows (constraint k) known_constraint p (site k) known_site) now.lacks in
+      record {
+        grows = grows_on n m o before.grows now.grows;
+        calls = now.calls ∙ before.calls;
+        answers = now.answers;
+        adds = adds_next (λ (k : K) (x : RuleItem). IsPassed p n (constraint k) (site k) x) m o ks i k a.work.steps.items b.work.steps.items c.work.steps.items within (get_or_default ks i d k within) before.adds now.grows adds;
+        lacks = calls_next (λ (k : K) (c : RefusedCall). IsLackOf p n (constraint k) (site k) c) ks i k a.refusals.call b.refusals.call c.refusals.call within (get_or_default ks i d k within) before.lacks lacks;
+        method = now.method ∙ before.method;
+      }
+
+  pub passed_all : (i : ℕ) (a b : Found) → length ks ≤ i → ArePassedOn p constraint site (take i ks) a b → ArePassedOn p constraint site ks a b
+  passed_all i a b past passed = subst (λ (all : List K). ArePassedOn p constraint site all a b) (take_all i ks past) passed

@@ -1,19 +1,10 @@
 -- Where exceptions go, by the entry of a catch chain.
-use Rattle.std.proofs.Common.{◌≡◌, ◌↔◌, ℕ, false, ◌+◌, ◌<◌, get_or, drop, List, [], ◌∷◌, Some, length, refl, sym, ap, ◌∙◌, subst, inl, inr}
+use Rattle.std.proofs.Common.{◌≡◌, ℕ, ◌+◌, ◌<◌, get_or, drop, List, [], ◌∷◌, Some, length, refl, sym, ap, ◌∙◌, subst, inl, inr}
 use Rattle.std.specs.List.{slice_get, AllZip}
 use Rattle.std.proofs.lemmas.List.{drop_more}
-use Rattle.std.proofs.lemmas.Bool.{false≢true}
-use Rattle.std.proofs.lemmas.Option.{none-some, same_Some, slice_get_within}
-use Rattle.jvm_model.specs.declared.number.ClassNo.{ClassNo}
-use Rattle.jvm_model.specs.LinkedPrograms.{IsProgram}
-use Rattle.jvm_model.specs.Programs.{Class, Program}
-use Rattle.jvm_model.specs.Soundness.{is_array}
-use Rattle.jvm_model.specs.Subtypes.{Fits, by_class, by_array, by_itself, by_elements, IsSubtype, class_named}
-use Rattle.hierarchy.proofs.ClassNames.{class_plain}
+use Rattle.jvm_model.specs.Programs.{Program}
 use Rattle.op_model.specs.declared.node.NodeHandler.{NodeHandler}
-use Rattle.machine_nodes.specs.NodeSteps.{Takes, all, fitting}
-use Rattle.program_model.specs.Numbers.{name_at}
-use Rattle.hierarchy.proofs.ClassPlaces.{name_at-at, class_there}
+use Rattle.machine_nodes.specs.NodeSteps.{Takes}
 use Rattle.points_to_rules.specs.Facts.{Holder}
 use Rattle.points_to_constraints.specs.CallItems.{LandsIn}
 use Rattle.points_to_constraints.specs.Items.{CatchClause as ItemCatchClause, CatchChain as ItemCatchChain}
@@ -22,27 +13,6 @@ use Rattle.points_to_numbers.specs.declared.entries.CatchChain.{CatchChain}
 use Rattle.points_to_rules.specs.declared.place.PlaceNo.{PlaceNo}
 use Rattle.points_to_numbers.specs.Numbered.{Numbered, IsCatchClauseAt, IsCatchChainAt}
 use Rattle.points_to_calls.specs.Parts.{GoesTo, IsCatchChainPlace}
-
--- ---- what a handler takes
-
--- a handler of a class takes what fits it
-pub takes_fitting : (p : Program) (h : NodeHandler) (c : ClassNo) (class : List ℕ) → h.catch ≡ Some c → c.0 < length p.classes → Fits p (name_at p c.0) class → Takes p h class
-takes_fitting p h c class caught within fits =
-    let (k, stands) = class_there p c.0 within in
-    fitting c (name_at p c.0) caught (record { class = k; stands = stands; named = sym (name_at-at p c.0 k stands) }) fits
-
-pub fits_taken : (p : Program) (h : NodeHandler) (c : ClassNo) (class : List ℕ) → h.catch ≡ Some c → Takes p h class → Fits p (name_at p c.0) class
-fits_taken p h c class caught (all none) = absurd (none-some c (sym none ∙ caught))
-fits_taken p h c class caught (fitting d name is number fits) =
-    let same = same_Some d c (sym is ∙ caught) in
-    subst (λ (n : List ℕ). Fits p n class) (sym number.named ∙ sym (name_at-at p d.0 number.class number.stands) ∙ ap (λ (e : ClassNo). name_at p e.0) same) fits
-
--- the class that a handler takes is one of the program
-pub taken_within : (p : Program) (h : NodeHandler) (c : ClassNo) (class : List ℕ) → h.catch ≡ Some c → Takes p h class → c.0 < length p.classes
-taken_within p h c class caught (all none) = absurd (none-some c (sym none ∙ caught))
-taken_within p h c class caught (fitting d name is number fits) =
-    let same = same_Some d c (sym is ∙ caught) in
-    subst (λ (e : ClassNo). e.0 < length p.classes) same (slice_get_within p.classes d.0 number.class number.stands)
 
 -- ---- where an exception goes
 
@@ -88,16 +58,3 @@ goes_later p class catch_clauses xs i d outside to same within passes later =
     let a = get_or xs i d in
     let next : drop i catch_clauses ≡ a ∷ drop (i + 1) catch_clauses = drop_more catch_clauses i d within ∙ ap (λ (ys : List CatchClause). get_or ys i d ∷ drop (i + 1) catch_clauses) (sym same) in
     subst (λ (ys : List CatchClause). GoesTo p class ys outside to) (sym next) (inr (passes, later))
-
--- an object of a class of the program fits just the classes that are its own or above it
-pub fits_above : (p : Program) → IsProgram p → (upper lower : List ℕ) (c : Class) → class_named p lower ≡ Some c → IsSubtype p upper lower ↔ Fits p upper lower
-fits_above p program upper lower c named = ((λ above. by_class upper lower c named above), (λ fits. by fits))
-  where
-    plain : is_array lower ≡ false
-    plain = class_plain p program lower c named
-
-    by : Fits p upper lower → IsSubtype p upper lower
-    by (by_class u l d there above) = above
-    by (by_array u l array super) = absurd (false≢true (sym plain ∙ array))
-    by (by_itself u l array same) = absurd (false≢true (sym plain ∙ array))
-    by (by_elements u l above below u_is l_is fit) = absurd (false≢true (sym plain ∙ ap is_array l_is))

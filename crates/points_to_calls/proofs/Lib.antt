@@ -5,7 +5,6 @@
 pub mod CallParts
 pub mod CatchChain
 pub mod Origins
-pub mod ArgumentUnits
 pub mod PassedUnits
 pub mod Stubs
 pub mod CallParted

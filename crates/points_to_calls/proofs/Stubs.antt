@@ -22,7 +22,7 @@ use Rattle.points_to_calls.specs.declared.origin.Origin.TheVariants as origins
 use Rattle.points_to_calls.specs.Describing.{origin_of_unit, IsReceiverAt, IsOriginFor}
 use Rattle.points_to_calls.specs.Parts.{RuleOrigin, unit, made, fitting, ArgumentGives, ResultGives}
 use Rattle.points_to_numbers.specs.Steps.{Makes}
-use Rattle.points_to_calls.specs.Units.{IsArgumentUnit}
+use Rattle.stub_arguments.specs.Units.{IsArgumentUnit}
 use Rattle.points_to_numbers.proofs.Making.{makes_none, makes_same}
 
 -- what the clauses of a call give together of its answer

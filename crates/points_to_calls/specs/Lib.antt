@@ -1,7 +1,6 @@
 pub mod Lacks
 pub mod Parts
 pub mod Giving
-pub mod Units
 pub mod Describing
 pub mod Constraints
 pub mod Selecting

@@ -1,15 +1,11 @@
 //! Where exceptions go.
 
-ghost use Rattle.std.specs.Prelude.{◌≡◌, ◌↔◌, ℕ, List, Some, slice_get, IfSome, IsTrue};
-ghost use Rattle.program_model.specs.Numbers.{name_at, IsClassNumber};
-ghost use Rattle.machine_nodes.specs.NodeSteps.{Takes};
+ghost use Rattle.std.specs.Prelude.{◌≡◌, Some, slice_get};
 ghost use Rattle.points_to_calls.specs.Parts.{GoesTo, IsCatchChainPlace};
 ghost use Rattle.points_to_constraints.specs.Items.{CatchChain as ItemCatchChain};
 ghost use Rattle.points_to_numbers.specs.Numbered.{IsNumbered};
 
-use hierarchy::fits;
-use jvm_model::ClassNo;
-use op_model::NodeHandler;
+use handler_search::takes;
 use points_to_numbers::{CatchChain, CatchChainNo, Tables};
 use points_to_rules::PlaceNo;
 use program_model::program::Program;
@@ -38,23 +34,4 @@ fn goes_to(program: &Program, catch_chain: &CatchChain, class: &[u8]) -> PlaceNo
         }
     }
     catch_chain.outside
-}
-
-/// Whether a handler takes an exception of a class, which has this number if it is one of the program. One of a class that is not in the program
-/// is taken by a handler of all.
-fn takes(program: &Program, handler: NodeHandler, thrown: Option<ClassNo>, class: &[u8]) -> bool
-    requires { IfSome thrown (λ number. IsClassNumber program.now number.0 × (name_at program.now number.0 ≡ class.now)) }
-    ensures { IsTrue result ↔ Takes program.now handler class.now }
-{
-    program.well_formed();
-    let Some(caught) = handler.catch else {
-        return true;
-    };
-    if caught.0 as usize >= program.class_count() {
-        return false;
-    }
-    match thrown {
-        Some(number) => program.is_at_or_above(number, caught),
-        None => fits(program, program.class_name(caught), class),
-    }
 }

@@ -6,13 +6,12 @@ ghost use Rattle.points_to_calls.specs.Describing.{origin_of_unit, IsOriginFor, 
 ghost use Rattle.points_to_calls.specs.Giving.{ResolvesIn};
 ghost use Rattle.points_to_calls.specs.Parts.{ArgumentGives, ArgumentKept, ClassThrown, GotItem, KeptItem, ResultGives, ResultGot, ThrownItem};
 ghost use Rattle.points_to_numbers.specs.Steps.{Makes};
-ghost use Rattle.points_to_calls.specs.Units.{IsReadOf};
+ghost use Rattle.stub_arguments.specs.Units.{IsReadOf};
 ghost use Rattle.points_to_constraints.specs.CallItems.{call_allocates};
 ghost use Rattle.points_to_constraints.specs.Items.{CallSite};
 ghost use Rattle.points_to_numbers.specs.Numbered.{IsNumbered, Numbered};
 
 use crate::catch_chains::lands;
-use crate::descriptors::{read_descriptor, unit_of};
 use crate::giving::{give, give_results};
 use crate::origin::Origin;
 use crate::receiver::Receiver;
@@ -22,6 +21,7 @@ use points_to_numbers::{CallNo, Item, SiteKey, Tables, Work};
 use points_to_rules::Place;
 use program_index::index_failure::IndexFailure;
 use program_model::program::Program;
+use stub_arguments::{read_descriptor, unit_of};
 
 /// A described method, its descriptor, and the object that selects it, if that is looked at alone.
 #[derive(Drop)]

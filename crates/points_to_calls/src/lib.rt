@@ -7,7 +7,6 @@
 mod answer_keys;
 mod catch_chains;
 mod described;
-mod descriptors;
 mod giving;
 mod kept;
 mod origin;

@@ -1,22 +1,21 @@
 -- What a node may throw itself: each class has one name, and its objects land at one place.
-use Rattle.std.proofs.Common.{◌≡◌, ◌↔◌, ℕ, zero, suc, ◌+◌, ◌<◌, List, [], ◌∷◌, length, get_or, Option, unwrap_or, option_map, Some, None, refl, sym, ◌∙◌, ap, subst, arith, inl, inr}
+use Rattle.std.proofs.Common.{◌≡◌, ◌↔◌, ℕ, ◌<◌, List, [], length, get_or, Option, unwrap_or, option_map, Some, sym, ◌∙◌, ap, subst}
 use Rattle.std.specs.List.{slice_get, Contains}
-use Rattle.std.proofs.lemmas.Bool.{cases_lt}
 use Rattle.std.proofs.lemmas.List.Elements.{All-contains, Contains-get_or}
-use Rattle.std.proofs.lemmas.Option.{same_Some, none-some}
+use Rattle.std.proofs.lemmas.Option.{same_Some}
 use Rattle.jvm_model.specs.declared.number.ClassNo.{ClassNo}
 use Rattle.jvm_model.specs.declared.site.SiteKind.TheVariants as kinds
 use Rattle.jvm_model.specs.Programs.{Class, Program}
-use Rattle.jvm_model.specs.Subtypes.{Fits}
 use Rattle.program_model.specs.Numbers.{name_at}
 use Rattle.machine_nodes.specs.Nodes.{IsClassNumber}
-use Rattle.machine_nodes.specs.NodeSteps.{IsFirstTaking, Takes, all, fitting}
+use Rattle.machine_nodes.specs.NodeSteps.{IsFirstTaking}
 use Rattle.op_model.specs.declared.lowered.LoweredMethod.{LoweredMethod}
 use Rattle.op_model.specs.declared.node.Node.{Node}
 use Rattle.op_model.specs.declared.node.NodeHandler.{NodeHandler}
 use Rattle.points_to_constraints.specs.Items.{Item, known}
-use Rattle.points_to_rules.specs.WholeMethods.{IsWholeMethod, NamesNumbers}
+use Rattle.points_to_rules.specs.WholeMethods.{HasNodeAt, IsWholeMethod, NamesNumbers}
 use Rattle.points_to_constraints.specs.NodeItems.{RaiseItem}
+use Rattle.handler_search.proofs.FirstTaking.{one_taking, taking_one}
 use Rattle.points_to_methods.specs.Known.{IsNamedMethod}
 use Rattle.points_to_methods.specs.Raises.{RaisesOf}
 use Rattle.points_to_rules.specs.Facts.{Holder, may_hold}
@@ -25,32 +24,6 @@ use Rattle.slot_names.specs.Tables.{NameTable}
 use Rattle.slot_names.proofs.ListPlaces.{contains_at, stands_below}
 use Rattle.points_to_constraints.proofs.Holders.{same_holder_at}
 use Rattle.points_to_methods.proofs.NamedSlots.{reached}
-
--- ---- the first handler that takes a class
-
-module _ (p : Program) (class : List ℕ) where
-  pub first_taking : (hs : List NodeHandler) (i : ℕ) (h : NodeHandler) → slice_get hs i ≡ Some h → ((k : ℕ) → k < i → (g : NodeHandler) → slice_get hs k ≡ Some g → Takes p g class → ⊥)
-      → Takes p h class → IsFirstTaking p class hs h
-  first_taking [] i h at none takes = absurd (none-some h at)
-  first_taking (x ∷ hs) zero h at none takes =
-      let same : x ≡ h = same_Some x h at in
-      inl (subst (λ (g : NodeHandler). Takes p g class) (sym same) takes, sym same)
-  first_taking (x ∷ hs) (suc i) h at none takes =
-      inr (none 0 (omega arith) x refl, first_taking hs i h at (λ k below g there. none (suc k) (omega (arith, below)) g there) takes)
-
-  taking_one : (hs : List NodeHandler) (h : NodeHandler) → IsFirstTaking p class hs h → Contains hs h × Takes p h class
-  taking_one [] h taking = absurd taking
-  taking_one (x ∷ hs) h (inl (takes, same)) = ((0, omega arith, sym same), subst (λ (g : NodeHandler). Takes p g class) (sym same) takes)
-  taking_one (x ∷ hs) h (inr (past, rest)) =
-      let ((k, within, at), takes) = taking_one hs h rest in
-      ((suc k, omega (arith, within), at), takes)
-
-  one_taking : (hs : List NodeHandler) (g h : NodeHandler) → IsFirstTaking p class hs g → IsFirstTaking p class hs h → g ≡ h
-  one_taking [] g h first second = absurd first
-  one_taking (x ∷ hs) g h (inl (takes, same)) (inl (also, equal)) = same ∙ sym equal
-  one_taking (x ∷ hs) g h (inl (takes, same)) (inr (past, rest)) = absurd (past takes)
-  one_taking (x ∷ hs) g h (inr (past, rest)) (inl (takes, same)) = absurd (past takes)
-  one_taking (x ∷ hs) g h (inr (past, rest)) (inr (over, more)) = one_taking hs g h rest more
 
 -- ---- the class of a number
 
@@ -93,36 +66,10 @@ class_numbered p number name within same =
     let (c, at) = stands_below p.classes number.0 within in
     record { class = c; stands = at; named = sym (same ∙ ap (λ (o : Option Class). unwrap_or (option_map (λ (d : Class). d.name) o) []) at) }
 
-pub taken_by_class : (p : Program) (h : NodeHandler) (catch : ClassNo) (name class : List ℕ) → h.catch ≡ Some catch → IsClassNumber p catch name → Takes p h class → Fits p name class
-taken_by_class p h catch name class is is_name (all none) = let differ : Some catch ≡ None = sym is ∙ none in absurd cc
-taken_by_class p h catch name class is is_name (fitting number given is_number is_class fits) =
-    let same = same_Some number catch (sym is_number ∙ is) in
-    subst (λ (k : List ℕ). Fits p k class) (one_name p catch given name (subst (λ (m : ClassNo). IsClassNumber p m given) same is_class) is_name) fits
-
--- ---- loops over the handlers of a node
-
-pub none_more : (p : Program) (class : List ℕ) (hs : List NodeHandler) (i : ℕ) (h : NodeHandler) → slice_get hs i ≡ Some h
-    → ((k : ℕ) → k < i → (g : NodeHandler) → slice_get hs k ≡ Some g → Takes p g class → ⊥) → (Takes p h class → ⊥)
-    → (k : ℕ) → k < i + 1 → (g : NodeHandler) → slice_get hs k ≡ Some g → Takes p g class → ⊥
-none_more p class hs i h at none not k below g there takes = elim (cases_lt k i) [
-  | inl less ↦ none k less g there takes
-  | inr past ↦
-      let last : k ≡ i = omega (arith, below, past) in
-      let same : g ≡ h = same_Some g h (sym there ∙ ap (slice_get hs) last ∙ at) in
-      not (subst (λ (f : NodeHandler). Takes p f class) same takes)
-]
-
--- an object lands at the first handler that a loop finds
-pub caught_first : (p : Program) (l : LoweredMethod) (n : Node) (class : List ℕ) (hs : List NodeHandler) (h : NodeHandler) (to : Holder) → hs ≡ n.handlers → IsFirstTaking p class hs h → IsSlotAt l h.target l.slots to
-    → Lands p l.method l n class to
-caught_first p l n class hs h to list first slot = caught h (subst (λ (all : List NodeHandler). IsFirstTaking p class all h) list first) slot
-
--- the class that a handler of a node names
-pub catches_numbered : (p : Program) (l : LoweredMethod) → IsWholeMethod p l.method.0 l → (node : ℕ) (n : Node) → slice_get l.nodes node ≡ Some n → (hs : List NodeHandler) → hs ≡ n.handlers → (i : ℕ) (d : NodeHandler) → i < length hs
-    → (catch : ClassNo) → (get_or hs i d).catch ≡ Some catch → catch.0 < length p.classes
-catches_numbered p l is_method node n at hs list i d within catch is =
-    let numbers = All-contains (NamesNumbers p) l.nodes n is_method.numbers (contains_at l.nodes node n at) in
-    numbers.catches (get_or hs i d) catch (subst (λ (all : List NodeHandler). Contains all (get_or hs i d)) list (Contains-get_or hs i d within)) is
+-- a node stands where the handler begins that takes an object first
+pub taking_stands : (p : Program) (l : LoweredMethod) → IsWholeMethod p l.method.0 l → (node : ℕ) (n : Node) → slice_get l.nodes node ≡ Some n → (class : List ℕ) (h : NodeHandler) → IsFirstTaking p class n.handlers h
+    → HasNodeAt l h.target
+taking_stands p l is_method node n at class h first = is_method.handlers n h (contains_at l.nodes node n at) (taking_one p class n.handlers h first).0
 
 -- the classes that a node throws
 pub throws_numbered : (p : Program) (l : LoweredMethod) → IsWholeMethod p l.method.0 l → (node : ℕ) (n : Node) → slice_get l.nodes node ≡ Some n → (cs : List ClassNo) → cs ≡ n.throws → (i : ℕ) (d : ClassNo) → i < length cs

@@ -1,10 +1,8 @@
 //! The exceptions of a node: the objects that it throws, and the new ones that it may throw itself.
 
-ghost use Rattle.std.specs.Prelude.{◌≡◌, ◌↔◌, length, Some, slice_get, IfOk, IsTrue, OnOk};
-ghost use Rattle.jvm_model.specs.declared.number.ClassNo.{ClassNo};
+ghost use Rattle.std.specs.Prelude.{◌≡◌, length, Some, slice_get, IfOk, OnOk};
 ghost use Rattle.jvm_model.specs.declared.site.SiteKind.TheVariants as kinds;
 ghost use Rattle.program_model.specs.Numbers.{IsClassNumber};
-ghost use Rattle.machine_nodes.specs.NodeSteps.{Takes};
 ghost use Rattle.op_model.specs.declared.node.Node.{Node};
 ghost use Rattle.op_model.specs.declared.op.Op.TheVariants as operations;
 ghost use Rattle.points_to_constraints.specs.NodeItems.{OpItem, RaiseItem};
@@ -18,12 +16,10 @@ ghost use Rattle.points_to_numbers.specs.Numbered.{Grows};
 use crate::adding::{FixedPlace, hold, key_of};
 use crate::catch_chains::{catch_chain_of, handler_place};
 use crate::named::{NamedMethod, slot_place};
-use hierarchy::fits;
+use handler_search::first_taking;
 use jvm_model::{ClassNo, SiteKind, SiteNo};
-use op_model::NodeHandler;
 use points_to_numbers::{Constraint, SiteKey, Tables, Work};
 use program_index::index_failure::IndexFailure;
-use program_model::program::Program;
 
 /// Adds a throw constraint of a slot, by the catch chain of its node.
 pub(crate) fn throw_slot(
@@ -107,22 +103,9 @@ fn raised_place(at: &NamedMethod<'_>, node: usize, class: &[u8]) -> FixedPlace
     ensures { (n : Node) → slice_get at.now.method.now.nodes node ≡ Some n
         → Lands at.now.program.now at.now.method.now.method at.now.method.now n class.now (holder_of result) }
 {
-    let handlers = &at.method.nodes.as_slice()[node].handlers;
-    for handler in handlers.as_slice() {
-        if takes(at.program, *handler, class) {
-            return handler_place(at, *handler);
-        }
+    let handlers = at.method.nodes.as_slice()[node].handlers.as_slice();
+    match first_taking(at.program, handlers, class) {
+        Some(handler) => handler_place(at, handler),
+        None => FixedPlace::Thrown(at.method.method),
     }
-    FixedPlace::Thrown(at.method.method)
-}
-
-/// Whether a handler takes the objects of a class.
-fn takes(program: &Program, handler: NodeHandler, class: &[u8]) -> bool
-    requires { (catch : ClassNo) → handler.catch ≡ Some catch → IsClassNumber program.now catch.0 }
-    ensures { IsTrue result ↔ Takes program.now handler class.now }
-{
-    let Some(catch) = handler.catch else {
-        return true;
-    };
-    fits(program, program.class_name(catch), class)
 }

@@ -1,4 +1,4 @@
--- The draft of a tuple that is changed.
+-- The draft of a tuple.
 use Rattle.std.proofs.Common.{◌≡◌, ℕ, ◌≤◌, Bool, true, false, ◌||◌, List, ◌++◌, length, take, Option, Some, None, refl, sym, ◌∙◌, ap, subst}
 use Rattle.std.specs.List.{flat_map, list_any}
 use Rattle.std.proofs.Math.Bool.{or-false, or_comm}
@@ -18,29 +18,28 @@ use Rattle.stage_views.specs.Views.{Gathers}
 use Rattle.stage_flow.specs.declared.change.PathChange.{PathChange}
 use Rattle.stage_flow.specs.declared.draft.Draft.{Draft}
 use Rattle.stage_flow.specs.Drafts.{cut_with, IsCutOf, IsDraft}
-use Rattle.stage_flow.specs.Shapes.{adds_of, change_of, goes_of, kept_path, Makes}
+use Rattle.stage_flow.specs.Shapes.{adds_of, change_of, goes_of, kept_path}
 use Rattle.stage_flow.proofs.Lists.{left_filtered}
 
-cut_set : (w : Setting) (l : LoweredMethod) (n : Node) (code : PathChange) (set : List Path) (g : Gathering)
+-- what a change leaves of a set, and adds to it
+pub cut_set : (w : Setting) (l : LoweredMethod) (n : Node) (code : PathChange) (set : List Path) (g : Gathering)
     → Gathers g (flat_map (kept_path code) set ++ adds_of code.gain set) → IsCutOf g (changed_set (change_of w l n code) set)
 cut_set w l n code set g gathers =
     let is = subst (λ (ps : List Path). Gathers g (ps ++ adds_of code.gain set))
     (sym (left_filtered (λ (x : Path). goes_of code.written code.leaving x.root) set)) gathers in
     record { set = is.set; dropped = is.dropped }
 
-pub drafted : (w : Setting) (l : LoweredMethod) (n : Node) (code : PathChange) (c : Change) (t : Tuple) (d : Draft) (others : Gathering) → Makes w l n code c
-    → d.unique ≡ t.unique → d.state ≡ t.state
-    → Gathers d.must (flat_map (kept_path code) t.must ++ adds_of code.gain t.must)
-    → d.may ≡ (changed (change_of w l n code) t).may
-    → d.must_not ≡ others.set → Gathers others (flat_map (kept_path code) t.must_not ++ adds_of code.gain t.must_not)
-    → IsDraft d (changed c t)
-drafted w l n code c t d others makes unique state must may same must_not =
-    subst (λ (k : Change). IsDraft d (changed k t)) makes.same (record {
+-- The draft of what was gathered of a tuple's sets.
+pub drafted : (of : Tuple → Tuple) {inside t made : Tuple} → inside ≡ t → of t ≡ made → (d : Draft) (others : Gathering)
+    → d.unique ≡ (of inside).unique → d.state ≡ (of inside).state → IsCutOf d.must (of inside).must → d.may ≡ (of t).may
+    → d.must_not ≡ others.set → IsCutOf others (of inside).must_not → IsDraft d made
+drafted of {inside} same makes d others unique state must may set must_not =
+    subst (IsDraft d) (ap of same ∙ makes) (record {
       unique = unique;
       state = state;
-      must = cut_set w l n code t.must d.must must;
-      may = may;
-      must_not = same ∙ (cut_set w l n code t.must_not others must_not).set;
+      must = must;
+      may = may ∙ ap (λ (x : Tuple). (of x).may) (sym same);
+      must_not = set ∙ must_not.set;
     })
 
 -- ---- parts of drafts

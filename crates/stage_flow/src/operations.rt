@@ -5,7 +5,7 @@ ghost use Rattle.op_model.specs.declared.lowered.LoweredMethod.{LoweredMethod as
 ghost use Rattle.op_model.specs.declared.node.Node.{Node as RuleNode};
 ghost use Rattle.stage_facts.specs.Plain.{fact_of};
 ghost use Rattle.stage_flow.specs.Allocations.{allocated, put_into};
-ghost use Rattle.stage_transfer.specs.Operations.{after_operation, after_store, on_tuples};
+ghost use Rattle.stage_transfer.specs.Operations.{after_operation, on_tuples};
 ghost use Rattle.stage_transfer.specs.Settings.{Setting};
 ghost use Rattle.stage_transfer.specs.Stages.{finished, transfer_of};
 ghost use Rattle.stage_views.specs.Views.{facts_of, IsSettingBy};
@@ -19,7 +19,7 @@ use crate::loads::loaded_fact;
 use crate::sites::is_same_site;
 use crate::store::FieldStore;
 use crate::tuples::{changed_fact, kept_fact};
-use jvm_model::{FieldNo, Site};
+use jvm_model::Site;
 use op_model::{Node, Op};
 use stage_facts::PlainFact;
 use stage_views::{Facts, NodeSlots, StageSetting};
@@ -58,7 +58,7 @@ fn after_operation<V: NodeSlots>(
             object,
             field,
             value,
-        } => stored_fact(setting, slots, *object, *field, *value, fact),
+        } => FieldStore::of(setting, *object, *field, *value).fact(setting, slots, fact),
         Op::LoadElement { array, target } => {
             changed_fact(setting, slots, &writing_two(*array, *target), fact)
         }
@@ -78,27 +78,6 @@ fn after_operation<V: NodeSlots>(
         Op::Cast { .. } => same_fact(setting, fact),
         Op::Probe { slot } => changed_fact(setting, slots, &writing_one(*slot), fact),
     }
-}
-
-/// A value is stored to a field of an object.
-fn stored_fact<V: NodeSlots>(
-    setting: &StageSetting<'_>,
-    slots: &V,
-    object: u32,
-    field: FieldNo,
-    value: u32,
-    fact: &PlainFact,
-) -> Facts
-    ensures { (w : Setting) (l : RuleMethod) (n : RuleNode) → IsSettingBy setting.now w → V.knows slots.now w l n
-        → facts_of result ≡ map (finished w) (on_tuples (after_store w l n object field value) (fact_of fact.now)) }
-{
-    let store = FieldStore {
-        object,
-        field,
-        value,
-        depth: setting.depth,
-    };
-    store.fact(setting, slots, fact)
 }
 
 /// A value is put into an array.

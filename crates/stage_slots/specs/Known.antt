@@ -4,7 +4,6 @@ use Rattle.std.specs.Prelude.{◌≡◌, ◌<◌, length, Some, slice_get, Conta
 use Rattle.jvm_model.specs.declared.number.SiteNo.{SiteNo}
 use Rattle.op_model.specs.declared.lowered.LoweredMethod.{LoweredMethod}
 use Rattle.op_model.specs.declared.node.Node.{Node}
-use Rattle.slot_names.specs.Tables.{AreNames, NameTable}
 use Rattle.slot_names.specs.Variables.{AreReachedNodes}
 use Rattle.stage_transfer.specs.Settings.{AreAnswersOf, Setting}
 use Rattle.ground.specs.declared.node_place.NodePlace.{NodePlace}
@@ -17,12 +16,11 @@ pub record KnownNode : Type 0 where
   pub method : LoweredMethod
   pub site : SiteNo
 
--- The node stands at the place, in this method, whose nodes are all reached and whose variables these are.
-pub record IsNamedNode (g : Findings) (at : NodePlace) (l : LoweredMethod) (names : NameTable) : Type 0 where
+-- The node stands at the place, in this method, whose nodes are all reached.
+pub record HasReachedNode (g : Findings) (at : NodePlace) (l : LoweredMethod) : Type 0 where
   pub stands : slice_get g.methods at.method ≡ Some l
   pub within : at.node < length l.nodes
   pub reached : AreReachedNodes l
-  pub named : AreNames l names
 
 -- It is known of this node, of the method at that place, for the site of the number.
 pub record IsOf (g : Findings) (at : NodePlace) (site : SiteNo) (k : KnownNode) : Type 0 where

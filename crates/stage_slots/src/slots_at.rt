@@ -3,8 +3,6 @@
 ghost use Rattle.std.specs.Prelude.{◌≡◌, ◌<◌, ◌+◌, Some, slice_get, IfSome, IfNone};
 ghost use Rattle.op_model.specs.declared.lowered.LoweredMethod.{LoweredMethod as RuleMethod};
 ghost use Rattle.op_model.specs.declared.node.Node.{Node as RuleNode};
-ghost use Rattle.slot_names.specs.KeptNames.{name_table};
-ghost use Rattle.slot_names.specs.Tables.{AreNames};
 ghost use Rattle.ground.specs.Findings.{HasNode};
 ghost use Rattle.stage_transfer.specs.Settings.{Setting};
 ghost use Rattle.stage_slots.specs.Known.{IsKnownIn, IsOf};
@@ -13,7 +11,7 @@ use crate::same::same_variable;
 use ground::{Ground, NodePlace};
 use jvm_model::{FieldNo, MethodNo, SiteNo};
 use op_model::LoweredMethod;
-use slot_names::{Names, Variable, place_number};
+use slot_names::Variable;
 use stage_views::NodeSlots;
 use std::marker::Model;
 
@@ -21,7 +19,6 @@ use std::marker::Model;
 #[derive(Drop)]
 pub struct SlotsAt<'g, 'p> {
     ground: &'g Ground<'p>,
-    names: &'g Names,
     method: &'g LoweredMethod,
     slots: u32,
     at: NodePlace,
@@ -30,27 +27,19 @@ pub struct SlotsAt<'g, 'p> {
 
 impl<'g, 'p> Model for SlotsAt<'g, 'p> {
     ghost use Rattle.std.specs.Prelude.{◌≡◌, ◌+◌};
-    ghost use Rattle.slot_names.specs.KeptNames.{name_table};
-    ghost use Rattle.stage_slots.specs.Known.{IsNamedNode, KnownNode};
+    ghost use Rattle.stage_slots.specs.Known.{HasReachedNode, KnownNode};
 
     ghost Value = { KnownNode };
 
     ghost view = { λ s. record { ground = s.ground.now; at = s.at; method = s.method.now; site = s.site } };
 
-    ghost invariant = { λ s. IsNamedNode s.ground.now s.at s.method.now (name_table s.names.now) × (s.slots ≡ s.method.now.slots + s.method.now.stack) };
+    ghost invariant = { λ s. HasReachedNode s.ground.now s.at s.method.now × (s.slots ≡ s.method.now.slots + s.method.now.stack) };
 }
 
 impl<'g, 'p> SlotsAt<'g, 'p> {
-    /// The slots at the node of a place, with the variables of its method; `None` where the method has more slots than 32 bits count. It takes no
-    /// memory.
-    pub fn of(
-        ground: &'g Ground<'p>,
-        names: &'g Names,
-        at: NodePlace,
-        site: SiteNo,
-    ) -> Option<SlotsAt<'g, 'p>>
-        requires there { HasNode ground.now at }
-        requires names { (l : RuleMethod) → slice_get ground.now.methods at.method ≡ Some l → AreNames l (name_table names.now) }
+    /// The slots at the node of a place; `None` where its method has more slots than 32 bits count. It takes no memory.
+    pub fn of(ground: &'g Ground<'p>, at: NodePlace, site: SiteNo) -> Option<SlotsAt<'g, 'p>>
+        requires { HasNode ground.now at }
         ensures some { IfSome result (λ s. IsOf ground.now at site s) }
         ensures none { IfNone result ((l : RuleMethod) → slice_get ground.now.methods at.method ≡ Some l → 4294967295 < l.slots + l.stack) }
     {
@@ -59,7 +48,6 @@ impl<'g, 'p> SlotsAt<'g, 'p> {
         let slots = method.slots.checked_add(method.stack)?;
         Some(SlotsAt {
             ground,
-            names,
             method,
             slots,
             at,
@@ -71,8 +59,7 @@ impl<'g, 'p> SlotsAt<'g, 'p> {
     fn variable(&self, slot: u32) -> Variable
         ensures { (w : Setting) (l : RuleMethod) (n : RuleNode) → IsKnownIn self.now w l n → result ≡ w.answers.variable_at l n slot }
     {
-        let node = place_number(self.method, self.at.node);
-        self.names.variable(node, slot)
+        self.ground.variable(self.at, slot)
     }
 }
 

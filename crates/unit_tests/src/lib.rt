@@ -1,6 +1,6 @@
-//! Tests of the data of class files and programs, of the outside, of the readers, of the rows of facts, and of what nodes and calls do to
-//! facts: each public call once on its happy path, and what no clause says. They stand apart from the crates that they test, since a crate
-//! with tests is proved twice. cases_readers has the tables of what is read and refused.
+//! Tests of the data of class files and programs, of the outside, and of the readers: each public call once on its happy path, and what no
+//! clause says. They stand apart from the crates that they test, since a crate with tests is proved twice. cases_readers has the tables of what
+//! is read and refused; stage_tests the tests of facts.
 #![tactic(auto)]
 
 #[cfg(test)]
@@ -14,18 +14,10 @@ mod linked;
 #[cfg(test)]
 mod model;
 #[cfg(test)]
-mod node_facts;
-#[cfg(test)]
 mod one_method;
 #[cfg(test)]
 mod outside;
 #[cfg(test)]
 mod readers;
-#[cfg(test)]
-mod rows;
-#[cfg(test)]
-mod site_calls;
-#[cfg(test)]
-mod site_facts;
 #[cfg(test)]
 mod words;

@@ -2,6 +2,7 @@
 
 ghost use Rattle.std.specs.Prelude.{◌<◌, length, IfSome};
 
+use crate::lines::tell_lines;
 use crate::members::shown;
 use crate::names::Names;
 use crate::sites::write_site;
@@ -25,15 +26,6 @@ pub fn tell_sets<R: Print>(
     tell_lines(rt, target_lines(alloc, ground, names)?)?;
     tell_lines(rt, pair_lines(alloc, ground, names)?)?;
     tell_lines(rt, write_lines(alloc, ground, names)?)
-}
-
-/// Prints lines in byte order.
-fn tell_lines<R: Print>(rt: &R, mut lines: Vec<String>) -> Result<()> {
-    lines.sort()?;
-    for line in &lines {
-        println!(rt; "{line}")?;
-    }
-    Ok(())
 }
 
 /// A line for each method that may run.

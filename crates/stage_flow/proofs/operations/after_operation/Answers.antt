@@ -8,10 +8,12 @@ use Rattle.access_paths.specs.declared.root.Root.TheVariants.{Slot, Static}
 use Rattle.stage_facts.specs.Facts.{SiteFact}
 use Rattle.stage_facts.specs.Plain.{fact_of}
 use Rattle.stage_transfer.specs.Changes.{copying, writing}
-use Rattle.stage_transfer.specs.Operations.{after_operation, assigning, receiving, returning, storing_static}
+use Rattle.stage_transfer.specs.Operations.{after_operation, assigning, on_tuples, receiving, returning, storing_static}
 use Rattle.stage_transfer.specs.Settings.{Setting}
 use Rattle.stage_transfer.specs.Stages.{finished}
+use Rattle.stage_flow.specs.declared.store.FieldStore.{FieldStore}
 use Rattle.stage_flow.specs.Shapes.{root_copy, Makes}
+use Rattle.stage_flow.specs.Stores.{after_field_store}
 use Rattle.stage_flow.proofs.operations.after_operation.Goals as goal
 
 -- what stands for the operation is what is found of it
@@ -24,6 +26,12 @@ returns-in-Assign g c w l n is knows =
     c.changed_fact.ensures w l n (assigning w l n c.in-Assign.moves) is knows
     (subst (λ (moves : List Move). Makes w l n c.assigning.result (assigning w l n moves)) c.as_slice.ensures (c.assigning.ensures w l n))
     ∙ found_op w l n (fact_of c.args.fact.now) c.args.op.now _ c.in-Assign.is
+
+pub returns-in-Store : goal.returns-in-Store
+returns-in-Store g c w l n is knows =
+    c.fact.ensures w l n is (c.of.ensures.setting w is) knows
+    ∙ ap (λ (store : FieldStore). map (finished w) (on_tuples (after_field_store w l n store) (fact_of c.args.fact.now))) c.of.ensures.store
+    ∙ found_op w l n (fact_of c.args.fact.now) c.args.op.now _ c.in-Store.is
 
 pub returns-in-LoadElement : goal.returns-in-LoadElement
 returns-in-LoadElement g c w l n is knows =

@@ -1,0 +1,4 @@
+pub mod Questions
+pub mod Tried
+pub mod AtStart
+pub mod Closings

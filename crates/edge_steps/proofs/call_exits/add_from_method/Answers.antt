@@ -1,0 +1,21 @@
+use Rattle.std.proofs.Common.{◌≡◌, ℕ, List, Option, subst}
+use Rattle.std.proofs.lemmas.Result.{on_ok_weaker}
+use Rattle.ground.specs.Added.{AreAdded, OfOne}
+use Rattle.stage_facts.specs.Plain.{fact_of}
+use Rattle.stage_transfer.specs.Stages.{transfer_of}
+use Rattle.stage_views.specs.Views.{facts_of}
+use Rattle.edge_steps.specs.Parts.{LeftCall}
+use Rattle.edge_steps.proofs.Adding.{added_where}
+use Rattle.edge_steps.proofs.call_exits.add_from_method.Goals as goal
+
+pub returns : goal.returns
+returns g c =
+    let e = c.args.method.now in
+    let a = c.args.within.now.items in
+    let b = c.add_from_each.new.within.items in
+    let same : e.method ≡ c.args.exit.method = λ i. record { 0 = c.if-method-exit.false i } in
+    on_ok_weaker c.add_from_each.result
+    (λ added. λ w l like known.
+    added_where (e.method ≡ c.args.exit.method) (OfOne (LeftCall (transfer_of w) l c.args.view.now.node.now c.args.call.now c.args.exit.method (fact_of c.args.exit.entry.now) c.args.exit.spot (fact_of c.args.exit.fact.now) e.landings.items) (facts_of c.args.sent.now)) same a b
+    (subst (λ (landings : List (Option ℕ)). AreAdded (OfOne (LeftCall (transfer_of w) l c.args.view.now.node.now c.args.call.now c.args.exit.method (fact_of c.args.exit.entry.now) c.args.exit.spot (fact_of c.args.exit.fact.now) landings) (facts_of c.args.sent.now)) a b) c.as_slice.ensures.value (added w l like known)))
+    c.add_from_each.ensures

@@ -1,0 +1,15 @@
+use Rattle.std.proofs.Common.{take}
+use Rattle.op_model.specs.declared.lowered.LoweredMethod.{LoweredMethod}
+use Rattle.ground.specs.Added.{AreAdded, OfOne}
+use Rattle.stage_facts.specs.Plain.{fact_of}
+use Rattle.stage_transfer.specs.Settings.{Setting}
+use Rattle.stage_transfer.specs.Stages.{transfer_of}
+use Rattle.stage_views.specs.Views.{IsSettingBy}
+use Rattle.edge_steps.specs.Parts.{Answered}
+use Rattle.edge_steps.proofs.described.add_answers.Given as goal
+
+abbrev pub invariant-loop-given : goal.invariant-loop-given
+invariant-loop-given g k = record {
+  added : (w : Setting) (l : LoweredMethod) → IsSettingBy k.view.setting.now w → g.V.NodeSlots.knows k.view.slots.now w l k.view.node.now
+      → AreAdded (OfOne (Answered (transfer_of w) l k.view.method k.view.node.now k.call k.target.kept.items (fact_of k.sent)) (take k.given-index k.given-items)) k.initial.within.items k.within.items;
+}

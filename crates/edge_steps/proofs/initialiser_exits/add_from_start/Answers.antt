@@ -1,0 +1,40 @@
+use Rattle.std.proofs.Common.{◌≡◌, sym, ◌∙◌, subst}
+use Rattle.std.proofs.lemmas.Bool.{false≢true}
+use Rattle.std.proofs.lemmas.Result.{on_ok_weaker}
+use Rattle.ground.specs.Added.{AreAdded}
+use Rattle.stage_facts.specs.Facts.{SiteFact}
+use Rattle.stage_facts.specs.Plain.{fact_of}
+use Rattle.stage_transfer.specs.Calls.{by_trigger}
+use Rattle.stage_transfer.specs.Stages.{transfer_of}
+use Rattle.edge_steps.specs.Parts.{AfterTrigger}
+use Rattle.edge_steps.proofs.Adding.{added_not, added_where}
+use Rattle.edge_steps.proofs.initialiser_exits.add_from_start.Goals as goal
+
+pub returns-then-not-is_same_fact : goal.returns-then-not-is_same_fact
+returns-then-not-is_same_fact g c = λ w l like known.
+    let n = c.args.view.now.node.now in
+    let t = transfer_of w in
+    let f = fact_of c.args.fact.now in
+    let entry = c.entered-entry.ensures w like tt in
+    added_not (t.enter by_trigger f ≡ fact_of c.args.exit.entry.now)
+    (AfterTrigger t l n c.args.landings.now (t.leave l n by_trigger c.args.exit.method f (fact_of c.args.exit.fact.now)) c.args.exit.spot)
+    (λ same. false≢true (sym c.if-not-is_same_fact.true ∙ c.is_same_fact.ensures.1 (entry ∙ same)))
+    c.args.within.now.items
+
+pub returns : goal.returns
+returns g c =
+    on_ok_weaker c.add_after_trigger.result
+    (λ added. λ w l like known.
+    let n = c.args.view.now.node.now in
+    let t = transfer_of w in
+    let f = fact_of c.args.fact.now in
+    let landings = c.args.landings.now in
+    let spot = c.args.exit.spot in
+    let a = c.args.within.now.items in
+    let b = c.add_after_trigger.new.within.items in
+    let entry = c.entered-entry.ensures w like tt in
+    let left = t.leave l n by_trigger c.args.exit.method f (fact_of c.args.exit.fact.now) in
+    added_where (t.enter by_trigger f ≡ fact_of c.args.exit.entry.now) (AfterTrigger t l n landings left spot)
+    (sym entry ∙ c.is_same_fact.ensures.0 c.if-not-is_same_fact.false) a b
+    (subst (λ (h : SiteFact). AreAdded (AfterTrigger t l n landings h spot) a b) (c.left-after.ensures w l n like known) (added w l like known)))
+    c.add_after_trigger.ensures

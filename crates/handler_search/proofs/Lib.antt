@@ -1,0 +1,2 @@
+mod TakenClasses
+pub mod FirstTaking

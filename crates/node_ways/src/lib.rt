@@ -1,0 +1,15 @@
+//! Where the ways out of a node lead, by the ground: where exceptions go, which methods the node may enter, and what described methods give
+//! and keep (`ways_at`). It is the same for each site, so the stages work it out once for a node. The start of the program has nodes of its
+//! own (`start_method`, `ways_of_start`). Begin with src/ways.rt and specs/Ways.antt.
+#![tactic(auto)]
+
+mod described;
+mod entered;
+mod landings;
+mod node;
+mod start;
+mod ways;
+
+pub use node::{ways_at, ways_of_start};
+pub use start::start_method;
+pub use ways::{DescribedTarget, EnteredMethod, GivenResult, NodeWays};

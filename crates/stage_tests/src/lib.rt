@@ -1,0 +1,12 @@
+//! Tests of the rows of facts, of access paths, and of what nodes and calls do to facts: each public call once on its happy path, and what no
+//! clause says. They stand apart from the crates that they test, since a crate with tests is proved twice.
+#![tactic(auto)]
+
+#[cfg(test)]
+mod node_facts;
+#[cfg(test)]
+mod rows;
+#[cfg(test)]
+mod site_calls;
+#[cfg(test)]
+mod site_facts;
