@@ -36,3 +36,5 @@ pub mod case;
 mod facts;
 mod listing;
 mod stages;
+mod tabulated;
+mod verdict;

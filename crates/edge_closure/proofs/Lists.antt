@@ -9,9 +9,11 @@ use Rattle.list_laws.proofs.Places.{at_map, contains_at, in_longer, place_of, st
 use Rattle.least_sets.specs.Rules.{IsDerivable, IsWithoutDoubles}
 use Rattle.least_sets.proofs.Growing.{IsWithoutDoubles-push}
 use Rattle.stage_edges.specs.Rules.{Edge}
-use Rattle.edge_closure.specs.declared.path_edge.PathEdge.{PathEdge}
-use Rattle.edge_closure.specs.Questions.{edge_of, edges_in}
-use Rattle.edge_closure.specs.Tried.{Adds, Grows, IsTried, IsTriedWith, StaysSound}
+use Rattle.ground_views.specs.declared.path_edge.PathEdge.{PathEdge}
+use Rattle.ground_views.specs.declared.question.Question.{Question}
+use Rattle.ground_views.specs.declared.viewed_node.ViewedNode.{ViewedNode}
+use Rattle.ground_views.specs.Questions.{GroundInstance, edge_of, edges_in}
+use Rattle.edge_closure.specs.Tried.{Adds, Grows, IsSeenAt, IsTried, IsTriedWith, StaysSound, StaysSoundBy}
 
 pub grows_none : (edges : List Edge) → Grows edges edges
 grows_none edges = record { more = []; is = sym (append-nil edges); apart = λ h. h }
@@ -77,6 +79,13 @@ sound_by I P old new adds each = record {
     by all e (inl before) = All-contains (IsDerivable I) old e all before
     by all e (inr added) = each all e (All-contains P adds.more e adds.only added)
 
+-- the same for each subject and setting of which it is asked
+pub all_sound_none : (q : Question) (edges : List Edge) → StaysSoundBy q edges edges
+all_sound_none q edges = record { each = λ x w asked. sound_none (GroundInstance q x w) edges }
+
+pub all_sound_more : (q : Question) (a b c : List Edge) → StaysSoundBy q a b → StaysSoundBy q b c → StaysSoundBy q a c
+all_sound_more q a b c f g = record { each = λ x w asked. sound_more (GroundInstance q x w) a b c (f.each x w asked) (g.each x w asked) }
+
 -- ---- what is tried
 
 pub tried_with_more : (I : List Edge → Edge → Type 0) (p q : Edge) (a b : List Edge) → Grows a b → IsTriedWith I p q a → IsTriedWith I p q b
@@ -134,3 +143,12 @@ before_at old new k p grows short at =
     let known = stands_below old k short in
     let same : known.0 ≡ p = same_Some known.0 p (sym (still_at old new k known.0 grows known.1) ∙ at) in
     known.1 ∙ ap Some same
+
+-- what is seen at a place is seen there in a longer list
+pub still_seen : (q : Question) (k : ViewedNode) (place : ℕ) (old new : List Edge) → Grows old new → place < length old → IsSeenAt q k place old → IsSeenAt q k place new
+still_seen q k place old new grows short seen = record {
+  node = seen.node;
+  seen = seen.seen;
+  method = λ p at. seen.method p (before_at old new place p grows short at);
+  spot = λ p at. seen.spot p (before_at old new place p grows short at);
+}

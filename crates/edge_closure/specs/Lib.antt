@@ -1,4 +1,2 @@
-pub mod Questions
 pub mod Tried
-pub mod AtStart
 pub mod Closings

@@ -9,41 +9,37 @@ ghost use Rattle.stage_transfer.specs.Settings.{Setting};
 ghost use Rattle.stage_edges.specs.Edges.{ArePathEdges};
 ghost use Rattle.stage_edges.specs.Rules.{edge};
 ghost use Rattle.ground.specs.Findings.{gives_listed};
-ghost use Rattle.edge_closure.specs.Questions.{edge_of, edges_in, GroundInstance, IsAskedOf, IsClosureEnd};
-ghost use Rattle.edge_closure.specs.Tried.{Grows, IsClosedBy, IsEndAt, IsOpen, StaysSound};
+ghost use Rattle.ground_views.specs.Questions.{edge_of, edges_in, IsAskedOf, IsEdgesEnd};
+ghost use Rattle.edge_closure.specs.Tried.{Grows, IsClosedFor, IsFull, IsOpen, StaysSoundBy};
 ghost use Rattle.edge_closure.specs.Closings.{IsClosing};
 
-use crate::fault::ClosureFailure;
 use crate::nodes::try_edge;
-use crate::path_edge::PathEdge;
-use crate::question::{Closing, Question, Room};
+use crate::room::{Closing, Room};
 use crate::taking::take;
-use node_ways::start_method;
+use ground_views::{EdgesFailure, GroundViews, PathEdge, Question};
 use op_model::Spot;
 use stage_facts::PlainFact;
 use std::alloc::Global;
 
 /// The path edges of a site, each once. It fails with the limit where there are as many or more.
-pub fn path_edges(
-    alloc: Global,
-    question: &Question<'_, '_>,
-) -> Result<Vec<PathEdge>, ClosureFailure>
+pub fn path_edges(alloc: Global, question: &Question<'_, '_>) -> Result<Vec<PathEdge>, EdgesFailure>
     requires entry { IsMethodNumber question.now.ground.now.program question.now.entry.0 }
     requires site { slice_get question.now.ground.now.sites question.now.site.0 ≡ Some question.now.setting.site.now }
+    requires depth { question.now.setting.depth ≤ 3 }
     requires limit { 0 < question.now.limit }
     ensures edges { IfOk result (λ edges. (x : Subject) (w : Setting) → IsAskedOf question.now x w
         → ArePathEdges x (gives_listed question.now.ground.now.methods) (Contains question.now.ground.now.facts) w (edges_in edges.items)) }
     ensures few { IfOk result (λ edges. length edges.items < question.now.limit) }
-    ensures end { IfErr result (IsClosureEnd question.now) }
+    ensures end { IfErr result (IsEdgesEnd question.now) }
 {
-    let start = start_method(alloc, question.ground.program(), question.entry)?;
+    let views = GroundViews::of(alloc, question.ground, question.entry)?;
     let closing = Closing {
         room: Room {
             alloc,
             limit: question.limit,
         },
         question,
-        start: &start,
+        views: &views,
     };
     let mut edges = Vec::new(alloc);
     take(&mut edges, start_edge(), question.limit)?;
@@ -64,15 +60,15 @@ fn start_edge() -> PathEdge
 }
 
 /// Tries all instances, until a whole round finds no edge.
-fn close(closing: &Closing<'_, '_, '_>, edges: &mut Vec<PathEdge>) -> Result<(), ClosureFailure>
+fn close(closing: &Closing<'_, '_, '_>, edges: &mut Vec<PathEdge>) -> Result<(), EdgesFailure>
     requires closing { IsClosing closing.now }
     requires roomy { IsOpen closing.now.room.limit (edges_in edges.old.items) }
     requires started { Contains (edges_in edges.old.items) (edge None none_yet (spots.Node 0) none_yet) }
     ensures grows { Grows (edges_in edges.old.items) (edges_in edges.new.items) }
-    ensures sound { (x : Subject) (w : Setting) → IsAskedOf closing.now.question.now x w → StaysSound (GroundInstance closing.now.question.now x w) (edges_in edges.old.items) (edges_in edges.new.items) }
-    ensures closed { OnOk result ((x : Subject) (w : Setting) → IsAskedOf closing.now.question.now x w → IsClosedBy (GroundInstance closing.now.question.now x w) (edges_in edges.new.items)) }
+    ensures sound { StaysSoundBy closing.now.question.now (edges_in edges.old.items) (edges_in edges.new.items) }
+    ensures closed { OnOk result (IsClosedFor closing.now.question.now (edges_in edges.new.items)) }
     ensures roomy { OnOk result (IsOpen closing.now.room.limit (edges_in edges.new.items)) }
-    ensures end { IfErr result (IsEndAt closing.now.question.now.ground.now closing.now.room.limit (edges_in edges.new.items)) }
+    ensures end { IfErr result (IsFull closing.now.room.limit (edges_in edges.new.items)) }
 {
     let mut before = 0;
     while before < edges.len() {
@@ -83,15 +79,15 @@ fn close(closing: &Closing<'_, '_, '_>, edges: &mut Vec<PathEdge>) -> Result<(),
 }
 
 /// Tries all instances once. If no edge was found, there is none left to find.
-fn try_all(closing: &Closing<'_, '_, '_>, edges: &mut Vec<PathEdge>) -> Result<(), ClosureFailure>
+fn try_all(closing: &Closing<'_, '_, '_>, edges: &mut Vec<PathEdge>) -> Result<(), EdgesFailure>
     requires closing { IsClosing closing.now }
     requires roomy { IsOpen closing.now.room.limit (edges_in edges.old.items) }
     requires started { Contains (edges_in edges.old.items) (edge None none_yet (spots.Node 0) none_yet) }
     ensures grows { Grows (edges_in edges.old.items) (edges_in edges.new.items) }
-    ensures sound { (x : Subject) (w : Setting) → IsAskedOf closing.now.question.now x w → StaysSound (GroundInstance closing.now.question.now x w) (edges_in edges.old.items) (edges_in edges.new.items) }
-    ensures closed { OnOk result (length edges.new.items ≤ length edges.old.items → (x : Subject) (w : Setting) → IsAskedOf closing.now.question.now x w → IsClosedBy (GroundInstance closing.now.question.now x w) (edges_in edges.new.items)) }
+    ensures sound { StaysSoundBy closing.now.question.now (edges_in edges.old.items) (edges_in edges.new.items) }
+    ensures closed { OnOk result (length edges.new.items ≤ length edges.old.items → IsClosedFor closing.now.question.now (edges_in edges.new.items)) }
     ensures roomy { OnOk result (IsOpen closing.now.room.limit (edges_in edges.new.items)) }
-    ensures end { IfErr result (IsEndAt closing.now.question.now.ground.now closing.now.room.limit (edges_in edges.new.items)) }
+    ensures end { IfErr result (IsFull closing.now.room.limit (edges_in edges.new.items)) }
 {
     let mut place = 0;
     while place < edges.len() {

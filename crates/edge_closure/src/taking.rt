@@ -5,13 +5,12 @@ ghost use Rattle.stage_edges.specs.Rules.{Edge};
 ghost use Rattle.edge_steps.specs.Steps.{begun, within};
 ghost use Rattle.edge_steps.specs.declared.conclusions.Conclusion.{Conclusion as RuleConclusion};
 ghost use Rattle.edge_steps.specs.declared.conclusions.EnteredWith.{EnteredWith as RuleEntered};
-ghost use Rattle.edge_closure.specs.Questions.{edge_of, edges_in};
+ghost use Rattle.ground_views.specs.Questions.{edge_of, edges_in};
 ghost use Rattle.edge_closure.specs.Tried.{Adds, Grows, IsFull, IsOpen};
 
-use crate::fault::{ClosureFailure, ClosureFault};
-use crate::path_edge::{PathEdge, is_among};
 use edge_steps::{Conclusion, EnteredWith, copied_fact};
 use failure::Failure;
+use ground_views::{EdgesFailure, EdgesFault, PathEdge, is_among};
 use op_model::Spot;
 
 /// Takes an edge in, unless it is there already. It fails with the limit where there are as many edges by it.
@@ -19,7 +18,7 @@ pub(crate) fn take(
     edges: &mut Vec<PathEdge>,
     edge: PathEdge,
     limit: usize,
-) -> Result<(), ClosureFailure>
+) -> Result<(), EdgesFailure>
     requires { IsOpen limit (edges_in edges.old.items) }
     ensures grows { Grows (edges_in edges.old.items) (edges_in edges.new.items) }
     ensures adds { Adds (λ (e : Edge). e ≡ edge_of edge) (edges_in edges.old.items) (edges_in edges.new.items) }
@@ -32,7 +31,7 @@ pub(crate) fn take(
     }
     edges.push(edge)?;
     if edges.len() >= limit {
-        return Err(Failure::Cause(ClosureFault::Limit));
+        return Err(Failure::Cause(EdgesFault::Limit));
     }
     Ok(())
 }
@@ -43,7 +42,7 @@ pub(crate) fn take_conclusions(
     place: usize,
     conclusions: &[Conclusion],
     limit: usize,
-) -> Result<(), ClosureFailure>
+) -> Result<(), EdgesFailure>
     requires there { place < length edges.old.items }
     requires roomy { IsOpen limit (edges_in edges.old.items) }
     ensures grows { Grows (edges_in edges.old.items) (edges_in edges.new.items) }
@@ -66,7 +65,7 @@ fn take_conclusion(
     place: usize,
     conclusion: &Conclusion,
     limit: usize,
-) -> Result<(), ClosureFailure>
+) -> Result<(), EdgesFailure>
     requires there { place < length edges.old.items }
     requires roomy { IsOpen limit (edges_in edges.old.items) }
     ensures grows { Grows (edges_in edges.old.items) (edges_in edges.new.items) }
@@ -92,7 +91,7 @@ pub(crate) fn take_begun(
     edges: &mut Vec<PathEdge>,
     entered: &[EnteredWith],
     limit: usize,
-) -> Result<(), ClosureFailure>
+) -> Result<(), EdgesFailure>
     requires { IsOpen limit (edges_in edges.old.items) }
     ensures grows { Grows (edges_in edges.old.items) (edges_in edges.new.items) }
     ensures adds { Adds (λ (e : Edge). (b : RuleEntered) × Contains entered.now b × (e ≡ begun b)) (edges_in edges.old.items) (edges_in edges.new.items) }

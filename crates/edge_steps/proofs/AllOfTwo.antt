@@ -21,11 +21,12 @@ use Rattle.stage_transfer.specs.Settings.{Setting}
 use Rattle.stage_transfer.specs.Stages.{Transfer, transfer_of}
 use Rattle.stage_views.specs.declared.setting.StageSetting.{StageSetting}
 use Rattle.stage_views.specs.Views.{IsSettingBy}
-use Rattle.stage_edges.specs.Rules.{Edge, Enters, GoesTo, Instance, IsExit, IsNode, MayThrow, before, edge as edge_of, answers, call_returns, described_raises, enters, goes_on, raises, resumes, returns, start, unwinds}
+use Rattle.stage_edges.specs.Rules.{Edge, Enters, GoesTo, Instance, IsExit, IsNode, MayThrow, before, edge as edge_of, answers, call_returns, described_raises, enters, goes_on, raises, resumes, returns, start, triggered, unwinds}
+use Rattle.node_ways.specs.declared.ways.EnteredMethod.{EnteredMethod}
 use Rattle.node_ways.specs.declared.ways.NodeWays.{NodeWays}
-use Rattle.node_ways.specs.Ways.{AreLandings}
+use Rattle.node_ways.specs.Ways.{AreEntered, AreLandings, IsCalled}
 use Rattle.edge_steps.specs.declared.conclusions.Conclusion.{Conclusion}
-use Rattle.edge_steps.specs.Parts.{AfterCall, AfterTrigger, IsAt, LeavesCall, LeavesTrigger, OneAtEach, Raised, landing}
+use Rattle.edge_steps.specs.Parts.{After, AfterThrow, IsAt, LeavesCall, LeavesTrigger, LeftOne, OneAtEach, Raised, landing}
 use Rattle.edge_steps.specs.Parts as parts
 use Rattle.edge_steps.specs.Steps.{AreFollowing, IsLookedAt, IsOneOf, StandsFor, within}
 use Rattle.edge_steps.proofs.Facts.{concluded, plain_is}
@@ -81,38 +82,36 @@ module _ (x : Subject) (gives : GivenAs) (S : Fact → Type 0) (w : Setting) (s 
     enter_same : (by : Entering) (sent : SiteFact) → u.enter by sent ≡ t.enter by sent
     enter_same by sent = sym (enters_same s w stands.setting like stands.like by sent)
 
-    -- what is known where a call has ended, or an initialiser
-    abbrev CallAfter : NodeCall → SiteFact → Spot → Conclusion → Type 0
-    CallAfter c sent spot conclusion =
-        (landings : List (Option ℕ)) → AreLandings x n (MayThrow S target) landings → AfterCall u k o landings (u.leave k o (by_call c) target sent out) spot conclusion
+    -- what is known where the method has ended
+    abbrev Ended : Entering → SiteFact → Spot → Conclusion → Type 0
+    Ended by sent spot conclusion =
+        (landings : List (Option ℕ)) → AreLandings x n (MayThrow S target) landings → After u k o by landings (u.leave k o by target sent out) spot conclusion
 
-    abbrev TriggerAfter : Spot → Conclusion → Type 0
-    TriggerAfter spot conclusion =
-        (landings : List (Option ℕ)) → AreLandings x n (MayThrow S target) landings → AfterTrigger u k o landings (u.leave k o by_trigger target f out) spot conclusion
+    -- the method is one of those that are entered
+    left_one : (by : Entering) (sent : SiteFact) (spot : Spot) (IsTarget : MethodNo → Type 0) (methods : List EnteredMethod) → AreEntered x S n IsTarget methods → IsTarget target
+        → (conclusion : Conclusion) → Ended by sent spot conclusion → LeftOne u k o by target (t.enter by sent) spot out methods sent conclusion
+    left_one by sent spot IsTarget methods entered is conclusion ended =
+        let found = entered.all target is in
+        let are = subst (λ (m' : MethodNo). AreLandings x n (MayThrow S m') found.0.landings.items) found.2 (entered.only found.0 found.1).1 in
+        (found.0, found.1, (found.2, (enter_same by sent, ended found.0.landings.items are)))
 
-    called_left : (c : NodeCall) (sent : SiteFact) (spot : Spot) → AreListed f target (t.enter (by_call c) sent) spot out → Enters x S t m l n target f (by_call c) sent
-        → (place : Spot) (g : SiteFact) → CallAfter c sent spot (concluded place g) → IsOneOf m e conclusions [] (edge_of m e place g)
-    called_left c sent spot listed into_method place g after =
+    entered_left : (by : Entering) (sent : SiteFact) (spot : Spot) → AreListed f target (t.enter by sent) spot out → Enters x S t m l n target f by sent → (place : Spot) (g : SiteFact)
+        → Ended by sent spot (concluded place g) → IsOneOf m e conclusions [] (edge_of m e place g)
+    entered_left (by_call c) sent spot listed into_method place g ended =
         let call = by_a_call x S t m l n target f c sent into_method in
-        let found = stands.are_ways.called.all target (record { call = c; is_call = call.is_call; goes = call.goes; of_file = call.of_file }) in
-        let are = subst (λ (m' : MethodNo). AreLandings x n (MayThrow S m') found.0.landings.items) found.2 (stands.are_ways.called.only found.0 found.1).1 in
         let call_is : o.op ≡ Call c = sym stands.op ∙ call.is_call in
         left (t.enter (by_call c) sent) spot listed place g
         (inl (parts.ends c call_is (
-          found.0,
-          found.1,
-          (
-            found.2,
-            (sent, into (t.event l n c f) (u.event k o c f) sent (sym (stands.same.event c f call_is)) call.sends, (enter_same (by_call c) sent, after found.0.landings.items are)),
-          ),
+          sent,
+          into (t.event l n c f) (u.event k o c f) sent (sym (stands.same.event c f call_is)) call.sends,
+          left_one (by_call c) sent spot (IsCalled x S m n) ways.called.items stands.are_ways.called
+              (record { call = c; is_call = call.is_call; goes = call.goes; of_file = call.of_file }) (concluded place g) ended,
         )))
-
-    started_left : (spot : Spot) → AreListed f target (t.enter by_trigger f) spot out → StartsAt x.program n target → (place : Spot) (g : SiteFact)
-        → TriggerAfter spot (concluded place g) → IsOneOf m e conclusions [] (edge_of m e place g)
-    started_left spot listed starts place g after =
-        let found = stands.are_ways.started.all target starts in
-        let are = subst (λ (m' : MethodNo). AreLandings x n (MayThrow S m') found.0.landings.items) found.2 (stands.are_ways.started.only found.0 found.1).1 in
-        left (t.enter by_trigger f) spot listed place g (inr (found.0, found.1, (found.2, (enter_same by_trigger f, after found.0.landings.items are))))
+    entered_left by_trigger sent spot listed into_method place g ended =
+        let start = by_a_trigger x S t m l n target f sent into_method in
+        left (t.enter by_trigger sent) spot listed place g
+        (inr (subst (λ (h : SiteFact). LeftOne u k o by_trigger target (t.enter by_trigger sent) spot out ways.started.items h (concluded place g)) start.0
+        (left_one by_trigger sent spot (StartsAt x.program n) ways.started.items stands.are_ways.started start.1 (concluded place g) ended)))
 
     landed : (by : Entering) (sent g : SiteFact) (class : List ℕ) (handler : Option ℕ) (place : Spot) → MayThrow S target class → GoesTo x n class handler place
         → Contains (t.raise l n handler (t.leave l n by target sent out)) g → (landings : List (Option ℕ)) → AreLandings x n (MayThrow S target) landings
@@ -128,7 +127,7 @@ module _ (x : Subject) (gives : GivenAs) (S : Fact → Type 0) (w : Setting) (s 
     call_returned c sent g offset listed into_method there next =
         let path : t.next l n (t.leave l n (by_call c) target sent out) ≡ u.next k o (u.leave k o (by_call c) target sent out) =
         ap (t.next l n) (left_same (by_call c) sent) ∙ sym (stands.same.next (u.leave k o (by_call c) target sent out)) in
-        called_left c sent spots.Returned listed into_method (spots.Node offset) g
+        entered_left (by_call c) sent spots.Returned listed into_method (spots.Node offset) g
         (λ landings are. (offset, into n.successors o.successors offset stands.successors there, (g, into _ _ g path next, at (spots.Node offset) g (spots.Node offset) refl)))
 
     runs_on : IsAt (before o) (u.leave k o by_trigger target f out) (concluded (before n) (t.leave l n by_trigger target f out))
@@ -138,20 +137,20 @@ module _ (x : Subject) (gives : GivenAs) (S : Fact → Type 0) (w : Setting) (s 
         → IsOneOf m e conclusions [] (edge_of m e (before n) (t.leave l n by_trigger target f out))
     resumed (spots.Node offset) listed starts none = absurd none
     resumed spots.Returned listed starts is =
-        started_left spots.Returned listed starts (before n) (t.leave l n by_trigger target f out) (λ landings are. runs_on)
+        entered_left by_trigger f spots.Returned listed (triggered starts) (before n) (t.leave l n by_trigger target f out) (λ landings are. runs_on)
     resumed spots.Thrown listed starts is =
-        started_left spots.Thrown listed starts (before n) (t.leave l n by_trigger target f out) (λ landings are. inl runs_on)
+        entered_left by_trigger f spots.Thrown listed (triggered starts) (before n) (t.leave l n by_trigger target f out) (λ landings are. inl runs_on)
+
+    thrown : (by : Entering) (landings : List (Option ℕ)) (left : SiteFact) (c : Conclusion) → OfOne (Raised u k o left) landings c → AfterThrow u k o by landings left c
+    thrown (by_call call) landings left c which = which
+    thrown by_trigger landings left c which = inr which
 
     unwound : (by : Entering) (sent g : SiteFact) (class : List ℕ) (handler : Option ℕ) (place : Spot) → AreListed f target (t.enter by sent) spots.Thrown out
         → Enters x S t m l n target f by sent → MayThrow S target class → GoesTo x n class handler place → Contains (t.raise l n handler (t.leave l n by target sent out)) g
         → IsOneOf m e conclusions [] (edge_of m e place g)
-    unwound (by_call c) sent g class handler place listed into_method throws goes raised =
-        called_left c sent spots.Thrown listed into_method place g (landed (by_call c) sent g class handler place throws goes raised)
-    unwound by_trigger sent g class handler place listed into_method throws goes raised =
-        let start = by_a_trigger x S t m l n target f sent into_method in
-        started_left spots.Thrown (subst (λ (h : SiteFact). AreListed f target (t.enter by_trigger h) spots.Thrown out) start.0 listed) start.1 place g
-        (λ landings are. inr (landed by_trigger f g class handler place throws goes
-        (subst (λ (h : SiteFact). Contains (t.raise l n handler (t.leave l n by_trigger target h out)) g) start.0 raised) landings are))
+    unwound by sent g class handler place listed into_method throws goes raised =
+        entered_left by sent spots.Thrown listed into_method place g
+        (λ landings are. thrown by landings (u.leave k o by target sent out) (concluded place g) (landed by sent g class handler place throws goes raised landings are))
 
   from_two : (premises : List Edge) (to : Edge) → Instance x gives S (transfer_of w) premises to → FromTwo premises to
   from_two premises to start = tt

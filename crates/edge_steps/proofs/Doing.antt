@@ -11,11 +11,12 @@ use Rattle.op_model.specs.declared.op.Op.TheVariants.{Call, Return}
 use Rattle.ground.specs.Added.{AreAdded, OfOne}
 use Rattle.ground.proofs.Adding.{added_as, added_both, added_none}
 use Rattle.stage_facts.specs.Facts.{SiteFact}
+use Rattle.stage_transfer.specs.Calls.{by_call}
 use Rattle.stage_transfer.specs.Stages.{Transfer}
 use Rattle.node_ways.specs.declared.ways.NodeWays.{NodeWays}
 use Rattle.edge_steps.specs.declared.conclusions.Conclusion.{Conclusion}
 use Rattle.edge_steps.specs.declared.conclusions.EnteredWith.{EnteredWith}
-use Rattle.edge_steps.specs.Parts.{BegunFrom, Calls, DescribedFrom, Done, IsReturn, LeavesCall, LeftAsCalled, OneAt, OneAtEach}
+use Rattle.edge_steps.specs.Parts.{BegunFrom, Calls, DescribedFrom, Done, IsReturn, LeavesCall, LeftOne, OneAt, OneAtEach}
 use Rattle.edge_steps.specs.Parts as parts
 
 one_call : (op : Op) (c d : NodeCall) → op ≡ Call c → op ≡ Call d → c ≡ d
@@ -77,14 +78,14 @@ module _ (t : Transfer) (l : LoweredMethod) (m : Option MethodNo) (n : Node) (wa
 
 module _ (t : Transfer) (l : LoweredMethod) (n : Node) (ways : NodeWays) (f : SiteFact) (target : MethodNo) (entry : SiteFact) (spot : Spot) (out : SiteFact) where
   left : (call : NodeCall) → n.op ≡ Call call → (c : Conclusion) → LeavesCall t l n ways f target entry spot out c
-      → OfOne (LeftAsCalled t l n call target entry spot out (t.event l n call f)) ways.called.items c
+      → OfOne (LeftOne t l n (by_call call) target entry spot out ways.called.items) (t.event l n call f) c
   left call is c (parts.ends own is_own which) =
-      subst (λ (z : NodeCall). OfOne (LeftAsCalled t l n z target entry spot out (t.event l n z f)) ways.called.items c) (one_call n.op own call is_own is) which
+      subst (λ (z : NodeCall). OfOne (LeftOne t l n (by_call z) target entry spot out ways.called.items) (t.event l n z f) c) (one_call n.op own call is_own is) which
 
   pub left_added : (call : NodeCall) → n.op ≡ Call call → (a b : List Conclusion)
-      → AreAdded (OfOne (LeftAsCalled t l n call target entry spot out (t.event l n call f)) ways.called.items) a b → AreAdded (LeavesCall t l n ways f target entry spot out) a b
+      → AreAdded (OfOne (LeftOne t l n (by_call call) target entry spot out ways.called.items) (t.event l n call f)) a b → AreAdded (LeavesCall t l n ways f target entry spot out) a b
   left_added call is a b added =
-      added_as (OfOne (LeftAsCalled t l n call target entry spot out (t.event l n call f)) ways.called.items) (LeavesCall t l n ways f target entry spot out) a b
+      added_as (OfOne (LeftOne t l n (by_call call) target entry spot out ways.called.items) (t.event l n call f)) (LeavesCall t l n ways f target entry spot out) a b
       (λ c which. parts.ends call is which) (left call is) added
 
   none_left : ((call : NodeCall) → n.op ≡ Call call → ⊥) → (c : Conclusion) → LeavesCall t l n ways f target entry spot out c → ⊥

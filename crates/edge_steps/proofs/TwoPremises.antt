@@ -21,10 +21,11 @@ use Rattle.stage_transfer.specs.Stages.{Transfer, transfer_of}
 use Rattle.stage_views.specs.declared.setting.StageSetting.{StageSetting}
 use Rattle.stage_views.specs.Views.{IsSettingBy}
 use Rattle.stage_edges.specs.Rules.{Edge, Enters, Instance, IsExit, IsNode, MayThrow, before, edge as edge_of, node_at, call_returns, called, resumes, triggered, unwinds}
+use Rattle.node_ways.specs.declared.ways.EnteredMethod.{EnteredMethod}
 use Rattle.node_ways.specs.declared.ways.NodeWays.{NodeWays}
 use Rattle.node_ways.specs.Ways.{AreLandings, IsCalled}
 use Rattle.edge_steps.specs.declared.conclusions.Conclusion.{Conclusion}
-use Rattle.edge_steps.specs.Parts.{AfterCall, AfterTrigger, IsAt, LeavesCall, LeavesTrigger, OneAtEach, Raised, landing}
+use Rattle.edge_steps.specs.Parts.{After, AfterReturn, AfterThrow, IsAt, LeavesCall, LeavesTrigger, OneAtEach, Raised, landing}
 use Rattle.edge_steps.specs.Parts as parts
 use Rattle.edge_steps.specs.Steps.{StandsFor, within}
 use Rattle.edge_steps.proofs.Transfers.{enters_same, into, lands_at}
@@ -92,43 +93,52 @@ module _ (x : Subject) (gives : GivenAs) (S : Fact → Type 0) (w : Setting) (s 
       moved (t.enter by sent) spots.Thrown (landing handler) g c at
       (unwinds m l n e f sent out g target by landed.class handler (landing handler) node into_method landed.thrown landed.goes (into _ _ g path listed))
 
-  after_call : (call : NodeCall) (sent : SiteFact) (landings : List (Option ℕ)) → AreLandings x n (MayThrow S target) landings → Enters x S t m l n target f (by_call call) sent
-      → (spot : Spot) (c : Conclusion) → AfterCall u k o landings (u.leave k o (by_call call) target sent out) spot c → FromExit (t.enter (by_call call) sent) spot (within m e c)
-  after_call call sent landings are into_method (spots.Node offset) c none = absurd none
-  after_call call sent landings are into_method spots.Returned c (offset, near, (g, listed, at)) =
+  -- the node that started an initialiser runs on
+  runs_on : (sent : SiteFact) → Enters x S t m l n target f by_trigger sent → (exit : Spot) → IsExit exit → (c : Conclusion) → IsAt (before o) (u.leave k o by_trigger target sent out) c
+      → FromExit (t.enter by_trigger sent) exit (within m e c)
+  runs_on sent into_method exit is c at =
+      let start = by_a_trigger x S t m l n target f sent into_method in
+      moved (t.enter by_trigger sent) exit (before n) (t.leave l n by_trigger target sent out) c
+      (record { at = at.at ∙ (λ i. spots.Node (sym at_same i)); is = at.is ∙ left_same by_trigger sent })
+      (subst (λ (g : SiteFact). FromExit (t.enter by_trigger g) exit (edge_of m e (before n) (t.leave l n by_trigger target g out))) (sym start.0)
+      (resumes m l n e f out target exit node start.1 is))
+
+  after_return : (by : Entering) (sent : SiteFact) → Enters x S t m l n target f by sent → (c : Conclusion) → AfterReturn u k o by (u.leave k o by target sent out) c
+      → FromExit (t.enter by sent) spots.Returned (within m e c)
+  after_return (by_call call) sent into_method c (offset, near, (g, listed, at)) =
       let path : u.next k o (u.leave k o (by_call call) target sent out) ≡ t.next l n (t.leave l n (by_call call) target sent out) =
       ap (u.next k o) (left_same (by_call call) sent) ∙ stands.same.next (t.leave l n (by_call call) target sent out) in
       moved (t.enter (by_call call) sent) spots.Returned (spots.Node offset) g c at
       (call_returns m l n e f sent out g target call offset node into_method (into o.successors n.successors offset (sym stands.successors) near) (into _ _ g path listed))
-  after_call call sent landings are into_method spots.Thrown c which = lands (by_call call) sent landings are into_method c which
+  after_return by_trigger sent into_method c at = runs_on sent into_method spots.Returned tt c at
 
-  runs_on : (starts : StartsAt x.program n target) (exit : Spot) → IsExit exit → (c : Conclusion) → IsAt (before o) (u.leave k o by_trigger target f out) c
-      → FromExit (t.enter by_trigger f) exit (within m e c)
-  runs_on starts exit is c at =
-      moved (t.enter by_trigger f) exit (before n) (t.leave l n by_trigger target f out) c
-      (record { at = at.at ∙ (λ i. spots.Node (sym at_same i)); is = at.is ∙ left_same by_trigger f })
-      (resumes m l n e f out target exit node starts is)
+  after_throw : (by : Entering) (sent : SiteFact) (landings : List (Option ℕ)) → AreLandings x n (MayThrow S target) landings → Enters x S t m l n target f by sent → (c : Conclusion)
+      → AfterThrow u k o by landings (u.leave k o by target sent out) c → FromExit (t.enter by sent) spots.Thrown (within m e c)
+  after_throw (by_call call) sent landings are into_method c which = lands (by_call call) sent landings are into_method c which
+  after_throw by_trigger sent landings are into_method c (inl at) = runs_on sent into_method spots.Thrown tt c at
+  after_throw by_trigger sent landings are into_method c (inr which) = lands by_trigger sent landings are into_method c which
 
-  after_trigger : (landings : List (Option ℕ)) → AreLandings x n (MayThrow S target) landings → StartsAt x.program n target → (spot : Spot) (c : Conclusion)
-      → AfterTrigger u k o landings (u.leave k o by_trigger target f out) spot c → FromExit (t.enter by_trigger f) spot (within m e c)
-  after_trigger landings are starts (spots.Node offset) c none = absurd none
-  after_trigger landings are starts spots.Returned c at = runs_on starts spots.Returned tt c at
-  after_trigger landings are starts spots.Thrown c (inl at) = runs_on starts spots.Thrown tt c at
-  after_trigger landings are starts spots.Thrown c (inr which) = lands by_trigger f landings are (triggered starts) c which
+  after : (by : Entering) (sent : SiteFact) (landings : List (Option ℕ)) → AreLandings x n (MayThrow S target) landings → Enters x S t m l n target f by sent → (spot : Spot) (c : Conclusion)
+      → After u k o by landings (u.leave k o by target sent out) spot c → FromExit (t.enter by sent) spot (within m e c)
+  after by sent landings are into_method (spots.Node offset) c none = absurd none
+  after by sent landings are into_method spots.Returned c which = after_return by sent into_method c which
+  after by sent landings are into_method spots.Thrown c which = after_throw by sent landings are into_method c which
 
-  entry_same : (by : Entering) (sent entry : SiteFact) → u.enter by sent ≡ entry → t.enter by sent ≡ entry
-  entry_same by sent entry same = enters_same s w stands.setting like stands.like by sent ∙ same
+  -- the method is the one that is left, and it was entered with the fact
+  from_method : (by : Entering) (sent entry : SiteFact) (v : EnteredMethod) → v.method ≡ target → AreLandings x n (MayThrow S v.method) v.landings.items → Enters x S t m l n target f by sent
+      → u.enter by sent ≡ entry → (spot : Spot) (c : Conclusion) → After u k o by v.landings.items (u.leave k o by target sent out) spot c → FromExit entry spot (within m e c)
+  from_method by sent entry v same are into_method was spot c which =
+      subst (λ (g : SiteFact). FromExit g spot (within m e c)) (enters_same s w stands.setting like stands.like by sent ∙ was)
+      (after by sent v.landings.items (subst (λ (m' : MethodNo). AreLandings x n (MayThrow S m') v.landings.items) same are) into_method spot c which)
 
   pub leaves_follows : (entry : SiteFact) (spot : Spot) (c : Conclusion) → Leaves u k o ways f target entry spot out c → FromExit entry spot (within m e c)
-  leaves_follows entry spot c (inl (parts.ends call is_call (v, there, (same, (sent, sends, (was, which)))))) =
+  leaves_follows entry spot c (inl (parts.ends call is_call (sent, sends, (v, there, (same, (was, which)))))) =
       let only = stands.are_ways.called.only v there in
       let goal = subst (λ (m' : MethodNo). IsCalled x S m n m') same only.0 in
-      let are = subst (λ (m' : MethodNo). AreLandings x n (MayThrow S m') v.landings.items) same only.1 in
       let into_method : Enters x S t m l n target f (by_call call) sent =
       called call sent (stands.op ∙ is_call) goal.goes goal.of_file (into (u.event k o call f) (t.event l n call f) sent (stands.same.event call f is_call) sends) in
-      subst (λ (g : SiteFact). FromExit g spot (within m e c)) (entry_same (by_call call) sent entry was) (after_call call sent v.landings.items are into_method spot c which)
+      from_method (by_call call) sent entry v same only.1 into_method was spot c which
   leaves_follows entry spot c (inr (v, there, (same, (was, which)))) =
       let only = stands.are_ways.started.only v there in
       let starts = subst (λ (m' : MethodNo). StartsAt x.program n m') same only.0 in
-      let are = subst (λ (m' : MethodNo). AreLandings x n (MayThrow S m') v.landings.items) same only.1 in
-      subst (λ (g : SiteFact). FromExit g spot (within m e c)) (entry_same by_trigger f entry was) (after_trigger v.landings.items are starts spot c which)
+      from_method by_trigger f entry v same only.1 (triggered starts) was spot c which

@@ -12,7 +12,7 @@ use Rattle.op_model.specs.declared.op.Op.TheVariants.{Call, Return}
 use Rattle.ground.specs.Added.{OfOne}
 use Rattle.stage_facts.specs.Facts.{SiteFact}
 use Rattle.stage_facts.specs.Plain.{fact_of}
-use Rattle.stage_transfer.specs.Calls.{by_call, by_trigger}
+use Rattle.stage_transfer.specs.Calls.{Entering, by_call, by_trigger}
 use Rattle.stage_transfer.specs.Stages.{Transfer}
 use Rattle.stage_views.specs.declared.calls.Answer.{Answer}
 use Rattle.stage_views.specs.declared.calls.Answer.TheVariants.{Own, Other}
@@ -94,46 +94,45 @@ Starts t ways f = OfOne (IsBegun (t.enter by_trigger f)) ways.started.items
 
 -- ---- exits of what it enters
 
-abbrev pub AfterCall : Transfer → LoweredMethod → Node → (landings : List (Option ℕ)) → (left : SiteFact) → (spot : Spot) → Conclusion → Type 0
-AfterCall t l n landings left (spots.Node offset) c = ⊥
-AfterCall t l n landings left spots.Returned c = OneAtEach n.successors (t.next l n left) c
-AfterCall t l n landings left spots.Thrown c = OfOne (Raised t l n left) landings c
+-- What was entered has returned: a call goes on at each successor, and a node that started an initialiser runs.
+abbrev pub AfterReturn : Transfer → LoweredMethod → Node → Entering → (left : SiteFact) → Conclusion → Type 0
+AfterReturn t l n (by_call call) left c = OneAtEach n.successors (t.next l n left) c
+AfterReturn t l n by_trigger left c = IsAt (before n) left c
 
--- The node that started an initialiser runs on, or throws.
-abbrev pub AfterTrigger : Transfer → LoweredMethod → Node → (landings : List (Option ℕ)) → (left : SiteFact) → (spot : Spot) → Conclusion → Type 0
-AfterTrigger t l n landings left (spots.Node offset) c = ⊥
-AfterTrigger t l n landings left spots.Returned c = IsAt (before n) left c
-AfterTrigger t l n landings left spots.Thrown c = IsAt (before n) left c ⊎ OfOne (Raised t l n left) landings c
+-- It has thrown: the object lands, or a node that started an initialiser runs.
+abbrev pub AfterThrow : Transfer → LoweredMethod → Node → Entering → (landings : List (Option ℕ)) → (left : SiteFact) → Conclusion → Type 0
+AfterThrow t l n (by_call call) landings left c = OfOne (Raised t l n left) landings c
+AfterThrow t l n by_trigger landings left c = IsAt (before n) left c ⊎ OfOne (Raised t l n left) landings c
+
+-- How the node goes on with what is known at an exit.
+abbrev pub After : Transfer → LoweredMethod → Node → Entering → (landings : List (Option ℕ)) → (left : SiteFact) → (spot : Spot) → Conclusion → Type 0
+After t l n by landings left (spots.Node offset) c = ⊥
+After t l n by landings left spots.Returned c = AfterReturn t l n by left c
+After t l n by landings left spots.Thrown c = AfterThrow t l n by landings left c
 
 -- The method was entered with the fact.
-abbrev pub LeftCall : Transfer → LoweredMethod → Node → NodeCall → (target : MethodNo) → (entry : SiteFact) → (spot : Spot) → (out : SiteFact)
+abbrev pub LeftWith : Transfer → LoweredMethod → Node → Entering → (target : MethodNo) → (entry : SiteFact) → (spot : Spot) → (out : SiteFact)
     → (landings : List (Option ℕ)) → (sent : SiteFact) → Conclusion → Type 0
-LeftCall t l n call target entry spot out landings sent c =
-    (t.enter (by_call call) sent ≡ entry) × AfterCall t l n landings (t.leave l n (by_call call) target sent out) spot c
-
-abbrev pub LeftTrigger : Transfer → LoweredMethod → Node → (target : MethodNo) → (entry : SiteFact) → (spot : Spot) → (out : SiteFact)
-    → (landings : List (Option ℕ)) → (f : SiteFact) → Conclusion → Type 0
-LeftTrigger t l n target entry spot out landings f c =
-    (t.enter by_trigger f ≡ entry) × AfterTrigger t l n landings (t.leave l n by_trigger target f out) spot c
+LeftWith t l n by target entry spot out landings sent c = (t.enter by sent ≡ entry) × After t l n by landings (t.leave l n by target sent out) spot c
 
 -- The method is the one that is left.
-abbrev pub LeftAsCalled : Transfer → LoweredMethod → Node → NodeCall → (target : MethodNo) → (entry : SiteFact) → (spot : Spot) → (out : SiteFact)
-    → (sents : List SiteFact) → EnteredMethod → Conclusion → Type 0
-LeftAsCalled t l n call target entry spot out sents e c =
-    (e.method ≡ target) × OfOne (LeftCall t l n call target entry spot out e.landings.items) sents c
+abbrev pub LeftFrom : Transfer → LoweredMethod → Node → Entering → (target : MethodNo) → (entry : SiteFact) → (spot : Spot) → (out : SiteFact)
+    → (sent : SiteFact) → EnteredMethod → Conclusion → Type 0
+LeftFrom t l n by target entry spot out sent e c = (e.method ≡ target) × LeftWith t l n by target entry spot out e.landings.items sent c
 
-abbrev pub LeftAsStarted : Transfer → LoweredMethod → Node → (target : MethodNo) → (entry : SiteFact) → (spot : Spot) → (out : SiteFact)
-    → SiteFact → EnteredMethod → Conclusion → Type 0
-LeftAsStarted t l n target entry spot out f e c = (e.method ≡ target) × LeftTrigger t l n target entry spot out e.landings.items f c
+-- One of the methods is.
+abbrev pub LeftOne : Transfer → LoweredMethod → Node → Entering → (target : MethodNo) → (entry : SiteFact) → (spot : Spot) → (out : SiteFact)
+    → List EnteredMethod → (sent : SiteFact) → Conclusion → Type 0
+LeftOne t l n by target entry spot out methods sent = OfOne (LeftFrom t l n by target entry spot out sent) methods
 
 pub data LeavesCall (t : Transfer) (l : LoweredMethod) (n : Node) (ways : NodeWays) (f : SiteFact) (target : MethodNo) (entry : SiteFact) (spot : Spot) (out : SiteFact)
     (c : Conclusion) : Type 0 where
-  ends : (call : NodeCall) → n.op ≡ Call call → OfOne (LeftAsCalled t l n call target entry spot out (t.event l n call f)) ways.called.items c
+  ends : (call : NodeCall) → n.op ≡ Call call → OfOne (LeftOne t l n (by_call call) target entry spot out ways.called.items) (t.event l n call f) c
       → LeavesCall t l n ways f target entry spot out c
 
 abbrev pub LeavesTrigger : Transfer → LoweredMethod → Node → NodeWays → SiteFact → (target : MethodNo) → (entry : SiteFact) → (spot : Spot) → (out : SiteFact)
     → Conclusion → Type 0
-LeavesTrigger t l n ways f target entry spot out = OfOne (LeftAsStarted t l n target entry spot out f) ways.started.items
+LeavesTrigger t l n ways f target entry spot out = LeftOne t l n by_trigger target entry spot out ways.started.items f
 
 -- A described method gives a new object of the site, or of another one.
 abbrev pub new_answer : Bool → Answer

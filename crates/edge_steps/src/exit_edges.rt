@@ -15,13 +15,12 @@ ghost use Rattle.stage_views.specs.Views.{IsSettingBy};
 ghost use Rattle.stage_edges.specs.Rules.{before, edge};
 ghost use Rattle.edge_steps.specs.Steps.{AreFollowing, IsLookedAt};
 
-use crate::call_exits::add_from_call;
 use crate::conclusions::Conclusion;
 use crate::exit::Exit;
-use crate::initialiser_exits::add_from_trigger;
+use crate::method_exits::{add_from_call, add_from_methods};
 use crate::node_view::NodeView;
 use stage_facts::PlainFact;
-use stage_views::NodeSlots;
+use stage_views::{Entering, NodeSlots};
 use std::alloc::{AllocError, Global};
 
 /// What follows, by one instance of a rule, from an edge with this fact to a node, and an edge to a spot of a method that the node enters: nothing, where
@@ -41,6 +40,7 @@ pub fn from_exit<V: NodeSlots>(
 {
     let mut within = Vec::new(alloc);
     add_from_call(view, fact, exit, &mut within)?;
-    add_from_trigger(view, fact, exit, &mut within)?;
+    let started = view.ways.started.as_slice();
+    add_from_methods(view, Entering::Trigger, started, fact, exit, &mut within)?;
     Ok(within)
 }

@@ -1,16 +1,15 @@
-//! What follows from path edges by one instance of a rule, at any stage: from an edge to a node (`from_node`), and from it with an edge to an exit of a
-//! method that the node enters (`from_exit`). What follows does not depend on the fact with which the node's method is entered.
-//! The crates above take in what follows until nothing is new. Begin with src/node_view.rt and specs/Steps.antt.
+//! What follows from path edges by one instance of a rule, at any stage. `from_node` takes one edge, to a node. `from_exit` takes such an edge and a second
+//! one, to an exit of a method that the node enters. The entry of the first edge plays no part in what follows.
+//! The crates above take in what follows until nothing is new. Begin with specs/Steps.antt, src/node_edges.rt and src/exit_edges.rt.
 #![tactic(auto)]
 
-mod call_exits;
 mod conclusions;
 mod described;
 mod exit;
 mod exit_edges;
 mod given;
-mod initialiser_exits;
 mod kinds;
+mod method_exits;
 mod node_edges;
 mod node_view;
 mod same;

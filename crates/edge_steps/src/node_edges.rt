@@ -19,10 +19,11 @@ ghost use Rattle.edge_steps.specs.Steps.{AreFollowing, IsLookedAt};
 
 use crate::conclusions::{Conclusion, EnteredWith, Following};
 use crate::described::add_described;
-use crate::kinds::{call_of, is_return};
+use crate::kinds::is_return;
 use crate::node_view::NodeView;
 use crate::spots::{add_at_each, add_begun, add_facts};
 use crate::thrown::add_raised;
+use node_ways::call_of;
 use op_model::{Call, Spot};
 use stage_calls::{call_facts, entered};
 use stage_facts::PlainFact;

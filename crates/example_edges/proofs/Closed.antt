@@ -1,218 +1,172 @@
--- The list of path edges is closed under each rule where, node by node, each edge leads to edges of the list alone.
-use Rattle.std.proofs.Common.{◌≡◌, ◌≢◌, ℕ, true, false, true≢false, List, [], filter, Option, Some, None, sym, ◌∙◌, ap, subst}
-use Rattle.std.specs.List.{AllByRecursion, Contains}
+-- A list of edges is closed under each rule where the conclusions from its edges are among them, node by node: a test.
+use Rattle.std.proofs.Common.{◌≡◌, ℕ, Bool, true, true≢false, ◌&&◌, cond, List, [], Option, Some, None, sym, ◌∙◌, ap, subst}
+use Rattle.std.specs.List.{Contains, flat_map, list_all, list_any}
+use Rattle.std.specs.Option.{option_to_list}
+use Rattle.std.proofs.lemmas.Bool.{and_from, and_parts}
 use Rattle.jvm_model.specs.declared.number.ClassNo.{ClassNo}
 use Rattle.jvm_model.specs.declared.number.MethodNo.{MethodNo}
+use Rattle.jvm_model.specs.declared.stub.StubArgument.{StubArgument}
+use Rattle.jvm_model.specs.declared.stub.StubMethod.{StubMethod}
+use Rattle.jvm_model.specs.declared.stub.StubResult.{StubResult}
+use Rattle.jvm_model.specs.declared.stub.StubResult.TheVariants as results
 use Rattle.op_model.specs.declared.lowered.LoweredMethod.{LoweredMethod}
 use Rattle.op_model.specs.declared.node.Node.{Node}
-use Rattle.op_model.specs.declared.node.NodeRef.{NodeRef}
 use Rattle.op_model.specs.declared.node.Spot.{Spot}
 use Rattle.op_model.specs.declared.node.Spot.TheVariants as spots
 use Rattle.op_model.specs.declared.op.Call.{Call as NodeCall}
 use Rattle.op_model.specs.declared.op.Op.TheVariants.{Call}
-use Rattle.list_laws.proofs.Members.{each_contained}
-use Rattle.machine_nodes.specs.NodeSteps.{IsFirstTaking}
-use Rattle.op_model.specs.declared.node.NodeHandler.{NodeHandler}
 use Rattle.least_sets.specs.Rules.{IsClosed}
-use Rattle.points_to_rules.specs.Facts.{Fact, may_hold, may_run, may_call, may_write}
+use Rattle.list_laws.proofs.Members.{contains_none, contains_only}
+use Rattle.list_laws.proofs.Tests.{each_passes}
+use Rattle.points_to_rules.specs.Facts.{may_call}
 use Rattle.stage_facts.specs.Facts.{SiteFact, none_yet}
-use Rattle.stage_transfer.specs.Calls.{Entering, by_call}
-use Rattle.stage_transfer.specs.Stages.{Transfer, transfer_of}
-use Rattle.stage_edges.specs.Rules.{Edge, edge, Enters, called, triggered, start, goes_on, returns, raises, answers, described_raises, enters, call_returns, resumes, unwinds, IsNode, node_at, before, ThrowsClass, listed, held, GoesTo, caught, uncaught}
+use Rattle.stage_transfer.specs.Calls.{Entering, Result, another, by_call}
+use Rattle.stage_transfer_laws.proofs.Members.{one_passes}
+use Rattle.stage_edges.specs.Rules.{Edge, edge, Enters, GoesTo, IsNode, IsStub, MayThrow, ThrowsClass, answers, before, call_returns, called, described_raises, enters, given_by, goes_on, held, kept_slots, listed, node_at, raises, resumes, returns, slot_of, start, triggered, unwinds}
 use Rattle.stage_edges.specs.Edges.{StageInstance}
-use Rattle.example_edges.proofs.Places.{AtCall, AtReturn, both, calls_at, is_throw, itself, kind_itself, leaves_at, number_itself, stands_at, stands_itself}
-use Rattle.example_edges.proofs.Finite.{found}
-use Rattle.example_edges.proofs.Nodes.{at_node, describes_nothing, Everywhere, Example, gives_of, known_of, program_of, starts_nothing, subject_of}
+use Rattle.example_edges.proofs.Equal.{edge_is, method_itself, same_edge, same_method, same_spot, spot_itself}
+use Rattle.example_edges.proofs.Nodes.{Example, IsPlain, at_node, gives_of, is_throw, known_of, node_plain, start as start_nodes, starts_nothing, stub_plain, subject_of}
+use Rattle.example_edges.proofs.Conclusions.{first_handler, from_one, from_two, t, thrown_to}
+use Rattle.example_edges.proofs.Complete.{has_answered, has_entered, has_goes, has_leaves, has_raised, has_returned, has_unwound, where_to}
 
-module _ (a : Example) where
-  abbrev t : Transfer
-  t = transfer_of a.setting
+-- ---- the test
 
-  abbrev edges : List Edge
-  edges = a.edges
+abbrev pub among : List Edge → Edge → Bool
+among edges e = list_any (same_edge e) edges
 
-  -- ---- which edges stand at a place
+abbrev pub stands_at : Option MethodNo → Spot → Edge → Bool
+stands_at m spot d = same_method m d.method && same_spot spot d.spot
 
-  -- Of each edge at a place something holds.
-  abbrev pub AtPlace : Option MethodNo → Spot → (Edge → Type 0) → Type 0
-  AtPlace m s P = AllByRecursion P (filter (stands_at m s) edges)
+-- The conclusions from the edge, and from it with each other one, are among the edges.
+abbrev follow_from : Example → Option MethodNo → LoweredMethod → Node → Edge → Bool
+follow_from a m l n d =
+    list_all (among a.edges) (from_one a m l n d) && list_all (λ (q : Edge). list_all (among a.edges) (from_two a m l n d q)) a.edges
 
-  at_place : (m : Option MethodNo) (s : Spot) (P : Edge → Type 0) → AtPlace m s P → (e f : SiteFact) → Contains edges (edge m e s f) → P (edge m e s f)
-  at_place m s P every e f there = found P (stands_at m s) edges (edge m e s f) (stands_itself m s) every there
+abbrev pub follow_at : Example → Option MethodNo → LoweredMethod → Node → Edge → Bool
+follow_at a m l n d = cond (stands_at m (before n) d) (follow_from a m l n d) true
 
-  -- These facts are there at a spot.
-  abbrev pub Are : Option MethodNo → SiteFact → Spot → List SiteFact → Type 0
-  Are m e s facts = AllByRecursion (λ (g : SiteFact). Contains edges (edge m e s g)) facts
+abbrev pub closed_at : Example → Option MethodNo → LoweredMethod → Node → Bool
+closed_at a m l n = list_all (follow_at a m l n) a.edges
 
-  are : (m : Option MethodNo) (e : SiteFact) (s : Spot) (facts : List SiteFact) → Are m e s facts → (g : SiteFact) → Contains facts g
-      → Contains edges (edge m e s g)
-  are m e s facts every g there = each_contained (λ (h : SiteFact). Contains edges (edge m e s h)) facts g every there
+abbrev pub closed_in : Example → Option MethodNo → LoweredMethod → Bool
+closed_in a m l = list_all (closed_at a m l) l.nodes
 
-  -- There they are at each successor.
-  abbrev pub AreAfter : Option MethodNo → SiteFact → List ℕ → List SiteFact → Type 0
-  AreAfter m e successors facts = AllByRecursion (λ (offset : ℕ). Are m e (spots.Node offset) facts) successors
+-- It is met at each node of the methods, and of the start of the program.
+pub record IsClosedByTest (a : Example) : Type 0 where
+  pub begins : among a.edges (edge None none_yet (spots.Node 0) none_yet) ≡ true
+  pub methods : list_all (λ (l : LoweredMethod). closed_in a (Some l.method) l) a.methods ≡ true
+  pub starts : (k : MethodNo) (c : ClassNo) → closed_in a None (start_nodes a k c) ≡ true
 
-  are_after : (m : Option MethodNo) (e : SiteFact) (successors : List ℕ) (facts : List SiteFact) → AreAfter m e successors facts
-      → (offset : ℕ) → Contains successors offset → (g : SiteFact) → Contains facts g → Contains edges (edge m e (spots.Node offset) g)
-  are_after m e successors facts every offset leads =
-      are m e (spots.Node offset) facts (each_contained (λ (o : ℕ). Are m e (spots.Node o) facts) successors offset every leads)
+pub stands_itself : (m : Option MethodNo) (s : Spot) (e f : SiteFact) → stands_at m s (edge m e s f) ≡ true
+stands_itself m s e f = and_from (same_method m m) (same_spot s s) (method_itself m) (spot_itself s)
 
-  -- ---- rule by rule
+pub is_among : (edges : List Edge) (e : Edge) → among edges e ≡ true → Contains edges e
+is_among edges e is = let found = one_passes (same_edge e) edges is in subst (λ (d : Edge). Contains edges d) (sym (edge_is e found.0 found.2)) found.1
 
-  -- A node that is no call leads to edges of the list.
-  abbrev pub GoesOn : Option MethodNo → LoweredMethod → Node → Type 0
-  GoesOn m l n = ((c : NodeCall) → n.op ≢ Call c) → AtPlace m (before n) (λ d. AreAfter m d.entry n.successors (t.next l n d.fact))
+-- ---- each rule
 
-  -- A return leads to edges of the list.
-  abbrev pub Returns : Option MethodNo → LoweredMethod → Node → Type 0
-  Returns m l n = AtReturn (AtPlace m (before n) (λ d. Are m d.entry spots.Returned (t.next l n d.fact))) n.op
+module _ (a : Example) (plain : IsPlain a) (test : IsClosedByTest a) where
+  at_each : (m : Option MethodNo) (l : LoweredMethod) (n : Node) → IsNode (subject_of a) (gives_of a) m l n → closed_at a m l n ≡ true
+  at_each = at_node a plain (λ m l n. closed_at a m l n ≡ true)
+      (λ l there n stands. each_passes (closed_at a (Some l.method) l) l.nodes n (each_passes (λ (k : LoweredMethod). closed_in a (Some k.method) k) a.methods l test.methods there) stands)
+      (λ k c n stands. each_passes (closed_at a None (start_nodes a k c)) (start_nodes a k c).nodes n (test.starts k c) stands)
 
-  -- ---- exceptions
+  module _ (m : Option MethodNo) (l : LoweredMethod) (n : Node) (node : IsNode (subject_of a) (gives_of a) m l n) (e f : SiteFact)
+      (there : Contains a.edges (edge m e (before n) f)) where
+    abbrev premise : Edge
+    premise = edge m e (before n) f
 
-  -- What a node throws itself leads to edges of the list.
-  abbrev Raised : Option MethodNo → LoweredMethod → Node → ClassNo → Type 0
-  Raised m l n number = (class : List ℕ) (handler : Option ℕ) (spot : Spot) → GoesTo (subject_of a) n class handler spot
-      → AtPlace m (before n) (λ d. Are m d.entry spot (t.raise l n handler d.fact))
+    follow : follow_from a m l n premise ≡ true
+    follow =
+        subst (λ (b : Bool). cond b (follow_from a m l n premise) true ≡ true) (stands_itself m (before n) e f)
+        (each_passes (follow_at a m l n) a.edges premise (at_each m l n node) there)
 
-  abbrev pub Raises : Option MethodNo → LoweredMethod → Node → Type 0
-  Raises m l n = AllByRecursion (Raised m l n) n.throws
+    by_one : (to : Edge) → Contains (from_one a m l n premise) to → Contains a.edges to
+    by_one to concluded =
+        is_among a.edges to (each_passes (among a.edges) (from_one a m l n premise) to
+        (and_parts (list_all (among a.edges) (from_one a m l n premise))
+        (list_all (λ (q : Edge). list_all (among a.edges) (from_two a m l n premise q)) a.edges) follow).0 concluded)
 
-  -- Without handlers an object leaves the method.
-  pub out_of : (P : Option ℕ → Spot → Type 0) (n : Node) → n.handlers ≡ [] → P None spots.Thrown → (class : List ℕ) (handler : Option ℕ) (spot : Spot)
-      → GoesTo (subject_of a) n class handler spot → P handler spot
-  out_of P n none leaves class _ _ (caught h first) =
-      absurd (subst (λ (handlers : List NodeHandler). IsFirstTaking (program_of a) class handlers h) none first)
-  out_of P n none leaves class _ _ (uncaught refused) = leaves
+    by_two : (q to : Edge) → Contains a.edges q → Contains (from_two a m l n premise q) to → Contains a.edges to
+    by_two q to second concluded =
+        is_among a.edges to (each_passes (among a.edges) (from_two a m l n premise q) to
+        (each_passes (λ (p : Edge). list_all (among a.edges) (from_two a m l n premise p)) a.edges q
+        (and_parts (list_all (among a.edges) (from_one a m l n premise))
+        (list_all (λ (p : Edge). list_all (among a.edges) (from_two a m l n premise p)) a.edges) follow).1 second) concluded)
 
-  -- ---- calls
+    -- what is thrown goes where the handlers say
+    goes_to : (class : List ℕ) (handler : Option ℕ) (spot : Spot) → GoesTo (subject_of a) n class handler spot
+        → (first_handler n.handlers ≡ handler) × (thrown_to n.handlers ≡ spot)
+    goes_to class handler spot goes = where_to (subject_of a) n class handler spot (node_plain a plain m l n node).handlers goes
 
-  -- Of each target that the node may call something holds.
-  abbrev OfTarget : (MethodNo → Type 0) → Fact → Type 0
-  OfTarget P (may_hold h s) = Unit {0}
-  OfTarget P (may_run m) = Unit {0}
-  OfTarget P (may_call r m) = P m
-  OfTarget P (may_write m f) = Unit {0}
+    raised_to : (handler : Option ℕ) (spot : Spot) (source g : SiteFact) → (first_handler n.handlers ≡ handler) × (thrown_to n.handlers ≡ spot)
+        → Contains ((t a).raise l n handler source) g
+        → (Contains ((t a).raise l n (first_handler n.handlers) source) g → Contains a.edges (edge m e (thrown_to n.handlers) g)) → Contains a.edges (edge m e spot g)
+    raised_to handler spot source g way after then =
+        subst (λ (s : Spot). Contains a.edges (edge m e s g)) way.1
+        (then (subst (λ (h : Option ℕ). Contains ((t a).raise l n h source) g) (sym way.0) after))
 
-  abbrev AtTargets : NodeRef → (MethodNo → Type 0) → Type 0
-  AtTargets r P = AllByRecursion (OfTarget P) (filter (calls_at r) a.calls)
+    raise_on : (class : List ℕ) (handler : Option ℕ) (spot : Spot) (g : SiteFact) → ThrowsClass (subject_of a) (known_of a) l n class
+        → GoesTo (subject_of a) n class handler spot → Contains ((t a).raise l n handler f) g → Contains a.edges (edge m e spot g)
+    raise_on class handler spot g (listed number in_list is) goes after =
+        raised_to handler spot f g (goes_to class handler spot goes) after
+        (λ raises_there. by_one (edge m e (thrown_to n.handlers) g) (has_raised a m l n premise number in_list g raises_there))
+    raise_on class handler spot g (held z h s op slot holds throwable is) goes after =
+        absurd (true≢false (sym (ap is_throw op) ∙ (node_plain a plain m l n node).no_throw))
 
-  calls_itself : (r : NodeRef) (m : MethodNo) → calls_at r (may_call r m) ≡ true
-  calls_itself r m = both _ _ (number_itself r.method) (itself r.offset)
+    answer_on : (sent g : SiteFact) (c : NodeCall) (target : MethodNo) (stub : StubMethod) (parameters : List (List ℕ)) (result : StubResult) (offset : ℕ) → n.op ≡ Call c
+        → Contains a.facts (may_call (node_at m n) target) → IsStub (subject_of a) target stub parameters → Contains stub.returns result → Contains n.successors offset
+        → Contains ((t a).event l n c f) sent
+        → Contains ((t a).answer l n c (kept_slots c stub parameters) (given_by m n c stub parameters result) sent) g → Contains a.edges (edge m e (spots.Node offset) g)
+    answer_on sent g c target stub parameters result offset is call stubbed given leads event after =
+        let plainly = stub_plain a plain target.0 stubbed.described.method stub stubbed.described.stands stubbed.described.of_stub in
+        let void : results.Void ≡ result = contains_only results.Void result (subst (λ (rs : List StubResult). Contains rs result) plainly.returns given) in
+        let keeps : kept_slots c stub parameters ≡ [] =
+        ap (λ (ks : List StubArgument). flat_map (λ (k : StubArgument). option_to_list (slot_of c stub parameters k)) ks) plainly.keeps in
+        let gives : given_by m n c stub parameters result ≡ another = ap (given_by m n c stub parameters) (sym void) in
+        let answered : Contains ((t a).answer l n c [] another sent) g =
+        subst (λ (r : Result). Contains ((t a).answer l n c [] r sent) g) gives
+        (subst (λ (ks : List ℕ). Contains ((t a).answer l n c ks (given_by m n c stub parameters result) sent) g) keeps after) in
+        by_one (edge m e (spots.Node offset) g) (has_answered a m l n premise c target stub sent g offset is call stubbed.described event leads answered)
 
-  at_target : (r : NodeRef) (P : MethodNo → Type 0) → AtTargets r P → (target : MethodNo) → known_of a (may_call r target) → P target
-  at_target r P every target there = found (OfTarget P) (calls_at r) a.calls (may_call r target) (calls_itself r target) every there
+    enter_on : (target : MethodNo) (by : Entering) (sent : SiteFact) → Enters (subject_of a) (known_of a) (t a) m l n target f by sent
+        → Contains a.edges (edge (Some target) ((t a).enter by sent) (spots.Node 0) ((t a).enter by sent))
+    enter_on target _ _ (called c sent is call of_file event) =
+        by_one (edge (Some target) ((t a).enter (by_call c) sent) (spots.Node 0) ((t a).enter (by_call c) sent)) (has_entered a m l n premise c target sent is call of_file event)
+    enter_on target _ _ (triggered starts) = absurd (starts_nothing a plain n target starts)
 
-  -- A fact is sent to a target: the target begins with it, and whatever the target returns with or throws leads to edges of the list.
-  abbrev IsSent : Option MethodNo → LoweredMethod → Node → NodeCall → SiteFact → MethodNo → SiteFact → Type 0
-  IsSent m l n c e target sent =
-      Contains edges (edge (Some target) (t.enter (by_call c) sent) (spots.Node 0) (t.enter (by_call c) sent))
-      × AllByRecursion (λ (d : Edge). AreAfter m e n.successors (t.next l n (t.leave l n (by_call c) target sent d.fact)))
-      (filter (leaves_at target (t.enter (by_call c) sent) spots.Returned) edges)
-      × ((class : List ℕ) (handler : Option ℕ) (spot : Spot) → GoesTo (subject_of a) n class handler spot
-      → AllByRecursion (λ (d : Edge). Are m e spot (t.raise l n handler (t.leave l n (by_call c) target sent d.fact)))
-      (filter (leaves_at target (t.enter (by_call c) sent) spots.Thrown) edges))
+    return_on : (target : MethodNo) (c : NodeCall) (sent out g : SiteFact) (offset : ℕ) → Enters (subject_of a) (known_of a) (t a) m l n target f (by_call c) sent
+        → Contains n.successors offset → Contains ((t a).next l n ((t a).leave l n (by_call c) target sent out)) g
+        → Contains a.edges (edge (Some target) ((t a).enter (by_call c) sent) spots.Returned out) → Contains a.edges (edge m e (spots.Node offset) g)
+    return_on target _ _ out g offset (called c sent is call of_file event) leads after at_exit =
+        by_two (edge (Some target) ((t a).enter (by_call c) sent) spots.Returned out) (edge m e (spots.Node offset) g) at_exit
+        (has_returned a m l n premise c target sent out g offset is call of_file event leads after)
 
-  abbrev pub Sends : Option MethodNo → LoweredMethod → Node → Type 0
-  Sends m l n = AtCall (λ c. AtPlace m (before n) (λ d. AtTargets (node_at m n) (λ target.
-      AllByRecursion (λ (sent : SiteFact). IsSent m l n c d.entry target sent) (t.event l n c d.fact)))) n.op
+    unwind_on : (target : MethodNo) (by : Entering) (sent out g : SiteFact) (class : List ℕ) (handler : Option ℕ) (spot : Spot)
+        → Enters (subject_of a) (known_of a) (t a) m l n target f by sent → MayThrow (known_of a) target class → GoesTo (subject_of a) n class handler spot
+        → Contains ((t a).raise l n handler ((t a).leave l n by target sent out)) g
+        → Contains a.edges (edge (Some target) ((t a).enter by sent) spots.Thrown out) → Contains a.edges (edge m e spot g)
+    unwind_on target _ _ out g class handler spot (called c sent is call of_file event) throws goes after at_exit =
+        raised_to handler spot ((t a).leave l n (by_call c) target sent out) g (goes_to class handler spot goes) after
+        (λ raises_there. by_two (edge (Some target) ((t a).enter (by_call c) sent) spots.Thrown out) (edge m e (thrown_to n.handlers) g) at_exit
+        (has_unwound a m l n premise c target sent out g throws.0 is call of_file event throws.1 raises_there))
+    unwind_on target _ _ out g class handler spot (triggered starts) throws goes after at_exit = absurd (starts_nothing a plain n target starts)
 
-  -- ---- all rules
-
-  module _ (begins : Contains edges (edge None none_yet (spots.Node 0) none_yet)) (go_on : Everywhere a GoesOn) (return : Everywhere a Returns)
-      (raise : Everywhere a Raises) (no_throw : Everywhere a (λ m l n. is_throw n.op ≡ false)) (sends : Everywhere a Sends) where
-    -- What enters a method is sent.
-    entered : (m : Option MethodNo) (l : LoweredMethod) (n : Node) (e f sent : SiteFact) (c : NodeCall) (target : MethodNo)
-        → IsNode (subject_of a) (gives_of a) m l n
-        → n.op ≡ Call c → Contains edges (edge m e (before n) f) → known_of a (may_call (node_at m n) target) → Contains (t.event l n c f) sent
-        → IsSent m l n c e target sent
-    entered m l n e f sent c target node is there call event =
-        let at_edges = subst (AtCall (λ (k : NodeCall). AtPlace m (before n) (λ (d : Edge). AtTargets (node_at m n) (λ (g : MethodNo).
-        AllByRecursion (λ (s : SiteFact). IsSent m l n k d.entry g s) (t.event l n k d.fact))))) is (at_node a Sends sends m l n node) in
-        let at_targets = at_place m (before n) (λ (d : Edge). AtTargets (node_at m n) (λ (g : MethodNo).
-        AllByRecursion (λ (s : SiteFact). IsSent m l n c d.entry g s) (t.event l n c d.fact))) at_edges e f there in
-        let at_facts = at_target (node_at m n) (λ (g : MethodNo). AllByRecursion (λ (s : SiteFact). IsSent m l n c e g s)
-        (t.event l n c f)) at_targets target call in
-        each_contained (λ (s : SiteFact). IsSent m l n c e target s) (t.event l n c f) sent at_facts event
-
-    -- What leaves it goes on.
-    left : (m : Option MethodNo) (l : LoweredMethod) (n : Node) (e sent out g : SiteFact) (c : NodeCall) (target : MethodNo) (offset : ℕ)
-        → IsSent m l n c e target sent
-        → Contains edges (edge (Some target) (t.enter (by_call c) sent) spots.Returned out) → Contains n.successors offset
-        → Contains (t.next l n (t.leave l n (by_call c) target sent out)) g → Contains edges (edge m e (spots.Node offset) g)
-    left m l n e sent out g c target offset is there leads after =
-        let entry = t.enter (by_call c) sent in
-        let passes = both _ _ (stands_itself (Some target) spots.Returned) (kind_itself entry) in
-        let every = found (λ (d : Edge). AreAfter m e n.successors (t.next l n (t.leave l n (by_call c) target sent d.fact)))
-        (leaves_at target entry spots.Returned) edges
-        (edge (Some target) entry spots.Returned out) passes is.1 there in
-        are_after m e n.successors _ every offset leads g after
-
-    -- A call enters by its event, and no initialiser is entered.
-    by_calls : (m : Option MethodNo) (l : LoweredMethod) (n : Node) (target : MethodNo) (f : SiteFact) (c : NodeCall) (sent : SiteFact)
-        → Enters (subject_of a) (known_of a) t m l n target f (by_call c) sent
-        → (n.op ≡ Call c) × known_of a (may_call (node_at m n) target) × Contains (t.event l n c f) sent
-    by_calls m l n target f _ _ (called c sent is call of_file event) = (is, call, event)
-
-    sends_on : (m : Option MethodNo) (l : LoweredMethod) (n : Node) (e f sent : SiteFact) (target : MethodNo) (by : Entering)
-        → IsNode (subject_of a) (gives_of a) m l n
-        → Enters (subject_of a) (known_of a) t m l n target f by sent → Contains edges (edge m e (before n) f)
-        → Contains edges (edge (Some target) (t.enter by sent) (spots.Node 0) (t.enter by sent))
-    sends_on m l n e f _ target _ node (called c sent is call of_file event) there = (entered m l n e f sent c target node is there call event).0
-    sends_on m l n e f _ target _ node (triggered starts) there = absurd (starts_nothing a n target starts)
-
-    -- What it throws goes to a handler, or out.
-    thrown : (m : Option MethodNo) (l : LoweredMethod) (n : Node) (e sent out g : SiteFact) (c : NodeCall) (target : MethodNo) (class : List ℕ) (handler : Option ℕ)
-        (spot : Spot) → IsSent m l n c e target sent → Contains edges (edge (Some target) (t.enter (by_call c) sent) spots.Thrown out)
-        → GoesTo (subject_of a) n class handler spot → Contains (t.raise l n handler (t.leave l n (by_call c) target sent out)) g
-        → Contains edges (edge m e spot g)
-    thrown m l n e sent out g c target class handler spot is there goes after =
-        let entry = t.enter (by_call c) sent in
-        let passes = both _ _ (stands_itself (Some target) spots.Thrown) (kind_itself entry) in
-        let facts = found (λ (d : Edge). Are m e spot (t.raise l n handler (t.leave l n (by_call c) target sent d.fact)))
-        (leaves_at target entry spots.Thrown) edges
-        (edge (Some target) entry spots.Thrown out) passes (is.2 class handler spot goes) there in
-        are m e spot _ facts g after
-
-    unwound : (m : Option MethodNo) (l : LoweredMethod) (n : Node) (e f sent out g : SiteFact) (target : MethodNo) (by : Entering) (class : List ℕ)
-        (handler : Option ℕ)
-        (spot : Spot) → IsNode (subject_of a) (gives_of a) m l n → Enters (subject_of a) (known_of a) t m l n target f by sent
-        → GoesTo (subject_of a) n class handler spot
-        → Contains (t.raise l n handler (t.leave l n by target sent out)) g → Contains edges (edge m e (before n) f)
-        → Contains edges (edge (Some target) (t.enter by sent) spots.Thrown out) → Contains edges (edge m e spot g)
-    unwound m l n e f _ out g target _ class handler spot node (called c sent is call of_file event) goes after there at_exit =
-        thrown m l n e sent out g c target class handler spot (entered m l n e f sent c target node is there call event) at_exit goes after
-    unwound m l n e f _ out g target _ class handler spot node (triggered starts) goes after there at_exit = absurd (starts_nothing a n target starts)
-
-    raised : (m : Option MethodNo) (l : LoweredMethod) (n : Node) (e f g : SiteFact) (class : List ℕ) (handler : Option ℕ) (spot : Spot)
-        → IsNode (subject_of a) (gives_of a) m l n
-        → ThrowsClass (subject_of a) (known_of a) l n class → GoesTo (subject_of a) n class handler spot → Contains (t.raise l n handler f) g
-        → Contains edges (edge m e (before n) f)
-        → Contains edges (edge m e spot g)
-    raised m l n e f g class handler spot node (listed number there is) goes after at_edge =
-        let facts = each_contained (Raised m l n) n.throws number (at_node a Raises raise m l n node) there class handler spot goes in
-        are m e spot _ (at_place m (before n) (λ (d : Edge). Are m d.entry spot (t.raise l n handler d.fact)) facts e f at_edge) g after
-    raised m l n e f g class handler spot node (held z h s op slot holds throwable is) goes after at_edge =
-        absurd (true≢false (sym (ap is_throw op) ∙ at_node a (λ m l n. is_throw n.op ≡ false) no_throw m l n node))
-
-    pub closed : IsClosed (StageInstance (subject_of a) (gives_of a) (known_of a) a.setting) edges
-    closed _ _ start hold = begins
-    closed _ _ (goes_on m l n e f g offset node no_call leads after) hold =
-        let every = at_place m (before n) (λ (d : Edge). AreAfter m d.entry n.successors (t.next l n d.fact))
-        (at_node a GoesOn go_on m l n node no_call) e f hold.0 in
-        are_after m e n.successors _ every offset leads g after
-    closed _ _ (returns m l n e f g value node is after) hold =
-        let every = subst (AtReturn (AtPlace m (before n) (λ (d : Edge). Are m d.entry spots.Returned (t.next l n d.fact)))) is
-        (at_node a Returns return m l n node) in
-        are m e spots.Returned _ (at_place m (before n) (λ (d : Edge). Are m d.entry spots.Returned (t.next l n d.fact)) every e f hold.0) g after
-    closed _ _ (raises m l n e f g class handler spot node throws goes after) hold = raised m l n e f g class handler spot node throws goes after hold.0
-    closed _ _ (answers m l n e f sent g c target stub parameters result offset node is call stubbed given leads event after) hold =
-        absurd (describes_nothing a target stub stubbed.described)
-    closed _ _ (described_raises m l n e f sent g c target stub parameters class handler spot node is call stubbed throws goes event after) hold =
-        absurd (describes_nothing a target stub stubbed.described)
-    closed _ _ (enters m l n e f sent target by node entering) hold = sends_on m l n e f sent target by node entering hold.0
-    closed _ _ (call_returns m l n e f sent out g target c offset node entering leads after) hold =
-        let by = by_calls m l n target f c sent entering in
-        left m l n e sent out g c target offset (entered m l n e f sent c target node by.0 hold.0 by.1 by.2) hold.1.0 leads after
-    closed _ _ (resumes m l n e f out target exit node starts ends) hold = absurd (starts_nothing a n target starts)
-    closed _ _ (unwinds m l n e f sent out g target by class handler spot node entering throws goes after) hold =
-        unwound m l n e f sent out g target by class handler spot node entering goes after hold.0 hold.1.0
+  pub closed : IsClosed (StageInstance (subject_of a) (gives_of a) (known_of a) a.setting) a.edges
+  closed _ _ start hold = is_among a.edges (edge None none_yet (spots.Node 0) none_yet) test.begins
+  closed _ _ (goes_on m l n e f g offset node no_call leads after) hold =
+      by_one m l n node e f hold.0 (edge m e (spots.Node offset) g) (has_goes a m l n (edge m e (before n) f) no_call offset g leads after)
+  closed _ _ (returns m l n e f g value node is after) hold =
+      by_one m l n node e f hold.0 (edge m e spots.Returned g) (has_leaves a m l n (edge m e (before n) f) value is g after)
+  closed _ _ (raises m l n e f g class handler spot node throws goes after) hold = raise_on m l n node e f hold.0 class handler spot g throws goes after
+  closed _ _ (answers m l n e f sent g c target stub parameters result offset node is call stubbed given leads event after) hold =
+      answer_on m l n node e f hold.0 sent g c target stub parameters result offset is call stubbed given leads event after
+  closed _ _ (described_raises m l n e f sent g c target stub parameters class handler spot node is call stubbed throws goes event after) hold =
+      let plainly = stub_plain a plain target.0 stubbed.described.method stub stubbed.described.stands stubbed.described.of_stub in
+      absurd (contains_none class (subst (λ (names : List (List ℕ)). Contains names class) plainly.throws throws))
+  closed _ _ (enters m l n e f sent target by node entering) hold = enter_on m l n node e f hold.0 target by sent entering
+  closed _ _ (call_returns m l n e f sent out g target c offset node entering leads after) hold =
+      return_on m l n node e f hold.0 target c sent out g offset entering leads after hold.1.0
+  closed _ _ (resumes m l n e f out target exit node starts ends) hold = absurd (starts_nothing a plain n target starts)
+  closed _ _ (unwinds m l n e f sent out g target by class handler spot node entering throws goes after) hold =
+      unwind_on m l n node e f hold.0 target by sent out g class handler spot entering throws goes after hold.1.0

@@ -1,202 +1,206 @@
 -- Public contracts rest on this module.
--- A program that makes a file, reads it in a loop, and closes it: its nodes, what the points-to analysis says of its calls, the setting of the
--- second stage, and its path edges.
-use Rattle.std.specs.Prelude.{codes, ◌≡◌, ℕ, true, false, List, [], ◌∷◌, Some, None, Result, Ok, slice_get, Contains}
+-- A class whose main makes an object, reads it in a loop, and closes it: its class file, its methods as nodes, the facts of the points-to analysis, the
+-- setting of the second stage, and its path edges. The case read-in-a-loop has the same class file, and the edges by the second writing of the rules.
+use Rattle.std.specs.Prelude.{codes, ℕ, true, List, [], ◌∷◌, ◌++◌}
 use Rattle.jvm_model.specs.declared.automaton.Automaton.{Automaton}
 use Rattle.jvm_model.specs.declared.class_file.ClassFile.{ClassFile}
-use Rattle.jvm_model.specs.declared.class_file.Member.{Member}
-use Rattle.jvm_model.specs.declared.number.MethodNo.{MethodNo}
-use Rattle.jvm_model.specs.declared.reason.Refusal.{Refusal}
-use Rattle.jvm_model.specs.declared.site.Site.{Site}
-use Rattle.jvm_model.specs.declared.site.SiteKind.TheVariants as kinds
-use Rattle.jvm_model.specs.Programs.{Method, Program, in_file, object_name}
+use Rattle.jvm_model.specs.declared.pool.PoolEntry.{PoolEntry}
+use Rattle.jvm_model.specs.declared.pool.PoolEntry.TheVariants.{Utf8, Methodref, NameAndType}
+use Rattle.jvm_model.specs.Code.{CodeBody}
+use Rattle.jvm_model.specs.Programs.{Program, object_name}
+use Rattle.jvm_model.specs.Soundness.{plain_descriptor}
 use Rattle.op_model.specs.declared.lowered.LoweredMethod.{LoweredMethod}
-use Rattle.op_model.specs.declared.node.Node.{Node}
-use Rattle.op_model.specs.declared.node.NodeRef.{NodeRef}
-use Rattle.op_model.specs.declared.node.Spot.{Spot}
 use Rattle.op_model.specs.declared.node.Spot.TheVariants as spots
-use Rattle.op_model.specs.declared.op.Call.{Call as NodeCall}
-use Rattle.op_model.specs.declared.op.CallKind.TheVariants.{Virtual}
-use Rattle.op_model.specs.declared.op.Op.{Op}
-use Rattle.op_model.specs.declared.op.Op.TheVariants.{Assign, Call, New, Return}
-use Rattle.op_model.specs.declared.op.Source.TheVariants as sources
-use Rattle.op_model.specs.Supplies.{GivenAs}
+use Rattle.op_model.specs.declared.op.Op.TheVariants.{Assign, New}
 use Rattle.machine_bytecode.specs.Objects.{Subject}
-use Rattle.slot_names.specs.declared.variable.Variable.TheVariants.{At}
-use Rattle.points_to_rules.specs.Facts.{Fact, may_call}
+use Rattle.points_to_rules.specs.Facts.{Fact, may_call, may_hold, thrown_by}
 use Rattle.stage_facts.specs.Facts.{SiteFact, none_yet, some_yet, of_object}
 use Rattle.stage_transfer.specs.Settings.{Setting}
-use Rattle.stage_edges.specs.Rules.{Edge, edge}
+use Rattle.stage_edges.specs.Rules.{Edge}
+use Rattle.listed_answers.specs.ListedAnswers.{answers_by}
+use Rattle.example_machine.specs.Building.{class_with, code, method, pool_of}
+use Rattle.example_nodes.specs.Lowering.{lowered, node, primitive_in, with_trigger}
+use Rattle.example_edges.specs.Files.{all_run, at_start, calls, close, close_number, closed, copies, ends, from, in_method, init, init_number, initialising_call, made, main_number, makes_primitive, null_at, object_init_number, opened, parameter, program_with, property_with, read_number, starting, stores, through, virtual_call, within}
 
--- ---- the program: a class F with the methods main, read and close
+-- ---- the class file
 
-abbrev pub main_number : MethodNo
-main_number = record { 0 = 0 }
+abbrev pub pool : List PoolEntry
+pool = pool_of (codes "F") object_name (
+    Utf8 (codes "main")  -- 6
+    ∷ Utf8 plain_descriptor  -- 7
+    ∷ Utf8 (codes "<init>")  -- 8
+    ∷ NameAndType 8 7  -- 9
+    ∷ Methodref 3 9  -- 10: F.<init>
+    ∷ Utf8 (codes "read")  -- 11
+    ∷ Utf8 (codes "()Z")  -- 12
+    ∷ NameAndType 11 12  -- 13
+    ∷ Methodref 3 13  -- 14: F.read
+    ∷ Utf8 (codes "close")  -- 15
+    ∷ NameAndType 15 7  -- 16
+    ∷ Methodref 3 16  -- 17: F.close
+    ∷ Methodref 5 9  -- 18: java/lang/Object.<init>
+    ∷ [])
 
-abbrev pub read_number : MethodNo
-read_number = record { 0 = 1 }
+abbrev pub main_code : CodeBody
+main_code = code 2 1 (
+    187 ∷ 0 ∷ 3  -- 0: new F
+    ∷ 89  -- 3: dup
+    ∷ 183 ∷ 0 ∷ 10  -- 4: invokespecial F.<init>
+    ∷ 75  -- 7: astore_0
+    ∷ 42  -- 8: aload_0
+    ∷ 182 ∷ 0 ∷ 14  -- 9: invokevirtual F.read
+    ∷ 154 ∷ 255 ∷ 252  -- 12: ifne 8
+    ∷ 42  -- 15: aload_0
+    ∷ 182 ∷ 0 ∷ 17  -- 16: invokevirtual F.close
+    ∷ 177  -- 19: return
+    ∷ []) []
 
-abbrev pub close_number : MethodNo
-close_number = record { 0 = 2 }
+abbrev pub init_code : CodeBody
+init_code = code 1 1 (
+    42  -- 0: aload_0
+    ∷ 183 ∷ 0 ∷ 18  -- 1: invokespecial java/lang/Object.<init>
+    ∷ 177  -- 4: return
+    ∷ []) []
 
-abbrev pub member : Member
-member = record { flags = 0; name = 1; descriptor = 2; attributes = [] }
+abbrev pub read_code : CodeBody
+read_code = code 1 1 (
+    3  -- 0: iconst_0
+    ∷ 172  -- 1: ireturn
+    ∷ []) []
+
+abbrev pub close_code : CodeBody
+close_code = code 0 1 (177 ∷ []) []  -- 0: return
 
 abbrev pub file : ClassFile
-file = record {
-  minor = 0;
-  major = 49;
-  pool = [];
-  flags = 0;
-  this_class = 3;
-  super_class = 5;
-  interfaces = [];
-  fields = [];
-  methods = member ∷ member ∷ member ∷ [];
-  attributes = [];
-}
-
-abbrev pub method : (name : List ℕ) → (number : ℕ) → Method
-method name number = record { class = codes "F"; signature = record { name = name; descriptor = codes "()V" }; flags = 0; body = in_file file number member }
+file = record (class_with pool 0x21 [] []
+    (method 9 6 7 main_code ∷ method 1 8 7 init_code ∷ method 1 11 12 read_code ∷ method 1 15 7 close_code ∷ [])) { major = 52 }
 
 abbrev pub program : Program
-program = record {
-  classes = record { name = codes "F"; super_class = Some object_name; interfaces = []; is_interface = false; is_folder = true; file = codes "F.class" } ∷ [];
-  methods = method (codes "main") 0 ∷ method (codes "read") 1 ∷ method (codes "close") 2 ∷ [];
-  fields = [];
-}
+program = program_with file
 
--- A file is read while it is opened; after it is closed, reading it is an error.
 abbrev pub property : Automaton
-property = record {
-  class_name = codes "F";
-  states = codes "opened" ∷ codes "closed" ∷ codes "error" ∷ [];
-  initial = 0;
-  error = 2;
-  events = record { name = codes "read"; descriptor = codes "()V"; next = 0 ∷ 2 ∷ 2 ∷ [] }
-      ∷ record { name = codes "close"; descriptor = codes "()V"; next = 1 ∷ 1 ∷ 2 ∷ [] } ∷ [];
-}
+property = property_with (codes "()Z")
 
 abbrev pub subject : Subject
 subject = record { program = program; property = property; entry = 0 }
 
--- ---- its nodes
-
-abbrev pub site : Site
-site = record { kind = kinds.New; method = Some main_number; offset = 0; class = codes "F" }
-
-abbrev pub node : (offset : ℕ) → Op → (successors : List ℕ) → Node
-node offset op successors = record { offset = offset; op = op; successors = successors; handlers = []; trigger = None; throws = [] }
-
--- The file stands in a local variable. For a call it is copied to the operand stack, from where the call takes it.
-abbrev pub copies : (offset : ℕ) → (successors : List ℕ) → Node
-copies offset successors = node offset (Assign (record { source = sources.Slot 0; target = 1 } ∷ [])) successors
-
-abbrev pub calling : (name : List ℕ) → MethodNo → NodeCall
-calling name number =
-    record { kind = Virtual; resolved = number; chosen = None; name = name; descriptor = codes "()V"; arguments = Some 1 ∷ []; result = None }
-
-abbrev pub makes : Node
-makes = node 0 (New site 0) (1 ∷ [])
-
-abbrev pub first_copies : Node
-first_copies = copies 1 (2 ∷ [])
-
-abbrev pub reads : Node
-reads = node 2 (Call (calling (codes "read") read_number)) (3 ∷ [])
-
--- Back to the call, or on.
-abbrev pub copies_again : Node
-copies_again = copies 3 (2 ∷ 4 ∷ [])
-
-abbrev pub closes : Node
-closes = node 4 (Call (calling (codes "close") close_number)) (5 ∷ [])
-
-abbrev pub ends : ℕ → Node
-ends offset = node offset (Return None) []
+-- ---- the methods as nodes
 
 abbrev pub main : LoweredMethod
-main = record { method = main_number; slots = 1; stack = 1; params = 0; nodes = makes ∷ first_copies ∷ reads ∷ copies_again ∷ closes ∷ ends 5 ∷ [] }
+main = lowered 0 1 2 0 (
+    with_trigger 0 (node 0 (New made 1) (3 ∷ []))
+    ∷ copies 3 1 2 4
+    ∷ calls 4 (initialising_call init_number 2) 7
+    ∷ stores 7 1 0 8
+    ∷ copies 8 0 1 9
+    ∷ calls 9 (virtual_call read_number (codes "read") (codes "()Z") 1) 12
+    ∷ node 12 (Assign (primitive_in 1 ∷ [])) (15 ∷ 8 ∷ [])
+    ∷ copies 15 0 1 16
+    ∷ calls 16 (virtual_call close_number (codes "close") plain_descriptor 1) 19
+    ∷ ends 19
+    ∷ [])
 
--- A method that only returns.
-abbrev pub only_returns : MethodNo → LoweredMethod
-only_returns number = record { method = number; slots = 1; stack = 0; params = 1; nodes = ends 0 ∷ [] }
+abbrev pub read : LoweredMethod
+read = lowered 2 1 1 1 (makes_primitive 0 1 1 ∷ ends 1 ∷ [])
 
-abbrev pub given : List (Result LoweredMethod Refusal)
-given = Ok main ∷ Ok (only_returns read_number) ∷ Ok (only_returns close_number) ∷ []
+abbrev pub methods : List LoweredMethod
+methods = main ∷ init ∷ read ∷ close ∷ []
 
-abbrev pub gives : GivenAs
-gives number answer = slice_get given number ≡ Some answer
+-- ---- the facts
 
--- ---- what is known
+abbrev pub targets : List Fact
+targets =
+    may_call (in_method init_number 1) object_init_number
+    ∷ may_call (in_method main_number 16) close_number
+    ∷ may_call (in_method main_number 4) init_number
+    ∷ may_call (in_method main_number 9) read_number
+    ∷ may_call at_start main_number
+    ∷ []
 
-abbrev pub in_main : ℕ → NodeRef
-in_main offset = record { method = Some main_number; offset = offset }
+-- The object.
+abbrev pub held : List Fact
+held =
+    may_hold (from main_number 3 1) made
+    ∷ may_hold (from main_number 8 0) made
+    ∷ may_hold (parameter init_number 0) made
+    ∷ may_hold (parameter close_number 0) made
+    ∷ may_hold (parameter read_number 0) made
+    ∷ may_hold (parameter object_init_number 0) made
+    ∷ []
 
--- What the points-to analysis says of the calls: nothing is thrown.
-abbrev pub calls : List Fact
-calls = may_call (record { method = None; offset = 0 }) main_number ∷ may_call (in_main 2) read_number ∷ may_call (in_main 4) close_number ∷ []
+-- Exceptions.
+abbrev pub thrown : List Fact
+thrown =
+    may_hold (thrown_by init_number) (null_at init_number 1)
+    ∷ may_hold (thrown_by main_number) (null_at init_number 1)
+    ∷ may_hold (thrown_by main_number) (null_at main_number 16)
+    ∷ may_hold (thrown_by main_number) (null_at main_number 4)
+    ∷ may_hold (thrown_by main_number) (null_at main_number 9)
+    ∷ []
 
-abbrev pub known : Fact → Type 0
-known fact = Contains calls fact
+abbrev pub facts : List Fact
+facts = all_run ++ targets ++ held ++ thrown
 
--- The second stage. The slot may hold objects of the site, and of no other.
+-- The second stage, with the answers that the facts give.
 abbrev pub setting : Setting
-setting = record {
-  property = property;
-  site = site;
-  stage = 2;
-  depth = 3;
-  answers = record {
-    variable_at = λ l n z. At l.method n.offset z;
-    may_hold_site = λ holder s. true;
-    holds_no_other = λ holder s. true;
-    may_write_field = λ target field. false;
-  };
-}
+setting = record { property = property; site = made; stage = 2; depth = 3; answers = answers_by facts }
 
--- ---- its path edges
+-- ---- the path edges
 
 -- The only object of the site, in a state.
-abbrev pub only : ℕ → SiteFact
+abbrev pub only : (state : ℕ) → SiteFact
 only state = of_object (record { unique = true; state = state; must = []; may = true; must_not = [] })
-
--- Each method is entered with what is known at its call.
-abbrev pub starting : Spot → SiteFact → Edge
-starting spot fact = edge None none_yet spot fact
-
-abbrev pub within : Spot → SiteFact → Edge
-within spot fact = edge (Some main_number) none_yet spot fact
-
-abbrev pub through : MethodNo → SiteFact → Spot → Edge
-through number fact spot = edge (Some number) fact spot fact
 
 abbrev pub edges : List Edge
 edges =
     starting (spots.Node 0) none_yet  -- 0
     ∷ within (spots.Node 0) none_yet  -- 1
-    ∷ within (spots.Node 1) some_yet  -- 2
-    ∷ within (spots.Node 1) (only 0)  -- 3
-    ∷ within (spots.Node 2) some_yet  -- 4
-    ∷ within (spots.Node 2) (only 0)  -- 5
-    ∷ through read_number some_yet (spots.Node 0)  -- 6
-    ∷ through read_number (only 0) (spots.Node 0)  -- 7
-    ∷ through read_number some_yet spots.Returned  -- 8
-    ∷ through read_number (only 0) spots.Returned  -- 9
-    ∷ within (spots.Node 3) some_yet  -- 10
-    ∷ within (spots.Node 3) (only 0)  -- 11
-    ∷ within (spots.Node 4) some_yet  -- 12
-    ∷ within (spots.Node 4) (only 0)  -- 13
-    ∷ through close_number some_yet (spots.Node 0)  -- 14
-    ∷ through close_number (only 1) (spots.Node 0)  -- 15
-    ∷ through close_number some_yet spots.Returned  -- 16
-    ∷ through close_number (only 1) spots.Returned  -- 17
-    ∷ within (spots.Node 5) some_yet  -- 18
-    ∷ within (spots.Node 5) (only 1)  -- 19
-    ∷ within spots.Returned some_yet  -- 20
-    ∷ within spots.Returned (only 1)  -- 21
-    ∷ starting (spots.Node 1) some_yet  -- 22
-    ∷ starting (spots.Node 1) (only 1)  -- 23
-    ∷ starting spots.Returned some_yet  -- 24
-    ∷ starting spots.Returned (only 1)  -- 25
+    ∷ within (spots.Node 3) some_yet  -- 2
+    ∷ within (spots.Node 3) (only opened)  -- 3
+    ∷ within (spots.Node 4) some_yet  -- 4
+    ∷ within (spots.Node 4) (only opened)  -- 5
+    ∷ within spots.Thrown some_yet  -- 6
+    ∷ through init_number some_yet (spots.Node 0) some_yet  -- 7
+    ∷ within spots.Thrown (only opened)  -- 8
+    ∷ through init_number (only opened) (spots.Node 0) (only opened)  -- 9
+    ∷ starting spots.Thrown some_yet  -- 10
+    ∷ through init_number some_yet (spots.Node 1) some_yet  -- 11
+    ∷ starting spots.Thrown (only opened)  -- 12
+    ∷ through init_number (only opened) (spots.Node 1) (only opened)  -- 13
+    ∷ through init_number some_yet spots.Thrown some_yet  -- 14
+    ∷ through init_number some_yet (spots.Node 4) some_yet  -- 15
+    ∷ through init_number (only opened) spots.Thrown (only opened)  -- 16
+    ∷ through init_number (only opened) (spots.Node 4) (only opened)  -- 17
+    ∷ through init_number some_yet spots.Returned some_yet  -- 18
+    ∷ through init_number (only opened) spots.Returned (only opened)  -- 19
+    ∷ within (spots.Node 7) some_yet  -- 20
+    ∷ within (spots.Node 7) (only opened)  -- 21
+    ∷ within (spots.Node 8) some_yet  -- 22
+    ∷ within (spots.Node 8) (only opened)  -- 23
+    ∷ within (spots.Node 9) some_yet  -- 24
+    ∷ within (spots.Node 9) (only opened)  -- 25
+    ∷ through read_number some_yet (spots.Node 0) some_yet  -- 26
+    ∷ through read_number (only opened) (spots.Node 0) (only opened)  -- 27
+    ∷ through read_number some_yet (spots.Node 1) some_yet  -- 28
+    ∷ through read_number (only opened) (spots.Node 1) (only opened)  -- 29
+    ∷ through read_number some_yet spots.Returned some_yet  -- 30
+    ∷ through read_number (only opened) spots.Returned (only opened)  -- 31
+    ∷ within (spots.Node 12) some_yet  -- 32
+    ∷ within (spots.Node 12) (only opened)  -- 33
+    ∷ within (spots.Node 15) some_yet  -- 34
+    ∷ within (spots.Node 15) (only opened)  -- 35
+    ∷ within (spots.Node 16) some_yet  -- 36
+    ∷ within (spots.Node 16) (only opened)  -- 37
+    ∷ through close_number some_yet (spots.Node 0) some_yet  -- 38
+    ∷ through close_number (only closed) (spots.Node 0) (only closed)  -- 39
+    ∷ through close_number some_yet spots.Returned some_yet  -- 40
+    ∷ through close_number (only closed) spots.Returned (only closed)  -- 41
+    ∷ within (spots.Node 19) some_yet  -- 42
+    ∷ within (spots.Node 19) (only closed)  -- 43
+    ∷ within spots.Returned some_yet  -- 44
+    ∷ within spots.Returned (only closed)  -- 45
+    ∷ starting (spots.Node 1) some_yet  -- 46
+    ∷ starting (spots.Node 1) (only closed)  -- 47
+    ∷ starting spots.Returned some_yet  -- 48
+    ∷ starting spots.Returned (only closed)  -- 49
     ∷ []

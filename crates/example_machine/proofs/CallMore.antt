@@ -12,7 +12,6 @@ use Rattle.jvm_model.specs.Programs.{Method, object_name}
 use Rattle.jvm_model.specs.Resolution.{Declares, HasSignature, IsInstanceWith, IsOnlyDefault, of_object}
 use Rattle.jvm_model.specs.Resolution.ResolvesFrom.{itself as resolved_there, by_default as resolved_by_default}
 use Rattle.jvm_model.specs.Selection.{IsSelectable, Overrides, upward, by_default, at_named}
-use Rattle.jvm_model.specs.Soundness.{plain_descriptor}
 use Rattle.jvm_model.specs.Subtypes.{by_class, below, same}
 use Rattle.jvm_model.specs.Table.{primitive, reference}
 use Rattle.machine_bytecode.specs.Machine.{NamesMethod, advances, enters, gets_result}
@@ -25,6 +24,7 @@ use Rattle.example_machine.proofs.Types.{among, no_types, one_type, base_type, c
 use Rattle.example_machine.proofs.Searches.{chain_up, differ, none_declared, none_found, only_default}
 use Rattle.example_machine.proofs.CallSteps.{enter, get, not_selecting, not_named}
 use Rattle.example_machine.proofs.CallStart.{outside, main_of, shut_of, world, begun, int_units, plain_units, door_type, names_gate, house_named, gate_below_closing, is_closing}
+use Rattle.example_machine.proofs.CallRuns.{shut_signature}
 
 -- ---- a constructor
 
@@ -124,9 +124,6 @@ a_method_of_object_is_called_through_an_interface =
     takes _ _ _ _ (goes _ _ _ (begun hashes_gate refl) (advances first.at first.step)) (gets_result step.at step.step) (step, shows _ _ _)
 
 -- ---- a method that a class inherits from an interface
-
-abbrev shut_signature : Signature
-shut_signature = record { name = codes "shut"; descriptor = plain_descriptor }
 
 shut_of_door : IsOnlyDefault (program_with shuts_door) (codes "Door") shut_signature 1
 shut_of_door =

@@ -18,7 +18,7 @@ use Rattle.example_machine.proofs.CallStart.{outside, main_of, world, main_at, b
 
 -- ---- an array is called
 
-abbrev with_array : World
+abbrev pub with_array : World
 with_array = with_object (world hashes refl) (new_array (site_at New (frame_at 4 1 (primitive_value ∷ [])) (codes "[I")) (primitive_value ∷ []) 0)
 
 at_hash : Arrives (runs hashes) (main_at hashes refl 3 (reference_to 3 ∷ []) with_array)
@@ -92,7 +92,7 @@ an_argument_is_given_back =
 
 -- ---- what is kept
 
-abbrev kept_world : World
+abbrev pub kept_world : World
 kept_world = with_kept (world keeps refl) (2 ∷ [])
 
 at_put : Arrives (runs keeps) (main_at keeps refl 3 (reference_to 2 ∷ []) (world keeps refl))
@@ -101,7 +101,7 @@ at_put =
     (field_row _ _ _ _ _ refl door_type) refl (reference_to 2) _ _ (names_gate keeps, (refl, refl)) refl in
     goes _ _ _ (begun keeps refl) (advances step.at step.step)
 
-puts : GettingResult (runs keeps) (codes "invokestatic") (codes "lib/House") (codes "put") (main_at keeps refl 3 (reference_to 2 ∷ []) (world keeps refl)) (main_at keeps refl 6 [] kept_world)
+pub puts : GettingResult (runs keeps) (codes "invokestatic") (codes "lib/House") (codes "put") (main_at keeps refl 3 (reference_to 2 ∷ []) (world keeps refl)) (main_at keeps refl 6 [] kept_world)
 puts = get (runs keeps) 4 (main_of keeps refl) outside 3 (reference_to 2 ∷ []) (world keeps refl) _ refl _ (call_row _ _ _ _ _ _ refl from_door_units) _
     (record { is_there = refl; names = house_named keeps 52 13 _ _ refl refl refl refl refl; target = 13; is_target = (refl, refl); events = not_selecting _ _ _ _ _ refl })
     (described_at _ _ _ _ refl refl refl from_door_units.is) 0 _ refl primitive_value _ (refl, refl)
@@ -119,10 +119,10 @@ a_kept_object_is_given =
 
 -- ---- what is thrown
 
-abbrev failed_world : World
+abbrev pub failed_world : World
 failed_world = with_object (world fails refl) (new_object (program_with fails) (site_at Thrown (frame_at 4 0 []) (codes "java/lang/Exception")) 0)
 
-throws_failure : GettingException (runs fails) (codes "invokestatic") (codes "lib/House") (codes "fail") (main_at fails refl 0 [] (world fails refl)) (throws_on (frame_at 4 0 [] ∷ outside) failed_world 3)
+pub throws_failure : GettingException (runs fails) (codes "invokestatic") (codes "lib/House") (codes "fail") (main_at fails refl 0 [] (world fails refl)) (throws_on (frame_at 4 0 [] ∷ outside) failed_world 3)
 throws_failure =
     get_thrown (runs fails) 4 (main_of fails refl) outside 0 [] (world fails refl) _ refl _ (call_row _ _ _ _ _ _ refl plain_units) _
     (record { is_there = refl; names = house_named fails 58 15 _ _ refl refl refl refl refl; target = 15; is_target = (refl, refl); events = not_selecting _ _ _ _ _ refl })

@@ -7,6 +7,7 @@ use Rattle.jvm_model.specs.Lookups.{MemberReference}
 use Rattle.jvm_model.specs.Programs.{Method, object_name}
 use Rattle.jvm_model.specs.Resolution.{itself, Resolves, declared_there}
 use Rattle.jvm_model.specs.Resolution.ResolvesFrom.{itself as resolved_there}
+use Rattle.jvm_model.specs.Selection.{SelectsSpecial, upward, at_super}
 use Rattle.jvm_model.specs.Soundness.{plain_descriptor}
 use Rattle.jvm_model.specs.Subtypes.{class_named, IsSubtype, same, below, by_class}
 use Rattle.jvm_model.specs.Table.{primitive, reference}
@@ -18,7 +19,7 @@ use Rattle.example_machine.specs.Calling.{door_class, gate_class, gate_close, ga
 use Rattle.example_machine.proofs.Facts.{declared_field}
 use Rattle.example_machine.proofs.Runs.{Arrives, built, body_fits, starts_at, enters_at, entered_in, first_world, on}
 use Rattle.example_machine.proofs.Types.{no_types, one_type, base_type, class_type, units_by}
-use Rattle.example_machine.proofs.Searches.{chain_up}
+use Rattle.example_machine.proofs.Searches.{chain_up, differ}
 
 -- ---- units
 
@@ -97,6 +98,24 @@ module _ (k : CodeBody) where
 
   abbrev pub names_super : NamesMethod (program_with k) gate_pool 9
   names_super = record { called = _; named = refl; resolved = 2; resolves = door_closes; method = _; stands = refl }
+
+  -- the call of close of Door by that of Gate selects it
+  pub super_selected : SelectsSpecial (program_with k) (codes "Gate") names_super.called 2
+  super_selected = record {
+    start = codes "Door";
+    begins = at_super _ (record {
+      no_constructor = differ _ _ refl;
+      other = differ _ _ refl;
+      chain = chain_up (program_with k) 4 (Some (codes "Gate"));
+      upward = (refl, (refl, (refl, tt)));
+      above = _;
+      stands = (1, omega arith, refl);
+      named = refl;
+    }) refl refl;
+    class = _;
+    named = refl;
+    chosen = upward (record { chain = chain_up (program_with k) 3 (Some (codes "Door")); of_start = (refl, (refl, tt)); first = inl (record { method = _; stands = refl; of_class = refl; is = (refl, refl) }) });
+  }
 
   abbrev pub names_interface_close : NamesMethod (program_with k) main_pool 19
   names_interface_close = record {

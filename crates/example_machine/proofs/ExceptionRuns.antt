@@ -25,47 +25,44 @@ use Rattle.example_machine.proofs.Runs.{Arrives, goes, takes, built, body_fits, 
 use Rattle.example_machine.proofs.Types.{class_type, no_fit}
 use Rattle.example_machine.proofs.Searches.{chain_up}
 use Rattle.example_machine.proofs.CallSteps.{enter, waiting_at, not_selecting}
-use Rattle.example_machine.proofs.CallStart.{plain_units, int_units}
+use Rattle.example_machine.proofs.CallStart.{plain_units, int_units, outside}
 use Rattle.example_machine.proofs.Throws.{throw, catch, throwing_at, unwind, not_taken}
 
-exception_type : IsFieldDescriptor (codes "Ljava/lang/Exception;")
+pub exception_type : IsFieldDescriptor (codes "Ljava/lang/Exception;")
 exception_type = class_type (codes "java") (codes "lang" ∷ codes "Exception" ∷ []) refl
-
-abbrev outside : List Frame
-outside = waiting start_frame [] ∷ []
 
 module _ (k : CodeBody) where
   -- the methods of Main have the numbers 0 to 2
-  abbrev middle_of : MethodCode (program_with k) 1
+  abbrev pub middle_of : MethodCode (program_with k) 1
   middle_of = built (program_with k) 1 _ (main_class k) 1 9 8 7 middle refl refl refl refl
 
-  abbrev inner_of : MethodCode (program_with k) 2
+  abbrev pub inner_of : MethodCode (program_with k) 2
   inner_of = built (program_with k) 2 _ (main_class k) 2 9 11 7 inner refl refl refl refl
 
-  abbrev names_fire : NamesField (program_with k) main_pool 19 true
+  abbrev pub names_fire : NamesField (program_with k) main_pool 19 true
   names_fire = declared_field _ _ _ _ 0 _ _ refl refl refl refl refl
 
   -- the exception at the place 2
-  abbrev fire : Object
+  abbrev pub fire : Object
   fire = new_object (program_with k) (boot_site (codes "java/lang/Exception")) 0
 
-  abbrev is_throwable : (w : World) → slice_get w.heap 2 ≡ Some fire → IsOf (program_with k) (codes "java/lang/Throwable") w (reference_to 2)
+  abbrev pub is_throwable : (w : World) → slice_get w.heap 2 ≡ Some fire → IsOf (program_with k) (codes "java/lang/Throwable") w (reference_to 2)
   is_throwable w held = record { to = record { place = 2; is = refl; object = fire; held = held }; fits = by_class _ _ _ refl (below _ _ _ refl (inl refl) (same _ refl)) }
 
-  fits_exception : Fits (program_with k) (codes "java/lang/Exception") (codes "java/lang/Exception")
+  pub fits_exception : Fits (program_with k) (codes "java/lang/Exception") (codes "java/lang/Exception")
   fits_exception = by_class _ _ _ refl (same _ refl)
 
-  fits_no_error : Fits (program_with k) (codes "java/lang/Error") (codes "java/lang/Exception") → ⊥
+  pub fits_no_error : Fits (program_with k) (codes "java/lang/Error") (codes "java/lang/Exception") → ⊥
   fits_no_error = no_fit (program_with k) (codes "java/lang/Exception" ∷ codes "java/lang/Throwable" ∷ object_name ∷ []) (codes "java/lang/Error") (codes "java/lang/Exception") refl refl refl refl
 
 module _ (k : CodeBody) (fits : body_fits k ≡ true) where
-  abbrev main_of : MethodCode (program_with k) 0
+  abbrev pub main_of : MethodCode (program_with k) 0
   main_of = built (program_with k) 0 _ (main_class k) 0 9 6 7 k refl refl refl fits
 
-  abbrev world : World
+  abbrev pub world : World
   world = first_world (runs k) []
 
-  abbrev main_at : ℕ → List Value → World → State
+  abbrev pub main_at : ℕ → List Value → World → State
   main_at offset slots w = on (runs k) 0 main_of outside offset slots w
 
   begun : Arrives (runs k) (entered_in (runs k) main_of world)
@@ -73,7 +70,7 @@ module _ (k : CodeBody) (fits : body_fits k ≡ true) where
 
 -- ---- in one method
 
-abbrev main_throws : CodeBody → World → ℕ → List Value → State
+abbrev pub main_throws : CodeBody → World → ℕ → List Value → State
 main_throws k w offset slots = throws_on (frame_at 0 offset slots ∷ outside) w 2
 
 at_throw : Arrives (runs catches_here) (main_at catches_here refl 3 (reference_to 2 ∷ []) (world catches_here refl))
@@ -82,7 +79,7 @@ at_throw =
     (field_row _ _ _ _ _ refl exception_type) refl (reference_to 2) _ _ (names_fire catches_here, (refl, refl)) refl in
     goes _ _ _ (begun catches_here refl) (advances step.at step.step)
 
-throws_here : ThrowingObject (runs catches_here) 2 (main_at catches_here refl 3 (reference_to 2 ∷ []) (world catches_here refl)) (main_throws catches_here (world catches_here refl) 3 (reference_to 2 ∷ []))
+pub throws_here : ThrowingObject (runs catches_here) 2 (main_at catches_here refl 3 (reference_to 2 ∷ []) (world catches_here refl)) (main_throws catches_here (world catches_here refl) 3 (reference_to 2 ∷ []))
 throws_here = throw (runs catches_here) 0 (main_of catches_here refl) outside 3 (reference_to 2 ∷ []) (world catches_here refl) _ refl _
     refl refl refl (is_throwable catches_here (world catches_here refl) refl)
 
@@ -91,7 +88,7 @@ an_exception_is_thrown =
     takes _ _ _ _ at_throw (throws throws_here.at throws_here.step) (throws_here, has_object _ _ _ refl, refl)
 
 -- the first handler does not take it, and the second one does
-second_handler : IsFirstHandler (program_with catches_here) main_pool 3 (codes "java/lang/Exception") catches_here.handlers (handler 0 4 4 21)
+pub second_handler : IsFirstHandler (program_with catches_here) main_pool 3 (codes "java/lang/Exception") catches_here.handlers (handler 0 4 4 21)
 second_handler =
     inr (
       not_taken (program_with catches_here) main_pool 3 (handler 0 4 4 23) (codes "java/lang/Error") (codes "java/lang/Exception") refl (fits_no_error catches_here),
@@ -131,7 +128,7 @@ a_call_on_null_raises =
 
 -- a static method of Main is named
 module _ (k : CodeBody) where
-  abbrev main_named : (operand number : ℕ) (called : MemberReference) (m : Method) → member_at main_pool operand ≡ Some called → called.class ≡ codes "Main"
+  abbrev pub main_named : (operand number : ℕ) (called : MemberReference) (m : Method) → member_at main_pool operand ≡ Some called → called.class ≡ codes "Main"
       → slice_get (program_with k).methods number ≡ Some m → m.class ≡ codes "Main" → m.signature ≡ called.signature → NamesMethod (program_with k) main_pool operand
   main_named operand number called m named of_main stands of_class same_call = record {
     called = called;
@@ -150,13 +147,13 @@ module _ (k : CodeBody) where
     stands = stands;
   }
 
-abbrev main_waits : List Frame
+abbrev pub main_waits : List Frame
 main_waits = waiting_at 0 0 [] ∷ outside
 
-abbrev middle_waits : List Frame
+abbrev pub middle_waits : List Frame
 middle_waits = waiting_at 1 0 [] ∷ main_waits
 
-abbrev above_world : World
+abbrev pub above_world : World
 above_world = world catches_above refl
 
 inner_throws : Arrives (runs catches_above) (throws_on (frame_at 2 3 (reference_to 2 ∷ []) ∷ middle_waits) above_world 2)
@@ -178,7 +175,7 @@ middle_throws =
     (All-nil (λ (h : Handler). Handles (program_with catches_above) main_pool 3 (codes "java/lang/Exception") h → ⊥)) in
     goes _ _ _ inner_throws (unwinds step.at step.step)
 
-leaves_middle : Unwinding (runs catches_above) 2 (throws_on (frame_at 1 0 [] ∷ main_waits) above_world 2) (throws_on (frame_at 0 0 [] ∷ outside) above_world 2)
+pub leaves_middle : Unwinding (runs catches_above) 2 (throws_on (frame_at 1 0 [] ∷ main_waits) above_world 2) (throws_on (frame_at 0 0 [] ∷ outside) above_world 2)
 leaves_middle =
     let Misses : Handler → Type 0 = λ h. Handles (program_with catches_above) main_pool 0 (codes "java/lang/Exception") h → ⊥ in
     unwind (runs catches_above) 1 (middle_of catches_above) main_waits 0 [] above_world 2 (fire catches_above) refl

@@ -4,66 +4,60 @@ use Rattle.std.proofs.lemmas.List.Elements.{All-nil}
 use Rattle.jvm_model.specs.declared.code.Handler.{Handler}
 use Rattle.jvm_model.specs.declared.site.SiteKind.TheVariants.{New, Thrown}
 use Rattle.jvm_model.specs.Code.{CodeBody}
-use Rattle.jvm_model.specs.Descriptors.{IsFieldDescriptor}
 use Rattle.jvm_model.specs.Resolution.{DeclaresField, itself, above, first}
 use Rattle.jvm_model.specs.Resolution.ResolvesFrom.{itself as resolved_there}
 use Rattle.jvm_model.specs.Subtypes.{by_class, same, below}
-use Rattle.machine_bytecode.specs.Machine.{MethodCode, Handles, IsInitialiser, by_start, of_class, of_field, of_method, advances, starts, resumes, denies, wraps, throws, catches, unwinds}
+use Rattle.machine_bytecode.specs.Machine.{MethodCode, Handles, IsInitialiser, NamesMethod, by_start, of_class, of_field, of_method, advances, starts, resumes, denies, wraps, throws, catches, unwinds}
 use Rattle.machine_bytecode.specs.Objects.{IsOf}
 use Rattle.machine_bytecode.specs.Start.{start_frame, boot_site}
-use Rattle.machine_bytecode.specs.States.{Value, primitive_value, reference_to, Object, Frame, World, State, throwing, throws_on, waiting, new_object, with_object, with_kept, with_started, site_at}
+use Rattle.machine_bytecode.specs.States.{Value, primitive_value, reference_to, Object, Frame, World, State, throwing, throws_on, new_object, with_object, with_kept, with_started, site_at}
 use Rattle.example_machine.specs.Building.{handler}
 use Rattle.example_machine.specs.Calling.{only_returns}
-use Rattle.example_machine.specs.Initialising.{initialiser_name, broken_pool, broken_class, breaks, ready_class, main_class, steady_class, program_with, runs, makes_ready, makes_late, makes_table, calls_ready, reads_ready, writes_ready, reads_late, makes_broken}
+use Rattle.example_machine.specs.Initialising.{initialiser_name, main_pool, broken_pool, broken_class, breaks, ready_class, main_class, steady_class, program_with, runs, makes_ready, makes_late, makes_table, calls_ready, reads_ready, writes_ready, reads_late, makes_broken}
 use Rattle.example_machine.specs.Taking.{Takes, Shows, RunsIn, HasObject, Advancing, Unwinding, Starting, Resuming, Wrapping, Denying}
 use Rattle.example_machine.proofs.Facts.{call_row, declared_field, field_row, has_object, runs_in, shows}
 use Rattle.example_machine.proofs.Runs.{Arrives, goes, takes, built, body_fits, starts_at, started_in, enters_at, entered_in, first_world, frame_at, on, advance, plainly}
-use Rattle.example_machine.proofs.Types.{base_type, class_type}
+use Rattle.example_machine.proofs.Types.{base_type}
 use Rattle.example_machine.proofs.Searches.{chain_up, no_field_of}
-use Rattle.example_machine.proofs.CallStart.{plain_units}
+use Rattle.example_machine.proofs.CallStart.{plain_units, outside}
 use Rattle.example_machine.proofs.Throws.{throw, catch, unwind}
 use Rattle.example_machine.proofs.Initialisers.{nothing_there, start, deny, resume, wrap}
-
-exception_type : IsFieldDescriptor (codes "Ljava/lang/Exception;")
-exception_type = class_type (codes "java") (codes "lang" ∷ codes "Exception" ∷ []) refl
-
-abbrev outside : List Frame
-outside = waiting start_frame [] ∷ []
+use Rattle.example_machine.proofs.ExceptionRuns.{exception_type}
 
 module _ (k : CodeBody) where
   -- the initialisers
   abbrev broken_of : MethodCode (program_with k) 0
   broken_of = built (program_with k) 0 _ broken_class 0 8 6 7 breaks refl refl refl refl
 
-  abbrev main_starts_of : MethodCode (program_with k) 2
+  abbrev pub main_starts_of : MethodCode (program_with k) 2
   main_starts_of = built (program_with k) 2 _ (main_class k) 1 8 8 7 only_returns refl refl refl refl
 
-  abbrev ready_of : MethodCode (program_with k) 3
+  abbrev pub ready_of : MethodCode (program_with k) 3
   ready_of = built (program_with k) 3 _ ready_class 0 8 6 7 only_returns refl refl refl refl
 
   abbrev initialises_broken : IsInitialiser (program_with k) (codes "Broken") 0
   initialises_broken = record { code = broken_of; named = refl; above = same _ refl }
 
-  abbrev initialises_main : IsInitialiser (program_with k) (codes "Main") 2
+  abbrev pub initialises_main : IsInitialiser (program_with k) (codes "Main") 2
   initialises_main = record { code = main_starts_of; named = refl; above = same _ refl }
 
-  abbrev initialises_ready : IsInitialiser (program_with k) (codes "Ready") 3
+  abbrev pub initialises_ready : IsInitialiser (program_with k) (codes "Ready") 3
   initialises_ready = record { code = ready_of; named = refl; above = same _ refl }
 
-  abbrev initialises_late : IsInitialiser (program_with k) (codes "Late") 3
+  abbrev pub initialises_late : IsInitialiser (program_with k) (codes "Late") 3
   initialises_late = record { code = ready_of; named = refl; above = below _ _ _ refl (inl refl) (same _ refl) }
 
   abbrev steady_of : MethodCode (program_with k) 5
   steady_of = built (program_with k) 5 _ steady_class 0 8 6 7 only_returns refl refl refl refl
 
-  abbrev initialises_table : IsInitialiser (program_with k) (codes "Table") 5
+  abbrev pub initialises_table : IsInitialiser (program_with k) (codes "Table") 5
   initialises_table = record { code = steady_of; named = refl; above = below _ _ _ refl (inr (0, omega arith, refl)) (same _ refl) }
 
 module _ (k : CodeBody) (fits : body_fits k ≡ true) where
-  abbrev main_of : MethodCode (program_with k) 1
+  abbrev pub main_of : MethodCode (program_with k) 1
   main_of = built (program_with k) 1 _ (main_class k) 0 9 6 7 k refl refl refl fits
 
-  abbrev world : World
+  abbrev pub world : World
   world = first_world (runs k) []
 
   abbrev main_at : ℕ → List Value → World → State
@@ -74,17 +68,17 @@ module _ (k : CodeBody) (fits : body_fits k ≡ true) where
 
 -- ---- at new
 
-abbrev main_below : List Frame
+abbrev pub main_below : List Frame
 main_below = frame_at 1 0 [] ∷ outside
 
-abbrev ready_world : World
+abbrev pub ready_world : World
 ready_world = with_started (world makes_ready refl) 3
 
-starts_ready : Starting (runs makes_ready) (codes "Ready") (main_at makes_ready refl 0 [] (world makes_ready refl)) (on (runs makes_ready) 3 (ready_of makes_ready) main_below 0 (primitive_value ∷ []) ready_world)
+pub starts_ready : Starting (runs makes_ready) (codes "Ready") (main_at makes_ready refl 0 [] (world makes_ready refl)) (on (runs makes_ready) 3 (ready_of makes_ready) main_below 0 (primitive_value ∷ []) ready_world)
 starts_ready =
     start (runs makes_ready) 1 (main_of makes_ready refl) outside 0 [] (world makes_ready refl) _ refl _ refl refl (codes "Ready") (of_class (record { class = _; named = refl }) refl) 3 (initialises_ready makes_ready) (nothing_there 3)
 
-resumes_new : Resuming (runs makes_ready) (codes "return") (on (runs makes_ready) 3 (ready_of makes_ready) main_below 0 (primitive_value ∷ []) ready_world) (main_at makes_ready refl 0 [] ready_world)
+pub resumes_new : Resuming (runs makes_ready) (codes "return") (on (runs makes_ready) 3 (ready_of makes_ready) main_below 0 (primitive_value ∷ []) ready_world) (main_at makes_ready refl 0 [] ready_world)
 resumes_new = resume (runs makes_ready) 3 (ready_of makes_ready) (frame_at 1 0 []) outside refl 0 (primitive_value ∷ []) ready_world _ refl _ refl refl refl _ plain_units
 
 pub an_initialiser_starts : Takes (runs makes_ready)
@@ -120,26 +114,29 @@ an_initialiser_of_a_superinterface_starts =
     (of_class (record { class = _; named = refl }) refl) 5 (initialises_table makes_table) (nothing_there 5) in
     takes _ _ _ _ (begun makes_table refl) (starts step.step) (step, runs_in _ _ _ _ _ _ refl refl refl)
 
+abbrev pub names_go : NamesMethod (program_with calls_ready) main_pool 15
+names_go = record {
+  called = _;
+  named = refl;
+  resolved = 4;
+  resolves = record {
+    class = _;
+    named = refl;
+    search = resolved_there (record {
+      chain = chain_up (program_with calls_ready) 3 (Some (codes "Ready"));
+      of_start = (refl, (refl, tt));
+      first = inl (record { method = _; stands = refl; of_class = refl; is = refl });
+    });
+  };
+  method = _;
+  stands = refl;
+}
+
 pub an_initialiser_starts_at_a_call : Takes (runs calls_ready) (λ s t. Starting (runs calls_ready) (codes "Ready") s t × RunsIn (runs calls_ready) (codes "Ready") initialiser_name t)
 an_initialiser_starts_at_a_call =
     let step = start (runs calls_ready) 1 (main_of calls_ready refl) outside 0 [] (world calls_ready refl) _ refl _
     (call_row _ _ _ _ _ _ refl plain_units) refl (codes "Ready")
-    (of_method (record {
-      called = _;
-      named = refl;
-      resolved = 4;
-      resolves = record {
-        class = _;
-        named = refl;
-        search = resolved_there (record {
-          chain = chain_up (program_with calls_ready) 3 (Some (codes "Ready"));
-          of_start = (refl, (refl, tt));
-          first = inl (record { method = _; stands = refl; of_class = refl; is = refl });
-        });
-      };
-      method = _;
-      stands = refl;
-    }) refl) 3 (initialises_ready calls_ready) (nothing_there 3) in
+    (of_method names_go refl) 3 (initialises_ready calls_ready) (nothing_there 3) in
     takes _ _ _ _ (begun calls_ready refl) (starts step.step) (step, runs_in _ _ _ _ _ _ refl refl refl)
 
 pub an_initialiser_starts_at_a_field : Takes (runs reads_ready) (λ s t. Starting (runs reads_ready) (codes "Ready") s t × RunsIn (runs reads_ready) (codes "Ready") initialiser_name t)
@@ -170,10 +167,10 @@ an_initialiser_starts_at_an_inherited_field =
 
 -- ---- at the entry
 
-abbrev main_world : World
+abbrev pub main_world : World
 main_world = with_started (world makes_ready refl) 2
 
-starts_main : Starting (runs makes_ready) (codes "Main") (started_in (world makes_ready refl)) (on (runs makes_ready) 2 (main_starts_of makes_ready) (start_frame ∷ []) 0 (primitive_value ∷ []) main_world)
+pub starts_main : Starting (runs makes_ready) (codes "Main") (started_in (world makes_ready refl)) (on (runs makes_ready) 2 (main_starts_of makes_ready) (start_frame ∷ []) 0 (primitive_value ∷ []) main_world)
 starts_main = record {
   step = record {
     frame = start_frame;

@@ -52,7 +52,7 @@ begins_with p number (Some f) = option_map_or (λ (class : List ℕ). reference_
 abbrev pub statics_of : Program → ℕ → Value
 statics_of p number = begins_with p number (slice_get p.fields number)
 
-begins_so : (p : Program) (number : ℕ) (o : Option Field) → slice_get p.fields number ≡ o → BeginsAs p number (begins_with p number o)
+pub begins_so : (p : Program) (number : ℕ) (o : Option Field) → slice_get p.fields number ≡ o → BeginsAs p number (begins_with p number o)
 begins_so p number None e = no_field e refl
 begins_so p number (Some f) e = by f.holds refl where
   by : (h : Option (List ℕ)) → f.holds ≡ h → BeginsAs p number (option_map_or (λ (class : List ℕ). reference_to (held_place p number)) h (default_value f.signature.descriptor))
@@ -240,18 +240,18 @@ is_onward _ = false
 abbrev pub plain_there : DecodedInstruction → List Value → Bool
 plain_there i slots = is_plain i.row.action && (is_onward i.row.flow && operands_fit i.row slots)
 
-abbrev plain_effect : DecodedInstruction → List Value → List Value
+abbrev pub plain_effect : DecodedInstruction → List Value → List Value
 plain_effect i slots = effect i.row i.operand primitive_value (kept_of i.row slots) (units_of i.row slots)
 
-plain_row : (a : Action) (pool : List PoolEntry) (i : DecodedInstruction) → is_plain a ≡ true → RowBy a pool i i.row
+pub plain_row : (a : Action) (pool : List PoolEntry) (i : DecodedInstruction) → is_plain a ≡ true → RowBy a pool i i.row
 plain_row plain pool i e = refl
 plain_row _ pool i e = absurd cc
 
-plain_makes : (a : Action) (x : Subject) (f : Frame) (pool : List PoolEntry) (i : DecodedInstruction) (units : List Value) (w : World) → is_plain a ≡ true → Makes a x f pool i units w primitive_value w
+pub plain_makes : (a : Action) (x : Subject) (f : Frame) (pool : List PoolEntry) (i : DecodedInstruction) (units : List Value) (w : World) → is_plain a ≡ true → Makes a x f pool i units w primitive_value w
 plain_makes plain x f pool i units w e = (refl, refl)
 plain_makes _ x f pool i units w e = absurd cc
 
-onward_goes : (f : Flow) (w : World) (after : ℕ) (targets : List (Option ℕ)) (units : List Value) → is_onward f ≡ true → Goes f w after targets units after
+pub onward_goes : (f : Flow) (w : World) (after : ℕ) (targets : List (Option ℕ)) (units : List Value) → is_onward f ≡ true → Goes f w after targets units after
 onward_goes onward w after targets units e = refl
 onward_goes _ w after targets units e = absurd cc
 

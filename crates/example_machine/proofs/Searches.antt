@@ -10,6 +10,7 @@ use Rattle.jvm_model.specs.Programs.{Program, Class, Field, Method, is_abstract}
 use Rattle.jvm_model.specs.Resolution.{Declares, IsFirst, IsFound, IsInherited, IsOnlyDefault}
 use Rattle.jvm_model.specs.Subtypes.{class_named, IsChain, IsProperSubtype}
 use Rattle.example_machine.proofs.Types.{among, super_among, found_passes, found_is_any, or_second}
+use Rattle.list_laws.proofs.Tests.{passes_at}
 
 -- names that differ
 pub differ : (a b : List ℕ) → bytes_eq a b ≡ false → a ≡ b → ⊥
@@ -34,11 +35,6 @@ signature_is s m e =
 abbrev pub no_method : List (List ℕ) → Signature → Program → Bool
 no_method names s p = list_all (λ (m : Method). not (among names m.class && has_signature s m)) p.methods
 
-stands_passes : {X : Type 0} (test : X → Bool) (xs : List X) (n : ℕ) (x : X) → list_all test xs ≡ true → slice_get xs n ≡ Some x → test x ≡ true
-stands_passes test [] n x h e = absurd (none-some x e)
-stands_passes {X} test (y ∷ ys) zero x h e = subst (λ (z : X). test z ≡ true) (same_Some y x e) (and_parts (test y) (list_all test ys) h).0
-stands_passes test (y ∷ ys) (suc n) x h e = stands_passes test ys n x (and_parts (test y) (list_all test ys) h).1 e
-
 not_both : (a b : Bool) → not (a && b) ≡ true → a ≡ true → b ≡ true → ⊥
 not_both true true h a b = true≢false (sym h)
 not_both true false h a b = true≢false (sym b)
@@ -48,7 +44,7 @@ module _ (p : Program) (names : List (List ℕ)) (s : Signature) (Is : ℕ → M
   pub none_declared : no_method names s p ≡ true → (class : List ℕ) → among names class ≡ true → (other : ℕ) → Declares p Is class other → ⊥
   none_declared none class inside other d =
       not_both (among names d.method.class) (has_signature s d.method)
-      (stands_passes (λ (m : Method). not (among names m.class && has_signature s m)) p.methods other d.method none d.stands)
+      (passes_at (λ (m : Method). not (among names m.class && has_signature s m)) p.methods other d.method none d.stands)
       (subst (λ (n : List ℕ). among names n ≡ true) (sym d.of_class) inside) (signature_is s d.method (is_so other d.method d.stands d.is))
 
   -- the names are closed upward by superclasses
@@ -84,14 +80,14 @@ is_only s number [] = true
 is_only s zero (m ∷ methods) = list_all (λ (n : Method). not (has_signature s n)) methods
 is_only s (suc number) (m ∷ methods) = not (has_signature s m) && is_only s number methods
 
-not_true : (b : Bool) → not b ≡ true → b ≡ true → ⊥
+pub not_true : (b : Bool) → not b ≡ true → b ≡ true → ⊥
 not_true true h e = true≢false (sym h)
 not_true false h e = true≢false (sym e)
 
 only_there : (s : Signature) (number : ℕ) (methods : List Method) (other : ℕ) (m : Method) → is_only s number methods ≡ true → slice_get methods other ≡ Some m → has_signature s m ≡ true → other ≡ number
 only_there s number [] other m only stands has = absurd (none-some m stands)
 only_there s zero (n ∷ methods) zero m only stands has = refl
-only_there s zero (n ∷ methods) (suc other) m only stands has = absurd (not_true (has_signature s m) (stands_passes (λ (k : Method). not (has_signature s k)) methods other m only stands) has)
+only_there s zero (n ∷ methods) (suc other) m only stands has = absurd (not_true (has_signature s m) (passes_at (λ (k : Method). not (has_signature s k)) methods other m only stands) has)
 only_there s (suc number) (n ∷ methods) zero m only stands has =
     absurd (not_true (has_signature s n) (and_parts (not (has_signature s n)) (is_only s number methods) only).0 (subst (λ (k : Method). has_signature s k ≡ true) (sym (same_Some n m stands)) has))
 only_there s (suc number) (n ∷ methods) (suc other) m only stands has =
@@ -114,4 +110,4 @@ only_default p class s number i concrete only = record {
 
 -- a class without fields declares none
 pub no_field_of : (p : Program) (class : List ℕ) → list_all (λ (f : Field). not (bytes_eq f.class class)) p.fields ≡ true → (other : ℕ) (f : Field) → slice_get p.fields other ≡ Some f → f.class ≡ class → ⊥
-no_field_of p class none other f stands of_class = not_true (bytes_eq f.class class) (stands_passes (λ (g : Field). not (bytes_eq g.class class)) p.fields other f none stands) ((bytes_eq-Decides f.class class).1 of_class)
+no_field_of p class none other f stands of_class = not_true (bytes_eq f.class class) (passes_at (λ (g : Field). not (bytes_eq g.class class)) p.fields other f none stands) ((bytes_eq-Decides f.class class).1 of_class)

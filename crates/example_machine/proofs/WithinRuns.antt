@@ -80,7 +80,7 @@ a_held_object_is_read =
     takes _ _ _ _ (begun links refl) (advances step.at step.step) (step, shows _ _ _, has_object _ _ _ refl)
 
 -- the world after the write
-abbrev linked : World
+abbrev pub linked : World
 linked = with_contents (world links refl) 2 (boot_object (runs links) (codes "lib/Box")) (fields (updated (default_fields (program_with 7 links)) 2 (reference_to 2)))
 
 puts_link : Advancing (runs links) (codes "putfield") (main_at links refl 6 (reference_to 2 ∷ reference_to 2 ∷ []) (world links refl)) (main_at links refl 9 [] linked)

@@ -1,26 +1,25 @@
 -- The steps of calls, and what described methods give, keep and throw.
 use Rattle.std.proofs.Common.{codes, ◌≡◌, inl, inr, ◌-◌, true, false, [], ◌∷◌, replicate, Some, None, Ok, refl, arith}
-use Rattle.jvm_model.specs.declared.site.SiteKind.TheVariants.{New, Thrown}
+use Rattle.jvm_model.specs.declared.site.SiteKind.TheVariants.{Thrown}
 use Rattle.jvm_model.specs.Code.{CodeBody}
-use Rattle.jvm_model.specs.Lookups.{Signature}
 use Rattle.jvm_model.specs.Programs.{object_name}
-use Rattle.jvm_model.specs.Soundness.{plain_descriptor}
-use Rattle.jvm_model.specs.Resolution.{IsInstanceWith, IsOnlyDefault}
-use Rattle.jvm_model.specs.Selection.{Selects, upward, by_default}
+use Rattle.jvm_model.specs.Selection.{upward}
 use Rattle.jvm_model.specs.Subtypes.{by_class, by_array, same}
 use Rattle.op_model.specs.declared.lowered.LoweredMethod.{LoweredMethod}
 use Rattle.machine_bytecode.specs.Machine.{SelectsByObject, gets_result, gets_exception, enters, enters_entry, returns, catches, ends, of_primitives}
 use Rattle.machine_bytecode.specs.Start.{start_frame}
-use Rattle.machine_bytecode.specs.States.{primitive_value, reference_to, World, runs_on, throws_on, moved_to, waiting, with_object, with_kept, new_object, new_array, site_at, ended, ends_with}
+use Rattle.machine_bytecode.specs.States.{primitive_value, reference_to, runs_on, throws_on, moved_to, waiting, ended, ends_with}
 use Rattle.example_machine.specs.Building.{handler}
 use Rattle.example_machine.specs.Taking.{HasObject, Shows, Ending}
 use Rattle.example_machine.specs.Calling.{program_with, runs, shuts, hashes, rings, keeps, fails}
 use Rattle.example_machine.proofs.Facts.{has_object, call_row, described_at, field_row, makes_array, refers_to, shows}
 use Rattle.example_machine.proofs.Runs.{started_in, advance, body_fits, entered_in, frame_at}
-use Rattle.example_machine.proofs.CallSteps.{enter as enter_code, get as get_result, get_thrown as get_exception, give_to_start, not_selecting, not_named}
-use Rattle.example_machine.proofs.CallStart.{outside, main_of, shut_of, world, main_at, int_units, plain_units, door_units, from_door_units, door_type, names_gate, names_hash, names_shut, house_named, gate_below_closing, is_door, is_closing}
-use Rattle.example_machine.proofs.Searches.{chain_up, differ, none_found, only_default}
+use Rattle.example_machine.proofs.CallSteps.{enter as enter_code, get as get_result, give_to_start, not_selecting, not_named}
+use Rattle.example_machine.proofs.CallStart.{outside, main_of, shut_of, world, main_at, int_units, plain_units, door_units, from_door_units, door_type, names_gate, names_hash, names_shut, house_named, is_door, is_closing}
+use Rattle.example_machine.proofs.Searches.{chain_up}
 use Rattle.example_machine.proofs.Throws.{catch as catch_code}
+use Rattle.example_machine.proofs.CallResults.{with_array, kept_world, failed_world, throws_failure, puts}
+use Rattle.example_machine.proofs.CallRuns.{shut_is_selected}
 use Rattle.machine_nodes.specs.NodeSteps.{enters_entry as enters_entry_node, gets_result as gets_result_node, gets_exception as gets_exception_node, enters as enters_node, returns as returns_node, catches as catches_node, ends as ends_node, fitting}
 use Rattle.example_nodes.specs.Calling.{given_with, Steps, returns_only, shuts_nodes, hashes_nodes, rings_nodes, keeps_nodes, fails_nodes}
 use Rattle.example_nodes.specs.Lowering.{class_no, catching}
@@ -36,26 +35,6 @@ pub begun : (k : CodeBody) (fits : body_fits k ≡ true) (m : LoweredMethod) →
 begun k fits m is_given alike = enters_at (runs k) (given_with m) (main_of k fits) m is_given alike (world k fits) (starts_at (runs k) (given_with m) (main_of k fits) [] refl)
 
 -- ---- a default
-
-abbrev shut_signature : Signature
-shut_signature = record { name = codes "shut"; descriptor = plain_descriptor }
-
-shut_is_default : IsOnlyDefault (program_with shuts) (codes "Gate") shut_signature 1
-shut_is_default = only_default (program_with shuts) (codes "Gate") shut_signature 1 (record {
-  method = _;
-  stands = refl;
-  above = record { interface = _; named = refl; kind = refl; below = (gate_below_closing shuts, differ _ _ refl) };
-  same_call = refl;
-  visible = refl;
-  instance = refl;
-}) refl refl
-
-shut_is_selected : Selects (program_with shuts) true (codes "Gate") 1 1
-shut_is_selected = record {
-  method = _;
-  stands = refl;
-  chosen = by_default (none_found (program_with shuts) (codes "Gate" ∷ codes "Door" ∷ object_name ∷ []) shut_signature (IsInstanceWith shut_signature) (λ n m stands is. is.0) refl refl (codes "Gate") refl) shut_is_default;
-}
 
 pub a_default_is_selected : Steps shuts shuts_nodes (EnteringNode (runs shuts) (given_with shuts_nodes) 1)
 a_default_is_selected =
@@ -91,9 +70,6 @@ a_default_is_selected =
 
 -- ---- an array is called
 
-abbrev with_array : World
-with_array = with_object (world hashes refl) (new_array (site_at New (frame_at 4 1 (primitive_value ∷ [])) (codes "[I")) (primitive_value ∷ []) 0)
-
 hash_is_selected : SelectsByObject (program_with hashes) false (names_hash hashes).method 6 with_array (reference_to 3 ∷ []) 6
 hash_is_selected = record {
   instance = refl;
@@ -126,9 +102,6 @@ an_array_is_called =
 
 -- ---- what is kept
 
-abbrev kept_world : World
-kept_world = with_kept (world keeps refl) (2 ∷ [])
-
 at_put : Arrives (runs keeps) (given_with keeps_nodes) (main_at keeps refl 3 (reference_to 2 ∷ []) (world keeps refl))
 at_put =
     advanced _ _ _ _ _ _ (begun keeps refl keeps_nodes refl refl)
@@ -141,13 +114,10 @@ at_take : Arrives (runs keeps) (given_with keeps_nodes) (main_at keeps refl 6 []
 at_take =
     let x = runs keeps in
     let w = world keeps refl in
-    let step = get_result x 4 (main_of keeps refl) outside 3 (reference_to 2 ∷ []) w _ refl _ (call_row _ _ _ _ _ _ refl from_door_units) _
-    (record { is_there = refl; names = house_named keeps 52 13 _ _ refl refl refl refl refl; target = 13; is_target = (refl, refl); events = not_selecting _ _ _ _ _ refl })
-    (described_at _ _ _ _ refl refl refl from_door_units.is) 0 _ refl primitive_value _ (refl, refl) in
     let node_step = get x (given_with keeps_nodes) 4 keeps_nodes refl outside 3 (reference_to 2 ∷ []) w _ refl w
     (record { call = _; is_call = refl; resolved = _; stands = refl; target = 13; is_target = refl; events = not_selecting _ _ _ _ _ refl })
     primitive_value kept_world (record { called = described_at _ _ _ _ refl refl refl from_door_units.is; place = 0; result = _; listed = refl; gives = (refl, refl) }) [] refl 6 refl in
-    goes _ _ _ _ at_put (gets_result step.at step.step) (gets_result_node node_step.at node_step.step)
+    goes _ _ _ _ at_put (gets_result puts.at puts.step) (gets_result_node node_step.at node_step.step)
 
 pub a_kept_object_is_given : Steps keeps keeps_nodes (λ s t. GettingOnNode (runs keeps) (given_with keeps_nodes) 14 s t × Shows 9 (reference_to 2 ∷ []) t)
 a_kept_object_is_given =
@@ -162,20 +132,15 @@ a_kept_object_is_given =
 
 -- ---- what is thrown
 
-abbrev failed_world : World
-failed_world = with_object (world fails refl) (new_object (program_with fails) (site_at Thrown (frame_at 4 0 []) (codes "java/lang/Exception")) 0)
+throws_node : ThrownAtNode (runs fails) (given_with fails_nodes) 15 (main_at fails refl 0 [] (world fails refl)) (throws_on (frame_at 4 0 [] ∷ outside) failed_world 3)
+throws_node =
+    get_thrown (runs fails) (given_with fails_nodes) 4 fails_nodes refl outside 0 [] (world fails refl) _ refl (world fails refl)
+    (record { call = _; is_call = refl; resolved = _; stands = refl; target = 15; is_target = refl; events = not_selecting _ _ _ _ _ refl })
+    3 failed_world (record { called = described_at _ _ _ _ refl refl refl plain_units.is; place = 0; class = _; listed = refl; makes = record { made_is = refl; after_is = refl } })
 
 thrown_there : Arrives (runs fails) (given_with fails_nodes) (throws_on (frame_at 4 0 [] ∷ outside) failed_world 3)
 thrown_there =
-    let x = runs fails in
-    let w = world fails refl in
-    let step = get_exception x 4 (main_of fails refl) outside 0 [] w _ refl _ (call_row _ _ _ _ _ _ refl plain_units) _
-    (record { is_there = refl; names = house_named fails 58 15 _ _ refl refl refl refl refl; target = 15; is_target = (refl, refl); events = not_selecting _ _ _ _ _ refl })
-    (described_at _ _ _ _ refl refl refl plain_units.is) 0 _ refl in
-    let node_step = get_thrown x (given_with fails_nodes) 4 fails_nodes refl outside 0 [] w _ refl w
-    (record { call = _; is_call = refl; resolved = _; stands = refl; target = 15; is_target = refl; events = not_selecting _ _ _ _ _ refl })
-    3 failed_world (record { called = described_at _ _ _ _ refl refl refl plain_units.is; place = 0; class = _; listed = refl; makes = record { made_is = refl; after_is = refl } }) in
-    goes _ _ _ _ (begun fails refl fails_nodes refl refl) (gets_exception step.at step.step) (gets_exception_node node_step.at node_step.step)
+    goes _ _ _ _ (begun fails refl fails_nodes refl refl) (gets_exception throws_failure.at throws_failure.step) (gets_exception_node throws_node.at throws_node.step)
 
 pub its_exception_is_caught : Steps fails fails_nodes (λ s t. CatchingNode (runs fails) (given_with fails_nodes) 3 4 s t × Shows 4 (reference_to 3 ∷ []) t)
 its_exception_is_caught =
@@ -243,12 +208,5 @@ the_entry_is_called =
 
 pub a_described_method_throws : Steps fails fails_nodes (λ s t. ThrownAtNode (runs fails) (given_with fails_nodes) 15 s t × HasObject 3 Thrown (codes "java/lang/Exception") t)
 a_described_method_throws =
-    let x = runs fails in
-    let w = world fails refl in
-    let step = get_exception x 4 (main_of fails refl) outside 0 [] w _ refl _ (call_row _ _ _ _ _ _ refl plain_units) _
-    (record { is_there = refl; names = house_named fails 58 15 _ _ refl refl refl refl refl; target = 15; is_target = (refl, refl); events = not_selecting _ _ _ _ _ refl })
-    (described_at _ _ _ _ refl refl refl plain_units.is) 0 _ refl in
-    let node_step = get_thrown x (given_with fails_nodes) 4 fails_nodes refl outside 0 [] w _ refl w
-    (record { call = _; is_call = refl; resolved = _; stands = refl; target = 15; is_target = refl; events = not_selecting _ _ _ _ _ refl })
-    3 failed_world (record { called = described_at _ _ _ _ refl refl refl plain_units.is; place = 0; class = _; listed = refl; makes = record { made_is = refl; after_is = refl } }) in
-    takes _ _ _ _ _ (begun fails refl fails_nodes refl refl) (gets_exception step.at step.step) (gets_exception_node node_step.at node_step.step) (node_step, has_object _ _ _ refl)
+    takes _ _ _ _ _ (begun fails refl fails_nodes refl refl) (gets_exception throws_failure.at throws_failure.step) (gets_exception_node throws_node.at throws_node.step)
+    (throws_node, has_object _ _ _ refl)

@@ -1,34 +1,28 @@
 -- The programs that throw, up to the first instruction of `main`; and their steps.
 use Rattle.std.proofs.Common.{codes, ◌≡◌, inl, inr, ℕ, zero, suc, ◌-◌, true, false, List, [], ◌∷◌, replicate, Some, Ok, slice_get, subst, sym, ◌∙◌, refl, ap, arith}
 use Rattle.std.specs.List.{Contains}
-use Rattle.std.proofs.lemmas.List.Elements.{All-nil, All-cons}
+use Rattle.std.proofs.lemmas.List.Elements.{All-nil}
 use Rattle.std.proofs.lemmas.Option.{same_Some}
 use Rattle.jvm_model.specs.declared.code.Handler.{Handler}
 use Rattle.jvm_model.specs.declared.number.ClassNo.{ClassNo}
 use Rattle.jvm_model.specs.Code.{CodeBody}
-use Rattle.jvm_model.specs.Descriptors.{IsFieldDescriptor}
-use Rattle.jvm_model.specs.Instructions.{member_at}
-use Rattle.jvm_model.specs.Lookups.{MemberReference}
-use Rattle.jvm_model.specs.Programs.{Program, Class, Method, object_name}
-use Rattle.jvm_model.specs.Resolution.ResolvesFrom.{itself as resolved_there}
-use Rattle.jvm_model.specs.Subtypes.{class_named, by_class, same, below, Fits}
+use Rattle.jvm_model.specs.Programs.{Program, Class}
+use Rattle.jvm_model.specs.Subtypes.{same, Fits}
 use Rattle.op_model.specs.declared.lowered.LoweredMethod.{LoweredMethod}
 use Rattle.op_model.specs.declared.node.NodeHandler.{NodeHandler}
 use Rattle.machine_bytecode.specs.Machine.IsUncaught.{of_start}
-use Rattle.machine_bytecode.specs.Machine.{MethodCode, Handles, IsFirstHandler, NamesField, NamesMethod, enters, throws, catches, unwinds}
-use Rattle.machine_bytecode.specs.Objects.{IsOf}
-use Rattle.machine_bytecode.specs.Start.{start_frame, boot_site}
-use Rattle.machine_bytecode.specs.States.{Value, primitive_value, reference_to, Object, Frame, World, State, ended, throws_on, ends_with, waiting, waiting_no_more, new_object}
+use Rattle.machine_bytecode.specs.Machine.{Handles, enters, throws, catches, unwinds}
+use Rattle.machine_bytecode.specs.Start.{start_frame}
+use Rattle.machine_bytecode.specs.States.{primitive_value, reference_to, ended, throws_on, ends_with, waiting, waiting_no_more}
 use Rattle.example_machine.specs.Building.{handler}
-use Rattle.example_machine.specs.Excepting.{main_pool, main_class, middle, inner, program_with, runs, catches_here, catches_above, catches_nothing}
+use Rattle.example_machine.specs.Excepting.{main_pool, program_with, runs, catches_here, catches_above, catches_nothing}
 use Rattle.example_machine.specs.Taking.{Shows, Unwinding}
-use Rattle.example_machine.proofs.Facts.{call_row, declared_field, field_row, shows}
-use Rattle.example_machine.proofs.Runs.{built, body_fits, entered_in, first_world, frame_at, on, advance}
-use Rattle.example_machine.proofs.Types.{class_type, no_fit}
-use Rattle.example_machine.proofs.Searches.{chain_up}
-use Rattle.example_machine.proofs.CallSteps.{enter as enter_code, waiting_at, not_selecting}
-use Rattle.example_machine.proofs.CallStart.{plain_units}
-use Rattle.example_machine.proofs.Throws.{throw as throw_code, catch as catch_code, throwing_at, unwind as unwind_code, not_taken}
+use Rattle.example_machine.proofs.Facts.{call_row, field_row, shows}
+use Rattle.example_machine.proofs.Runs.{body_fits, entered_in, frame_at, on, advance}
+use Rattle.example_machine.proofs.CallSteps.{enter as enter_code, not_selecting}
+use Rattle.example_machine.proofs.CallStart.{plain_units, outside}
+use Rattle.example_machine.proofs.Throws.{throw as throw_code, catch as catch_code, throwing_at, unwind as unwind_code}
+use Rattle.example_machine.proofs.ExceptionRuns.{exception_type, middle_of, inner_of, names_fire, fire, is_throwable, fits_exception, fits_no_error, main_named, main_of, world, main_at, second_handler, main_waits, middle_waits, above_world, throws_here, leaves_middle, main_throws}
 use Rattle.machine_nodes.specs.NodeSteps.{Takes, all, fitting, enters as enters_node, throws as throws_node, catches as catches_node, unwinds as unwinds_node}
 use Rattle.example_nodes.specs.Excepting.{given_with, Steps, middle_nodes, inner_nodes, catches_here_nodes, catches_above_nodes, catches_nothing_nodes}
 use Rattle.example_nodes.specs.Lowering.{class_no, catching}
@@ -37,12 +31,6 @@ use Rattle.example_nodes.proofs.CallSteps.{enter, throw, catch, unwind}
 use Rattle.example_nodes.proofs.Slots.{are_left_by, reads_alike}
 use Rattle.example_nodes.proofs.StartNodes.{start_stands}
 use Rattle.example_nodes.proofs.Steps.{Arrives, goes, takes, starts_at, enters_at, operate, advanced}
-
-pub exception_type : IsFieldDescriptor (codes "Ljava/lang/Exception;")
-exception_type = class_type (codes "java") (codes "lang" ∷ codes "Exception" ∷ []) refl
-
-abbrev outside : List Frame
-outside = waiting start_frame [] ∷ []
 
 -- ---- what is not taken
 
@@ -67,68 +55,16 @@ only_one p class g misses h (zero, few, e) takes_it = misses (subst (λ (k : Nod
 only_one p class g misses h (suc n, few, e) takes_it = absurd (omega (arith, few))
 
 module _ (k : CodeBody) where
-  -- the methods of Main have the numbers 0 to 2
-  abbrev middle_of : MethodCode (program_with k) 1
-  middle_of = built (program_with k) 1 _ (main_class k) 1 9 8 7 middle refl refl refl refl
-
-  abbrev inner_of : MethodCode (program_with k) 2
-  inner_of = built (program_with k) 2 _ (main_class k) 2 9 11 7 inner refl refl refl refl
-
-  abbrev pub names_fire : NamesField (program_with k) main_pool 19 true
-  names_fire = declared_field _ _ _ _ 0 _ _ refl refl refl refl refl
-
-  -- the exception at the place 2
-  abbrev fire : Object
-  fire = new_object (program_with k) (boot_site (codes "java/lang/Exception")) 0
-
-  abbrev is_throwable : (w : World) → slice_get w.heap 2 ≡ Some fire → IsOf (program_with k) (codes "java/lang/Throwable") w (reference_to 2)
-  is_throwable w held = record { to = record { place = 2; is = refl; object = fire; held = held }; fits = by_class _ _ _ refl (below _ _ _ refl (inl refl) (same _ refl)) }
-
-  fits_exception : Fits (program_with k) (codes "java/lang/Exception") (codes "java/lang/Exception")
-  fits_exception = by_class _ _ _ refl (same _ refl)
-
-  fits_no_error : Fits (program_with k) (codes "java/lang/Error") (codes "java/lang/Exception") → ⊥
-  fits_no_error = no_fit (program_with k) (codes "java/lang/Exception" ∷ codes "java/lang/Throwable" ∷ object_name ∷ []) (codes "java/lang/Error") (codes "java/lang/Exception") refl refl refl refl
-
   -- a handler of errors, and one of exceptions
   misses_errors : Takes (program_with k) (catching 4 (Some (class_no 1))) (codes "java/lang/Exception") → ⊥
-  misses_errors = not_taken_by (program_with k) (codes "java/lang/Exception") (codes "java/lang/Error") 4 1 _ refl refl fits_no_error
+  misses_errors = not_taken_by (program_with k) (codes "java/lang/Exception") (codes "java/lang/Error") 4 1 _ refl refl (fits_no_error k)
 
   takes_exceptions : Takes (program_with k) (catching 4 (Some (class_no 2))) (codes "java/lang/Exception")
-  takes_exceptions = fitting (class_no 2) (codes "java/lang/Exception") refl (record { class = _; stands = refl; named = refl }) fits_exception
-
-  -- a static method of Main is named
-  abbrev pub main_named : (operand number : ℕ) (called : MemberReference) (m : Method) → member_at main_pool operand ≡ Some called → called.class ≡ codes "Main"
-      → slice_get (program_with k).methods number ≡ Some m → m.class ≡ codes "Main" → m.signature ≡ called.signature → NamesMethod (program_with k) main_pool operand
-  main_named operand number called m named of_main stands of_class same_call = record {
-    called = called;
-    named = named;
-    resolved = number;
-    resolves = record {
-      class = _;
-      named = ap (class_named (program_with k)) of_main;
-      search = resolved_there (record {
-        chain = chain_up (program_with k) 3 (Some (codes "Main"));
-        of_start = (refl, (refl, tt));
-        first = inl (record { method = m; stands = stands; of_class = of_class; is = same_call });
-      });
-    };
-    method = m;
-    stands = stands;
-  }
+  takes_exceptions = fitting (class_no 2) (codes "java/lang/Exception") refl (record { class = _; stands = refl; named = refl }) (fits_exception k)
 
 module _ (k : CodeBody) (fits : body_fits k ≡ true) where
-  abbrev main_of : MethodCode (program_with k) 0
-  main_of = built (program_with k) 0 _ (main_class k) 0 9 6 7 k refl refl refl fits
-
-  abbrev world : World
-  world = first_world (runs k) []
-
-  abbrev main_at : ℕ → List Value → World → State
-  main_at offset slots w = on (runs k) 0 main_of outside offset slots w
-
-  begun : (m : LoweredMethod) → given_with m 0 ≡ Some (Ok m) → reads_alike [] (replicate (k.max_locals - 0) primitive_value) ≡ true → Arrives (runs k) (given_with m) (entered_in (runs k) main_of world)
-  begun m is_given alike = enters_at (runs k) (given_with m) main_of m is_given alike world (starts_at (runs k) (given_with m) main_of [] refl)
+  begun : (m : LoweredMethod) → given_with m 0 ≡ Some (Ok m) → reads_alike [] (replicate (k.max_locals - 0) primitive_value) ≡ true → Arrives (runs k) (given_with m) (entered_in (runs k) (main_of k fits) (world k fits))
+  begun m is_given alike = enters_at (runs k) (given_with m) (main_of k fits) m is_given alike (world k fits) (starts_at (runs k) (given_with m) (main_of k fits) [] refl)
 
 -- ---- in one method
 
@@ -140,32 +76,23 @@ at_throw =
     (operate (runs catches_here) (given_with catches_here_nodes) 0 (main_of catches_here refl) catches_here_nodes refl outside 0 [] (world catches_here refl) _ refl _ _ _
     (record { value = reference_to 2; is_read = refl; are_left = are_left_by _ _ _ _ _ refl; same = refl }) refl)
 
+throws_here_node : ThrowingNode (runs catches_here) (given_with catches_here_nodes) 2 (main_at catches_here refl 3 (reference_to 2 ∷ []) (world catches_here refl)) (main_throws catches_here (world catches_here refl) 3 (reference_to 2 ∷ []))
+throws_here_node =
+    throw (runs catches_here) (given_with catches_here_nodes) 0 catches_here_nodes refl outside 3 (reference_to 2 ∷ []) (world catches_here refl) _ refl 0 refl
+    (is_throwable catches_here (world catches_here refl) refl)
+
 pub an_exception_is_thrown : Steps catches_here catches_here_nodes (ThrowingNode (runs catches_here) (given_with catches_here_nodes) 2)
 an_exception_is_thrown =
-    let x = runs catches_here in
-    let w = world catches_here refl in
-    let step = throw_code x 0 (main_of catches_here refl) outside 3 (reference_to 2 ∷ []) w _ refl _ refl refl refl (is_throwable catches_here w refl) in
-    let node_step = throw x (given_with catches_here_nodes) 0 catches_here_nodes refl outside 3 (reference_to 2 ∷ []) w _ refl 0 refl (is_throwable catches_here w refl) in
-    takes _ _ _ _ _ at_throw (throws step.at step.step) (throws_node node_step.at node_step.step) node_step
-
--- the first handler does not take it, and the second one does
-second_handler : IsFirstHandler (program_with catches_here) main_pool 3 (codes "java/lang/Exception") catches_here.handlers (handler 0 4 4 21)
-second_handler =
-    inr (
-      not_taken (program_with catches_here) main_pool 3 (handler 0 4 4 23) (codes "java/lang/Error") (codes "java/lang/Exception") refl (fits_no_error catches_here),
-      inl (record { covers = refl; takes = inr (codes "java/lang/Exception", refl, fits_exception catches_here) }, refl),
-    )
+    takes _ _ _ _ _ at_throw (throws throws_here.at throws_here.step) (throws_node throws_here_node.at throws_here_node.step) throws_here_node
 
 pub an_exception_is_caught_in_its_method : Steps catches_here catches_here_nodes (λ s t. CatchingNode (runs catches_here) (given_with catches_here_nodes) 2 4 s t × Shows 4 (reference_to 2 ∷ []) t)
 an_exception_is_caught_in_its_method =
     let x = runs catches_here in
     let w = world catches_here refl in
-    let thrown = throw_code x 0 (main_of catches_here refl) outside 3 (reference_to 2 ∷ []) w _ refl _ refl refl refl (is_throwable catches_here w refl) in
-    let thrown_node = throw x (given_with catches_here_nodes) 0 catches_here_nodes refl outside 3 (reference_to 2 ∷ []) w _ refl 0 refl (is_throwable catches_here w refl) in
     let step = catch_code x 0 (main_of catches_here refl) outside 3 [] (reference_to 2 ∷ []) w 2 (fire catches_here) refl (handler 0 4 4 21) second_handler refl in
     let node_step = catch x (given_with catches_here_nodes) 0 catches_here_nodes refl outside 3 (reference_to 2 ∷ []) w _ refl 2 (fire catches_here) refl (catching 4 (Some (class_no 2)))
     (inr (misses_errors catches_here, inl (takes_exceptions catches_here, refl))) (reference_to 2 ∷ []) refl in
-    takes _ _ _ _ _ (goes _ _ _ _ at_throw (throws thrown.at thrown.step) (throws_node thrown_node.at thrown_node.step)) (catches step.at step.step) (catches_node node_step.at node_step.step) (node_step, shows _ _ _)
+    takes _ _ _ _ _ (goes _ _ _ _ at_throw (throws throws_here.at throws_here.step) (throws_node throws_here_node.at throws_here_node.step)) (catches step.at step.step) (catches_node node_step.at node_step.step) (node_step, shows _ _ _)
 
 -- ---- it is caught nowhere
 
@@ -198,15 +125,6 @@ an_uncaught_exception_ends_the_program =
 
 -- ---- two frames above
 
-abbrev main_waits : List Frame
-main_waits = waiting_at 0 0 [] ∷ outside
-
-abbrev middle_waits : List Frame
-middle_waits = waiting_at 1 0 [] ∷ main_waits
-
-abbrev above_world : World
-above_world = world catches_above refl
-
 in_inner : Arrives (runs catches_above) (given_with catches_above_nodes) (on (runs catches_above) 2 (inner_of catches_above) middle_waits 0 [] above_world)
 in_inner =
     let x = runs catches_above in
@@ -233,18 +151,15 @@ inner_throws =
     let fourth_node = throw x given 2 inner_nodes refl middle_waits 3 (reference_to 2 ∷ []) above_world _ refl 0 refl (is_throwable catches_above above_world refl) in
     goes _ _ _ _ third (throws fourth.at fourth.step) (throws_node fourth_node.at fourth_node.step)
 
-main_throws : Arrives (runs catches_above) (given_with catches_above_nodes) (throws_on (frame_at 0 0 [] ∷ outside) above_world 2)
-main_throws =
+above_throws : Arrives (runs catches_above) (given_with catches_above_nodes) (throws_on (frame_at 0 0 [] ∷ outside) above_world 2)
+above_throws =
     let x = runs catches_above in
     let given = given_with catches_above_nodes in
-    let Misses : Handler → Type 0 = λ h. Handles (program_with catches_above) main_pool 0 (codes "java/lang/Exception") h → ⊥ in
     let first = unwind_code x 2 (inner_of catches_above) middle_waits 3 (reference_to 2 ∷ []) above_world 2 (fire catches_above) refl (All-nil (λ (h : Handler). Handles (program_with catches_above) main_pool 3 (codes "java/lang/Exception") h → ⊥)) in
     let first_node = unwind x given 2 inner_nodes refl middle_waits 3 (reference_to 2 ∷ []) above_world _ refl 2 (fire catches_above) refl (none_there (program_with catches_above) (codes "java/lang/Exception")) in
-    let second = unwind_code x 1 (middle_of catches_above) main_waits 0 [] above_world 2 (fire catches_above) refl
-    (All-cons Misses (handler 0 3 4 23) [] (not_taken (program_with catches_above) main_pool 0 (handler 0 3 4 23) (codes "java/lang/Error") (codes "java/lang/Exception") refl (fits_no_error catches_above)) (All-nil Misses)) in
     let second_node = unwind x given 1 middle_nodes refl main_waits 0 [] above_world _ refl 2 (fire catches_above) refl
     (only_one (program_with catches_above) (codes "java/lang/Exception") (catching 4 (Some (class_no 1))) (misses_errors catches_above)) in
-    goes _ _ _ _ (goes _ _ _ _ inner_throws (unwinds first.at first.step) (unwinds_node first_node.at first_node.step)) (unwinds second.at second.step) (unwinds_node second_node.at second_node.step)
+    goes _ _ _ _ (goes _ _ _ _ inner_throws (unwinds first.at first.step) (unwinds_node first_node.at first_node.step)) (unwinds leaves_middle.at leaves_middle.step) (unwinds_node second_node.at second_node.step)
 
 pub an_exception_is_caught_two_frames_above : Steps catches_above catches_above_nodes (λ s t. CatchingNode (runs catches_above) (given_with catches_above_nodes) 2 4 s t × Shows 4 (reference_to 2 ∷ []) t)
 an_exception_is_caught_two_frames_above =
@@ -253,4 +168,4 @@ an_exception_is_caught_two_frames_above =
     (inl (record { covers = refl; takes = inr (codes "java/lang/Exception", refl, fits_exception catches_above) }, refl)) refl in
     let node_step = catch x (given_with catches_above_nodes) 0 catches_above_nodes refl outside 0 [] above_world _ refl 2 (fire catches_above) refl (catching 4 (Some (class_no 2)))
     (inl (takes_exceptions catches_above, refl)) (reference_to 2 ∷ []) refl in
-    takes _ _ _ _ _ main_throws (catches step.at step.step) (catches_node node_step.at node_step.step) (node_step, shows _ _ _)
+    takes _ _ _ _ _ above_throws (catches step.at step.step) (catches_node node_step.at node_step.step) (node_step, shows _ _ _)

@@ -1,24 +1,23 @@
 -- The programs with initialisers, up to the first instruction of `main`; and their steps.
-use Rattle.std.proofs.Common.{codes, ◌≡◌, inl, false, List, [], ◌∷◌, All, None, refl, arith}
+use Rattle.std.proofs.Common.{codes, ◌≡◌, inl, false, [], ◌∷◌, All, None, refl, arith}
 use Rattle.std.proofs.lemmas.List.Elements.{All-nil}
 use Rattle.jvm_model.specs.declared.code.Handler.{Handler}
 use Rattle.jvm_model.specs.declared.site.SiteKind.TheVariants.{Thrown}
-use Rattle.jvm_model.specs.Descriptors.{IsFieldDescriptor}
 use Rattle.jvm_model.specs.Subtypes.{by_class, same, below}
-use Rattle.machine_bytecode.specs.Machine.{unwinds, MethodCode, Handles, IsInitialiser, by_start, of_class, starts, resumes, denies, wraps, throws, catches}
+use Rattle.machine_bytecode.specs.Machine.{unwinds, MethodCode, Handles, IsInitialiser, of_class, starts, resumes, denies, wraps, throws, catches}
 use Rattle.machine_bytecode.specs.Objects.{IsOf}
 use Rattle.machine_bytecode.specs.Start.{start_frame, boot_site}
-use Rattle.machine_bytecode.specs.States.{throwing, primitive_value, reference_to, Object, Frame, World, throws_on, waiting, new_object, with_object, with_kept, with_started, site_at}
+use Rattle.machine_bytecode.specs.States.{throwing, primitive_value, reference_to, Object, World, throws_on, new_object, with_object, with_kept, with_started, site_at}
 use Rattle.example_machine.specs.Building.{handler}
-use Rattle.example_machine.specs.Calling.{only_returns}
-use Rattle.example_machine.specs.Initialising.{broken_pool, broken_class, breaks, ready_class, main_class, program_with, runs, makes_ready, makes_broken}
-use Rattle.example_machine.specs.Taking.{Shows, HasObject, Starting}
+use Rattle.example_machine.specs.Initialising.{broken_pool, broken_class, breaks, main_class, runs, makes_ready, makes_broken}
+use Rattle.example_machine.specs.Taking.{Shows, HasObject}
 use Rattle.example_machine.proofs.Facts.{declared_field, field_row, has_object, shows}
 use Rattle.example_machine.proofs.Runs.{built, started_in, entered_in, first_world, frame_at, on, advance}
-use Rattle.example_machine.proofs.Types.{class_type}
-use Rattle.example_machine.proofs.CallStart.{plain_units}
+use Rattle.example_machine.proofs.CallStart.{outside}
 use Rattle.example_machine.proofs.Throws.{unwind as unwind_code, throw as throw_code, catch as catch_code}
-use Rattle.example_machine.proofs.Initialisers.{nothing_there, start as start_code, deny, resume as resume_code, wrap as wrap_code}
+use Rattle.example_machine.proofs.Initialisers.{nothing_there, start as start_code, deny, wrap as wrap_code}
+use Rattle.example_machine.proofs.ExceptionRuns.{exception_type}
+use Rattle.example_machine.proofs.InitialiserRuns.{main_below, main_of, world, ready_of, main_starts_of, initialises_ready, initialises_main, ready_world, starts_ready, main_world, starts_main, resumes_new}
 use Rattle.machine_nodes.specs.NodeSteps.{unwinds as unwinds_node, starts as starts_node, resumes as resumes_node, raises as raises_node, wraps as wraps_node, throws as throws_node, catches as catches_node, all}
 use Rattle.example_nodes.specs.Initialising.{given_ready, ReadySteps, initialiser_nodes, makes_ready_nodes, program_with_errors, runs_with_errors, makes_broken_nodes, breaks_nodes, given_broken, BrokenSteps}
 use Rattle.example_nodes.specs.Lowering.{class_no, catching}
@@ -29,46 +28,16 @@ use Rattle.example_nodes.proofs.Slots.{are_left_by, read_alike}
 use Rattle.example_nodes.proofs.StartNodes.{start_stands}
 use Rattle.example_nodes.proofs.Steps.{Arrives, goes, takes, starts_at, enters_at, operate, plainly, advanced, runs_there, stands_on}
 
-abbrev outside : List Frame
-outside = waiting start_frame [] ∷ []
-
-abbrev main_below : List Frame
-main_below = frame_at 1 0 [] ∷ outside
-
 -- ---- an initialiser that returns
 
-abbrev ready_main : MethodCode (program_with makes_ready) 1
-ready_main = built (program_with makes_ready) 1 _ (main_class makes_ready) 0 9 6 7 makes_ready refl refl refl refl
+at_first : Arrives (runs makes_ready) given_ready (started_in (world makes_ready refl))
+at_first = starts_at (runs makes_ready) given_ready (main_of makes_ready refl) [] refl
 
-abbrev main_starts_of : MethodCode (program_with makes_ready) 2
-main_starts_of = built (program_with makes_ready) 2 _ (main_class makes_ready) 1 8 8 7 only_returns refl refl refl refl
+at_new : Arrives (runs makes_ready) given_ready (entered_in (runs makes_ready) (main_of makes_ready refl) (world makes_ready refl))
+at_new = enters_at (runs makes_ready) given_ready (main_of makes_ready refl) makes_ready_nodes refl refl (world makes_ready refl) at_first
 
-abbrev ready_of : MethodCode (program_with makes_ready) 3
-ready_of = built (program_with makes_ready) 3 _ ready_class 0 8 6 7 only_returns refl refl refl refl
-
-abbrev initialises_main : IsInitialiser (program_with makes_ready) (codes "Main") 2
-initialises_main = record { code = main_starts_of; named = refl; above = same _ refl }
-
-abbrev initialises_ready : IsInitialiser (program_with makes_ready) (codes "Ready") 3
-initialises_ready = record { code = ready_of; named = refl; above = same _ refl }
-
-abbrev first_state : World
-first_state = first_world (runs makes_ready) []
-
-abbrev ready_world : World
-ready_world = with_started first_state 3
-
-at_first : Arrives (runs makes_ready) given_ready (started_in first_state)
-at_first = starts_at (runs makes_ready) given_ready ready_main [] refl
-
-at_new : Arrives (runs makes_ready) given_ready (entered_in (runs makes_ready) ready_main first_state)
-at_new = enters_at (runs makes_ready) given_ready ready_main makes_ready_nodes refl refl first_state at_first
-
-starts_ready : Starting (runs makes_ready) (codes "Ready") (on (runs makes_ready) 1 ready_main outside 0 [] first_state) (on (runs makes_ready) 3 ready_of main_below 0 (primitive_value ∷ []) ready_world)
-starts_ready = start_code (runs makes_ready) 1 ready_main outside 0 [] first_state _ refl _ refl refl (codes "Ready") (of_class (record { class = _; named = refl }) refl) 3 initialises_ready (nothing_there 3)
-
-starts_ready_node : StartingNode (runs makes_ready) given_ready 3 (on (runs makes_ready) 1 ready_main outside 0 [] first_state) (on (runs makes_ready) 3 ready_of main_below 0 (primitive_value ∷ []) ready_world)
-starts_ready_node = start (runs makes_ready) given_ready 1 makes_ready_nodes refl outside 0 [] first_state _ refl (class_no 3) refl (codes "Ready") (record { class = _; stands = refl; named = refl }) 3 initialises_ready (nothing_there 3)
+starts_ready_node : StartingNode (runs makes_ready) given_ready 3 (on (runs makes_ready) 1 (main_of makes_ready refl) outside 0 [] (world makes_ready refl)) (on (runs makes_ready) 3 (ready_of makes_ready) main_below 0 (primitive_value ∷ []) ready_world)
+starts_ready_node = start (runs makes_ready) given_ready 1 makes_ready_nodes refl outside 0 [] (world makes_ready refl) _ refl (class_no 3) refl (codes "Ready") (record { class = _; stands = refl; named = refl }) 3 (initialises_ready makes_ready) (nothing_there 3)
     (initialiser_nodes 3) refl (primitive_value ∷ []) refl
 
 pub an_initialiser_starts : ReadySteps (StartingNode (runs makes_ready) given_ready 3)
@@ -77,40 +46,23 @@ an_initialiser_starts =
 
 pub an_initialiser_returns : ReadySteps (λ s t. ResumingNode (runs makes_ready) given_ready s t × Shows 0 [] t)
 an_initialiser_returns =
-    let step = resume_code (runs makes_ready) 3 ready_of (frame_at 1 0 []) outside refl 0 (primitive_value ∷ []) ready_world _ refl _ refl refl refl _ plain_units in
     let node_step = resume (runs makes_ready) given_ready 3 (initialiser_nodes 3) refl (frame_at 1 0 []) outside 0 (primitive_value ∷ []) ready_world _ refl None refl refl in
-    takes _ _ _ _ _ (goes _ _ _ _ at_new (starts starts_ready.step) (starts_node starts_ready_node.at starts_ready_node.step)) (resumes step.at step.step) (resumes_node node_step.at node_step.step) (node_step, shows _ _ _)
+    takes _ _ _ _ _ (goes _ _ _ _ at_new (starts starts_ready.step) (starts_node starts_ready_node.at starts_ready_node.step)) (resumes resumes_new.at resumes_new.step) (resumes_node node_step.at node_step.step) (node_step, shows _ _ _)
 
 -- ---- one of the entry's class
-
-abbrev main_world : World
-main_world = with_started first_state 2
 
 pub an_initialiser_starts_at_the_entry : ReadySteps (λ s t. StartingNode (runs makes_ready) given_ready 2 s t × (s.frames ≡ start_frame ∷ []))
 an_initialiser_starts_at_the_entry =
     let x = runs makes_ready in
-    let step : Starting x (codes "Main") (started_in first_state) (on x 2 main_starts_of (start_frame ∷ []) 0 (primitive_value ∷ []) main_world) = record {
-      step = record {
-        frame = start_frame;
-        below = [];
-        class = codes "Main";
-        triggered = by_start (record { frame = start_frame; below = []; runs = refl; frames = refl; no_method = refl; stands = refl }) refl refl _ refl refl;
-        number = 2;
-        initialiser = initialises_main;
-        fresh = nothing_there 2;
-        after = refl;
-      };
-      of_class = refl;
-    } in
-    let node_step : StartingNode x given_ready 2 (started_in first_state) (on x 2 main_starts_of (start_frame ∷ []) 0 (primitive_value ∷ []) main_world) = record {
-      at = runs_there x given_ready start_frame [] first_state (start_stands x given_ready _ refl 2 (record { class = _; stands = refl; named = refl }) refl 0 [] false _ refl);
+    let node_step : StartingNode x given_ready 2 (started_in (world makes_ready refl)) (on x 2 (main_starts_of makes_ready) (start_frame ∷ []) 0 (primitive_value ∷ []) main_world) = record {
+      at = runs_there x given_ready start_frame [] (world makes_ready refl) (start_stands x given_ready _ refl 2 (record { class = _; stands = refl; named = refl }) refl 0 [] false _ refl);
       step = record {
         trigger = class_no 2;
         is_trigger = refl;
         class = codes "Main";
         is_class = record { class = _; stands = refl; named = refl };
         number = 2;
-        initialiser = initialises_main;
+        initialiser = initialises_main makes_ready;
         fresh = nothing_there 2;
         method = initialiser_nodes 2;
         is_given = refl;
@@ -120,12 +72,9 @@ an_initialiser_starts_at_the_entry =
       };
       started = refl;
     } in
-    takes _ _ _ _ _ at_first (starts step.step) (starts_node node_step.at node_step.step) (node_step, refl)
+    takes _ _ _ _ _ at_first (starts starts_main.step) (starts_node node_step.at node_step.step) (node_step, refl)
 
 -- ---- one that fails
-
-exception_type : IsFieldDescriptor (codes "Ljava/lang/Exception;")
-exception_type = class_type (codes "java") (codes "lang" ∷ codes "Exception" ∷ []) refl
 
 abbrev broken_main : MethodCode (program_with_errors makes_broken) 1
 broken_main = built (program_with_errors makes_broken) 1 _ (main_class makes_broken) 0 9 6 7 makes_broken refl refl refl refl

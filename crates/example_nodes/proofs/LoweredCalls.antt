@@ -1,34 +1,15 @@
 -- That the nodes of methods with calls are those that the rules give.
-use Rattle.std.proofs.Common.{codes, inl, [], Some, None, refl, arith}
-use Rattle.jvm_model.specs.Selection.{SelectsSpecial, upward, at_super}
+use Rattle.std.proofs.Common.{codes, [], Some, None, refl}
 use Rattle.machine_bytecode.specs.Machine.{of_field, of_method}
 use Rattle.example_machine.specs.Calling.{main_pool, gate_pool, program_with, gets_same, closes, shuts}
-use Rattle.example_machine.proofs.CallStart.{plain_units, door_to_door_units, door_type, names_gate, names_close, names_super, names_shut, house_named}
+use Rattle.example_machine.proofs.CallStart.{plain_units, door_to_door_units, door_type, names_gate, names_close, names_super, super_selected, names_shut, house_named}
 use Rattle.example_machine.proofs.Facts.{call_row, field_row}
-use Rattle.example_machine.proofs.Searches.{chain_up, differ}
 use Rattle.lowering_spec.specs.LoweredMethods.{IsLowered, no_trigger, for_class}
 use Rattle.example_nodes.specs.DecodedCalls.{gets_same_code, gets_same_graph, closes_code, closes_graph, shuts_code, shuts_graph, gate_close_code, gate_close_graph}
 use Rattle.example_nodes.specs.Calling.{gets_same_nodes, closes_nodes, shuts_nodes, gate_close_nodes}
 use Rattle.example_nodes.specs.Lowering.{method_no}
 use Rattle.example_nodes.proofs.MoveLists.{are_moves_of}
 use Rattle.example_nodes.proofs.NodesOf.{node_is, throws_nothing}
-
-super_selected : SelectsSpecial (program_with closes) (codes "Gate") (names_super closes).called 2
-super_selected = record {
-  start = codes "Door";
-  begins = at_super _ (record {
-    no_constructor = differ _ _ refl;
-    other = differ _ _ refl;
-    chain = chain_up (program_with closes) 4 (Some (codes "Gate"));
-    upward = (refl, (refl, (refl, tt)));
-    above = _;
-    stands = (1, omega arith, refl);
-    named = refl;
-  }) refl refl;
-  class = _;
-  named = refl;
-  chosen = upward (record { chain = chain_up (program_with closes) 3 (Some (codes "Door")); of_start = (refl, (refl, tt)); first = inl (record { method = _; stands = refl; of_class = refl; is = (refl, refl) }) });
-}
 
 pub nodes_of_gets_same : IsLowered (program_with gets_same) 4 main_pool gets_same_code gets_same_graph gets_same_nodes
 nodes_of_gets_same = record {
@@ -123,7 +104,7 @@ nodes_of_gate_close = record {
     node_is (program_with closes) 3 _ gate_pool gate_close_code _ _ _ 0 refl refl _ refl _ refl 1 refl refl (record { moves = _; is = refl; each = are_moves_of _ _ _ refl }) refl tt
         None (no_trigger refl refl refl) (throws_nothing _ refl _ refl _),
     (
-      node_is (program_with closes) 3 _ gate_pool gate_close_code _ _ _ 1 refl refl _ refl _ (call_row _ _ _ _ _ _ refl plain_units) 1 refl refl (record { names = (names_super closes); chosen = Some (method_no 2); is_chosen = (2, super_selected, refl); parameters = _; results = _; units = plain_units; is = refl }) refl tt
+      node_is (program_with closes) 3 _ gate_pool gate_close_code _ _ _ 1 refl refl _ refl _ (call_row _ _ _ _ _ _ refl plain_units) 1 refl refl (record { names = (names_super closes); chosen = Some (method_no 2); is_chosen = (2, super_selected closes, refl); parameters = _; results = _; units = plain_units; is = refl }) refl tt
           None (no_trigger refl refl refl) (throws_nothing _ refl _ refl _),
       (
         node_is (program_with closes) 3 _ gate_pool gate_close_code _ _ _ 2 refl refl _ refl _ refl 1 refl refl refl refl tt

@@ -18,7 +18,8 @@ use Rattle.machine_nodes.specs.Nodes.{IsClassNumber, HasInitialiser, IsInitialis
 use Rattle.example_nodes.specs.DecodedCalls.{makes_broken_code, makes_broken_graph}
 use Rattle.example_nodes.specs.Initialising.{program_with_errors, makes_broken_nodes, errors}
 use Rattle.example_nodes.proofs.MoveLists.{are_moves_of}
-use Rattle.example_nodes.proofs.NodesOf.{node_is, is_listed, listed_there, or_first, or_second, if_true, none_there}
+use Rattle.example_nodes.proofs.NodesOf.{node_is, is_listed, listed_there, or_first, or_second, if_true}
+use Rattle.list_laws.proofs.Members.{contains_none}
 
 -- ---- each error is listed
 
@@ -69,7 +70,7 @@ errors_thrown = record { only = λ c there. only c there; all = λ c name is thr
     only c (suc (suc n), few, e) = absurd (omega (arith, few))
 
     every : (c : ClassNo) (name : List ℕ) → IsClassNumber p c name → IsThrownAt p [] (Some (codes "Broken")) name → Contains errors c
-    every c name is (raised k there e) = absurd (none_there k there)
+    every c name is (raised k there e) = absurd (contains_none k there)
     every c name is (initialising class e has error) =
         let here : 0 + c.0 ≡ c.0 = omega arith in
         listed_there errors c
@@ -77,10 +78,10 @@ errors_thrown = record { only = λ c there. only c there; all = λ c name is thr
 
 -- an instruction that neither raises nor triggers
 no_raise : AreThrownAt p [] None []
-no_raise = record { only = λ c there. absurd (none_there c there); all = λ c name is thrown. every c name thrown }
+no_raise = record { only = λ c there. absurd (contains_none c there); all = λ c name is thrown. every c name thrown }
   where
     every : (c : ClassNo) (name : List ℕ) → IsThrownAt p [] None name → Contains [] c
-    every c name (raised k there e) = absurd (none_there k there)
+    every c name (raised k there e) = absurd (contains_none k there)
     every c name (initialising class e has error) = absurd (none-some class e)
 
 pub nodes_of_makes_broken : IsLowered (program_with_errors makes_broken) 1 main_pool makes_broken_code makes_broken_graph makes_broken_nodes

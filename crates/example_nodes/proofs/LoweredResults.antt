@@ -5,6 +5,7 @@ use Rattle.example_machine.specs.Building.{handler as covers}
 use Rattle.example_machine.specs.Calling.{main_pool, program_with, closes, hashes, rings, keeps, fails, closes_by_interface, gets_none, gets_fresh, calls_same}
 use Rattle.example_machine.proofs.CallStart.{plain_units, int_units, int_to_int_units, door_units, from_door_units, door_type, names_gate, names_hash, names_interface_close, house_named}
 use Rattle.example_machine.proofs.Facts.{call_row, field_row}
+use Rattle.example_machine.proofs.CallRuns.{names_same}
 use Rattle.lowering_spec.specs.LoweredMethods.IsCatch.{of_class as caught_class}
 use Rattle.lowering_spec.specs.LoweredMethods.{IsLowered, no_trigger, for_class}
 use Rattle.example_nodes.specs.DecodedCalls.{hashes_code, hashes_graph, rings_code, rings_graph, keeps_code, keeps_graph, fails_code, fails_graph, closes_by_interface_code, closes_by_interface_graph, gets_none_code, gets_none_graph, gets_fresh_code, gets_fresh_graph, calls_same_code, calls_same_graph, same_code, same_graph, door_close_code, door_close_graph}
@@ -12,7 +13,6 @@ use Rattle.example_nodes.specs.Calling.{hashes_nodes, rings_nodes, keeps_nodes, 
 use Rattle.example_nodes.specs.Lowering.{method_no}
 use Rattle.example_nodes.proofs.MoveLists.{are_moves_of}
 use Rattle.example_nodes.proofs.NodesOf.{node_is, throws_nothing}
-use Rattle.example_nodes.proofs.ReturnRuns.{names_same}
 
 pub nodes_of_hashes : IsLowered (program_with hashes) 4 main_pool hashes_code hashes_graph hashes_nodes
 nodes_of_hashes = record {

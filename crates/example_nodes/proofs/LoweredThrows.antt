@@ -8,13 +8,13 @@ use Rattle.example_machine.specs.Within.{main_pool as within_pool, misfit, divis
 use Rattle.example_machine.proofs.CallStart.{plain_units}
 use Rattle.example_machine.proofs.Facts.{call_row, field_row, declared_field}
 use Rattle.example_machine.proofs.WithinStart.{box_type}
+use Rattle.example_machine.proofs.ExceptionRuns.{main_named, names_fire, exception_type}
 use Rattle.lowering_spec.specs.LoweredMethods.IsCatch.{of_class}
 use Rattle.lowering_spec.specs.LoweredMethods.{IsLowered, no_trigger, for_class}
 use Rattle.example_nodes.specs.Decoded.{catches_above_code, catches_above_graph, inner_code, inner_graph, misfit_code, misfit_graph, division_code, division_graph, string_cast_code, string_cast_graph, null_throw_code, null_throw_graph, null_field_code, null_field_graph, catches_here_code, catches_here_graph, middle_code, middle_graph}
 use Rattle.example_nodes.specs.Excepting.{catches_above_nodes, inner_nodes, catches_here_nodes, middle_nodes}
 use Rattle.example_nodes.specs.Raising.{program_with as raising, misfit_nodes, division_nodes, string_cast_nodes, null_throw_nodes, null_field_nodes}
 use Rattle.example_nodes.specs.Lowering.{class_no, method_no}
-use Rattle.example_nodes.proofs.ExceptionRuns.{main_named, names_fire, exception_type}
 use Rattle.example_nodes.proofs.RaiseRuns.{names_it}
 use Rattle.example_nodes.proofs.MoveLists.{are_moves_of}
 use Rattle.example_nodes.proofs.NodesOf.{node_is, throws_nothing, throws_these}

@@ -6,12 +6,12 @@ use Rattle.example_machine.specs.Initialising.{main_pool, broken_pool, program_w
 use Rattle.example_machine.proofs.CallStart.{plain_units, door_units, door_type}
 use Rattle.example_machine.proofs.Facts.{call_row, declared_field, field_row}
 use Rattle.example_machine.proofs.Types.{base_type}
+use Rattle.example_machine.proofs.ExceptionRuns.{exception_type}
 use Rattle.lowering_spec.specs.LoweredMethods.{IsLowered, no_trigger, for_class}
 use Rattle.example_nodes.specs.DecodedCalls.{makes_ready_code, makes_ready_graph, makes_late_code, makes_late_graph, makes_table_code, makes_table_graph, reads_ready_code, reads_ready_graph, writes_ready_code, writes_ready_graph, breaks_code, breaks_graph, ready_starts_code, ready_starts_graph, finds_code, finds_graph, find_gate_code, find_gate_graph}
 use Rattle.example_nodes.specs.Giving.{main_pool as finding_pool, finding, finds_nodes, find_gate_nodes}
 use Rattle.example_nodes.specs.Initialising.{makes_ready_nodes, makes_late_nodes, makes_table_nodes, reads_ready_nodes, writes_ready_nodes, breaks_nodes, initialiser_nodes}
 use Rattle.example_nodes.specs.Lowering.{method_no}
-use Rattle.example_nodes.proofs.ExceptionRuns.{exception_type}
 use Rattle.example_nodes.proofs.MoveLists.{are_moves_of}
 use Rattle.example_nodes.proofs.NodesOf.{node_is, throws_nothing}
 use Rattle.example_nodes.proofs.ReturnRuns.{find_named, gate_named}

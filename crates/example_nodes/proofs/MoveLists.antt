@@ -9,6 +9,8 @@ use Rattle.op_model.specs.declared.op.Move.{Move}
 use Rattle.op_model.specs.declared.op.Source.{Source}
 use Rattle.op_model.specs.declared.op.Source.TheVariants as sources
 use Rattle.lowering_spec.specs.Moves.{IsSourceOf, IsWrite, stored, pushed, cleared, AreMovesOf}
+use Rattle.list_laws.proofs.Tests.{passes_at}
+use Rattle.list_laws.proofs.Members.{contains_first, contains_later, contains_cases, contains_none}
 
 -- ---- the list
 
@@ -57,19 +59,6 @@ moves_of r operand base = changing (writes_of r operand base)
 
 -- ---- what stands in it
 
-first_there : {X : Type 0} (x : X) (xs : List X) → Contains (x ∷ xs) x
-first_there x xs = (0, omega arith, refl)
-
-more_there : {X : Type 0} (x y : X) (xs : List X) → Contains xs y → Contains (x ∷ xs) y
-more_there x y xs there = let few = there.1 in (suc there.0, omega arith, there.2)
-
-where_there : {X : Type 0} (x y : X) (xs : List X) → Contains (x ∷ xs) y → (x ≡ y) ⊎ Contains xs y
-where_there x y xs (zero, few, e) = inl e
-where_there x y xs (suc n, few, e) = inr (n, omega arith, e)
-
-none_there : {X : Type 0} (y : X) → Contains [] y → ⊥
-none_there y there = let few = there.1 in omega arith
-
 -- a unit of a list, and its move
 record IsWritten (operand base target : ℕ) (units : List UnitSource) (m : Move) : Type 0 where
   pub place : ℕ
@@ -79,8 +68,8 @@ record IsWritten (operand base target : ℕ) (units : List UnitSource) (m : Move
   pub reads : m.source ≡ source_of operand base unit
 
 written_is : (operand base target : ℕ) (units : List UnitSource) (m : Move) → Contains (written_from operand base target units) m → IsWritten operand base target units m
-written_is operand base target [] m there = absurd (none_there m there)
-written_is operand base target (u ∷ units) m there = by (where_there (record { source = source_of operand base u; target = target }) m (written_from operand base (suc target) units) there) (written_is operand base (suc target) units m)
+written_is operand base target [] m there = absurd (contains_none m there)
+written_is operand base target (u ∷ units) m there = by (contains_cases (record { source = source_of operand base u; target = target }) m (written_from operand base (suc target) units) there) (written_is operand base (suc target) units m)
   where
     by : (record { source = source_of operand base u; target = target } ≡ m) ⊎ Contains (written_from operand base (suc target) units) m
         → (Contains (written_from operand base (suc target) units) m → IsWritten operand base (suc target) units m) → IsWritten operand base target (u ∷ units) m
@@ -102,8 +91,8 @@ is_written operand base target (u ∷ units) m w = by w.place w.stands w.there (
         let same : u ≡ w.unit = same_Some u w.unit stands in
         let t : m.target ≡ target = omega (arith, there) in
         subst (λ (k : Move). Contains (record { source = source_of operand base u; target = target } ∷ written_from operand base (suc target) units) k)
-        (same_move m (source_of operand base u) target (w.reads ∙ ap (source_of operand base) (sym same)) t) (first_there _ _)
-    by (suc n) stands there deeper = more_there _ m _ (deeper (record { place = n; unit = w.unit; stands = stands; there = omega (arith, there); reads = w.reads }))
+        (same_move m (source_of operand base u) target (w.reads ∙ ap (source_of operand base) (sym same)) t) (contains_first _ _)
+    by (suc n) stands there deeper = contains_later _ m _ (deeper (record { place = n; unit = w.unit; stands = stands; there = omega (arith, there); reads = w.reads }))
 
 record IsCleared (count target : ℕ) (m : Move) : Type 0 where
   pub place : ℕ
@@ -112,8 +101,8 @@ record IsCleared (count target : ℕ) (m : Move) : Type 0 where
   pub reads : m.source ≡ sources.Primitive
 
 cleared_is : (count target : ℕ) (m : Move) → Contains (cleared_from count target) m → IsCleared count target m
-cleared_is zero target m there = absurd (none_there m there)
-cleared_is (suc count) target m there = by (where_there (record { source = sources.Primitive; target = target }) m (cleared_from count (suc target)) there) (cleared_is count (suc target) m)
+cleared_is zero target m there = absurd (contains_none m there)
+cleared_is (suc count) target m there = by (contains_cases (record { source = sources.Primitive; target = target }) m (cleared_from count (suc target)) there) (cleared_is count (suc target) m)
   where
     by : (record { source = sources.Primitive; target = target } ≡ m) ⊎ Contains (cleared_from count (suc target)) m → (Contains (cleared_from count (suc target)) m → IsCleared count (suc target) m) → IsCleared (suc count) target m
     by (inl e) deeper =
@@ -128,8 +117,8 @@ is_cleared (suc count) target m w = by w.place w.inside w.there (λ v. is_cleare
     by : (place : ℕ) → place < suc count → m.target ≡ target + place → (IsCleared count (suc target) m → Contains (cleared_from count (suc target)) m) → Contains (cleared_from (suc count) target) m
     by zero l there deeper =
         let t : m.target ≡ target = omega (arith, there) in
-        subst (λ (k : Move). Contains (record { source = sources.Primitive; target = target } ∷ cleared_from count (suc target)) k) (same_move m sources.Primitive target w.reads t) (first_there _ _)
-    by (suc n) l there deeper = more_there _ m _ (deeper (record { place = n; inside = omega (arith, l); there = omega (arith, there); reads = w.reads }))
+        subst (λ (k : Move). Contains (record { source = sources.Primitive; target = target } ∷ cleared_from count (suc target)) k) (same_move m sources.Primitive target w.reads t) (contains_first _ _)
+    by (suc n) l there deeper = contains_later _ m _ (deeper (record { place = n; inside = omega (arith, l); there = omega (arith, there); reads = w.reads }))
 
 -- ---- sources
 
@@ -146,11 +135,6 @@ source_read operand base the_local s f = f
 source_read operand base a_null s f = f
 source_read operand base a_primitive s f = f
 source_read operand base the_made s f = absurd f
-
-stands_passes : {X : Type 0} (test : X → Bool) (xs : List X) (n : ℕ) (x : X) → list_all test xs ≡ true → slice_get xs n ≡ Some x → test x ≡ true
-stands_passes test [] n x h e = absurd (none-some x e)
-stands_passes {X} test (y ∷ ys) zero x h e = subst (λ (z : X). test z ≡ true) (same_Some y x e) (and_parts (test y) (list_all test ys) h).0
-stands_passes test (y ∷ ys) (suc n) x h e = stands_passes test ys n x (and_parts (test y) (list_all test ys) h).1 e
 
 -- ---- moves that change something
 
@@ -170,24 +154,24 @@ changes_move sources.Null target other = refl
 changes_move sources.Primitive target other = refl
 
 changing_is : (moves : List Move) (m : Move) → Contains (changing moves) m → Contains moves m × (changes m ≡ true)
-changing_is [] m there = absurd (none_there m there)
+changing_is [] m there = absurd (contains_none m there)
 changing_is (k ∷ moves) m there = by (changes k) refl there (changing_is moves m)
   where
     first : changes k ≡ true → (k ≡ m) ⊎ Contains (changing moves) m → (Contains (changing moves) m → Contains moves m × (changes m ≡ true)) → Contains (k ∷ moves) m × (changes m ≡ true)
-    first f (inl e) deeper = (subst (λ (q : Move). Contains (k ∷ moves) q) e (first_there k moves), subst (λ (q : Move). changes q ≡ true) e f)
-    first f (inr c) deeper = let d = deeper c in (more_there k m moves d.0, d.1)
+    first f (inl e) deeper = (subst (λ (q : Move). Contains (k ∷ moves) q) e (contains_first k moves), subst (λ (q : Move). changes q ≡ true) e f)
+    first f (inr c) deeper = let d = deeper c in (contains_later k m moves d.0, d.1)
 
     by : (b : Bool) → changes k ≡ b → Contains (cond b (k ∷ changing moves) (changing moves)) m → (Contains (changing moves) m → Contains moves m × (changes m ≡ true)) → Contains (k ∷ moves) m × (changes m ≡ true)
-    by true f c deeper = first f (where_there k m (changing moves) c) deeper
-    by false f c deeper = let d = deeper c in (more_there k m moves d.0, d.1)
+    by true f c deeper = first f (contains_cases k m (changing moves) c) deeper
+    by false f c deeper = let d = deeper c in (contains_later k m moves d.0, d.1)
 
 is_changing : (moves : List Move) (m : Move) → Contains moves m → changes m ≡ true → Contains (changing moves) m
-is_changing [] m there e = absurd (none_there m there)
-is_changing (k ∷ moves) m there e = by (changes k) refl (where_there k m moves there) (λ c. is_changing moves m c e)
+is_changing [] m there e = absurd (contains_none m there)
+is_changing (k ∷ moves) m there e = by (changes k) refl (contains_cases k m moves there) (λ c. is_changing moves m c e)
   where
     by : (b : Bool) → changes k ≡ b → (k ≡ m) ⊎ Contains moves m → (Contains moves m → Contains (changing moves) m) → Contains (cond b (k ∷ changing moves) (changing moves)) m
-    by true f (inl g) deeper = subst (λ (q : Move). Contains (k ∷ changing moves) q) g (first_there k (changing moves))
-    by true f (inr c) deeper = more_there k m (changing moves) (deeper c)
+    by true f (inl g) deeper = subst (λ (q : Move). Contains (k ∷ changing moves) q) g (contains_first k (changing moves))
+    by true f (inr c) deeper = contains_later k m (changing moves) (deeper c)
     by false f (inl g) deeper = absurd (true≢false (sym e ∙ (ap changes (sym g) ∙ f)))
     by false f (inr c) deeper = deeper c
 
@@ -201,7 +185,7 @@ module _ (r : Row) (operand base : ℕ) (reads : makes_nothing r ≡ true) where
   write_is m there = by (Contains-append_cases (written_from operand base operand r.stores) (written_from operand base base r.pushes ++ cleared_from (length r.pops - length r.pushes) (base + length r.pushes)) m there)
     where
       rest : Contains (written_from operand base base r.pushes) m ⊎ Contains (cleared_from (length r.pops - length r.pushes) (base + length r.pushes)) m → IsWrite r operand base m
-      rest (inl c) = let w = written_is operand base base r.pushes m c in pushed w.place w.unit w.stands w.there (read_source operand base w.unit m.source (stands_passes is_read r.pushes w.place w.unit both.1 w.stands) w.reads)
+      rest (inl c) = let w = written_is operand base base r.pushes m c in pushed w.place w.unit w.stands w.there (read_source operand base w.unit m.source (passes_at is_read r.pushes w.place w.unit both.1 w.stands) w.reads)
       rest (inr c) =
           let w = cleared_is (length r.pops - length r.pushes) (base + length r.pushes) m c in
           let l = w.inside in
@@ -209,7 +193,7 @@ module _ (r : Row) (operand base : ℕ) (reads : makes_nothing r ≡ true) where
           cleared (length r.pushes + w.place) (omega arith) (omega (arith, l)) (omega (arith, t)) w.reads
 
       by : Contains (written_from operand base operand r.stores) m ⊎ Contains (written_from operand base base r.pushes ++ cleared_from (length r.pops - length r.pushes) (base + length r.pushes)) m → IsWrite r operand base m
-      by (inl c) = let w = written_is operand base operand r.stores m c in stored w.place w.unit w.stands w.there (read_source operand base w.unit m.source (stands_passes is_read r.stores w.place w.unit both.0 w.stands) w.reads)
+      by (inl c) = let w = written_is operand base operand r.stores m c in stored w.place w.unit w.stands w.there (read_source operand base w.unit m.source (passes_at is_read r.stores w.place w.unit both.0 w.stands) w.reads)
       by (inr c) = rest (Contains-append_cases (written_from operand base base r.pushes) (cleared_from (length r.pops - length r.pushes) (base + length r.pushes)) m c)
 
   is_write : (m : Move) → IsWrite r operand base m → Contains (writes_of r operand base) m

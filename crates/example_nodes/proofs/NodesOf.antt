@@ -22,6 +22,9 @@ use Rattle.machine_nodes.specs.Nodes.{IsClassNumber, IsThrownAt, raised, initial
 use Rattle.lowering_spec.specs.LoweredMethods.{IsHandlerAt, HasTrigger, IsNodeOf}
 use Rattle.lowering_spec.specs.Operations.{Placed, IsOp}
 use Rattle.example_nodes.proofs.StartNodes.{has_no_error, nothing_thrown}
+use Rattle.example_machine.proofs.Searches.{not_true}
+use Rattle.list_laws.proofs.Tests.{passes_at}
+use Rattle.list_laws.proofs.Members.{contains_later, contains_none}
 
 -- ---- nothing is thrown, where the program has none of the classes
 
@@ -31,20 +34,8 @@ is_none_of raises c = list_all (λ (k : Raise). not (bytes_eq c.name (exception_
 abbrev pub has_none_of : List Raise → Program → Bool
 has_none_of raises p = list_all (is_none_of raises) p.classes
 
-stands_passes : {X : Type 0} (test : X → Bool) (xs : List X) (n : ℕ) (x : X) → list_all test xs ≡ true → slice_get xs n ≡ Some x → test x ≡ true
-stands_passes test [] n x h e = absurd (none-some x e)
-stands_passes {X} test (y ∷ ys) zero x h e = subst (λ (z : X). test z ≡ true) (same_Some y x e) (and_parts (test y) (list_all test ys) h).0
-stands_passes test (y ∷ ys) (suc n) x h e = stands_passes test ys n x (and_parts (test y) (list_all test ys) h).1 e
-
-not_true : (b : Bool) → not b ≡ true → b ≡ true → ⊥
-not_true true h e = true≢false (sym h)
-not_true false h e = true≢false (sym e)
-
-pub none_there : {X : Type 0} (y : X) → Contains [] y → ⊥
-none_there y there = let few = there.1 in omega arith
-
 pub throws_nothing : (p : Program) → has_no_error p ≡ true → (raises : List Raise) → has_none_of raises p ≡ true → (trigger : Option (List ℕ)) → AreThrownAt p raises trigger []
-throws_nothing p h raises g trigger = record { only = λ c there. absurd (none_there c there); all = λ c name is thrown. every c name is thrown }
+throws_nothing p h raises g trigger = record { only = λ c there. absurd (contains_none c there); all = λ c name is thrown. every c name is thrown }
   where
     none : AreThrownAt p [] trigger []
     none = nothing_thrown p h trigger
@@ -52,7 +43,7 @@ throws_nothing p h raises g trigger = record { only = λ c there. absurd (none_t
     every : (c : ClassNo) (name : List ℕ) → IsClassNumber p c name → IsThrownAt p raises trigger name → Contains [] c
     every c name is (initialising class e has error) = none.all c name is (initialising class e has error)
     every c name is (raised k there e) =
-        let test = stands_passes (is_none_of raises) p.classes c.0 is.class g is.stands in
+        let test = passes_at (is_none_of raises) p.classes c.0 is.class g is.stands in
         let other = All-contains (λ (q : Raise). not (bytes_eq is.class.name (exception_class q)) ≡ true) raises k (AllPass-from_list_all (λ (q : Raise). not (bytes_eq is.class.name (exception_class q))) raises test) there in
         absurd (not_true (bytes_eq is.class.name (exception_class k)) other ((bytes_eq-Decides is.class.name (exception_class k)).1 (is.named ∙ e)))
 
@@ -98,9 +89,6 @@ pub if_true : (a b : Bool) → a ≡ true → (not a || b) ≡ true → b ≡ tr
 if_true true b e h = h
 if_true false b e h = absurd (true≢false (sym e))
 
-more_there : {X : Type 0} (x y : X) (xs : List X) → Contains xs y → Contains (x ∷ xs) y
-more_there x y xs there = let few = there.1 in (suc there.0, omega arith, there.2)
-
 raised_by : (raises : List Raise) (name : List ℕ) → is_raised raises name ≡ true → (k : Raise) × Contains raises k × (name ≡ exception_class k)
 raised_by [] name e = absurd (true≢false (sym e))
 raised_by (k ∷ raises) name e = by (or_cases (bytes_eq name (exception_class k)) (is_raised raises name) e) (λ f. raised_by raises name f)
@@ -108,10 +96,10 @@ raised_by (k ∷ raises) name e = by (or_cases (bytes_eq name (exception_class k
     by : (bytes_eq name (exception_class k) ≡ true) ⊎ (is_raised raises name ≡ true) → (is_raised raises name ≡ true → (q : Raise) × Contains raises q × (name ≡ exception_class q))
         → (q : Raise) × Contains (k ∷ raises) q × (name ≡ exception_class q)
     by (inl f) deeper = (k, (0, omega arith, refl), (bytes_eq-Decides name (exception_class k)).0 f)
-    by (inr f) deeper = let d = deeper f in (d.0, more_there k d.0 raises d.1, d.2)
+    by (inr f) deeper = let d = deeper f in (d.0, contains_later k d.0 raises d.1, d.2)
 
 is_raised_by : (raises : List Raise) (name : List ℕ) (k : Raise) → Contains raises k → name ≡ exception_class k → is_raised raises name ≡ true
-is_raised_by [] name k there e = absurd (none_there k there)
+is_raised_by [] name k there e = absurd (contains_none k there)
 is_raised_by (q ∷ raises) name k (zero, few, same) e =
     or_first (bytes_eq name (exception_class q)) (is_raised raises name) ((bytes_eq-Decides name (exception_class q)).1 (e ∙ sym (ap exception_class same)))
 is_raised_by (q ∷ raises) name k (suc n, few, same) e =
@@ -125,7 +113,7 @@ listed_there (k ∷ throws) c e = by (or_cases (nat_eq k.0 c.0) (is_listed throw
     by (inl f) deeper =
         let same : k ≡ c = ap (λ (n : ℕ). record { 0 = n }) (eqb-true k.0 c.0 f) in
         subst (λ (q : ClassNo). Contains (k ∷ throws) q) same (0, omega arith, refl)
-    by (inr f) deeper = more_there k c throws (deeper f)
+    by (inr f) deeper = contains_later k c throws (deeper f)
 
 each_listed : (raises : List Raise) (throws : List ClassNo) (number : ℕ) (classes : List Class) (place : ℕ) (c : Class) → lists_from raises throws number classes ≡ true → slice_get classes place ≡ Some c → is_raised raises c.name ≡ true
     → is_listed throws (number + place) ≡ true
@@ -152,7 +140,7 @@ throws_these p h raises throws only_test each_test trigger = record { only = λ 
         by (Some k) e f = let r = raised_by raises k.name f in (k.name, record { class = k; stands = e; named = refl }, raised r.0 r.1 r.2)
 
     every : (c : ClassNo) (name : List ℕ) → IsClassNumber p c name → IsThrownAt p raises trigger name → Contains throws c
-    every c name is (initialising class e has error) = absurd (none_there c ((nothing_thrown p h trigger).all c name is (initialising class e has error)))
+    every c name is (initialising class e has error) = absurd (contains_none c ((nothing_thrown p h trigger).all c name is (initialising class e has error)))
     every c name is (raised k there e) =
         let here : 0 + c.0 ≡ c.0 = omega arith in
         listed_there throws c

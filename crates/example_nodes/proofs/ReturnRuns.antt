@@ -1,19 +1,17 @@
 -- The return of a reference; and a gate that is closed twice.
-use Rattle.std.proofs.Common.{codes, inl, inr, ℕ, true, false, List, [], ◌∷◌, Some, None, refl, arith}
-use Rattle.std.specs.Prelude.{slice_index}
+use Rattle.std.proofs.Common.{codes, inl, true, List, [], ◌∷◌, Some, None, refl}
 use Rattle.jvm_model.specs.Resolution.ResolvesFrom.{itself as resolved_there}
-use Rattle.jvm_model.specs.Selection.{upward, at_super}
 use Rattle.op_model.specs.Supplies.{Given}
-use Rattle.machine_bytecode.specs.Events.{HasEvents, moved}
-use Rattle.machine_bytecode.specs.Machine.{MethodCode, NamesField, NamesMethod, SelectsByObject, enters, returns}
-use Rattle.machine_bytecode.specs.States.{Value, primitive_value, reference_to, Frame, World, State, with_automaton}
-use Rattle.example_machine.specs.Calling.{program_with, main_pool as calls_pool, runs as runs_calls, closes, closes_by_interface, calls_same}
+use Rattle.machine_bytecode.specs.Machine.{MethodCode, NamesField, NamesMethod, enters, returns}
+use Rattle.machine_bytecode.specs.States.{primitive_value, reference_to, Frame, World, State}
+use Rattle.example_machine.specs.Calling.{runs as runs_calls, closes, closes_by_interface, calls_same}
 use Rattle.example_machine.specs.Taking.{Shows, InState}
 use Rattle.example_machine.proofs.Facts.{call_row, declared_field, field_row, in_state, shows}
 use Rattle.example_machine.proofs.Runs.{built, first_world, on, advance}
 use Rattle.example_machine.proofs.CallSteps.{enter as enter_code, give_back as give_back_code, waiting_at, not_selecting}
-use Rattle.example_machine.proofs.CallStart.{outside, main_of, door_close_of, gate_close_of, world, main_at, plain_units, door_units, door_type, names_gate, names_close, names_super, gate_in, gate_below_door, is_door, is_closing, names_interface_close, same_of, int_to_int_units}
-use Rattle.example_machine.proofs.Searches.{chain_up, differ}
+use Rattle.example_machine.proofs.CallStart.{outside, main_of, door_close_of, gate_close_of, world, main_at, plain_units, door_units, door_type, names_gate, names_close, is_door, names_interface_close, same_of, int_to_int_units}
+use Rattle.example_machine.proofs.Searches.{chain_up}
+use Rattle.example_machine.proofs.CallRuns.{gate_world, main_waits, close_selected, close_happens, in_gate_close, closed_world, close_by_interface, close_observed, enters_gate, enters_door, enters_same}
 use Rattle.machine_nodes.specs.NodeSteps.{enters as enters_node, returns as returns_node}
 use Rattle.example_nodes.specs.Calling.{given_with, Steps, returns_only, gate_close_nodes, closes_nodes, closes_by_interface_nodes, calls_same_nodes, same_nodes}
 use Rattle.example_nodes.specs.Giving.{main_pool, main_class, finds, find_gate, finding, runs, finds_nodes, find_gate_nodes, given}
@@ -78,31 +76,6 @@ a_reference_is_given_back =
 abbrev given_closes : Given
 given_closes = given_with closes_nodes
 
--- the world with the gate in a state
-abbrev gate_world : ℕ → World
-gate_world state = with_automaton (world closes refl) 2 (gate_in closes 0) state
-
-abbrev main_waits : ℕ → List Frame
-main_waits offset = waiting_at 4 offset [] ∷ outside
-
--- close of the gate is selected, and is an event of the gate in a state
-close_selected : (state : ℕ) → SelectsByObject (program_with closes) false (names_close closes).method 2 (gate_world state) (reference_to 2 ∷ []) 3
-close_selected state = record {
-  instance = refl;
-  receiver = is_door closes (gate_world state) state refl;
-  selects = record {
-    method = _;
-    stands = refl;
-    chosen = upward (record { chain = chain_up (program_with closes) 4 (Some (codes "Gate")); of_start = (refl, (refl, (refl, tt))); first = inl (record { method = _; stands = refl; of_class = refl; is = (refl, inr (record { visible = refl; same_call = refl; below = (gate_below_door closes, differ _ _ refl); overridable = inl refl })) }) });
-  };
-}
-
-close_happens : (state : ℕ) → HasEvents (runs_calls closes) true (names_close closes).called.signature (reference_to 2 ∷ []) (gate_world state) (gate_world (slice_index (1 ∷ 2 ∷ 2 ∷ []) state))
-close_happens state = moved (record { selecting = refl; event = _; named = refl; receiver = (is_door closes (gate_world state) state refl).to; no_array = refl; observed = gate_below_door closes }) refl
-
-abbrev in_gate_close : ℕ → ℕ → List Value → World → State
-in_gate_close at offset slots w = on (runs_calls closes) 3 (gate_close_of closes) (main_waits at) offset slots w
-
 at_close : Arrives (runs_calls closes) given_closes (main_at closes refl 3 (reference_to 2 ∷ []) (gate_world 0))
 at_close =
     advanced _ _ _ _ _ _ (begun closes refl closes_nodes refl refl)
@@ -113,11 +86,9 @@ at_close =
 
 in_close : Arrives (runs_calls closes) given_closes (in_gate_close 3 0 (reference_to 2 ∷ []) (gate_world 1))
 in_close =
-    let step = enter_code (runs_calls closes) 4 (main_of closes refl) outside 3 (reference_to 2 ∷ []) (gate_world 0) _ refl _ (call_row _ _ _ _ _ _ refl plain_units) _
-    (record { is_there = refl; names = names_close closes; target = 3; is_target = close_selected 0; events = close_happens 0 }) (gate_close_of closes) in
     let node_step = enter (runs_calls closes) given_closes 4 closes_nodes refl outside 3 (reference_to 2 ∷ []) (gate_world 0) _ refl (gate_world 1)
     (record { call = _; is_call = refl; resolved = _; stands = refl; target = 3; is_target = close_selected 0; events = close_happens 0 }) gate_close_nodes refl [] refl (reference_to 2 ∷ []) refl in
-    goes _ _ _ _ at_close (enters step.at step.step) (enters_node node_step.at node_step.step)
+    goes _ _ _ _ at_close (enters enters_gate.at enters_gate.step) (enters_node node_step.at node_step.step)
 
 abbrev in_door_close : World → State
 in_door_close w = on (runs_calls closes) 2 (door_close_of closes) (waiting_at 3 1 (reference_to 2 ∷ []) ∷ main_waits 3) 0 (reference_to 2 ∷ []) w
@@ -127,35 +98,9 @@ in_super : Arrives (runs_calls closes) given_closes (in_door_close (gate_world 1
 in_super =
     let x = runs_calls closes in
     let loaded = plainly x given_closes 3 (gate_close_of closes) gate_close_nodes refl (main_waits 3) 1 0 (reference_to 2 ∷ []) (gate_world 1) _ refl in_close in
-    let step = enter_code x 3 (gate_close_of closes) (main_waits 3) 1 (reference_to 2 ∷ reference_to 2 ∷ []) (gate_world 1) _ refl _ (call_row _ _ _ _ _ _ refl plain_units) _
-    (record {
-      is_there = refl;
-      names = names_super closes;
-      target = 2;
-      is_target = (
-        is_door closes (gate_world 1) 1 refl,
-        record {
-          start = codes "Door";
-          begins = at_super _ (record {
-            no_constructor = differ _ _ refl;
-            other = differ _ _ refl;
-            chain = chain_up (program_with closes) 4 (Some (codes "Gate"));
-            upward = (refl, (refl, (refl, tt)));
-            above = _;
-            stands = (1, omega arith, refl);
-            named = refl;
-          }) refl refl;
-          class = _;
-          named = refl;
-          chosen = upward (record { chain = chain_up (program_with closes) 3 (Some (codes "Door")); of_start = (refl, (refl, tt)); first = inl (record { method = _; stands = refl; of_class = refl; is = (refl, refl) }) });
-        },
-      );
-      events = not_selecting _ _ _ _ _ refl;
-    })
-    (door_close_of closes) in
     let node_step = enter x given_closes 3 gate_close_nodes refl (main_waits 3) 1 (reference_to 2 ∷ reference_to 2 ∷ []) (gate_world 1) _ refl (gate_world 1)
     (record { call = _; is_call = refl; resolved = _; stands = refl; target = 2; is_target = (is_door closes (gate_world 1) 1 refl, refl); events = not_selecting _ _ _ _ _ refl }) (returns_only 2) refl (reference_to 2 ∷ []) refl (reference_to 2 ∷ []) refl in
-    goes _ _ _ _ loaded (enters step.at step.step) (enters_node node_step.at node_step.step)
+    goes _ _ _ _ loaded (enters enters_door.at enters_door.step) (enters_node node_step.at node_step.step)
 
 -- back in main, which closes the gate again
 at_second : Arrives (runs_calls closes) given_closes (main_at closes refl 9 (reference_to 2 ∷ []) (gate_world 1))
@@ -185,24 +130,6 @@ an_event_leads_to_the_error =
 
 -- ---- a method of an interface
 
--- the world after the event
-abbrev closed_world : World
-closed_world = with_automaton (world closes_by_interface refl) 2 (gate_in closes_by_interface 0) 1
-
-close_by_interface : SelectsByObject (program_with closes_by_interface) true (names_interface_close closes_by_interface).method 0 (world closes_by_interface refl) (reference_to 2 ∷ []) 3
-close_by_interface = record {
-  instance = refl;
-  receiver = is_closing closes_by_interface (world closes_by_interface refl) 0 refl;
-  selects = record {
-    method = _;
-    stands = refl;
-    chosen = upward (record { chain = chain_up (program_with closes_by_interface) 4 (Some (codes "Gate")); of_start = (refl, (refl, (refl, tt))); first = inl (record { method = _; stands = refl; of_class = refl; is = (refl, refl) }) });
-  };
-}
-
-close_observed : HasEvents (runs_calls closes_by_interface) true (names_interface_close closes_by_interface).called.signature (reference_to 2 ∷ []) (world closes_by_interface refl) closed_world
-close_observed = moved (record { selecting = refl; event = _; named = refl; receiver = (is_door closes_by_interface (world closes_by_interface refl) 0 refl).to; no_array = refl; observed = gate_below_door closes_by_interface }) refl
-
 pub an_interface_method_is_called : Steps closes_by_interface closes_by_interface_nodes (λ s t. EnteringNode (runs_calls closes_by_interface) (given_with closes_by_interface_nodes) 3 s t × InState 2 1 t)
 an_interface_method_is_called =
     let x = runs_calls closes_by_interface in
@@ -220,20 +147,6 @@ an_interface_method_is_called =
 
 -- ---- a static method, which returns a primitive
 
-abbrev pub names_same : NamesMethod (program_with calls_same) calls_pool 11
-names_same = record {
-  called = _;
-  named = refl;
-  resolved = 5;
-  resolves = record {
-    class = _;
-    named = refl;
-    search = resolved_there (record { chain = chain_up (program_with calls_same) 3 (Some (codes "Main")); of_start = (refl, (refl, tt)); first = inl (record { method = _; stands = refl; of_class = refl; is = refl }) });
-  };
-  method = _;
-  stands = refl;
-}
-
 pub a_number_is_given_back : Steps calls_same calls_same_nodes (λ s t. ReturningNode (runs_calls calls_same) (given_with calls_same_nodes) s t × Shows 4 (primitive_value ∷ []) t)
 a_number_is_given_back =
     let x = runs_calls calls_same in
@@ -241,11 +154,9 @@ a_number_is_given_back =
     let c = main_of calls_same refl in
     let w = world calls_same refl in
     let pushed = plainly x given 4 c calls_same_nodes refl outside 1 0 [] w _ refl (begun calls_same refl calls_same_nodes refl refl) in
-    let called = enter_code x 4 c outside 1 (primitive_value ∷ []) w _ refl _ (call_row _ _ _ _ _ _ refl int_to_int_units) _
-    (record { is_there = refl; names = names_same; target = 5; is_target = (refl, refl); events = not_selecting _ _ _ _ _ refl }) (same_of calls_same) in
     let called_node = enter x given 4 calls_same_nodes refl outside 1 (primitive_value ∷ []) w _ refl w
     (record { call = _; is_call = refl; resolved = _; stands = refl; target = 5; is_target = refl; events = not_selecting _ _ _ _ _ refl }) same_nodes refl [] refl (primitive_value ∷ []) refl in
-    let loaded = plainly x given 5 (same_of calls_same) same_nodes refl (waiting_at 4 1 [] ∷ outside) 1 0 (primitive_value ∷ []) w _ refl (goes _ _ _ _ pushed (enters called.at called.step) (enters_node called_node.at called_node.step)) in
+    let loaded = plainly x given 5 (same_of calls_same) same_nodes refl (waiting_at 4 1 [] ∷ outside) 1 0 (primitive_value ∷ []) w _ refl (goes _ _ _ _ pushed (enters enters_same.at enters_same.step) (enters_node called_node.at called_node.step)) in
     let step = give_back_code x 5 (same_of calls_same) 4 c outside 1 (primitive_value ∷ primitive_value ∷ []) w _ refl _
     refl refl refl _ int_to_int_units 1 [] _ refl _ (call_row _ _ _ _ _ _ refl int_to_int_units) in
     let node_step = give_back x given 5 same_nodes refl (waiting_at 4 1 []) outside 1 (primitive_value ∷ primitive_value ∷ []) w _ refl None refl refl

@@ -8,6 +8,7 @@ use Rattle.std.proofs.lemmas.Option.{none-some, same_Some}
 use Rattle.op_model.specs.declared.op.Move.{Move}
 use Rattle.machine_bytecode.specs.States.{Value, primitive_value, null_value, reference_to, slot_at}
 use Rattle.machine_nodes.specs.Slots.{source_value, AreMoved, AreLeft, AreSame, AreCaught}
+use Rattle.list_laws.proofs.Members.{contains_first, contains_later}
 
 -- ---- values
 
@@ -74,17 +75,11 @@ abbrev pub without : List ℕ → List Value → List Value
 without [] slots = slots
 without (z ∷ zs) slots = without zs (without_slot z slots)
 
-first_there : {X : Type 0} (x : X) (xs : List X) → Contains (x ∷ xs) x
-first_there x xs = (0, omega arith, refl)
-
-more_there : {X : Type 0} (x y : X) (xs : List X) → Contains xs y → Contains (x ∷ xs) y
-more_there x y xs there = let few = there.1 in (suc there.0, omega arith, there.2)
-
 kept_without : (zs : List ℕ) (y : ℕ) (slots : List Value) → (Contains zs y → ⊥) → slot_at (without zs slots) y ≡ slot_at slots y
 kept_without [] y slots out = refl
 kept_without (z ∷ zs) y slots out =
-    kept_without zs y (without_slot z slots) (λ there. out (more_there z y zs there))
-    ∙ other_slot z y slots (λ e. out (subst (λ (k : ℕ). Contains (z ∷ zs) k) e (first_there z zs)))
+    kept_without zs y (without_slot z slots) (λ there. out (contains_later z y zs there))
+    ∙ other_slot z y slots (λ e. out (subst (λ (k : ℕ). Contains (z ∷ zs) k) e (contains_first z zs)))
 
 all_pass : {X : Type 0} (test : X → Bool) (xs : List X) (x : X) → list_all test xs ≡ true → Contains xs x → test x ≡ true
 all_pass test xs x h there = All-contains (λ y. test y ≡ true) xs x (AllPass-from_list_all test xs h) there
@@ -98,8 +93,8 @@ pub stands_among : (zs : List ℕ) (z : ℕ) → is_among zs z ≡ true → Cont
 stands_among [] z e = absurd (true≢false (sym e))
 stands_among (y ∷ zs) z e = by (nat_eq z y) refl e (λ f. stands_among zs z f) where
   by : (b : Bool) → nat_eq z y ≡ b → (b || is_among zs z) ≡ true → (is_among zs z ≡ true → Contains zs z) → Contains (y ∷ zs) z
-  by true f g more = subst (λ (k : ℕ). Contains (k ∷ zs) z) (eqb-true z y f) (first_there z zs)
-  by false f g more = more_there y z zs (more g)
+  by true f g more = subst (λ (k : ℕ). Contains (k ∷ zs) z) (eqb-true z y f) (contains_first z zs)
+  by false f g more = contains_later y z zs (more g)
 
 -- ---- a target gets a value, and operands are left
 
@@ -168,8 +163,8 @@ moves_to moves before after = list_all (is_moved before after) moves && reads_al
 kept_by_moves : (moves : List Move) (y : ℕ) (slots : List Value) → ((m : Move) → Contains moves m → m.target ≢ y) → slot_at (without_targets moves slots) y ≡ slot_at slots y
 kept_by_moves [] y slots out = refl
 kept_by_moves (m ∷ moves) y slots out =
-    kept_by_moves moves y (without_slot m.target slots) (λ n there. out n (more_there m n moves there))
-    ∙ other_slot m.target y slots (out m (first_there m moves))
+    kept_by_moves moves y (without_slot m.target slots) (λ n there. out n (contains_later m n moves there))
+    ∙ other_slot m.target y slots (out m (contains_first m moves))
 
 pub are_moved_by : (moves : List Move) (before after : List Value) → moves_to moves before after ≡ true → AreMoved moves before after
 are_moved_by moves before after e =

@@ -1,8 +1,7 @@
 -- The nodes of the start of a program that has no error of initialisation, and their steps.
-use Rattle.std.proofs.Common.{codes, ◌≡◌, inl, inr, ℕ, zero, suc, Bool, true, false, not, ◌&&◌, List, [], ◌∷◌, bytes_eq, Option, Some, None, slice_get, refl, sym, ◌∙◌, subst, true≢false, arith}
+use Rattle.std.proofs.Common.{codes, ◌≡◌, inl, inr, ℕ, Bool, true, not, ◌&&◌, List, [], ◌∷◌, bytes_eq, Option, Some, None, slice_get, refl, ◌∙◌}
 use Rattle.std.specs.List.{Contains, list_all}
 use Rattle.std.proofs.lemmas.Bool.{and_parts}
-use Rattle.std.proofs.lemmas.Option.{same_Some, none-some}
 use Rattle.std.proofs.lemmas.Slice.Eq.{bytes_eq-Decides}
 use Rattle.jvm_model.specs.declared.number.ClassNo.{ClassNo}
 use Rattle.jvm_model.specs.Programs.{Program, Class, Method}
@@ -15,6 +14,9 @@ use Rattle.machine_bytecode.specs.States.{Value}
 use Rattle.machine_nodes.specs.Nodes.{IsClassNumber, IsInitialisationError, IsThrownAt, raised, initialising, AreThrownAt, AreStartNodes, StandsAt, of_start}
 use Rattle.example_nodes.specs.Lowering.{node, with_trigger, call_of, method_no}
 use Rattle.example_nodes.proofs.Steps.{node_at}
+use Rattle.example_machine.proofs.Searches.{not_true}
+use Rattle.list_laws.proofs.Tests.{passes_at}
+use Rattle.list_laws.proofs.Members.{contains_none}
 
 -- ---- no error of initialisation
 
@@ -24,33 +26,21 @@ is_no_error c = not (bytes_eq c.name (codes "java/lang/ExceptionInInitializerErr
 abbrev pub has_no_error : Program → Bool
 has_no_error p = list_all is_no_error p.classes
 
-stands_passes : {X : Type 0} (test : X → Bool) (xs : List X) (n : ℕ) (x : X) → list_all test xs ≡ true → slice_get xs n ≡ Some x → test x ≡ true
-stands_passes test [] n x h e = absurd (none-some x e)
-stands_passes {X} test (y ∷ ys) zero x h e = subst (λ (z : X). test z ≡ true) (same_Some y x e) (and_parts (test y) (list_all test ys) h).0
-stands_passes test (y ∷ ys) (suc n) x h e = stands_passes test ys n x (and_parts (test y) (list_all test ys) h).1 e
-
-not_true : (b : Bool) → not b ≡ true → b ≡ true → ⊥
-not_true true h e = true≢false (sym h)
-not_true false h e = true≢false (sym e)
-
 no_error : (p : Program) → has_no_error p ≡ true → (number : ClassNo) (name : List ℕ) → IsClassNumber p number name → IsInitialisationError name → ⊥
 no_error p h number name is error = by error
   where
     both : (not (bytes_eq is.class.name (codes "java/lang/ExceptionInInitializerError")) ≡ true) × (not (bytes_eq is.class.name (codes "java/lang/NoClassDefFoundError")) ≡ true)
-    both = and_parts (not (bytes_eq is.class.name (codes "java/lang/ExceptionInInitializerError"))) (not (bytes_eq is.class.name (codes "java/lang/NoClassDefFoundError"))) (stands_passes is_no_error p.classes number.0 is.class h is.stands)
+    both = and_parts (not (bytes_eq is.class.name (codes "java/lang/ExceptionInInitializerError"))) (not (bytes_eq is.class.name (codes "java/lang/NoClassDefFoundError"))) (passes_at is_no_error p.classes number.0 is.class h is.stands)
 
     by : IsInitialisationError name → ⊥
     by (inl e) = not_true (bytes_eq is.class.name (codes "java/lang/ExceptionInInitializerError")) both.0 ((bytes_eq-Decides is.class.name (codes "java/lang/ExceptionInInitializerError")).1 (is.named ∙ e))
     by (inr e) = not_true (bytes_eq is.class.name (codes "java/lang/NoClassDefFoundError")) both.1 ((bytes_eq-Decides is.class.name (codes "java/lang/NoClassDefFoundError")).1 (is.named ∙ e))
 
-none_there : {X : Type 0} (y : X) → Contains [] y → ⊥
-none_there y there = let few = there.1 in omega arith
-
 pub nothing_thrown : (p : Program) → has_no_error p ≡ true → (trigger : Option (List ℕ)) → AreThrownAt p [] trigger []
-nothing_thrown p h trigger = record { only = λ c there. absurd (none_there c there); all = λ c name is thrown. every c name is thrown }
+nothing_thrown p h trigger = record { only = λ c there. absurd (contains_none c there); all = λ c name is thrown. every c name is thrown }
   where
     every : (c : ClassNo) (name : List ℕ) → IsClassNumber p c name → IsThrownAt p [] trigger name → Contains [] c
-    every c name is (raised raise there e) = absurd (none_there raise there)
+    every c name is (raised raise there e) = absurd (contains_none raise there)
     every c name is (initialising class e has error) = absurd (no_error p h c name is error)
 
 -- ---- the nodes

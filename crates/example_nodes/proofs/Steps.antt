@@ -1,13 +1,9 @@
 -- Executions up to a state, of bytecode and on nodes at once, and steps from it.
 use Rattle.std.proofs.Common.{◌≡◌, ℕ, zero, suc, ◌+◌, Bool, true, false, ◌&&◌, cond, nat_eq, List, [], ◌∷◌, ◌++◌, find, Option, Some, None, Result, Ok, Err, slice_get, refl, sym, subst, append_assoc, option_and_then}
-use Rattle.std.specs.Option.{option_map_or}
 use Rattle.std.proofs.lemmas.Bool.{and_parts}
 use Rattle.std.proofs.lemmas.Option.{same_Some, none-some}
-use Rattle.jvm_model.specs.declared.pool.PoolEntry.{PoolEntry}
 use Rattle.jvm_model.specs.declared.reason.Reason.{Reason}
-use Rattle.jvm_model.specs.Instructions.{DecodedInstruction, instruction_at, RowBy}
-use Rattle.jvm_model.specs.Programs.{Program, Field}
-use Rattle.jvm_model.specs.Table.{Flow, onward, Action, plain}
+use Rattle.jvm_model.specs.Instructions.{DecodedInstruction, instruction_at}
 use Rattle.op_model.specs.declared.lowered.LoweredMethod.{LoweredMethod}
 use Rattle.op_model.specs.declared.node.Node.{Node}
 use Rattle.op_model.specs.declared.op.Op.{Op}
@@ -15,11 +11,11 @@ use Rattle.op_model.specs.declared.op.Op.TheVariants.{Assign}
 use Rattle.op_model.specs.Supplies.{Given}
 use Rattle.machine_bytecode.proofs.GoingOn.{goes_on}
 use Rattle.machine_bytecode.specs.Executions.{IsExecution}
-use Rattle.machine_bytecode.specs.Machine.{MethodCode, AtStart, Makes, Goes, effect, entered, Step, advances, enters_entry}
+use Rattle.machine_bytecode.specs.Machine.{MethodCode, AtStart, entered, Step, advances, enters_entry}
 use Rattle.machine_bytecode.specs.Objects.{Subject}
-use Rattle.machine_bytecode.specs.Start.{IsFirst, arguments_of, AreArgumentObjects, BeginsAs, no_field, holding, by_default, held_place, start_frame}
-use Rattle.machine_bytecode.specs.States.{Value, primitive_value, reference_to, Object, Frame, World, State, runs_on, default_value}
-use Rattle.example_machine.proofs.Runs.{first_world, started_in, entered_in, statics_of, begins_with, frame_at, advance, plain_there, kept_of, units_of, is_plain, is_onward, operands_fit}
+use Rattle.machine_bytecode.specs.Start.{IsFirst, arguments_of, AreArgumentObjects, start_frame}
+use Rattle.machine_bytecode.specs.States.{Value, primitive_value, Object, Frame, World, State, runs_on}
+use Rattle.example_machine.proofs.Runs.{first_world, started_in, entered_in, statics_of, frame_at, advance, plain_there, units_of, is_plain, is_onward, operands_fit, begins_so, plain_row, plain_makes, onward_goes, plain_effect}
 use Rattle.example_machine.specs.Taking.{Advancing, Shows}
 use Rattle.machine_nodes.specs.NodeExecutions.{IsNodeExecution}
 use Rattle.machine_nodes.specs.Nodes.{StandsAt, of_method}
@@ -53,13 +49,6 @@ takes x given Kind s t a step node_step is = record {
 }
 
 -- ---- the first state, and the call of the entry
-
-begins_so : (p : Program) (number : ℕ) (o : Option Field) → slice_get p.fields number ≡ o → BeginsAs p number (begins_with p number o)
-begins_so p number None e = no_field e refl
-begins_so p number (Some f) e = by f.holds refl where
-  by : (h : Option (List ℕ)) → f.holds ≡ h → BeginsAs p number (option_map_or (λ (class : List ℕ). reference_to (held_place p number)) h (default_value f.signature.descriptor))
-  by None g = by_default f e g refl
-  by (Some class) g = holding f class e g refl
 
 abbrev first_there : (x : Subject) (code : MethodCode x.program x.entry) (objects : List Object) → AreArgumentObjects x code.method objects → IsFirst x (started_in (first_world x objects))
 first_there x code objects arguments = record {
@@ -117,22 +106,6 @@ assigns _ before after = false
 assigns_leads : (op : Op) (x : Subject) (w : World) (before after : List Value) → assigns op before after ≡ true → Leads op x w before after w
 assigns_leads (Assign moves) x w before after e = (are_moved_by moves before after e, refl)
 assigns_leads _ x w before after e = absurd cc
-
-plain_row : (a : Action) (pool : List PoolEntry) (i : DecodedInstruction) → is_plain a ≡ true → RowBy a pool i i.row
-plain_row plain pool i e = refl
-plain_row _ pool i e = absurd cc
-
-plain_makes : (a : Action) (x : Subject) (f : Frame) (pool : List PoolEntry) (i : DecodedInstruction) (units : List Value) (w : World) → is_plain a ≡ true → Makes a x f pool i units w primitive_value w
-plain_makes plain x f pool i units w e = (refl, refl)
-plain_makes _ x f pool i units w e = absurd cc
-
-onward_goes : (f : Flow) (w : World) (after : ℕ) (targets : List (Option ℕ)) (units : List Value) → is_onward f ≡ true → Goes f w after targets units after
-onward_goes onward w after targets units e = refl
-onward_goes _ w after targets units e = absurd cc
-
--- the slots after a plain instruction
-abbrev plain_effect : DecodedInstruction → List Value → List Value
-plain_effect i slots = effect i.row i.operand primitive_value (kept_of i.row slots) (units_of i.row slots)
 
 -- a node does the same, and goes on there
 abbrev follows : Node → ℕ → List Value → List Value → Bool

@@ -8,13 +8,14 @@ use Rattle.op_model.specs.declared.op.Op.TheVariants.{Assign, Load, Store, LoadE
 use Rattle.machine_bytecode.specs.Machine.{of_string, of_references, nested}
 use Rattle.machine_bytecode.specs.Objects.{string_name, fitting}
 use Rattle.machine_bytecode.specs.Objects.Passes.{fitting as passes_fitting}
-use Rattle.machine_bytecode.specs.Start.{boot_object, boot_site}
-use Rattle.machine_bytecode.specs.States.{Value, primitive_value, null_value, reference_to, World, Dimension, with_contents, with_object, updated, default_fields, fields, new_array, site_at}
+use Rattle.machine_bytecode.specs.Start.{boot_site}
+use Rattle.machine_bytecode.specs.States.{Value, primitive_value, null_value, reference_to, World, Dimension, with_object, new_array, site_at}
 use Rattle.jvm_model.specs.declared.site.SiteKind.TheVariants.{New as new_kind}
-use Rattle.example_machine.specs.Within.{program_with, runs, runs_with_arguments, makes, switch, wide_iinc, links, counts, statics, constant, tables, boxes, box_cast, argument}
+use Rattle.example_machine.specs.Within.{runs, runs_with_arguments, makes, switch, wide_iinc, links, counts, statics, constant, tables, boxes, box_cast, argument}
 use Rattle.example_machine.proofs.Facts.{field_row, refers_to, is_array, makes_array, shows}
 use Rattle.example_machine.proofs.Runs.{advance, body_fits, entered_in, first_world, frame_at}
 use Rattle.example_machine.proofs.WithinStart.{outside, main_of, world, main_at, names_it, names_last, names_next, names_count, box_type, int_type, argument_array, main_with_argument}
+use Rattle.example_machine.proofs.WithinRuns.{linked}
 use Rattle.std.proofs.lemmas.List.Elements.{All-nil, All-cons}
 use Rattle.machine_bytecode.specs.Start.{MayBeArgument}
 use Rattle.example_nodes.specs.Lowering.{site_in, field_no, primitive_in}
@@ -87,9 +88,6 @@ a_held_object_is_read =
     (operate (runs links) (given_main links_nodes) 0 (main_of links refl) links_nodes refl outside 0 [] (world links refl) _ refl _ _ _
     (record { value = reference_to 2; is_read = refl; are_left = are_left_by _ _ _ _ _ refl; same = refl }) refl)
     (shows _ _ _)
-
-abbrev linked : World
-linked = with_contents (world links refl) 2 (boot_object (runs links) (codes "lib/Box")) (fields (updated (default_fields (program_with 7 links)) 2 (reference_to 2)))
 
 at_link : Arrives (runs links) (given_main links_nodes) (main_at links refl 6 (reference_to 2 ∷ reference_to 2 ∷ []) (world links refl))
 at_link =

@@ -15,7 +15,8 @@ ghost use Rattle.stage_edges.specs.Rules.{argument_given, given_by, kept_slots, 
 ghost use Rattle.node_ways.specs.Parts.{AddsFound, AreFound, AreParameters, HasDescription, IsDescribedAs, IsToldBy, IsToldOf};
 ghost use Rattle.node_ways.specs.Ways.{AreDescribed, result_of};
 
-use crate::entered::{call_of, targets_at};
+use crate::entered::targets_at;
+use crate::kinds::call_of;
 use crate::landings::class_landings;
 use crate::ways::{DescribedTarget, GivenResult};
 use ground::Ground;
@@ -256,7 +257,7 @@ pub(crate) fn described_targets<'p>(
     ensures { IfOk result (λ described. (x : Subject) → x.program ≡ ground.now.program
         → AreDescribed x (Contains ground.now.facts) method node.now described.items) }
 {
-    match call_of(node) {
+    match call_of(&node.op) {
         Some(call) => described_of(alloc, ground, node, call, targets_at(ground, method, node)),
         None => Ok(Vec::new(alloc)),
     }

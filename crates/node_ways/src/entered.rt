@@ -1,11 +1,9 @@
 //! The methods of class files that a node may enter: targets of its call, and initialisers that it may start (JVMS 5.5).
 
-ghost use Rattle.std.specs.Prelude.{◌≡◌, ◌↔◌, Contains, IfNone, IfOk, IfSome, OnOk, Some};
+ghost use Rattle.std.specs.Prelude.{◌≡◌, ◌↔◌, Contains, IfOk, OnOk, Some};
 ghost use Rattle.jvm_model.specs.declared.number.ClassNo.{ClassNo as RuleClassNo};
 ghost use Rattle.jvm_model.specs.declared.number.MethodNo.{MethodNo as RuleMethodNo};
 ghost use Rattle.program_model.specs.Numbers.{IsClassNumber, IsMethodNumber};
-ghost use Rattle.op_model.specs.declared.op.Call.{Call as RuleCall};
-ghost use Rattle.op_model.specs.declared.op.Op.TheVariants as operations;
 ghost use Rattle.machine_bytecode.specs.Objects.{Subject};
 ghost use Rattle.points_to_rules.specs.Calls.{IsOfFile};
 ghost use Rattle.points_to_rules.specs.Facts.{may_call};
@@ -14,25 +12,15 @@ ghost use Rattle.stage_edges.specs.Rules.{node_at};
 ghost use Rattle.node_ways.specs.Parts.{AddsFound, AreFound, IsEnteredAs};
 ghost use Rattle.node_ways.specs.Ways.{AreEntered, IsCalled};
 
+use crate::kinds::call_of;
 use crate::landings::method_landings;
 use crate::ways::EnteredMethod;
 use entry_points::coded_initialisers;
 use ground::Ground;
 use jvm_model::MethodNo;
-use op_model::{Call, Node, NodeRef, Op};
+use op_model::{Node, NodeRef};
 use program_model::method_body::MethodBody;
 use std::alloc::{AllocError, Global};
-
-/// The call of a node, if it is one.
-pub(crate) fn call_of(node: &Node) -> Option<&Call>
-    ensures found { IfSome result (λ call. node.now.op ≡ operations.Call call.now) }
-    ensures none { IfNone result ((c : RuleCall) → node.now.op ≡ operations.Call c → ⊥) }
-{
-    match &node.op {
-        Op::Call(call) => Some(call),
-        _ => None,
-    }
-}
 
 /// The methods to which a call goes that is a node of a method, or of the start of the program.
 pub(crate) fn targets_at<'g>(
@@ -113,7 +101,7 @@ pub(crate) fn called_methods(
     ensures { IfOk result (λ called. (x : Subject) → x.program ≡ ground.now.program
         → AreEntered x (Contains ground.now.facts) node.now (IsCalled x (Contains ground.now.facts) method node.now) called.items) }
 {
-    match call_of(node) {
+    match call_of(&node.op) {
         Some(_) => entered_of(alloc, ground, node, targets_at(ground, method, node)),
         None => Ok(Vec::new(alloc)),
     }

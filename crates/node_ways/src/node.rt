@@ -13,11 +13,12 @@ ghost use Rattle.node_ways.specs.Ways.{AreWaysOf};
 
 use crate::described::described_targets;
 use crate::entered::{called_methods, started_methods};
+use crate::kinds::thrown_slot;
 use crate::landings::raised_landings;
 use crate::ways::NodeWays;
 use ground::{Ground, NodePlace};
 use jvm_model::{MethodNo, SiteNo};
-use op_model::{Node, Op};
+use op_model::Node;
 use std::alloc::{AllocError, Global};
 
 /// The sites of the slot that a node throws, if it is a throw.
@@ -27,9 +28,9 @@ fn thrown_sites<'g>(ground: &'g Ground<'_>, at: NodePlace, node: &Node) -> &'g [
     ensures sites { (l : RuleMethod) → slice_get ground.now.methods at.method ≡ Some l → AreThrownSites ground.now l node.now result.now }
     ensures within { (site : RuleSiteNo) → Contains result.now site → site.0 < length ground.now.sites }
 {
-    match &node.op {
-        Op::Throw { value } => ground.sites_of_slot(at, *value),
-        _ => &[],
+    match thrown_slot(&node.op) {
+        Some(slot) => ground.sites_of_slot(at, slot),
+        None => &[],
     }
 }
 

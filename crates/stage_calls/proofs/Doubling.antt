@@ -16,8 +16,8 @@ use Rattle.stage_transfer.specs.Calls.{Entering, is_handed_on, is_slot, joins, l
 use Rattle.stage_transfer_laws.proofs.Members.{among_those, any_passes, in_filter, is_among, of_filter, one_passes}
 use Rattle.access_paths.proofs.KeyOrders.{same_is_one}
 use Rattle.stage_transfer_laws.proofs.Paths.{has_it, in_set, is_path, it_has, of_set}
+use Rattle.stage_views.proofs.Gathered.{one_test}
 use Rattle.stage_calls.specs.Testing.{doubles, holds_afterwards, is_doubled_slot, is_left_out_of}
-use Rattle.stage_calls.proofs.SlotTests.{one_test}
 
 abbrev roots_of : Setting → LoweredMethod → Node → Entering → (slot : ℕ) → List Root
 roots_of w l n by slot = unwritten w l n (among (written_on by)) (Slot slot)

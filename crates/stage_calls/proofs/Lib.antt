@@ -1,7 +1,6 @@
--- Finishing: what was gathered is cut. Gathering: what a loop over paths gathers. Passing: the units of a call. SlotTests: slots of one variable.
+-- Gathering: what a loop over paths gathers. Passing: the units of a call. SlotTests: slots of one variable.
 -- Doubling: a path that is lost is doubled by a path of the caller that joins, or by none.
 -- Happening: an event by the state that it leads to.
-pub mod Finishing
 pub mod Gathering
 pub mod Passing
 pub mod SlotTests

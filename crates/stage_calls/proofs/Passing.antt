@@ -1,13 +1,10 @@
 -- The units of a call: which slots are passed, and what is copied.
-use Rattle.std.proofs.Common.{◌≡◌, ℕ, zero, suc, ◌+◌, ◌<◌, nat_eq, Bool, true, ◌||◌, List, [], ◌∷◌, ◌++◌, length, map, take, get_or, Option, option_to_list, refl, sym, ◌∙◌, ap, subst, arith, append-nil, append_assoc}
-use Rattle.std.specs.List.{filter, list_any}
+use Rattle.std.proofs.Common.{◌≡◌, ℕ, zero, suc, ◌+◌, ◌<◌, List, [], ◌∷◌, ◌++◌, length, map, take, get_or, Option, sym, ◌∙◌, ap, subst, arith, append-nil, append_assoc}
+use Rattle.std.specs.List.{filter}
 use Rattle.std.proofs.lemmas.List.Concat.{flat_map-append}
-use Rattle.std.proofs.lemmas.List.Folds.{list_any-append, list_any_at}
-use Rattle.machine_nodes.specs.Slots.{argument_slots}
 use Rattle.access_paths.specs.Paths.{Path}
 use Rattle.stage_transfer.specs.Calls.{passing_from, passing_to}
 use Rattle.stage_transfer.specs.Changes.{Copy, begins_at, copied, with_root}
-use Rattle.stage_transfer.specs.Settings.{among}
 use Rattle.stage_views.specs.declared.gathering.Gathering.{Gathering}
 use Rattle.stage_views.specs.Views.{Gathers}
 
@@ -43,17 +40,3 @@ gathers_passed g before set arguments i d within gathers =
     (append_assoc before (copied (passing_from 0 (take i arguments)) set) (copied (passing_to i (get_or arguments i d)) set)
     ∙ ap (λ (ys : List Path). before ++ ys) (sym (copied_more set arguments i d within)))
     gathers
-
--- ---- which slots are passed
-
-abbrev has : (slot : ℕ) → Option ℕ → Bool
-has slot a = list_any (nat_eq slot) (option_to_list a)
-
-among_each : (slot : ℕ) (arguments : List (Option ℕ)) → among (argument_slots arguments) slot ≡ list_any (has slot) arguments
-among_each slot [] = refl
-among_each slot (a ∷ rest) =
-    list_any-append (nat_eq slot) (option_to_list a) (argument_slots rest) ∙ ap (λ (b : Bool). has slot a || b) (among_each slot rest)
-
-pub among_one : (slot : ℕ) (arguments : List (Option ℕ)) (i : ℕ) (d : Option ℕ) → i < length arguments → has slot (get_or arguments i d) ≡ true
-    → true ≡ among (argument_slots arguments) slot
-among_one slot arguments i d within here = sym (among_each slot arguments ∙ list_any_at (has slot) arguments i d within here)

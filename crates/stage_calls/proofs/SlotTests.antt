@@ -1,5 +1,5 @@
 -- Slots of one variable, by tests of two slots.
-use Rattle.std.proofs.Common.{◌≡◌, ℕ, ◌+◌, ◌<◌, ◌≤◌, nat_lt, Bool, true, false, cond, List, [], ◌∷◌, refl, sym, ◌∙◌, ap, arith}
+use Rattle.std.proofs.Common.{◌≡◌, ℕ, ◌+◌, ◌<◌, ◌≤◌, nat_lt, Bool, true, false, cond, List, [], ◌∷◌, sym, ◌∙◌, ap, arith}
 use Rattle.std.specs.List.{Contains, filter, range_with_len}
 use Rattle.std.proofs.lemmas.Bool.{lt-ltb}
 use Rattle.op_model.specs.declared.lowered.LoweredMethod.{LoweredMethod}
@@ -7,12 +7,7 @@ use Rattle.op_model.specs.declared.node.Node.{Node}
 use Rattle.stage_transfer.specs.Settings.{Setting, alike, among}
 use Rattle.stage_calls.specs.Testing.{is_like}
 use Rattle.stage_transfer_laws.proofs.Members.{among_those, in_filter, in_range, is_among, none_among, of_filter, of_range}
-
--- two tests are one where each follows from the other
-pub one_test : (a b : Bool) → (a ≡ true → b ≡ true) → (b ≡ true → a ≡ true) → a ≡ b
-one_test true b to back = sym (to refl)
-one_test false true to back = back refl
-one_test false false to back = refl
+use Rattle.stage_views.proofs.Gathered.{one_test}
 
 abbrev those : (ℕ → Bool) → (count : ℕ) → List ℕ
 those p count = filter p (range_with_len 0 count)

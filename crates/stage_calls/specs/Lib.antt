@@ -1,4 +1,3 @@
-pub mod Gathered
 pub mod Testing
 pub mod Units
 pub mod Events

@@ -11,16 +11,15 @@ ghost use Rattle.stage_transfer.specs.Changes.{copied};
 ghost use Rattle.stage_transfer.specs.Settings.{Setting};
 ghost use Rattle.stage_transfer.specs.Stages.{finished, transfer_of};
 ghost use Rattle.stage_views.specs.Views.{entering_of, Gathers, IsSettingBy};
-ghost use Rattle.stage_calls.specs.Gathered.{IsCutOf};
+ghost use Rattle.stage_views.specs.Drafts.{IsCutOf};
 ghost use Rattle.stage_calls.specs.Testing.{is_unpassed};
 ghost use Rattle.stage_calls.specs.Units.{HasSlots};
 
-use crate::finish::{Gathered, finished, has_others, has_paths};
 use crate::path_test::{PathTest, any, gather, has_fields};
 use crate::units::is_passed;
 use access_paths::{Path, PathSet, Root};
 use stage_facts::{PlainFact, PlainTuple};
-use stage_views::{Entering, Gathering, StageSetting};
+use stage_views::{Draft, Entering, Gathering, StageSetting};
 
 /// What a method is entered with, where each unit of the arguments has the number of a slot (`has_slots`).
 pub fn entered(setting: &StageSetting<'_>, by: Entering<'_>, fact: &PlainFact) -> PlainFact
@@ -39,14 +38,14 @@ fn entered_tuple(setting: &StageSetting<'_>, by: Entering<'_>, tuple: &PlainTupl
     ensures { (w : Setting) → IsSettingBy setting.now w → HasSlots (entering_of by.entry)
         → fact_of result ≡ finished w (of_object (entered (entering_of by.entry) tuple.now)) }
 {
-    let parts = Gathered {
+    let draft = Draft {
         unique: tuple.unique,
         state: tuple.state,
-        must: entered_set(has_paths(setting), by, &tuple.must),
+        must: entered_set(setting.has_paths(), by, &tuple.must),
         may: entered_may(by, tuple),
-        must_not: entered_set(has_others(setting), by, &tuple.must_not),
+        must_not: entered_set(setting.has_others(), by, &tuple.must_not).set,
     };
-    finished(setting, parts)
+    draft.finish(setting)
 }
 
 /// Whether cells may hold the object in which no path of the callee ends.

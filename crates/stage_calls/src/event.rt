@@ -15,13 +15,12 @@ ghost use Rattle.stage_transfer.specs.Stages.{finished, transfer_of};
 ghost use Rattle.stage_views.specs.Views.{facts_of, IsSettingBy};
 ghost use Rattle.stage_calls.specs.Events.{after_state, in_state, is_event_of, is_only, next_state, states_after};
 
-use crate::finish::{Gathered, finished, has_others, has_paths};
-use crate::sets::{joined, kept};
+use crate::sets::joined;
 use access_paths::{Path, Root};
 use jvm_model::{Automaton, Event};
 use op_model::{Call, CallKind};
 use stage_facts::{PlainFact, PlainTuple};
-use stage_views::{Facts, NodeSlots, StageSetting};
+use stage_views::{Draft, Facts, Gathering, NodeSlots, StageSetting};
 
 /// The facts before a call that is made on an event's receiver, once the event has happened.
 pub fn call_facts<V: NodeSlots>(
@@ -175,14 +174,14 @@ fn is_only<V: NodeSlots>(slots: &V, slot: u32, tuple: &PlainTuple) -> bool
 fn in_state(setting: &StageSetting<'_>, tuple: &PlainTuple, state: u8) -> PlainFact
     ensures { (w : Setting) → IsSettingBy setting.now w → fact_of result ≡ finished w (of_object (in_state state tuple.now)) }
 {
-    let parts = Gathered {
+    let draft = Draft {
         unique: tuple.unique,
         state,
-        must: kept(&tuple.must),
+        must: Gathering::whole(&tuple.must),
         may: tuple.may,
-        must_not: kept(&tuple.must_not),
+        must_not: Gathering::whole(&tuple.must_not).set,
     };
-    finished(setting, parts)
+    draft.finish(setting)
 }
 
 /// The object, in another state, to which the slots refer that have a slot's variable.
@@ -196,14 +195,14 @@ fn referring<V: NodeSlots>(
     ensures { (w : Setting) (l : RuleMethod) (n : RuleNode) → IsSettingBy setting.now w → V.knows slots.now w l n
         → fact_of result ≡ finished w (of_object (referring (alike w l n slot) (in_state state tuple.now))) }
 {
-    let parts = Gathered {
+    let draft = Draft {
         unique: tuple.unique,
         state,
-        must: joined(has_paths(setting), slots, slot, &tuple.must),
+        must: joined(setting.has_paths(), slots, slot, &tuple.must),
         may: tuple.may,
-        must_not: kept(&tuple.must_not),
+        must_not: Gathering::whole(&tuple.must_not).set,
     };
-    finished(setting, parts)
+    draft.finish(setting)
 }
 
 /// The object, to which the slots do not refer that have a slot's variable.
@@ -216,12 +215,12 @@ fn not_referring<V: NodeSlots>(
     ensures { (w : Setting) (l : RuleMethod) (n : RuleNode) → IsSettingBy setting.now w → V.knows slots.now w l n
         → fact_of result ≡ finished w (of_object (not_referring (alike w l n slot) tuple.now)) }
 {
-    let parts = Gathered {
+    let draft = Draft {
         unique: tuple.unique,
         state: tuple.state,
-        must: kept(&tuple.must),
+        must: Gathering::whole(&tuple.must),
         may: tuple.may,
-        must_not: joined(has_others(setting), slots, slot, &tuple.must_not),
+        must_not: joined(setting.has_others(), slots, slot, &tuple.must_not).set,
     };
-    finished(setting, parts)
+    draft.finish(setting)
 }

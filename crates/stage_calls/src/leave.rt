@@ -10,10 +10,9 @@ ghost use Rattle.stage_transfer.specs.Calls.{is_dropped, left, left_alone, left_
 ghost use Rattle.stage_transfer.specs.Settings.{Setting};
 ghost use Rattle.stage_transfer.specs.Stages.{finished, transfer_of};
 ghost use Rattle.stage_views.specs.Views.{entering_of, IsSettingBy};
-ghost use Rattle.stage_calls.specs.Gathered.{IsCutOf};
+ghost use Rattle.stage_views.specs.Drafts.{IsCutOf};
 ghost use Rattle.stage_calls.specs.Testing.{may_both};
 
-use crate::finish::{Gathered, finished, has_others, has_paths};
 use crate::joins::Joins;
 use crate::left_out::LeftOut;
 use crate::path_test::{any, gather};
@@ -21,7 +20,7 @@ use crate::roots::{Dropped, HandedOn};
 use access_paths::PathSet;
 use jvm_model::MethodNo;
 use stage_facts::{PlainFact, PlainTuple};
-use stage_views::{Entering, Gathering, NodeSlots, StageSetting};
+use stage_views::{Draft, Entering, Gathering, NodeSlots, StageSetting};
 
 /// What a caller knows when a method that it entered has ended.
 pub fn left<V: NodeSlots>(
@@ -71,14 +70,14 @@ fn left_alone<V: NodeSlots>(
         → fact_of result ≡ finished w (of_object (left_alone w (entering_of joins.now.by) joins.now.target exit.now)) }
 {
     let none = PathSet::empty();
-    let parts = Gathered {
+    let draft = Draft {
         unique: exit.unique,
         state: exit.state,
-        must: left_set(has_paths(setting), joins, &none, &exit.must),
+        must: left_set(setting.has_paths(), joins, &none, &exit.must),
         may: alone_may(joins.by, exit),
-        must_not: left_set(has_others(setting), joins, &none, &exit.must_not),
+        must_not: left_set(setting.has_others(), joins, &none, &exit.must_not).set,
     };
-    finished(setting, parts)
+    draft.finish(setting)
 }
 
 /// The same where it was.
@@ -91,14 +90,20 @@ fn left_both<V: NodeSlots>(
     ensures { (w : Setting) (l : RuleMethod) (n : RuleNode) → IsSettingBy setting.now w → V.knows joins.now.slots.now w l n
         → fact_of result ≡ finished w (of_object (left w l n (entering_of joins.now.by) joins.now.target caller.now exit.now)) }
 {
-    let parts = Gathered {
+    let draft = Draft {
         unique: exit.unique,
         state: exit.state,
-        must: left_set(has_paths(setting), joins, &caller.must, &exit.must),
+        must: left_set(setting.has_paths(), joins, &caller.must, &exit.must),
         may: both_may(joins, caller, exit),
-        must_not: left_set(has_others(setting), joins, &caller.must_not, &exit.must_not),
+        must_not: left_set(
+            setting.has_others(),
+            joins,
+            &caller.must_not,
+            &exit.must_not,
+        )
+        .set,
     };
-    finished(setting, parts)
+    draft.finish(setting)
 }
 
 /// The paths that are handed on, and those of the caller that join, where they are wanted.

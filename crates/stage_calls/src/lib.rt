@@ -1,12 +1,11 @@
 //! What calls do to the facts of a site: their events (`call_facts`); what a method is entered with (`entered`); and what its caller knows
-//! when it has ended (`left`). No call takes memory. Begin with src/event.rt, src/enter.rt and src/leave.rt; src/finish.rt has the normal
-//! form of a stage and the limit on paths, and src/path_test.rt how paths are gathered.
+//! when it has ended (`left`). No call takes memory. Begin with src/event.rt, src/enter.rt and src/leave.rt; src/path_test.rt has how
+//! paths are gathered.
 #![tactic(auto)]
 
 mod alike;
 mod enter;
 mod event;
-mod finish;
 mod joins;
 mod leave;
 mod left_out;

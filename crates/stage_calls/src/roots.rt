@@ -1,15 +1,14 @@
 //! What becomes of the roots of paths where a method is left.
 
 ghost use Rattle.std.specs.Prelude.{◌≡◌};
-ghost use Rattle.stage_transfer.specs.Calls.{is_handed_on, is_kept, is_slot, written_by, written_on};
+ghost use Rattle.stage_transfer.specs.Calls.{is_handed_on, is_kept, is_slot, written_on};
 ghost use Rattle.stage_transfer.specs.Settings.{among};
 ghost use Rattle.stage_views.specs.Views.{entering_of};
 
 use crate::path_test::PathTest;
-use crate::units::{is_argument, is_passed, is_slot};
+use crate::units::is_passed;
 use access_paths::{Path, Root};
-use op_model::Call;
-use stage_views::Entering;
+use stage_views::{Entering, is_written_by};
 
 /// Whether an exit hands a root on.
 fn is_handed_on(by: Entering<'_>, root: Root) -> bool
@@ -66,16 +65,6 @@ pub(crate) fn is_written(by: Entering<'_>, slot: u32) -> bool
         Entering::Call(call) => is_written_by(call, slot),
         Entering::Trigger => false,
     }
-}
-
-/// Whether a call writes a slot.
-fn is_written_by(call: &Call, slot: u32) -> bool
-    ensures { result ≡ among (written_by call.now) slot }
-{
-    if is_slot(call.result, slot) {
-        return true;
-    }
-    is_argument(call.arguments.as_slice(), slot)
 }
 
 /// Whether a path of the exit is handed on.

@@ -1,4 +1,4 @@
-//! Sets of paths that stay, and that slots of one variable join.
+//! Sets of paths that slots of one variable join.
 
 ghost use Rattle.std.specs.Prelude.{◌≡◌, ℕ, ◌+◌, ◌++◌, List, map, filter, true};
 ghost use Rattle.std.specs.List.{range_with_len};
@@ -8,29 +8,17 @@ ghost use Rattle.op_model.specs.declared.node.Node.{Node as RuleNode};
 ghost use Rattle.stage_transfer.specs.Calls.{joined};
 ghost use Rattle.stage_transfer.specs.Settings.{alike, Setting};
 ghost use Rattle.stage_views.specs.Views.{Gathers};
-ghost use Rattle.stage_calls.specs.Gathered.{IsCutOf};
+ghost use Rattle.stage_views.specs.Drafts.{IsCutOf};
 ghost use Rattle.stage_calls.specs.Testing.{bare_slot, is_like};
 
 use access_paths::{Path, PathSet, Root};
 use stage_views::{Gathering, NodeSlots};
 
-/// A set that stays.
-pub(crate) fn kept(set: &PathSet) -> Gathering
-    ensures cut { IsCutOf result set.now }
-    ensures gathered { Gathers result set.now }
-{
-    set.well_formed();
-    Gathering {
-        set: set.copied(),
-        dropped: false,
-    }
-}
-
 /// A set that the slots join that have a slot's variable at the node, where they are wanted.
 pub(crate) fn joined<V: NodeSlots>(wanted: bool, slots: &V, slot: u32, set: &PathSet) -> Gathering
     ensures { (w : Setting) (l : RuleMethod) (n : RuleNode) → wanted ≡ true → V.knows slots.now w l n → IsCutOf result (joined (alike w l n slot) set.now) }
 {
-    let mut gathering = kept(set);
+    let mut gathering = Gathering::whole(set);
     if !wanted {
         return gathering;
     }

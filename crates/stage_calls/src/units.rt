@@ -1,14 +1,12 @@
 //! The units of a call's arguments.
 
 ghost use Rattle.std.specs.Prelude.{◌≡◌, ◌↔◌, IsTrue};
-ghost use Rattle.std.specs.Option.{option_to_list};
-ghost use Rattle.machine_nodes.specs.Slots.{argument_slots};
 ghost use Rattle.stage_transfer.specs.Calls.{passed};
 ghost use Rattle.stage_transfer.specs.Settings.{among};
 ghost use Rattle.stage_views.specs.Views.{entering_of};
 ghost use Rattle.stage_calls.specs.Units.{HasSlots};
 
-use stage_views::Entering;
+use stage_views::{Entering, is_argument};
 
 /// There are so many slots.
 const MOST_UNITS: usize = 4_294_967_296;
@@ -30,27 +28,5 @@ pub(crate) fn is_passed(by: Entering<'_>, slot: u32) -> bool
     match by {
         Entering::Call(call) => is_argument(call.arguments.as_slice(), slot),
         Entering::Trigger => false,
-    }
-}
-
-/// Whether a slot is that of an argument.
-pub(crate) fn is_argument(arguments: &[Option<u32>], slot: u32) -> bool
-    ensures { result ≡ among (argument_slots arguments.now) slot }
-{
-    for argument in arguments {
-        if is_slot(*argument, slot) {
-            return true;
-        }
-    }
-    false
-}
-
-/// Whether a slot is this one, if it is there.
-pub(crate) fn is_slot(given: Option<u32>, slot: u32) -> bool
-    ensures { result ≡ among (option_to_list given) slot }
-{
-    match given {
-        Some(other) => slot == other,
-        None => false,
     }
 }

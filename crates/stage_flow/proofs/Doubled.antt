@@ -21,13 +21,14 @@ use Rattle.stage_transfer_laws.proofs.Changed.{added, in_copied, of_changed, of_
 use Rattle.stage_transfer_laws.proofs.Members.{among_those, any_passes, in_filter, is_among, of_filter, of_flat_map, one_passes}
 use Rattle.access_paths.proofs.KeyOrders.{same_is_one}
 use Rattle.stage_transfer_laws.proofs.Paths.{has_it, is_path, is_root, it_has, root_is}
+use Rattle.stage_views.proofs.Gathered.{one_test}
 use Rattle.stage_flow.specs.declared.change.PathChange.{PathChange}
 use Rattle.stage_flow.specs.declared.gain.Gain.{Gain}
 use Rattle.stage_flow.specs.declared.gain.Gain.TheVariants.{Nothing, Copy, Hand, Moves, Load}
 use Rattle.stage_flow.specs.declared.written.Written.{Written}
 use Rattle.stage_flow.specs.Shapes.{adds_of, brings, change_of, goes_of, handed_to, is_double, is_handed, is_like, may_double, more_doubles, moves_on, reaches, root_copy, targets_of, written_of, IsProper}
 use Rattle.stage_flow.proofs.OneVariable.{like_is}
-use Rattle.stage_flow.proofs.Lists.{any_alike, any_flat_map, one_test}
+use Rattle.stage_flow.proofs.Lists.{any_alike, any_flat_map}
 
 -- ---- lists
 

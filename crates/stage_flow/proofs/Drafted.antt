@@ -1,23 +1,18 @@
 -- The draft of a tuple.
-use Rattle.std.proofs.Common.{◌≡◌, ℕ, ◌≤◌, Bool, true, false, ◌||◌, List, ◌++◌, length, take, Option, Some, None, refl, sym, ◌∙◌, ap, subst}
+use Rattle.std.proofs.Common.{◌≡◌, Bool, true, false, ◌||◌, List, ◌++◌, refl, sym, ◌∙◌, ap, subst}
 use Rattle.std.specs.List.{flat_map, list_any}
 use Rattle.std.proofs.Math.Bool.{or-false, or_comm}
-use Rattle.std.proofs.lemmas.Bool.{le-ltb}
-use Rattle.std.proofs.lemmas.List.{take_all}
 use Rattle.op_model.specs.declared.lowered.LoweredMethod.{LoweredMethod}
 use Rattle.op_model.specs.declared.node.Node.{Node}
-use Rattle.access_paths.specs.declared.root.Root.TheVariants.{Slot}
-use Rattle.access_paths.specs.Paths.{Path, bare, most_paths, with_path}
-use Rattle.access_paths.proofs.Cuts.{take-with}
+use Rattle.access_paths.specs.Paths.{Path}
 use Rattle.stage_facts.specs.Facts.{Tuple}
 use Rattle.stage_transfer.specs.Settings.{Setting}
 use Rattle.stage_transfer.specs.Changes.{Change, changed, changed_set, is_lost, with_may}
-use Rattle.stage_transfer.specs.Operations.{beside_new}
 use Rattle.stage_views.specs.declared.gathering.Gathering.{Gathering}
 use Rattle.stage_views.specs.Views.{Gathers}
 use Rattle.stage_flow.specs.declared.change.PathChange.{PathChange}
-use Rattle.stage_flow.specs.declared.draft.Draft.{Draft}
-use Rattle.stage_flow.specs.Drafts.{cut_with, IsCutOf, IsDraft}
+use Rattle.stage_views.specs.declared.draft.Draft.{Draft}
+use Rattle.stage_views.specs.Drafts.{IsCutOf, IsDraft}
 use Rattle.stage_flow.specs.Shapes.{adds_of, change_of, goes_of, kept_path}
 use Rattle.stage_flow.proofs.Lists.{left_filtered}
 
@@ -63,33 +58,3 @@ pub with_none : (t : Tuple) → with_may false t ≡ t
 with_none t =
     let same = or-false t.may in
     λ i. record { unique = t.unique; state = t.state; must = t.must; may = same i; must_not = t.must_not }
-
-pub beside_draft : (target : Option ℕ) (t : Tuple) (old new : Draft) → IsDraft old t
-    → new.unique ≡ false → new.state ≡ old.state → new.must ≡ old.must → new.may ≡ old.may → new.must_not ≡ cut_with target old.must_not
-    → IsDraft new (beside_new target t)
-beside_draft None t old new is unique state must may must_not = record {
-  unique = unique;
-  state = state ∙ is.state;
-  must = subst (λ (g : Gathering). IsCutOf g t.must) (sym must) is.must;
-  may = may ∙ is.may;
-  must_not = must_not ∙ is.must_not;
-}
-beside_draft (Some z) t old new is unique state must may must_not = record {
-  unique = unique;
-  state = state ∙ is.state;
-  must = subst (λ (g : Gathering). IsCutOf g t.must) (sym must) is.must;
-  may = may ∙ is.may;
-  must_not =
-      must_not ∙ ap (λ (ps : List Path). take most_paths (with_path (bare (Slot z)) ps)) is.must_not
-      ∙ take-with most_paths (bare (Slot z)) t.must_not;
-}
-
-pub whole_draft : (t : Tuple) (d : Draft) → length t.must ≤ most_paths → length t.must_not ≤ most_paths
-    → d.unique ≡ t.unique → d.state ≡ t.state → d.must.set ≡ t.must → d.must.dropped ≡ false → d.may ≡ t.may → d.must_not ≡ t.must_not → IsDraft d t
-whole_draft t d few few_not unique state must dropped may must_not = record {
-  unique = unique;
-  state = state;
-  must = record { set = must ∙ sym (take_all most_paths t.must few); dropped = dropped ∙ sym (le-ltb most_paths (length t.must) few) };
-  may = may;
-  must_not = must_not ∙ sym (take_all most_paths t.must_not few_not);
-}

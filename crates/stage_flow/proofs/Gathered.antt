@@ -1,11 +1,9 @@
 -- What was gathered in a loop.
-use Rattle.std.proofs.Common.{◌≡◌, ℕ, ◌≤◌, ◌<◌, ◌+◌, nat_lt, Bool, true, false, refl, if◌then◌else◌, List, [], ◌∷◌, ◌++◌, length, take, get_or, sym, ◌∙◌, ap, subst, append-nil}
+use Rattle.std.proofs.Common.{◌≡◌, ℕ, ◌≤◌, ◌<◌, ◌+◌, Bool, true, false, refl, if◌then◌else◌, List, [], ◌∷◌, ◌++◌, length, take, get_or, sym, ◌∙◌, ap, subst, append-nil}
 use Rattle.std.specs.List.{flat_map, list_any, range_with_len}
-use Rattle.std.proofs.lemmas.Bool.{false≢true, le-ltb, or_parts}
+use Rattle.std.proofs.lemmas.Bool.{false≢true, or_parts}
 use Rattle.std.proofs.lemmas.List.{flat_map_more, take_all, take_more}
-use Rattle.access_paths.specs.Paths.{Path, most_paths}
-use Rattle.access_paths.specs.Sets.{AreInOrder}
-use Rattle.access_paths.proofs.SetMembers.{path_set_same}
+use Rattle.access_paths.specs.Paths.{Path}
 use Rattle.stage_views.specs.declared.gathering.Gathering.{Gathering}
 use Rattle.stage_views.specs.Views.{Gathers}
 
@@ -43,15 +41,6 @@ next_gathered f k before old new so_far step = record {
 }
 
 -- ---- whole sets
-
--- All paths of a set are gathered at once.
-pub whole_gathered : (g : Gathering) (set : List Path) → AreInOrder set → length set ≤ most_paths → g.set ≡ set → g.dropped ≡ false → Gathers g set
-whole_gathered g set ordered few same dropped =
-    let is = path_set_same set ordered in
-    record {
-      set = same ∙ sym (take_all most_paths set few) ∙ ap (take most_paths) (sym is);
-      dropped = dropped ∙ sym (le-ltb most_paths (length set) few) ∙ ap (λ (ps : List Path). nat_lt most_paths (length ps)) (sym is);
-    }
 
 -- Where no path is left out, all are left.
 pub none_left_out : {X : Type 0} (p : X → Bool) (xs : List X) → list_any p xs ≡ false → flat_map (λ x. if p x then [] else x ∷ []) xs ≡ xs

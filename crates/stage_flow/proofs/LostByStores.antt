@@ -17,10 +17,10 @@ use Rattle.stage_transfer_laws.proofs.Changed.{doubled_by, of_changed, staying}
 use Rattle.stage_transfer_laws.proofs.Members.{among_those, any_passes, in_filter, is_among, of_filter, one_passes}
 use Rattle.access_paths.proofs.KeyOrders.{same_is_one}
 use Rattle.stage_transfer_laws.proofs.Paths.{has_it, is_path, it_has}
+use Rattle.stage_views.proofs.Gathered.{one_test}
 use Rattle.stage_flow.specs.declared.store.FieldStore.{FieldStore}
 use Rattle.stage_flow.specs.Shapes.{is_double, is_like, may_double}
 use Rattle.stage_flow.specs.Stores.{all_slots, field_by, has_free, is_free, is_owner, is_own_field, loses_by, loses_root, loses_value, operands}
-use Rattle.stage_flow.proofs.Lists.{one_test}
 use Rattle.stage_flow.proofs.OneVariable.{like_is}
 use Rattle.stage_flow.proofs.StoredPaths.{after_store_of, free_inside, in_all_stored, in_new, in_old, like_itself, like_like, of_all_stored, of_stored, short_behind, NewPath, OldPath}
 

@@ -7,8 +7,8 @@ use Rattle.op_model.specs.declared.lowered.LoweredMethod.{LoweredMethod}
 use Rattle.op_model.specs.declared.node.Node.{Node}
 use Rattle.stage_transfer.specs.Settings.{Setting, alike, among, same_variable}
 use Rattle.stage_transfer_laws.proofs.Members.{among_those, in_filter, in_range, is_among, of_filter, of_range}
+use Rattle.stage_views.proofs.Gathered.{one_test}
 use Rattle.stage_flow.specs.Shapes.{is_like}
-use Rattle.stage_flow.proofs.Lists.{one_test}
 
 among_range : (p : ℕ → Bool) (all y : ℕ) → among (filter p (range_with_len 0 all)) y ≡ (nat_lt y all && p y)
 among_range p all y =

@@ -10,7 +10,7 @@ use Rattle.stage_transfer.specs.Operations.{store_loses}
 use Rattle.stage_views.specs.declared.gathering.Gathering.{Gathering}
 use Rattle.stage_views.specs.Views.{Gathers}
 use Rattle.stage_flow.specs.declared.store.FieldStore.{FieldStore}
-use Rattle.stage_flow.specs.Drafts.{IsCutOf}
+use Rattle.stage_views.specs.Drafts.{IsCutOf}
 use Rattle.stage_flow.specs.Stores.{after_field_store, given_path, may_after_store}
 use Rattle.stage_flow.proofs.LostByStores.{left_of_store, lost_after, lost_by_store}
 use Rattle.stage_flow.proofs.StoredPaths.{after_store_of, gathered_kept}

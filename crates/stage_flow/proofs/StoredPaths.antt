@@ -20,10 +20,10 @@ use Rattle.stage_transfer.specs.Operations.{is_short, passes_field, stored, stor
 use Rattle.stage_transfer_laws.proofs.Alike.{variable_is}
 use Rattle.stage_transfer_laws.proofs.Members.{among_those, in_filter, in_flat_map, in_range, is_among, of_filter, of_flat_map}
 use Rattle.stage_transfer_laws.proofs.Paths.{in_set, of_set}
+use Rattle.stage_views.proofs.Gathered.{one_test}
 use Rattle.stage_flow.specs.declared.store.FieldStore.{FieldStore}
 use Rattle.stage_flow.specs.Shapes.{is_like}
 use Rattle.stage_flow.specs.Stores.{all_slots, given_path, is_free, operands, own_path, stored_at, stored_fields, stored_path}
-use Rattle.stage_flow.proofs.Lists.{one_test}
 use Rattle.stage_flow.proofs.OneVariable.{like_is}
 
 -- ---- numbers and sets

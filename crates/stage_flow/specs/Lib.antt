@@ -1,4 +1,3 @@
 pub mod Allocations
-pub mod Drafts
 pub mod Shapes
 pub mod Stores

@@ -7,7 +7,7 @@ ghost use Rattle.op_model.specs.declared.lowered.LoweredMethod.{LoweredMethod as
 ghost use Rattle.op_model.specs.declared.node.Node.{Node as RuleNode};
 ghost use Rattle.stage_facts.specs.Facts.{Tuple, of_object, some_yet};
 ghost use Rattle.stage_facts.specs.Plain.{fact_of};
-ghost use Rattle.stage_flow.specs.Drafts.{IsDraft};
+ghost use Rattle.stage_views.specs.Drafts.{IsDraft};
 ghost use Rattle.stage_flow.specs.Shapes.{Makes};
 ghost use Rattle.stage_transfer.specs.Calls.{Result};
 ghost use Rattle.stage_transfer.specs.Changes.{Change, changed};
@@ -18,12 +18,11 @@ ghost use Rattle.stage_views.specs.Views.{facts_of, Gathers, IsAnswerOf, IsSetti
 
 use crate::change::PathChange;
 use crate::changes::{giving, writing_call};
-use crate::draft::Draft;
 use crate::tuples::{kept_draft, kept_fact};
 use access_paths::{Path, PathSet, Root};
 use op_model::Call;
 use stage_facts::PlainFact;
-use stage_views::{Answer, Facts, Gathering, NodeSlots, StageSetting};
+use stage_views::{Answer, Draft, Facts, Gathering, NodeSlots, StageSetting};
 
 /// What a described method does to a fact: it keeps the objects in some slots, and gives a result.
 pub fn after_answer<V: NodeSlots>(

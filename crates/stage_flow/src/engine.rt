@@ -5,17 +5,16 @@ ghost use Rattle.std.specs.List.{flat_map, list_any};
 ghost use Rattle.access_paths.specs.Paths.{Path as AccessPath};
 ghost use Rattle.op_model.specs.declared.lowered.LoweredMethod.{LoweredMethod as RuleMethod};
 ghost use Rattle.op_model.specs.declared.node.Node.{Node as RuleNode};
-ghost use Rattle.stage_flow.specs.Drafts.{IsDraft};
+ghost use Rattle.stage_views.specs.Drafts.{IsDraft};
 ghost use Rattle.stage_flow.specs.Shapes.{adds_of, change_of, goes_of, kept_path, IsProper, Makes};
 ghost use Rattle.stage_transfer.specs.Changes.{Change, changed};
 ghost use Rattle.stage_transfer.specs.Settings.{Setting};
 ghost use Rattle.stage_views.specs.Views.{Gathers};
 
 use crate::change::PathChange;
-use crate::draft::Draft;
 use access_paths::{Path, PathSet};
 use stage_facts::PlainTuple;
-use stage_views::{Gathering, NodeSlots};
+use stage_views::{Draft, Gathering, NodeSlots};
 
 impl PathChange<'_> {
     /// What the change makes of a tuple.
@@ -61,7 +60,7 @@ impl PathChange<'_> {
         ensures { Gathers result (flat_map (kept_path self.now) set.now) }
     {
         if !self.takes_some(set) {
-            return whole(set);
+            return Gathering::whole(set);
         }
         let mut all = Gathering::new();
         for path in set.as_slice() {
@@ -99,16 +98,5 @@ impl PathChange<'_> {
             None => self.written.has_root(path.root()),
             Some(other) => self.written.has_root(path.root()) || path.begins_at(other),
         }
-    }
-}
-
-/// All paths of the set.
-fn whole(set: &PathSet) -> Gathering
-    ensures { Gathers result set.now }
-{
-    set.well_formed();
-    Gathering {
-        set: set.copied(),
-        dropped: false,
     }
 }

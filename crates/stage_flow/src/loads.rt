@@ -7,18 +7,17 @@ ghost use Rattle.access_paths.specs.Paths.{Path as AccessPath};
 ghost use Rattle.op_model.specs.declared.lowered.LoweredMethod.{LoweredMethod as RuleMethod};
 ghost use Rattle.op_model.specs.declared.node.Node.{Node as RuleNode};
 ghost use Rattle.stage_facts.specs.Plain.{fact_of};
-ghost use Rattle.stage_flow.specs.Drafts.{IsDraft};
+ghost use Rattle.stage_views.specs.Drafts.{IsDraft};
 ghost use Rattle.stage_transfer.specs.Operations.{after_load, ends_in, may_be_loaded, on_tuples};
 ghost use Rattle.stage_transfer.specs.Settings.{Setting};
 ghost use Rattle.stage_transfer.specs.Stages.{finished};
 ghost use Rattle.stage_views.specs.Views.{facts_of, IsSettingBy};
 
 use crate::changes::loading;
-use crate::draft::Draft;
 use access_paths::{Fields, Path, PathSet, Root};
 use jvm_model::FieldNo;
 use stage_facts::{PlainFact, PlainTuple};
-use stage_views::{Facts, NodeSlots, StageSetting};
+use stage_views::{Draft, Facts, NodeSlots, StageSetting};
 
 /// A field of an object is loaded into a target.
 pub fn loaded_fact<V: NodeSlots>(

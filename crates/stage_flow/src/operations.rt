@@ -14,7 +14,6 @@ use crate::answers::new_fact;
 use crate::changes::{
     assigning, loading_static, receiving, returning, storing_static, writing_one, writing_two,
 };
-use crate::draft::Draft;
 use crate::loads::loaded_fact;
 use crate::sites::is_same_site;
 use crate::store::FieldStore;
@@ -22,7 +21,7 @@ use crate::tuples::{changed_fact, kept_fact};
 use jvm_model::Site;
 use op_model::{Node, Op};
 use stage_facts::PlainFact;
-use stage_views::{Facts, NodeSlots, StageSetting};
+use stage_views::{Draft, Facts, NodeSlots, StageSetting};
 
 /// What a node does to a fact on the way to a successor; of a call, once it has returned; of a return, out of the method.
 pub fn after_node<V: NodeSlots>(

@@ -9,13 +9,32 @@ ghost use Rattle.stage_transfer.specs.Settings.{number_of_kind, same_site};
 use jvm_model::{MethodNo, Site, SiteKind};
 
 /// Whether the two are the same site.
-pub fn is_same_site(first: &Site, second: &Site) -> bool
+pub(crate) fn is_same_site(first: &Site, second: &Site) -> bool
     ensures { result ≡ same_site first.now second.now }
 {
-    number_of_kind(first.kind) == number_of_kind(second.kind)
-        && is_same_method(first.method, second.method)
-        && first.offset == second.offset
-        && first.class.as_slice() == second.class.as_slice()
+    is_site_at(
+        first.kind,
+        first.method,
+        first.offset,
+        first.class.as_slice(),
+        second,
+    )
+}
+
+/// Whether a site is the one of a kind, at an offset of a method, for objects of a class.
+pub fn is_site_at(
+    kind: SiteKind,
+    method: Option<MethodNo>,
+    offset: u32,
+    class: &[u8],
+    site: &Site,
+) -> bool
+    ensures { result ≡ same_site (record { kind = kind; method = method; offset = offset; class = class.now }) site.now }
+{
+    number_of_kind(kind) == number_of_kind(site.kind)
+        && is_same_method(method, site.method)
+        && offset == site.offset
+        && class == site.class.as_slice()
 }
 
 /// The number that tells the kind.

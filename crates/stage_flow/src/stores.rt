@@ -4,17 +4,16 @@ ghost use Rattle.std.specs.Prelude.{◌≡◌, map};
 ghost use Rattle.op_model.specs.declared.lowered.LoweredMethod.{LoweredMethod as RuleMethod};
 ghost use Rattle.op_model.specs.declared.node.Node.{Node as RuleNode};
 ghost use Rattle.stage_facts.specs.Plain.{fact_of};
-ghost use Rattle.stage_flow.specs.Drafts.{IsDraft};
+ghost use Rattle.stage_views.specs.Drafts.{IsDraft};
 ghost use Rattle.stage_flow.specs.Stores.{IsStoreIn, after_field_store, may_after_store};
 ghost use Rattle.stage_transfer.specs.Operations.{on_tuples};
 ghost use Rattle.stage_transfer.specs.Settings.{Setting};
 ghost use Rattle.stage_transfer.specs.Stages.{finished};
 ghost use Rattle.stage_views.specs.Views.{facts_of, IsSettingBy};
 
-use crate::draft::Draft;
 use crate::store::FieldStore;
 use stage_facts::{PlainFact, PlainTuple};
-use stage_views::{Facts, Gathering, NodeSlots, StageSetting};
+use stage_views::{Draft, Facts, Gathering, NodeSlots, StageSetting};
 
 impl FieldStore {
     /// What the store does to a fact.

@@ -7,7 +7,7 @@ ghost use Rattle.op_model.specs.declared.lowered.LoweredMethod.{LoweredMethod as
 ghost use Rattle.op_model.specs.declared.node.Node.{Node as RuleNode};
 ghost use Rattle.stage_facts.specs.Facts.{Tuple, of_object};
 ghost use Rattle.stage_facts.specs.Plain.{fact_of};
-ghost use Rattle.stage_flow.specs.Drafts.{IsDraft};
+ghost use Rattle.stage_views.specs.Drafts.{IsDraft};
 ghost use Rattle.stage_flow.specs.Shapes.{Makes};
 ghost use Rattle.stage_transfer.specs.Changes.{Change, changed};
 ghost use Rattle.stage_transfer.specs.Operations.{on_tuples, puts_away};
@@ -16,10 +16,9 @@ ghost use Rattle.stage_transfer.specs.Stages.{finished};
 ghost use Rattle.stage_views.specs.Views.{facts_of, IsSettingBy};
 
 use crate::change::PathChange;
-use crate::draft::{Draft, without_paths};
 use access_paths::{Path, PathSet, Root};
 use stage_facts::{PlainFact, PlainTuple};
-use stage_views::{Facts, NodeSlots, StageSetting};
+use stage_views::{Draft, Facts, NodeSlots, StageSetting, without_paths};
 
 /// The paths of a tuple change.
 pub fn changed_fact<V: NodeSlots>(

@@ -1,16 +1,14 @@
 //! The slots that get other values.
 
 ghost use Rattle.std.specs.Prelude.{◌≡◌, map};
-ghost use Rattle.std.specs.Option.{option_to_list};
-ghost use Rattle.machine_nodes.specs.Slots.{argument_slots};
 ghost use Rattle.stage_flow.specs.Shapes.{written_of};
-ghost use Rattle.stage_transfer.specs.Calls.{written_by};
 ghost use Rattle.stage_transfer.specs.Changes.{slots_go};
 ghost use Rattle.stage_transfer.specs.Operations.{target_of};
 ghost use Rattle.stage_transfer.specs.Settings.{among};
 
 use access_paths::Root;
 use op_model::{Call, Move};
+use stage_views::is_written_by;
 
 /// The slots that get other values.
 #[derive(Clone, Copy)]
@@ -64,36 +62,4 @@ fn is_target(moves: &[Move], slot: u32) -> bool
         }
     }
     false
-}
-
-/// Whether the slot is that of the call's result, or of an argument.
-fn is_written_by(call: &Call, slot: u32) -> bool
-    ensures { result ≡ among (written_by call.now) slot }
-{
-    if is_at(call.result, slot) {
-        return true;
-    }
-    is_argument(call.arguments.as_slice(), slot)
-}
-
-/// Whether an argument stands in the slot.
-fn is_argument(arguments: &[Option<u32>], slot: u32) -> bool
-    ensures { result ≡ among (argument_slots arguments.now) slot }
-{
-    for argument in arguments {
-        if is_at(*argument, slot) {
-            return true;
-        }
-    }
-    false
-}
-
-/// Whether this is the slot.
-fn is_at(own: Option<u32>, slot: u32) -> bool
-    ensures { result ≡ among (option_to_list own) slot }
-{
-    match own {
-        None => false,
-        Some(own) => slot == own,
-    }
 }

@@ -1,9 +1,11 @@
-//! Tests of the rows of facts, of access paths, and of what nodes and calls do to facts: each public call once on its happy path, and what no
-//! clause says. They stand apart from the crates that they test, since a crate with tests is proved twice.
+//! Tests of the rows of facts, of access paths, of the ends of edges, and of what nodes and calls do to facts: each public call once on its
+//! happy path, and what no clause says. They stand apart from the crates that they test, since a crate with tests is proved twice.
 #![tactic(auto)]
 
 #[cfg(test)]
 mod node_facts;
+#[cfg(test)]
+mod path_ends;
 #[cfg(test)]
 mod rows;
 #[cfg(test)]

@@ -2,6 +2,7 @@
 
 ghost use Rattle.std.specs.Prelude.{List, [], ◌∷◌, ◌++◌};
 ghost use Rattle.access_paths.specs.Paths.{Path as AccessPath};
+ghost use Rattle.stage_views.specs.Drafts.{IsCutOf};
 ghost use Rattle.stage_views.specs.Views.{Gathers};
 
 use access_paths::{Path, PathSet};
@@ -22,6 +23,17 @@ impl Gathering {
             set: PathSet::empty(),
             dropped: false,
         }
+    }
+
+    /// All paths of a set.
+    pub fn whole(set: &PathSet) -> Gathering
+        ensures cut { IsCutOf result set.now }
+        ensures gathered { Gathers result set.now }
+    {
+        set.well_formed();
+        let mut all = Gathering::new();
+        all.set = set.copied();
+        all
     }
 
     /// One path more.

@@ -3,7 +3,7 @@
 use crate::edges::facts::{Words, write_fact};
 use crate::lines::tell_lines;
 use anyhow::Result;
-use edge_closure::PathEdge;
+use ground_views::PathEdge;
 use jvm_model::MethodNo;
 use op_model::Spot;
 use std::alloc::{AllocError, Global};

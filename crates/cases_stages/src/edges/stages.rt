@@ -5,15 +5,19 @@ ghost use Rattle.program_model.specs.Numbers.{IsMethodNumber};
 
 use crate::edges::facts::Words;
 use crate::edges::listing::tell_edges;
+use crate::edges::tabulated::{compare_edges, compare_limit, views_of};
+use crate::edges::verdict::{Found, found_in, with_stage};
 use crate::members::shown;
 use crate::names::Names;
 use crate::sites::write_site;
 use anyhow::{Result, bail};
-use edge_closure::{ClosureFault, Question, path_edges};
+use edge_closure::path_edges;
 use failure::Failure;
 use ground::Ground;
+use ground_views::{EdgesFault, Question};
 use jvm_model::{MethodNo, Site, SiteNo};
-use site_report::TrackedSite;
+use site_report::{TrackedSite, Verdict};
+use stage_verdicts::{LaterStages, later_verdict};
 use stage_views::StageSetting;
 use std::alloc::{AllocError, Global};
 
@@ -47,9 +51,37 @@ pub fn tell_site<R: Print>(
         println!(rt; "site {text} is held by nothing")?;
         return Ok(());
     };
+    let mut verdict = Verdict::Unproved;
     for stage in STAGES {
         println!(rt; "site {text} stage {stage}")?;
-        tell_stage(rt, alloc, asked, number, stage)?;
+        let found = tell_stage(rt, alloc, asked, number, stage)?;
+        verdict = with_stage(verdict, stage, found);
+    }
+    compare_verdict(alloc, asked, number, verdict)
+}
+
+/// Stops where the verdict of the stages is another one.
+fn compare_verdict(
+    alloc: Global,
+    asked: Asked<'_, '_>,
+    site: SiteNo,
+    verdict: Verdict,
+) -> Result<()>
+    requires entry { IsMethodNumber asked.ground.now.program asked.entry.0 }
+    requires limit { 0 < asked.limit }
+    requires site { site.0 < length asked.ground.now.sites }
+{
+    let views = views_of(alloc, asked.ground, asked.entry)?;
+    let stages = LaterStages {
+        ground: asked.ground,
+        entry: asked.entry,
+        automaton: asked.words.automaton,
+        stages: 4,
+        depth: DEPTH,
+        limit: asked.limit,
+    };
+    if later_verdict(alloc, &views, stages, site)? != verdict {
+        bail!("the verdict is another one");
     }
     Ok(())
 }
@@ -84,14 +116,14 @@ fn is_of(names: &Names, numbered: &Site, site: &TrackedSite) -> bool {
         && shown(Some(numbered.class.as_slice())) == names.class(site.class)
 }
 
-/// Prints the path edges at a stage, or that there are too many.
+/// Prints the path edges at a stage, or that there are too many, and gives what they say. It stops where tabulation finds anything else.
 fn tell_stage<R: Print>(
     rt: &R,
     alloc: Global,
     asked: Asked<'_, '_>,
     site: SiteNo,
     stage: u8,
-) -> Result<()>
+) -> Result<Found>
     requires entry { IsMethodNumber asked.ground.now.program asked.entry.0 }
     requires limit { 0 < asked.limit }
     requires site { site.0 < length asked.ground.now.sites }
@@ -108,14 +140,20 @@ fn tell_stage<R: Print>(
         },
         limit: asked.limit,
     };
+    let views = views_of(alloc, asked.ground, asked.entry)?;
     match path_edges(alloc, &question) {
-        Ok(edges) => tell_edges(rt, alloc, asked.words, &edges),
-        Err(Failure::Cause(ClosureFault::Limit)) => {
-            let limit = asked.limit;
-            println!(rt; "limit {limit}")?;
-            Ok(())
+        Ok(edges) => {
+            compare_edges(alloc, &views, &question, &edges)?;
+            tell_edges(rt, alloc, asked.words, &edges)?;
+            Ok(found_in(asked.words.automaton, &edges))
         }
-        Err(Failure::Cause(ClosureFault::TooMany)) => bail!("there is too much to number"),
+        Err(Failure::Cause(EdgesFault::Limit)) => {
+            let limit = asked.limit;
+            compare_limit(alloc, &views, &question, limit)?;
+            println!(rt; "limit {limit}")?;
+            Ok(Found::AtLimit)
+        }
+        Err(Failure::Cause(EdgesFault::TooMany)) => bail!("there is too much to number"),
         Err(Failure::OutOfMemory) => Err(AllocError.into()),
     }
 }

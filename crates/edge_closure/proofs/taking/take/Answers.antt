@@ -2,8 +2,8 @@ use Rattle.std.proofs.Common.{◌≡◌, List, sym, subst, arith}
 use Rattle.std.specs.List.{Contains}
 use Rattle.std.proofs.lemmas.Bool.{false≢true}
 use Rattle.stage_edges.specs.Rules.{Edge}
-use Rattle.edge_closure.specs.declared.path_edge.PathEdge.{PathEdge}
-use Rattle.edge_closure.specs.Questions.{edge_of, edges_in}
+use Rattle.ground_views.specs.declared.path_edge.PathEdge.{PathEdge}
+use Rattle.ground_views.specs.Questions.{edge_of, edges_in}
 use Rattle.edge_closure.proofs.Lists.{adds_none, adds_one, count_edges, grows_by, grows_none}
 use Rattle.edge_closure.proofs.taking.take.Goals as goal
 

@@ -5,7 +5,7 @@ use Rattle.list_laws.proofs.Members.{all_from_front}
 use Rattle.stage_edges.specs.Rules.{Edge}
 use Rattle.edge_steps.specs.declared.conclusions.EnteredWith.{EnteredWith}
 use Rattle.edge_steps.specs.Steps.{begun}
-use Rattle.edge_closure.specs.Questions.{edge_of, edges_in}
+use Rattle.ground_views.specs.Questions.{edge_of, edges_in}
 use Rattle.edge_closure.proofs.Lists.{adds_more, adds_weaker, grows_more, read_there, still_there}
 use Rattle.edge_closure.proofs.taking.take_begun.Goals as goal
 

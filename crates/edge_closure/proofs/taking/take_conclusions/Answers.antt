@@ -5,7 +5,7 @@ use Rattle.list_laws.proofs.Members.{all_from_front}
 use Rattle.stage_edges.specs.Rules.{Edge}
 use Rattle.edge_steps.specs.declared.conclusions.Conclusion.{Conclusion}
 use Rattle.edge_steps.specs.Steps.{within}
-use Rattle.edge_closure.specs.Questions.{edges_in}
+use Rattle.ground_views.specs.Questions.{edges_in}
 use Rattle.edge_closure.proofs.Lists.{adds_more, adds_weaker, grows_more, read_there, still_at, still_below, still_there}
 use Rattle.edge_closure.proofs.taking.take_conclusions.Goals as goal
 

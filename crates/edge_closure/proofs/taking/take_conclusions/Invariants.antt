@@ -3,7 +3,7 @@ use Rattle.std.specs.List.{All, Contains, slice_get}
 use Rattle.stage_edges.specs.Rules.{Edge}
 use Rattle.edge_steps.specs.declared.conclusions.Conclusion.{Conclusion}
 use Rattle.edge_steps.specs.Steps.{within}
-use Rattle.edge_closure.specs.Questions.{edges_in}
+use Rattle.ground_views.specs.Questions.{edges_in}
 use Rattle.edge_closure.specs.Tried.{Adds, Grows, IsOpen}
 use Rattle.edge_closure.proofs.taking.take_conclusions.Given as goal
 

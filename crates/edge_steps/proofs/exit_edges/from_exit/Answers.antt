@@ -4,8 +4,10 @@ use Rattle.ground.specs.Findings.{gives_listed}
 use Rattle.ground.proofs.Adding.{added_alone, added_both}
 use Rattle.stage_facts.specs.Plain.{fact_of}
 use Rattle.stage_transfer.specs.Stages.{transfer_of}
+use Rattle.stage_transfer.specs.Calls.{by_trigger}
+use Rattle.node_ways.specs.declared.ways.EnteredMethod.{EnteredMethod}
 use Rattle.edge_steps.specs.declared.conclusions.Conclusion.{Conclusion}
-use Rattle.edge_steps.specs.Parts.{LeavesCall, LeavesTrigger}
+use Rattle.edge_steps.specs.Parts.{LeavesCall, LeavesTrigger, LeftOne}
 use Rattle.edge_steps.proofs.AllOfTwo.{two_follow}
 use Rattle.edge_steps.proofs.TwoPremises.{Leaves}
 use Rattle.edge_steps.proofs.exit_edges.from_exit.Goals as goal
@@ -21,12 +23,14 @@ returns g c = λ x methods facts w like looked.
     let spot = c.args.exit.spot in
     let out = fact_of c.args.exit.fact.now in
     let mid = c.add_from_call.new.within.items in
-    let new = c.add_from_trigger.new.within.items in
+    let new = c.add_from_methods.new.within.items in
     two_follow x (gives_listed methods) (Contains facts) w view.setting.now (g.V.NodeSlots.knows view.slots.now) n ways like new view.method f target entry spot out looked
     (record {
       conclusions_are = λ v k alike known.
           let called = LeavesCall (transfer_of v) k n ways f target entry spot out in
           let started = LeavesTrigger (transfer_of v) k n ways f target entry spot out in
           let first = subst (λ (old : List Conclusion). AreAdded called old mid) c.new-within.ensures.items (c.in_ok-add_from_call.ensures v k alike known) in
-          added_alone (Leaves (transfer_of v) k n ways f target entry spot out) new (added_both called started [] mid new first (c.in_ok-add_from_trigger.ensures v k alike known));
+          let second = subst (λ (methods : List EnteredMethod). AreAdded (LeftOne (transfer_of v) k n by_trigger target entry spot out methods f) mid new) c.as_slice-started.ensures.value
+          (c.in_ok-add_from_methods.ensures v k alike known) in
+          added_alone (Leaves (transfer_of v) k n ways f target entry spot out) new (added_both called started [] mid new first second);
     })

@@ -1,6 +1,6 @@
 use Rattle.std.proofs.Common.{[], refl}
 use Rattle.stage_transfer.specs.Calls.{begins_static}
-use Rattle.stage_calls.proofs.Finishing.{cut_of_gathered}
+use Rattle.stage_views.proofs.Gathered.{cut_of_gathered}
 use Rattle.stage_calls.proofs.enter.entered_set.Goals as goal
 
 pub returns : goal.returns

@@ -2,7 +2,7 @@ use Rattle.std.proofs.Common.{[], refl}
 use Rattle.stage_transfer.specs.Calls.{joins}
 use Rattle.stage_views.specs.Views.{entering_of}
 use Rattle.stage_calls.specs.Testing.{is_path_handed_on}
-use Rattle.stage_calls.proofs.Finishing.{cut_of_gathered}
+use Rattle.stage_views.proofs.Gathered.{cut_of_gathered}
 use Rattle.stage_calls.proofs.leave.left_set.Goals as goal
 
 pub returns : goal.returns

@@ -2,7 +2,7 @@ use Rattle.std.proofs.Common.{Bool, ◌∙◌, ap, subst}
 use Rattle.stage_facts.specs.Facts.{Tuple}
 use Rattle.stage_transfer.specs.Changes.{changed, with_may}
 use Rattle.stage_transfer.specs.Operations.{may_be_loaded}
-use Rattle.stage_flow.specs.Drafts.{IsDraft}
+use Rattle.stage_views.specs.Drafts.{IsDraft}
 use Rattle.stage_flow.specs.Shapes.{loading}
 use Rattle.stage_flow.proofs.loads.loaded_draft.Goals as goal
 

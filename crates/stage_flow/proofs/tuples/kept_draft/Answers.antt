@@ -4,7 +4,7 @@ use Rattle.access_paths.specs.declared.root.Root.TheVariants.{Slot}
 use Rattle.access_paths.specs.Paths.{bare, has_path}
 use Rattle.stage_facts.specs.Facts.{Tuple}
 use Rattle.stage_transfer.specs.Changes.{changed, with_may}
-use Rattle.stage_flow.specs.Drafts.{IsDraft}
+use Rattle.stage_views.specs.Drafts.{IsDraft}
 use Rattle.stage_flow.proofs.Drafted.{may_later}
 use Rattle.stage_flow.proofs.tuples.kept_draft.Goals as goal
 

@@ -9,7 +9,7 @@ pub returns-then-not-takes_some : goal.returns-then-not-takes_some
 returns-then-not-takes_some c =
     let code = c.args.self.now in
     let none = none_left_out (λ (x : Path). goes_of code.written code.leaving x.root) c.args.set.now (sym c.takes_some.ensures ∙ c.if-not-takes_some.true) in
-    subst (Gathers c.whole.result) (sym none) c.whole.ensures
+    subst (Gathers c.whole.result) (sym none) c.whole.ensures.gathered
 
 pub returns : goal.returns
 returns c =

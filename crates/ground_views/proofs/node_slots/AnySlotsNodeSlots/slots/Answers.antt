@@ -1,0 +1,10 @@
+use Rattle.std.proofs.Common.{subst}
+use Rattle.ground_views.specs.declared.node_slots.AnySlots.{AnySlots}
+use Rattle.ground_views.specs.Known.{KnownOf}
+use Rattle.ground_views.proofs.node_slots.AnySlotsNodeSlots.slots.Goals as goal
+
+pub returns-in-Method : goal.returns-in-Method
+returns-in-Method c = λ w l n known. c.slots.ensures w l n (subst (λ (s : AnySlots). KnownOf s w l n) c.in-Method.is known)
+
+pub returns-in-Start : goal.returns-in-Start
+returns-in-Start c = λ w l n known. c.slots-in-Start.ensures w l n (subst (λ (s : AnySlots). KnownOf s w l n) c.in-Start.is known)

@@ -1,0 +1,2 @@
+pub mod NodeVariables
+pub mod ListedAnswers

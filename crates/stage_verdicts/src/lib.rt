@@ -1,0 +1,10 @@
+//! The verdict of a site by the stages after the first: `later_verdict`, by the path edges of each stage in turn.
+//! The report takes it for sites that the first stage does not prove safe. Begin with specs/LaterVerdicts.antt and src/later.rt.
+#![tactic(auto)]
+
+mod asked;
+mod finding;
+mod later;
+
+pub use asked::LaterStages;
+pub use later::later_verdict;

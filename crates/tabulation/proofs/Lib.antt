@@ -1,0 +1,6 @@
+mod Steps
+mod Full
+mod Closing
+mod Found
+mod Led
+mod Started

@@ -1,0 +1,59 @@
+use Rattle.std.proofs.Common.{List, length, ap, refl, inl, inr}
+use Rattle.edge_numbers.specs.declared.numbered.NumberedEdge.{NumberedEdge}
+use Rattle.tabulation_tables.specs.Lists.{lists_of}
+use Rattle.tabulation_tables.proofs.Still.{edge_still, grows_more, number_still}
+use Rattle.tabulation.proofs.Led.{may_take_begun}
+use Rattle.tabulation.proofs.Steps.{call_step, met_all_still, numbered_step, step_more}
+use Rattle.tabulation.proofs.beginning.begin.Goals as goal
+
+pub take_edge-requires-clause-kept : goal.take_edge-requires-clause-kept
+take_edge-requires-clause-kept c =
+    (numbered_step c.args.work.question.now (lists_of c.args.tables.now) (lists_of c.number.new.self) c.number.ensures.grows c.number.ensures.adds
+    (ap (λ (es : List NumberedEdge). length es) c.number.ensures.edges) c.requires.kept).kept
+
+pub take_edge-requires-clause-may : goal.take_edge-requires-clause-may
+take_edge-requires-clause-may c = may_take_begun c.args.work.question.now (lists_of c.number.new.self) c.args.entered.now c.requires.may c.in_ok-begin.begin c.in_ok-begin.ensures.number
+
+pub meet_exits-requires-clause-caller : goal.meet_exits-requires-clause-caller
+meet_exits-requires-clause-caller c =
+    let first = lists_of c.args.tables.now in
+    let one = lists_of c.number.new.self in
+    let two = lists_of c.take_edge.new.tables in
+    number_still one two c.in_ok-take_edge.ensures.step.grows c.args.caller (number_still first one c.number.ensures.grows c.args.caller c.requires.caller)
+
+pub returns-clause-step : goal.returns-clause-step
+returns-clause-step c =
+    let q = c.args.work.question.now in
+    let first = lists_of c.args.tables.now in
+    let one = lists_of c.number.new.self in
+    let two = lists_of c.take_edge.new.tables in
+    let three = lists_of c.meet_exits.new.tables in
+    let four = lists_of c.call.new.self in
+    let begin = c.in_ok-begin.begin in
+    let numbered = numbered_step q first one c.number.ensures.grows c.number.ensures.adds (ap (λ (es : List NumberedEdge). length es) c.number.ensures.edges) c.requires.kept in
+    let met = c.in_ok-meet_exits.ensures in
+    let called = c.in_ok-call.ensures in
+    let grows = grows_more first one three c.number.ensures.grows (grows_more one two three c.in_ok-take_edge.ensures.step.grows met.step.grows) in
+    let last =
+    call_step q three four called.grows (ap (λ (es : List NumberedEdge). length es) c.call.ensures.edges) met.step.kept begin c.args.caller called.adds
+    (number_still three four called.grows c.args.caller (number_still first three grows c.args.caller c.requires.caller))
+    (λ z there. met_all_still q three four called.grows begin c.args.caller z
+    (met.met z (elim (called.adds.exits begin z there) [ inl was ↦ was | inr never ↦ absurd never ]))) in
+    step_more q first one four numbered (step_more q one two four c.in_ok-take_edge.ensures.step (step_more q two three four met.step last))
+
+pub returns-clause-begun : goal.returns-clause-begun
+returns-clause-begun c =
+    let one = lists_of c.number.new.self in
+    let two = lists_of c.take_edge.new.tables in
+    let three = lists_of c.meet_exits.new.tables in
+    let four = lists_of c.call.new.self in
+    let begin = c.in_ok-begin.begin in
+    let late = grows_more two three four c.in_ok-meet_exits.ensures.step.grows c.in_ok-call.ensures.grows in
+    record {
+      number = begin;
+      begin = _;
+      begin_at = late.ends begin _ (c.in_ok-take_edge.ensures.step.grows.ends begin _ c.in_ok-begin.ensures.number);
+      called = c.in_ok-call.ensures.there;
+      there = edge_still two four late begin begin c.in_ok-take_edge.ensures.there;
+      is = refl;
+    }

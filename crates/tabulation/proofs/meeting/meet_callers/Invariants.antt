@@ -1,0 +1,12 @@
+use Rattle.std.proofs.Common.{ℕ, take}
+use Rattle.std.specs.List.{All}
+use Rattle.tabulation_tables.specs.Lists.{lists_of}
+use Rattle.tabulation.specs.Kept.{CallsStay, HasMetAll, IsStep}
+use Rattle.tabulation.proofs.meeting.meet_callers.Given as goal
+
+abbrev pub invariant-loop-caller : goal.invariant-loop-caller
+invariant-loop-caller l = record {
+  step : IsStep l.work.question.now (lists_of l.initial.tables) (lists_of l.tables);
+  stay : CallsStay (lists_of l.initial.tables) (lists_of l.tables);
+  met : All (λ (n : ℕ). HasMetAll l.work.question.now (lists_of l.tables) l.begin n l.exit) (take l.caller-index l.caller-items);
+}

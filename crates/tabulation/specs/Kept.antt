@@ -1,0 +1,118 @@
+-- This crate's own proofs alone rest on this module.
+-- What holds of the tables of tabulation all the time, and what each step keeps.
+use Rattle.std.specs.Prelude.{◌≡◌, ◌<◌, ℕ, length, Option, None, Some, slice_get}
+use Rattle.op_model.specs.declared.node.Spot.TheVariants as spots
+use Rattle.jvm_model.specs.declared.number.MethodNo.{MethodNo}
+use Rattle.machine_bytecode.specs.Objects.{Subject}
+use Rattle.least_sets.specs.Rules.{IsDerivable}
+use Rattle.stage_facts.specs.Facts.{SiteFact, none_yet}
+use Rattle.stage_facts.specs.Plain.{fact_of}
+use Rattle.stage_transfer.specs.Settings.{Setting}
+use Rattle.edge_steps.specs.declared.conclusions.Conclusion.{Conclusion}
+use Rattle.edge_steps.specs.declared.conclusions.EnteredWith.{EnteredWith}
+use Rattle.edge_steps.specs.Steps.{begun, within}
+use Rattle.end_numbers.specs.Ends.{End, end}
+use Rattle.ground_views.specs.declared.question.Question.{Question}
+use Rattle.ground_views.specs.Questions.{GroundInstance, IsAskedOf}
+use Rattle.tabulation_tables.specs.Lists.{Calls, Exits, HasEdge, IsDerived, IsEdgeBetween, IsFollowed, IsLeadBetween, IsMet, IsProcessed, IsShaped, IsSound, Leads, LeadsSoundly, Lists, edge_to}
+use Rattle.tabulation_tables.specs.Steps.{Grows}
+
+-- ---- all the time
+
+-- The entries are true of whatever is asked.
+pub record IsRight (q : Question) (t : Lists) : Type 0 where
+  pub shape : IsShaped t
+  pub sound : (x : Subject) (w : Setting) → IsAskedOf q x w → IsSound (GroundInstance q x w) t
+
+-- So they are, and there are fewer edges than the limit.
+pub record IsKept (q : Question) (t : Lists) : Type 0 where
+  pub right : IsRight q t
+  pub roomy : length t.edges < q.limit
+
+-- The edge may be taken in.
+pub record MayTake (q : Question) (t : Lists) (b x : ℕ) : Type 0 where
+  pub between : IsEdgeBetween t b x
+  pub derived : (s : Subject) (w : Setting) → IsAskedOf q s w → IsDerived (GroundInstance q s w) t b x
+
+-- The end may lead to the other one.
+pub record MayLead (q : Question) (t : Lists) (x y : ℕ) : Type 0 where
+  pub between : IsLeadBetween t x y
+  pub sound : (s : Subject) (w : Setting) → IsAskedOf q s w → LeadsSoundly (GroundInstance q s w) t x y
+
+-- ---- steps
+
+-- The tables grow, all holds still, and of the edges that were processed all is done.
+pub record IsStep (q : Question) (old new : Lists) : Type 0 where
+  pub kept : IsKept q new
+  pub grows : Grows old new
+  pub processed : (k : ℕ) → IsProcessed old k → IsProcessed new k
+
+-- No caller and no exit is noted.
+pub record CallsStay (old new : Lists) : Type 0 where
+  pub callers : (b c : ℕ) → Calls new b c → Calls old b c
+  pub exits : (b z : ℕ) → Exits new b z → Exits old b z
+
+-- Nor is a lead.
+pub record OnlyEdges (old new : Lists) : Type 0 where
+  pub leads : (x y : ℕ) → Leads new x y → Leads old x y
+  pub calls : CallsStay old new
+
+-- ---- what was found
+
+-- The end of a conclusion within the method of an end.
+abbrev pub end_within : Option MethodNo → Conclusion → End
+end_within m c = end m c.spot (fact_of c.fact)
+
+-- The end of the number is one of the method.
+pub record IsOfMethod (t : Lists) (n : ℕ) (m : Option MethodNo) : Type 0 where
+  pub end : End
+  pub end_at : slice_get t.ends n ≡ Some end
+  pub is : end.method ≡ m
+
+-- With each entry the edge to the conclusion is derivable where that to the end is.
+pub record Concludes (q : Question) (t : Lists) (n : ℕ) (m : Option MethodNo) (c : Conclusion) : Type 0 where
+  pub end : End
+  pub end_at : slice_get t.ends n ≡ Some end
+  pub follows : (x : Subject) (w : Setting) → IsAskedOf q x w → (entry : SiteFact) → IsDerivable (GroundInstance q x w) (edge_to end entry)
+      → IsDerivable (GroundInstance q x w) (within m entry c)
+
+-- The end leads to the conclusion.
+pub record LeadsToConclusion (t : Lists) (x : ℕ) (m : Option MethodNo) (c : Conclusion) : Type 0 where
+  pub number : ℕ
+  pub at : slice_get t.ends number ≡ Some (end_within m c)
+  pub leads : Leads t x number
+
+-- The method may begin so.
+pub record MayBegin (q : Question) (b : EnteredWith) : Type 0 where
+  pub derivable : (x : Subject) (w : Setting) → IsAskedOf q x w → IsDerivable (GroundInstance q x w) (begun b)
+
+-- The exits that were noted of a method were met by the caller.
+pub record HasMetAll (q : Question) (t : Lists) (b c z : ℕ) : Type 0 where
+  pub met : (x : Subject) (w : Setting) → IsAskedOf q x w → IsMet (GroundInstance q x w) t b c z
+
+-- What follows from edges to the end alone was found.
+pub record HasFollowedAll (q : Question) (t : Lists) (x : ℕ) : Type 0 where
+  pub followed : (s : Subject) (w : Setting) → IsAskedOf q s w → IsFollowed (GroundInstance q s w) t x
+
+-- An edge to the end is there.
+pub record IsReached (t : Lists) (x : ℕ) : Type 0 where
+  pub begin : ℕ
+  pub there : HasEdge t begin x
+
+-- ---- the beginning and the end
+
+-- The edge with which the program starts is there.
+pub record HasStart (t : Lists) : Type 0 where
+  pub number : ℕ
+  pub at : slice_get t.ends number ≡ Some (end None (spots.Node 0) none_yet)
+  pub there : HasEdge t number number
+
+pub record IsStarted (q : Question) (t : Lists) : Type 0 where
+  pub kept : IsKept q t
+  pub start : HasStart t
+
+-- All edges were processed.
+pub record IsFinished (q : Question) (t : Lists) : Type 0 where
+  pub kept : IsKept q t
+  pub start : HasStart t
+  pub processed : (k : ℕ) → k < length t.edges → IsProcessed t k

@@ -1,0 +1,3 @@
+pub mod Still
+pub mod Kept
+mod Noted

@@ -1,0 +1,107 @@
+-- What an entry claims is true of longer tables too.
+use Rattle.std.proofs.Common.{◌⊎◌, inl, inr, ℕ, List}
+use Rattle.stage_facts.specs.Facts.{SiteFact}
+use Rattle.stage_edges.specs.Rules.{Edge}
+use Rattle.tabulation_tables.specs.Lists.{IsBegun, IsDerived, IsEdgeBetween, IsFollowed, IsLeadBetween, IsLedTo, IsMet, IsNumber, IsVisited, LeadsSoundly, Lists, HasEdge, numbered}
+use Rattle.tabulation_tables.specs.Steps.{Grows}
+use Rattle.list_laws.proofs.Places.{contains_at, place_of}
+
+-- growth in two steps, and none
+pub grows_more : (a b c : Lists) → Grows a b → Grows b c → Grows a c
+grows_more a b c first second = record {
+  ends = λ n e at. second.ends n e (first.ends n e at);
+  edges = λ k e at. second.edges k e (first.edges k e at);
+  begins = λ x v there. second.begins x v (first.begins x v there);
+  leads = λ x v there. second.leads x v (first.leads x v there);
+  callers = λ x v there. second.callers x v (first.callers x v there);
+  exits = λ x v there. second.exits x v (first.exits x v there);
+  visits = λ x v there. second.visits x v (first.visits x v there);
+}
+
+pub grows_none : (t : Lists) → Grows t t
+grows_none t = record {
+  ends = λ n e at. at;
+  edges = λ k e at. at;
+  begins = λ x v there. there;
+  leads = λ x v there. there;
+  callers = λ x v there. there;
+  exits = λ x v there. there;
+  visits = λ x v there. there;
+}
+
+module _ (old new : Lists) (grows : Grows old new) where
+  pub edge_still : (b x : ℕ) → HasEdge old b x → HasEdge new b x
+  edge_still b x there =
+      let place = place_of old.edges (numbered b x) there in
+      contains_at new.edges place.0 (numbered b x) (grows.edges place.0 (numbered b x) place.1)
+
+  pub visited_still : (x : ℕ) → IsVisited old x → IsVisited new x
+  visited_still x is = (is.0, grows.visits x is.0 is.1)
+
+  pub number_still : (n : ℕ) → IsNumber old n → IsNumber new n
+  number_still n is = record { end = is.end; end_at = grows.ends n is.end is.end_at }
+
+  pub between_still : (b x : ℕ) → IsEdgeBetween old b x → IsEdgeBetween new b x
+  between_still b x is = record {
+    begin = is.begin;
+    end = is.end;
+    begin_at = grows.ends b is.begin is.begin_at;
+    end_at = grows.ends x is.end is.end_at;
+    first = is.first;
+    same = is.same;
+  }
+
+  pub lead_between_still : (x y : ℕ) → IsLeadBetween old x y → IsLeadBetween new x y
+  lead_between_still x y is =
+      record { from = is.from; to = is.to; from_at = grows.ends x is.from is.from_at; to_at = grows.ends y is.to is.to_at; same = is.same }
+
+  pub led_still : (x : ℕ) (entry : SiteFact) (to : Edge) → IsLedTo old x entry to → IsLedTo new x entry to
+  led_still x entry to is = record {
+    number = is.number;
+    end = is.end;
+    end_at = grows.ends is.number is.end is.end_at;
+    leads = grows.leads x is.number is.leads;
+    is = is.is;
+  }
+
+  pub begun_still : (x : ℕ) (to : Edge) → IsBegun old x to → IsBegun new x to
+  begun_still x to is = record {
+    number = is.number;
+    begin = is.begin;
+    begin_at = grows.ends is.number is.begin is.begin_at;
+    called = grows.callers is.number x is.called;
+    there = edge_still is.number is.number is.there;
+    is = is.is;
+  }
+
+  module _ (I : List Edge → Edge → Type 0) where
+    pub derived_still : (b x : ℕ) → IsDerived I old b x → IsDerived I new b x
+    derived_still b x is = record {
+      begin = is.begin;
+      end = is.end;
+      begin_at = grows.ends b is.begin is.begin_at;
+      end_at = grows.ends x is.end is.end_at;
+      derivable = is.derivable;
+    }
+
+    pub soundly_still : (x y : ℕ) → LeadsSoundly I old x y → LeadsSoundly I new x y
+    soundly_still x y is =
+        record { from = is.from; to = is.to; from_at = grows.ends x is.from is.from_at; to_at = grows.ends y is.to is.to_at; sound = is.sound }
+
+    pub followed_still : (x : ℕ) → IsFollowed I old x → IsFollowed I new x
+    followed_still x is = record { end = is.end; end_at = grows.ends x is.end is.end_at; all = λ entry to i. by entry to (is.all entry to i) }
+      where
+        by : (entry : SiteFact) (to : Edge) → IsLedTo old x entry to ⊎ IsBegun old x to → IsLedTo new x entry to ⊎ IsBegun new x to
+        by entry to (inl led) = inl (led_still x entry to led)
+        by entry to (inr begun) = inr (begun_still x to begun)
+
+    pub met_still : (b c z : ℕ) → IsMet I old b c z → IsMet I new b c z
+    met_still b c z is = record {
+      begin = is.begin;
+      caller = is.caller;
+      exit = is.exit;
+      begin_at = grows.ends b is.begin is.begin_at;
+      caller_at = grows.ends c is.caller is.caller_at;
+      exit_at = grows.ends z is.exit is.exit_at;
+      all = λ entry to i. led_still c entry to (is.all entry to i);
+    }

@@ -1,0 +1,174 @@
+-- Public contracts rest on this module.
+-- What tabulation has found, as lists by number; and what each of its entries claims.
+use Rattle.std.specs.Prelude.{◌≡◌, ◌⊎◌, ℕ, List, [], ◌∷◌, map, None, Some, slice_get, slice_index_or, Contains}
+use Rattle.op_model.specs.declared.node.Spot.TheVariants as spots
+use Rattle.least_sets.specs.Rules.{IsDerivable}
+use Rattle.grouped_lists.specs.Groups.{values_at}
+use Rattle.stage_facts.specs.Facts.{SiteFact, none_yet}
+use Rattle.stage_edges.specs.Rules.{Edge, IsExit, edge}
+use Rattle.edge_numbers.specs.declared.numbered.NumberedEdge.{NumberedEdge}
+use Rattle.end_numbers.specs.Ends.{End, end}
+use Rattle.tabulation_tables.specs.declared.tables.Tables.{Tables}
+
+-- ---- what is found
+
+-- The ends and the edges, each once. Of an end: with which ends its edges begin, to which ends it leads, and whether it was visited. Of an end with which a
+-- method begins: which ends enter the method with it, and at which exits its edges end.
+pub record Lists : Type 0 where
+  pub ends : List End
+  pub edges : List NumberedEdge
+  pub begins : ℕ → List ℕ
+  pub leads : ℕ → List ℕ
+  pub callers : ℕ → List ℕ
+  pub exits : ℕ → List ℕ
+  pub visits : ℕ → List ℕ
+
+abbrev pub lists_of : Tables → Lists
+lists_of t = record {
+  ends = t.ends;
+  edges = t.edges;
+  begins = λ n. values_at t.begins.groups.items n;
+  leads = λ n. values_at t.leads.groups.items n;
+  callers = λ n. values_at t.callers.groups.items n;
+  exits = λ n. values_at t.exits.groups.items n;
+  visits = λ n. values_at t.visits.groups.items n;
+}
+
+abbrev pub numbered : ℕ → ℕ → NumberedEdge
+numbered b x = record { begin = b; end = x }
+
+abbrev pub HasEdge : Lists → ℕ → ℕ → Type 0
+HasEdge t b x = Contains t.edges (numbered b x)
+
+abbrev pub Begins : Lists → ℕ → ℕ → Type 0
+Begins t x b = Contains (t.begins x) b
+
+abbrev pub Leads : Lists → ℕ → ℕ → Type 0
+Leads t x y = Contains (t.leads x) y
+
+abbrev pub Calls : Lists → ℕ → ℕ → Type 0
+Calls t b c = Contains (t.callers b) c
+
+abbrev pub Exits : Lists → ℕ → ℕ → Type 0
+Exits t b z = Contains (t.exits b) z
+
+abbrev pub IsVisited : Lists → ℕ → Type 0
+IsVisited t x = (v : ℕ) × Contains (t.visits x) v
+
+-- ---- edges
+
+-- The edge that ends there, with this entry of its method.
+abbrev pub edge_to : End → SiteFact → Edge
+edge_to a entry = edge a.method entry a.spot a.fact
+
+-- The end of a number, or any end where there is none.
+abbrev pub end_or_any : Lists → ℕ → End
+end_or_any t n = slice_index_or t.ends n (end None (spots.Node 0) none_yet)
+
+abbrev pub edge_of_numbers : Lists → NumberedEdge → Edge
+edge_of_numbers t e = edge_to (end_or_any t e.end) (end_or_any t e.begin).fact
+
+abbrev pub edges_of : Lists → List Edge
+edges_of t = map (edge_of_numbers t) t.edges
+
+-- ---- what entries claim
+
+-- The numbers are those of two ends of one method, and the method begins with the first.
+pub record IsEdgeBetween (t : Lists) (b x : ℕ) : Type 0 where
+  pub begin : End
+  pub end : End
+  pub begin_at : slice_get t.ends b ≡ Some begin
+  pub end_at : slice_get t.ends x ≡ Some end
+  pub first : begin.spot ≡ spots.Node 0
+  pub same : begin.method ≡ end.method
+
+-- The edge is derivable.
+pub record IsDerived (I : List Edge → Edge → Type 0) (t : Lists) (b x : ℕ) : Type 0 where
+  pub begin : End
+  pub end : End
+  pub begin_at : slice_get t.ends b ≡ Some begin
+  pub end_at : slice_get t.ends x ≡ Some end
+  pub derivable : IsDerivable I (edge_to end begin.fact)
+
+-- The numbers are those of two ends of one method.
+pub record IsLeadBetween (t : Lists) (x y : ℕ) : Type 0 where
+  pub from : End
+  pub to : End
+  pub from_at : slice_get t.ends x ≡ Some from
+  pub to_at : slice_get t.ends y ≡ Some to
+  pub same : from.method ≡ to.method
+
+-- With each entry the edge to the second end is derivable where that to the first is.
+pub record LeadsSoundly (I : List Edge → Edge → Type 0) (t : Lists) (x y : ℕ) : Type 0 where
+  pub from : End
+  pub to : End
+  pub from_at : slice_get t.ends x ≡ Some from
+  pub to_at : slice_get t.ends y ≡ Some to
+  pub sound : (entry : SiteFact) → IsDerivable I (edge_to from entry) → IsDerivable I (edge_to to entry)
+
+-- The end leads to the edge with this entry.
+pub record IsLedTo (t : Lists) (x : ℕ) (entry : SiteFact) (to : Edge) : Type 0 where
+  pub number : ℕ
+  pub end : End
+  pub end_at : slice_get t.ends number ≡ Some end
+  pub leads : Leads t x number
+  pub is : to ≡ edge_to end entry
+
+-- The end enters a method, which begins with the edge.
+pub record IsBegun (t : Lists) (x : ℕ) (to : Edge) : Type 0 where
+  pub number : ℕ
+  pub begin : End
+  pub begin_at : slice_get t.ends number ≡ Some begin
+  pub called : Calls t number x
+  pub there : HasEdge t number number
+  pub is : to ≡ edge_to begin begin.fact
+
+-- What follows from an edge to the end alone was found, with each entry.
+pub record IsFollowed (I : List Edge → Edge → Type 0) (t : Lists) (x : ℕ) : Type 0 where
+  pub end : End
+  pub end_at : slice_get t.ends x ≡ Some end
+  pub all : (entry : SiteFact) (to : Edge) → I (edge_to end entry ∷ []) to → IsLedTo t x entry to ⊎ IsBegun t x to
+
+-- What follows from an edge to the caller and one to an exit of the method that it enters was found, with each entry of the caller.
+pub record IsMet (I : List Edge → Edge → Type 0) (t : Lists) (b c z : ℕ) : Type 0 where
+  pub begin : End
+  pub caller : End
+  pub exit : End
+  pub begin_at : slice_get t.ends b ≡ Some begin
+  pub caller_at : slice_get t.ends c ≡ Some caller
+  pub exit_at : slice_get t.ends z ≡ Some exit
+  pub all : (entry : SiteFact) (to : Edge) → I (edge_to caller entry ∷ edge_to exit begin.fact ∷ []) to → IsLedTo t c entry to
+
+-- ---- what holds of all entries
+
+-- The number is that of an end.
+pub record IsNumber (t : Lists) (n : ℕ) : Type 0 where
+  pub end : End
+  pub end_at : slice_get t.ends n ≡ Some end
+
+-- Numbers are those of ends, and edges are found by their ends.
+pub record IsShaped (t : Lists) : Type 0 where
+  pub edges : (b x : ℕ) → HasEdge t b x → IsEdgeBetween t b x
+  pub begins : (b x : ℕ) → HasEdge t b x → Begins t x b
+  pub begun : (x b : ℕ) → Begins t x b → HasEdge t b x
+  pub leads : (x y : ℕ) → Leads t x y → IsLeadBetween t x y
+  pub callers : (b c : ℕ) → Calls t b c → IsNumber t c
+  pub exits : (b z : ℕ) → Exits t b z → HasEdge t b z
+
+-- Each entry is true by the rules.
+pub record IsSound (I : List Edge → Edge → Type 0) (t : Lists) : Type 0 where
+  pub derived : (b x : ℕ) → HasEdge t b x → IsDerived I t b x
+  pub leads : (x y : ℕ) → Leads t x y → LeadsSoundly I t x y
+  pub followed : (x : ℕ) → IsVisited t x → IsFollowed I t x
+  pub met : (b c z : ℕ) → Calls t b c → Exits t b z → IsMet I t b c z
+
+-- Of the edge at a place all was done: its end was visited if it is a node, and noted if it is an exit, and to each end that its end leads to there is an edge with
+-- the same begin.
+pub record IsProcessed (t : Lists) (k : ℕ) : Type 0 where
+  pub edge : NumberedEdge
+  pub at : slice_get t.edges k ≡ Some edge
+  pub end : End
+  pub end_at : slice_get t.ends edge.end ≡ Some end
+  pub visited : (offset : ℕ) → end.spot ≡ spots.Node offset → IsVisited t edge.end
+  pub left : IsExit end.spot → Exits t edge.begin edge.end
+  pub led : (y : ℕ) → Leads t edge.end y → HasEdge t edge.begin y
