@@ -3,7 +3,7 @@ them has a line for each: its kind, what it is about, and the source line; a fil
 
 import os
 from collections.abc import Iterable, Iterator
-from dataclasses import dataclass, field
+from dataclasses import dataclass, field, replace
 
 import facts
 from bodies import CALLS, CAST, CLASS_CONSTANT, GETSTATIC, INSTANCE, INVOKE_INTERFACE, INVOKE_SPECIAL, INVOKE_STATIC, NULL, OBJECT_RETURN, PUTFIELD, PUTSTATIC, TEXT_CONSTANT, Key, Use, named_type, parameter_types, result_type
@@ -33,6 +33,8 @@ KINDS: dict[str, str] = {
 }
 MAKES_OBJECTS = "makes_objects"
 ANY = ("any", "java/lang/Throwable", "java/lang/Exception")
+# The first stage that asks for the order of events, and so for what code is reached after what.
+LATER = 2
 
 
 @dataclass(frozen=True)
@@ -222,19 +224,28 @@ class Finder:
     def contents(self, call: LibraryCall) -> Iterator[Assumption]:
         """What a call may do with elements."""
         outcome, after = named_type(result_type(call.use.descriptor)), call.use.after
+        given = "" if after == "pop" else after if after.startswith("[") else outcome
         if self.program.said("no_elements", call.owner, call.key) is not None:
             if outcome.startswith("[") and self.effects.is_tracked(element_class(outcome) or ""):
-                yield self.at_call("contents", call, f"elements of {java_name(outcome)} are not followed")
+                yield self.of_elements(call, outcome)
+            elif has_references(given):
+                yield self.of_elements(call, given, LATER)
             return
         is_copy = (call.owner, call.use.name) == ("java/lang/System", "arraycopy")
-        arrays = [kind for kind in self.taken[id(call)] if self.has_elements(kind) or is_copy and kind == OBJECT]
-        given = after if after.startswith("[") else outcome
-        if after != "pop" and self.has_elements(given):
-            arrays.append(given)
+        moved = [*self.taken[id(call)], given]
+        arrays = [kind for kind in moved if self.has_elements(kind) or is_copy and kind == OBJECT]
+        others = [kind for kind in moved if has_references(kind)]
         if arrays:
-            yield self.at_call("contents", call, f"elements of {java_name(arrays[0])} are not followed")
+            yield self.of_elements(call, arrays[0])
         elif self.gives_container(outcome, call):
             yield self.at_call("contents", call, f"elements of its {java_name(outcome)} are taken for the program's own")
+        elif others:
+            yield self.of_elements(call, others[0], LATER)
+
+    def of_elements(self, call: LibraryCall, kind: str, stage: int = 1) -> Assumption:
+        """That the elements of an array are not followed. Of those that no place is about the first stage asks nothing; but to the later ones a
+        call on such an element leads nowhere, and so does what comes after it."""
+        return replace(self.at_call("contents", call, f"elements of {java_name(kind)} are not followed"), stage=stage)
 
     def has_elements(self, kind: str) -> bool:
         """Whether a type is that of an array with elements that matter."""
@@ -280,8 +291,9 @@ class Finder:
             if use.opcode != GETSTATIC or self.program.declaring_field(use.owner, use.name) is not None:
                 continue
             kind = named_type(use.descriptor)
-            if self.has_elements(kind):
-                yield Assumption("contents", f"{java_name(use.owner)}.{use.name}", self.where(method, use.offset), "its elements are not followed")
+            if has_references(kind):
+                about, stage = f"{java_name(use.owner)}.{use.name}", 1 if self.has_elements(kind) else LATER
+                yield Assumption("contents", about, self.where(method, use.offset), "its elements are not followed", stage=stage)
             elif kind and self.effects.is_tracked(kind) and any(self.program.is_below(each, kind) for each in taken):
                 yield Assumption("static", f"{java_name(use.owner)}.{use.name}", self.where(method, use.offset), "what it holds is no place of the report")
 
@@ -389,7 +401,7 @@ class Finder:
             for handler in body.handlers() if method[0] not in self.program.models else ():
                 name = "java/lang/RuntimeException" if handler.catches in ANY else handler.catches
                 if lacking.get(name):
-                    stage = 2 if handler.catches in (*ANY, "java/lang/RuntimeException") else 1
+                    stage = LATER if handler.catches in (*ANY, "java/lang/RuntimeException") else 1
                     yield Assumption("exceptions", java_name(name), self.where(method, handler.target), f"as from {lacking[name]}", stage=stage)
 
     def lacking(self, name: str, stubs: dict[Method, list[str]]) -> str:
@@ -429,6 +441,11 @@ class Resting:
     def taken_for(self, place: Place) -> list[Assumption]:
         """Those that bear on a place and were taken over."""
         return [each for each in self.taken if bears(each, place)]
+
+
+def has_references(kind: str) -> bool:
+    """Whether a type is that of an array of objects."""
+    return kind.startswith(("[L", "[["))
 
 
 def bears(assumption: Assumption, place: Place) -> bool:

@@ -23,12 +23,12 @@ MEANING: dict[str, str] = {
             "state, on any way through the code. This rests on what models, the base stubs and the stub file say of the "
             "library, and on a program without errors of the machine itself, as for want of memory; README.md "
             "says under \"What is proved\" what is proved of the verifier.",
-    "unproved": "unproved: nothing is said against the program. What is built of the analysis is its first stage. "
-                "It asks only which of the property's events may happen to the objects made there, not in which "
-                "order; and some order of these leads to the error state. A program that keeps the order, as one "
-                "that reads first and closes then, is unproved too. Look at the place: which calls reach these "
-                "objects, and can they come in the forbidden order? Objects that are kept in a collection, or "
-                "that the library keeps, are taken for one another.",
+    "unproved": "unproved: nothing is said against the program. The analysis follows the objects made "
+                "there through calls, fields and exceptions, in the order of the code, and some way that "
+                "it sees leads to the error state. It may be a way that no run takes: the analysis "
+                "compares no values, and takes objects that are kept in a collection, or that the library "
+                "keeps, for one another. Look at the place: which calls reach these objects, and can they "
+                "come in the forbidden order?",
     "limit": "limit: the analysis stopped at this place, since it met its limit of facts. Nothing is said against "
              "the program; a higher --fact-limit may decide it.",
 }
@@ -39,6 +39,13 @@ MORE: dict[str, str] = {
     "MissingField": " Or the field is one of a library class above it: only models have such fields (models/README.md).",
     "MissingMethod": " Or the method is one of a library class, and of a later Java than 8: the model of that class does not have it.",
 }
+
+
+def keeps(place: Place, made: str) -> str:
+    """Why a place is safe: the first stage looks at all orders of the events, the later ones at those that may be."""
+    if place.stage == 1:
+        return f"no order of the events that a {made} may meet breaks the protocol"
+    return f"no order in which a {made} may meet the events breaks the protocol"
 
 
 def more(reason: str, named: str) -> str:
@@ -69,8 +76,7 @@ class Telling:
         if bearing or (place.verdict == "safe" and not self.resting.looked):
             return self.safe_if(place, made, bearing)
         says = {
-            "safe": f"safe by stage {place.stage}: no order of the events that a {made} may meet breaks the protocol"
-                    + self.taken(place),
+            "safe": f"safe by stage {place.stage}: {keeps(place, made)}" + self.taken(place),
             "unproved": f"unproved, which need not be a fault: some order of the events that a {made} may meet would break "
                         "the protocol",
             "limit": f"not decided: stage {place.stage} met its limit of facts for a {made}",
@@ -81,7 +87,7 @@ class Telling:
         """A place that is safe if assumptions hold."""
         counts = {kind: sum(each.kind == kind for each in bearing) for kind in KINDS}
         told = ", ".join(f"{kind} {count}" for kind, count in counts.items() if count) or "they were not looked for"
-        says = f"safe if what is assumed holds ({told}): then, by stage {place.stage}, no order of the events that a {made} may meet breaks the protocol"
+        says = f"safe if what is assumed holds ({told}): then, by stage {place.stage}, {keeps(place, made)}"
         return self.at_place(place, "safe-if", says)
 
     def taken(self, place: Place) -> str:

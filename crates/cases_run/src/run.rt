@@ -12,10 +12,21 @@ use typestate_core::{Status, run};
 
 const UNPROVED: &str = "unproved F.main()V 0 F\nsites 1 safe 0 unproved 1 limit 0\n";
 
-/// The words of a run, with this property file and this entry.
-fn words(alloc: Global, property: &str, entry: &str) -> Result<Vec<String>, AllocError> {
+const SAFE: &str = "safe 2 F.main()V 0 F\nsites 1 safe 1 unproved 0 limit 0\n";
+
+/// The words of a run of all stages, with this property file and this entry.
+fn words_of_all(alloc: Global, property: &str, entry: &str) -> Result<Vec<String>, AllocError> {
     let mut words = Vec::new(alloc);
     for word in ["--classes", "d", "--property", property, "--entry", entry] {
+        words.push(String::from_str(alloc, word)?)?;
+    }
+    Ok(words)
+}
+
+/// The words of a run of the first stage alone.
+fn words(alloc: Global, property: &str, entry: &str) -> Result<Vec<String>, AllocError> {
+    let mut words = words_of_all(alloc, property, entry)?;
+    for word in ["--stages", "1"] {
         words.push(String::from_str(alloc, word)?)?;
     }
     Ok(words)
@@ -70,6 +81,13 @@ fn words_are_read(rt: HostRuntime) -> Result<(), Fail> {
     ] {
         check_words(&rt, alloc, &words(alloc, property, entry)?, said)?;
     }
+    Ok(())
+}
+
+#[test]
+fn without_the_option_all_stages_run(rt: HostRuntime) -> Result<(), Fail> {
+    let words = words_of_all(rt.alloc(), "p.toml", "F.main")?;
+    check_words(&rt, rt.alloc(), &words, (Status::AllSafe, SAFE))?;
     Ok(())
 }
 

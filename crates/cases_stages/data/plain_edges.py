@@ -26,8 +26,7 @@ from plain_rules import DEFAULT_LIMIT, START, THROWABLE, Solved, solve  # noqa: 
 from plain_slots import NodeAt, SlotNames  # noqa: E402
 
 STAGES = (2, 3, 4)
-DEPTH = 3
-DEFAULT_EDGE_LIMIT = 10000
+DEFAULT_DEPTH, DEFAULT_EDGE_LIMIT = 3, 10000
 RETURNS, THROWS = "returns", "throws"
 OF_INITIALISATION = ("java/lang/ExceptionInInitializerError", "java/lang/NoClassDefFoundError")
 
@@ -183,7 +182,19 @@ class EdgeRules:
                 yield self.raises(edge, at, site.class_name, fact)
 
 
-# ---- tracked sites
+# ---- sites
+
+
+class Limits(NamedTuple):
+    """How many fields a store may give a path, and how many path edges are too many."""
+    depth: int
+    edges: int
+
+
+def path_edges(solved: Solved, automaton: Automaton, site: Site, stage: int, limits: Limits) -> Optional[set[Edge]]:
+    """The path edges of a site at a stage; none if they are too many."""
+    numbers = {field: number for number, field in enumerate(solved.rules.program.fields)}
+    return EdgeRules(solved, Setting(automaton, site, stage, limits.depth, numbers)).least(limits.edges)
 
 
 def tracked_at(solved: Solved, at: NodeAt) -> Iterator[Site]:
@@ -258,18 +269,17 @@ class Texts:
         return f"edge {edge.method} {self.fact(edge.entry)} > {edge.spot} {self.fact(edge.fact)}"
 
 
-def lines_of_site(solved: Solved, automaton: Automaton, site: Site, limit: int) -> Iterator[str]:
+def lines_of_site(solved: Solved, automaton: Automaton, site: Site, limits: Limits) -> Iterator[str]:
     """The path edges of a site, stage by stage."""
     if not any(site in sites for sites in solved.facts.holds.values()):
         yield f"site {site} is held by nothing"
         return
-    fields = list(solved.rules.program.fields)
-    numbers, texts = {field: number for number, field in enumerate(fields)}, Texts(automaton, fields)
+    texts = Texts(automaton, list(solved.rules.program.fields))
     for stage in STAGES:
         yield f"site {site} stage {stage}"
-        edges = EdgeRules(solved, Setting(automaton, site, stage, DEPTH, numbers)).least(limit)
+        edges = path_edges(solved, automaton, site, stage, limits)
         if edges is None:
-            yield f"limit {limit}"
+            yield f"limit {limits.edges}"
         else:
             yield f"edges {len(edges)}"
             yield from sorted((texts.edge(edge) for edge in edges), key=str.encode)
@@ -288,9 +298,9 @@ def lines_of(folder: FilePath, text: CaseText) -> list[str]:
     automaton = read_automaton(folder / "property.toml")
     if automaton.class_name not in solved.rules.program.classes:
         return ["no class of the property"]
-    limit = read_edge_limit(folder)
+    limits = Limits(DEFAULT_DEPTH, read_edge_limit(folder))
     return [line for site in tracked(solved, automaton.class_name)
-            for line in lines_of_site(solved, automaton, site, limit)]
+            for line in lines_of_site(solved, automaton, site, limits)]
 
 
 def main(words: list[str]) -> None:

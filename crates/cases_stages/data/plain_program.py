@@ -284,9 +284,10 @@ def package_of(name: str) -> str:
     return name[:name.rfind("/") + 1]
 
 
-def link(folder: Path) -> Program:
-    """The program of the files of a case."""
-    stubs = read_base_document(ROOT / "docs" / "BASE_STUBS.md") + read_stub_file(folder / "stubs.toml")
+def link(folder: Path, stub_file: Optional[str] = "stubs.toml") -> Program:
+    """The program of the files of a folder, with the stubs of the file of this name, if it is there."""
+    stubs = read_base_document(ROOT / "docs" / "BASE_STUBS.md")
+    stubs += read_stub_file(folder / stub_file) if stub_file is not None else []
     patches: dict[str, list[StubMethod]] = {}
     for stub in stubs:
         if stub.is_patch:

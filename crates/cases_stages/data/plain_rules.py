@@ -399,6 +399,10 @@ class Solved(NamedTuple):
     facts: Facts
 
 
+def solved_by(rules: Rules) -> Solved:
+    return Solved(rules, rules.least())
+
+
 def solve(folder: Path, text: CaseText) -> Union[Solved, str]:
     """What follows in a case; or the line that says that it has no program, or no entry."""
     if isinstance(text, str):
@@ -407,8 +411,28 @@ def solve(folder: Path, text: CaseText) -> Union[Solved, str]:
     entry = program.methods.get(read_entry(folder).method)
     if entry is None:
         return "no entry"
-    rules = Rules(program, text, entry)
-    return Solved(rules, rules.least())
+    return solved_by(Rules(program, text, entry))
+
+
+# ---- calls on objects
+
+
+def calls_of(solved: Solved) -> Iterator[tuple[NodeAt, Call]]:
+    """The calls of methods that may run that select by their receiver."""
+    for name, method in solved.rules.methods.items():
+        for node in method.nodes if name in solved.facts.runs else []:
+            if isinstance(node.operation, Call) and node.operation.kind in ("virtual", "interface"):
+                yield NodeAt(method, node), node.operation
+
+
+def called_on(solved: Solved, sites: set[Site]) -> list[str]:
+    """The names and descriptors of calls that may be made on objects of the sites."""
+    found = {call.named for at, call in calls_of(solved)
+             if call.slot(0) is not None and sites & solved.facts.held(at.variable(call.slot(0)))}
+    return sorted(found)
+
+
+# ---- what is printed
 
 
 def lines_of(solved: Union[Solved, str], limit: int) -> list[str]:

@@ -72,9 +72,9 @@ pub record NumberRule : Type 0 where
   pub most : ℕ
   pub otherwise : ℕ
 
--- The last stage that is built.
+-- The last stage. It is the one that is run where words do not give the option.
 abbrev pub last_stage : ℕ
-last_stage = 1
+last_stage = 4
 
 abbrev pub stages_rule : NumberRule
 stages_rule = record { name = codes "stages"; least = 1; most = last_stage; otherwise = last_stage }

@@ -7,8 +7,8 @@ ghost use Rattle.command_words.specs.Requests.{is_digit, number_of, IsNumberBy, 
 
 use crate::fault::NumberOption;
 
-/// The last stage that is built.
-const LAST_STAGE: u32 = 1;
+/// The last stage.
+const LAST_STAGE: u32 = 4;
 
 /// The most digits of a number.
 const MOST_DIGITS: usize = 8;

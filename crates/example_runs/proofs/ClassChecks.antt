@@ -1,5 +1,5 @@
 -- The class of an example is sound, and its numbers fit their fields: by tests of its uses, its entries and its members.
-use Rattle.std.proofs.Common.{codes, ◌≡◌, ℕ, ◌<◌, ◌^◌, Bool, true, false, not, ◌&&◌, ◌||◌, nat_lt, List, [], ◌∷◌, length, Option, Some, bytes_eq, inl, refl, sym, ap, ◌∙◌, subst, true≢false, ltb-true, arith}
+use Rattle.std.proofs.Common.{codes, ◌≡◌, ℕ, ◌<◌, ◌^◌, Bool, true, false, not, ◌&&◌, ◌||◌, nat_lt, List, [], ◌∷◌, length, Option, Some, bytes_eq, inl, inr, refl, sym, ap, ◌∙◌, subst, true≢false, ltb-true, arith}
 use Rattle.std.specs.List.{AllByRecursion, list_all, list_any}
 use Rattle.std.specs.Option.{option_map_or}
 use Rattle.std.proofs.lemmas.Bool.{and_parts}
@@ -13,19 +13,29 @@ use Rattle.jvm_model.specs.declared.grammar.Grammar.TheVariants.{ClassOrArray, F
 use Rattle.jvm_model.specs.declared.pool.EntryKind.TheVariants as kinds
 use Rattle.jvm_model.specs.declared.pool.PoolEntry.{PoolEntry}
 use Rattle.jvm_model.specs.declared.pool.PoolEntry.TheVariants.{Utf8, Class, Methodref, NameAndType}
-use Rattle.jvm_model.specs.Descriptors.{IsMethodDescriptor}
+use Rattle.jvm_model.specs.Code.{CodeBody}
+use Rattle.jvm_model.specs.Descriptors.{IsFieldDescriptor, IsMethodDescriptor}
+use Rattle.jvm_model.specs.Instructions.{HasDescriptorUnits}
 use Rattle.jvm_model.specs.Lookups.{entry_at, text_at, class_name_at}
 use Rattle.jvm_model.specs.Names.{IsClassName, is_method_name, is_unqualified_name}
 use Rattle.jvm_model.specs.Programs.{text_or_none}
 use Rattle.jvm_model.specs.Soundness.{IsIn, IsSoundClass, PlacedUse, TextIsIn, Use, UseHolds, text_bytes, leads, superclass, in_grammar, signature, either_signature, no_array, differs, code_there, code_allowed, is_array, is_code, is_text_byte, leads_to, places_of, plain_descriptor, wants_code}
 use Rattle.jvm_model.specs.Spelling.{AttributeFits, ClassFits, EntryFits, MemberFits}
-use Rattle.example_machine.proofs.Types.{no_types}
-use Rattle.example_runs.specs.Examples.{class_with_calls, example_pool}
+use Rattle.jvm_model.specs.Table.{reference}
+use Rattle.example_machine.proofs.Types.{class_type, no_types, units_by}
+use Rattle.example_runs.specs.Examples.{class_with_main, example_pool}
 
 -- ---- texts
 
 pub plain_is : IsMethodDescriptor plain_descriptor
 plain_is = record { parameters = []; outcome = codes "V"; spelled = refl; each = no_types; units = omega arith; outcome_is = inl refl }
+
+-- that of a method without parameters, which gives an object of the class F
+abbrev object_type : IsFieldDescriptor (codes "LF;")
+object_type = class_type (codes "F") [] refl
+
+pub making_units : HasDescriptorUnits (codes "()LF;") [] (reference ∷ [])
+making_units = units_by [] (codes "LF;") no_types refl (inr object_type)
 
 pub class_is : IsClassName (codes "F")
 class_is = record { parts = codes "F" ∷ []; some = omega arith; each = AllPass-from_list_all is_unqualified_name (codes "F" ∷ []) refl; joined = refl }
@@ -44,7 +54,7 @@ text_passes ClassOrArray text = bytes_eq text (codes "F") || bytes_eq text (code
 text_passes FieldName text = false
 text_passes MethodName text = is_method_name text
 text_passes FieldDescriptor text = false
-text_passes MethodDescriptor text = bytes_eq text plain_descriptor
+text_passes MethodDescriptor text = bytes_eq text plain_descriptor || bytes_eq text (codes "()LF;")
 
 is_class : (text : List ℕ) → text_passes ClassOrArray text ≡ true → IsIn ClassOrArray text
 is_class text e = by (bytes_eq text (codes "F")) refl e where
@@ -52,12 +62,18 @@ is_class text e = by (bytes_eq text (codes "F")) refl e where
   by true f e = inl (subst IsClassName (sym ((bytes_eq-Decides text (codes "F")).0 f)) class_is)
   by false f e = inl (subst IsClassName (sym ((bytes_eq-Decides text (codes "java/lang/Object")).0 e)) object_is)
 
+is_descriptor : (text : List ℕ) → text_passes MethodDescriptor text ≡ true → IsMethodDescriptor text
+is_descriptor text e = by (bytes_eq text plain_descriptor) refl e where
+  by : (b : Bool) → bytes_eq text plain_descriptor ≡ b → (b || bytes_eq text (codes "()LF;")) ≡ true → IsMethodDescriptor text
+  by true f e = subst IsMethodDescriptor (sym ((bytes_eq-Decides text plain_descriptor).0 f)) plain_is
+  by false f e = subst IsMethodDescriptor (sym ((bytes_eq-Decides text (codes "()LF;")).0 e)) making_units.is
+
 is_in : (g : Grammar) (text : List ℕ) → text_passes g text ≡ true → IsIn g text
 is_in ClassOrArray text e = is_class text e
 is_in FieldName text e = absurd (true≢false (sym e))
 is_in MethodName text e = e
 is_in FieldDescriptor text e = absurd (true≢false (sym e))
-is_in MethodDescriptor text e = subst IsMethodDescriptor (sym ((bytes_eq-Decides text plain_descriptor).0 e)) plain_is
+is_in MethodDescriptor text e = is_descriptor text e
 
 abbrev text_fits : List PoolEntry → Grammar → ℕ → Bool
 text_fits pool g index = option_map_or (text_passes g) (text_at pool index) true
@@ -114,12 +130,12 @@ holds pool (code_allowed m earlier a) e = λ is.
     let both = and_parts (wants_code m) (not (list_any (is_code pool) earlier)) e in
     (both.0, not_true (list_any (is_code pool) earlier) both.1)
 
-all_pass : (called : List ℕ) → list_all (λ (p : PlacedUse). passes example_pool p.use_) (places_of (class_with_calls called)) ≡ true
-all_pass called = refl
+all_pass : (main : CodeBody) → list_all (λ (p : PlacedUse). passes example_pool p.use_) (places_of (class_with_main main)) ≡ true
+all_pass main = refl
 
-pub sound : (called : List ℕ) → IsSoundClass (class_with_calls called)
-sound called = All-weaker (λ (p : PlacedUse). passes example_pool p.use_ ≡ true) (λ (p : PlacedUse). UseHolds example_pool p.use_) (λ p e. holds example_pool p.use_ e) (places_of (class_with_calls called))
-    (AllPass-from_list_all (λ (p : PlacedUse). passes example_pool p.use_) (places_of (class_with_calls called)) (all_pass called))
+pub sound : (main : CodeBody) → IsSoundClass (class_with_main main)
+sound main = All-weaker (λ (p : PlacedUse). passes example_pool p.use_ ≡ true) (λ (p : PlacedUse). UseHolds example_pool p.use_) (λ p e. holds example_pool p.use_ e) (places_of (class_with_main main))
+    (AllPass-from_list_all (λ (p : PlacedUse). passes example_pool p.use_) (places_of (class_with_main main)) (all_pass main))
 
 -- ---- numbers
 
@@ -181,13 +197,13 @@ member_is m h =
       attributes = each_by AttributeFits attribute_fits attribute_is m.attributes d.1;
     }
 
-pub class_fits : (called : List ℕ) → list_all member_fits (class_with_calls called).methods ≡ true → ClassFits (class_with_calls called)
-class_fits called each = record {
+pub class_fits : (main : CodeBody) → list_all member_fits (class_with_main main).methods ≡ true → ClassFits (class_with_main main)
+class_fits main each = record {
   minor = omega arith;
   major = omega arith;
   pool_count = omega arith;
   pool = each_by EntryFits entry_fits entry_is example_pool refl;
-  pairs = (refl, (refl, (refl, (refl, (refl, (refl, (refl, (refl, (refl, (refl, (refl, (refl, (refl, (refl, (refl, (refl, (refl, refl)))))))))))))))));
+  pairs = (refl, (refl, (refl, (refl, (refl, (refl, (refl, (refl, (refl, (refl, (refl, (refl, (refl, (refl, (refl, (refl, (refl, (refl, (refl, (refl, (refl, refl)))))))))))))))))))));
   flags = omega arith;
   this_class = omega arith;
   super_class = omega arith;
@@ -196,7 +212,7 @@ class_fits called each = record {
   field_count = omega arith;
   fields = tt;
   method_count = omega arith;
-  methods = each_by MemberFits member_fits member_is (class_with_calls called).methods each;
+  methods = each_by MemberFits member_fits member_is (class_with_main main).methods each;
   attribute_count = omega arith;
   attributes = tt;
 }

@@ -11,16 +11,17 @@ use Rattle.std.proofs.lemmas.Map.Views.{Contains-from_any}
 use Rattle.std.proofs.lemmas.Slice.Eq.{bytes_eq-Decides}
 use Rattle.jvm_model.specs.declared.program.NamedClass.{NamedClass}
 use Rattle.jvm_model.specs.declared.program.Origin.{Origin}
+use Rattle.jvm_model.specs.Code.{CodeBody}
 use Rattle.jvm_model.specs.Linking.{Claim, Demand, differs, is_there, of_kind, no_cycle, Meets, Links, linked, claims, names, origins, program_from}
 use Rattle.jvm_model.specs.Programs.{Class, Program}
 use Rattle.jvm_model.specs.Subtypes.{IsCyclic}
 use Rattle.stub_file.specs.BaseStubs.{base_classes}
 use Rattle.example_machine.proofs.LinkTests.{ancestors, ascend, are_met, is_acyclic, is_met, same_bool, supers_are}
 use Rattle.example_machine.proofs.Types.{among, closed_up, direct_among, found_is_any, found_passes, or_second, stays_among, super_among}
-use Rattle.example_runs.specs.Examples.{class_with_calls}
+use Rattle.example_runs.specs.Examples.{class_with_main}
 
-abbrev pub named : List ℕ → NamedClass
-named called = record { file = codes "F.class"; class = class_with_calls called }
+abbrev pub named : CodeBody → NamedClass
+named main = record { file = codes "F.class"; class = class_with_main main }
 
 -- exchanges after which the classes stand in byte order of their names
 abbrev moves : List (ℕ × ℕ)
@@ -30,11 +31,11 @@ moves =
     ∷ (24, 30) ∷ (22, 35) ∷ (21, 33) ∷ (20, 33) ∷ (19, 38) ∷ (18, 22) ∷ (17, 23) ∷ (16, 22) ∷ (15, 51) ∷ (14, 39) ∷ (13, 48) ∷ (12, 37) ∷ (11, 34)
     ∷ (10, 25) ∷ (9, 22) ∷ (8, 20) ∷ (7, 34) ∷ (6, 9) ∷ (5, 24) ∷ (4, 23) ∷ (3, 35) ∷ (2, 21) ∷ (1, 8) ∷ []
 
-abbrev pub order : List ℕ → List Origin
-order called = apply_swaps (origins (named called ∷ []) base_classes) moves
+abbrev pub order : CodeBody → List Origin
+order main = apply_swaps (origins (named main ∷ []) base_classes) moves
 
-abbrev pub program : List ℕ → Program
-program called = program_from (order called)
+abbrev pub program : CodeBody → Program
+program main = program_from (order main)
 
 -- ---- byte order
 
@@ -63,8 +64,8 @@ within n (s ∷ swaps) h =
     let here = and_parts (nat_lt s.0 n) (nat_lt s.1 n) both.0 in
     (ltb-true _ _ here.0, ltb-true _ _ here.1, within n swaps both.1)
 
-in_order : (called : List ℕ) → ascend (names (order called)) ≡ true
-in_order called = refl
+in_order : (main : CodeBody) → ascend (names (order main)) ≡ true
+in_order main = refl
 
 -- ---- demands
 
@@ -97,19 +98,19 @@ met p (of_kind is_interface name) h = λ c there is.
     (passes_of (λ (d : Class). not (bytes_eq d.name name) || same_bool d.is_interface is_interface) p.classes c h there))
 met p (no_cycle name) h = acyclic p name (ancestors p 8 name) h
 
-all_met : (called : List ℕ) → are_met (program called) (claims (named called ∷ []) base_classes (order called)) ≡ true
-all_met called = refl
+all_met : (main : CodeBody) → are_met (program main) (claims (named main ∷ []) base_classes (order main)) ≡ true
+all_met main = refl
 
 -- ---- the program
 
-pub links : (called : List ℕ) → Links (named called ∷ []) base_classes (Ok (program called))
-links called = record {
-  ordered = named called ∷ [];
-  by_file = record { same = IsPermutation-refl (named called ∷ []); sorted = sorted (codes "F.class" ∷ []) refl };
-  links = linked (order called)
-      (record { same = record { moves = moves; below = within 55 moves refl; is = refl }; sorted = sorted (names (order called)) (in_order called) })
-      (All-weaker (λ (c : Claim). is_met (program called) c.demand ≡ true) (λ (c : Claim). Meets (program called) c.demand) (λ c h. met (program called) c.demand h)
-      (claims (named called ∷ []) base_classes (order called))
-      (AllPass-from_list_all (λ (c : Claim). is_met (program called) c.demand) (claims (named called ∷ []) base_classes (order called)) (all_met called)))
+pub links : (main : CodeBody) → Links (named main ∷ []) base_classes (Ok (program main))
+links main = record {
+  ordered = named main ∷ [];
+  by_file = record { same = IsPermutation-refl (named main ∷ []); sorted = sorted (codes "F.class" ∷ []) refl };
+  links = linked (order main)
+      (record { same = record { moves = moves; below = within 55 moves refl; is = refl }; sorted = sorted (names (order main)) (in_order main) })
+      (All-weaker (λ (c : Claim). is_met (program main) c.demand ≡ true) (λ (c : Claim). Meets (program main) c.demand) (λ c h. met (program main) c.demand h)
+      (claims (named main ∷ []) base_classes (order main))
+      (AllPass-from_list_all (λ (c : Claim). is_met (program main) c.demand) (claims (named main ∷ []) base_classes (order main)) (all_met main)))
       refl;
 }

@@ -1,4 +1,4 @@
--- This crate's own proofs alone rest on this module.
+-- Public contracts rest on this module.
 -- The places of sites among those that are tracked.
 use Rattle.std.specs.Prelude.{◌≡◌, ◌↔◌, ℕ, ◌<◌, List, Option, Some, slice_get}
 use Rattle.jvm_model.specs.declared.number.SiteNo.{SiteNo}

@@ -12,7 +12,7 @@ use site_report::TrackedSite;
 use std::alloc::{AllocError, Global};
 
 /// For each site of the ground, by its number, its place among those that are tracked, if it is one of them.
-pub(crate) fn site_places(
+pub fn site_places(
     alloc: Global,
     program: &Program,
     ground: &Ground<'_>,

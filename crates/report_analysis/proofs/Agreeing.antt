@@ -1,11 +1,10 @@
--- Two suppliers that give the same nodes of methods that may run: the same sites are tracked, and each has the same verdict.
-use Rattle.std.proofs.Common.{◌≡◌, ◌≤◌, ℕ, List, Contains, Ok, refl, sym, ap, ◌∙◌, subst, arith}
+-- Two suppliers that give the same nodes of methods that may run: the same sites are tracked, and the same events may occur.
+use Rattle.std.proofs.Common.{◌≡◌, ℕ, List, Ok, refl, sym, ap, ◌∙◌, subst}
 use Rattle.jvm_model.specs.declared.automaton.Automaton.{Automaton}
 use Rattle.jvm_model.specs.declared.automaton.Event.{Event}
 use Rattle.jvm_model.specs.declared.number.MethodNo.{MethodNo}
 use Rattle.jvm_model.specs.declared.site.Site.{Site}
 use Rattle.jvm_model.specs.Programs.{Program}
-use Rattle.machine_bytecode.specs.Objects.{Subject}
 use Rattle.op_model.specs.declared.lowered.LoweredMethod.{LoweredMethod}
 use Rattle.op_model.specs.declared.node.Node.{Node}
 use Rattle.op_model.specs.Supplies.{GivenAs}
@@ -16,10 +15,7 @@ use Rattle.report_analysis.specs.Analyses.{AreListed}
 use Rattle.prune_stage.specs.Pruning.{IsPruned, MayOccur}
 use Rattle.site_report.specs.declared.tracked_site.TrackedSite.{TrackedSite}
 use Rattle.site_report.specs.Sites.{site_in}
-use Rattle.site_report.specs.declared.verdict.Verdict.{Verdict}
 use Rattle.report_spec.specs.Tracked.{Allocates, AreTracked, IsTracked, makes, is_given}
-use Rattle.report_spec.specs.Verdicts.{Asked, AtLimitBy, IsVerdict, SafeBy, by_events, by_edges, of_edges}
-use Rattle.report_spec.proofs.FirstStages.{verdict_over}
 
 -- Each node that the one gives of a method that may run, the other gives.
 abbrev pub GivesNodes : (Fact → Type 0) → GivenAs → GivenAs → Type 0
@@ -54,7 +50,7 @@ module _ (p : Program) (S : Fact → Type 0) (from to : GivenAs) (over : GivesNo
     holds = o.holds;
   }
 
-  pruned_over : (a : Automaton) (s : Site) → IsPruned to S a s → IsPruned from S a s
+  pub pruned_over : (a : Automaton) (s : Site) → IsPruned to S a s → IsPruned from S a s
   pruned_over a s pruned = record { no_word = λ word all. pruned.no_word word (λ k d l. occurs_over a s _ (all k d l)) }
 
 -- ---- both ways
@@ -68,25 +64,6 @@ module _ (p : Program) (S : Fact → Type 0) (one other : GivenAs) (there : Give
     );
     order = are.order;
   }
-
--- where the first stage alone is asked for
-module _ (x : Subject) (S : Fact → Type 0) (from to : GivenAs) (over : GivesNodes S from to) (back : GivesNodes S to from) (w : Asked) (first : w.stages ≡ 1) where
-  safe_over : (s : Site) (stage : ℕ) → stage ≤ w.stages → SafeBy x from S w.depth w.fact_limit s stage → SafeBy x to S w.depth w.fact_limit s stage
-  safe_over s stage within (by_events is pruned) = by_events is (pruned_over x.program S to from back x.property s pruned)
-  safe_over s stage within (by_edges setting of below) = absurd (let two = of.from_two in omega arith)
-
-  limit_over : (s : Site) (stage : ℕ) → stage ≤ w.stages → AtLimitBy x from S w.depth w.fact_limit s stage → AtLimitBy x to S w.depth w.fact_limit s stage
-  limit_over s stage within (of_edges setting of many) = absurd (let two = of.from_two in omega arith)
-
-module _ (x : Subject) (S : Fact → Type 0) (one other : GivenAs) (there : GivesNodes S one other) (back : GivesNodes S other one) (w : Asked) (first : w.stages ≡ 1) where
-  pub verdict_both : (t : TrackedSite) (v : Verdict) → IsVerdict x one S w t v → IsVerdict x other S w t v
-  verdict_both t v is =
-      let s = site_in x.program t in
-      let d = w.depth in
-      let n = w.fact_limit in
-      verdict_over (SafeBy x one S d n s) (SafeBy x other S d n s) (AtLimitBy x one S d n s) (AtLimitBy x other S d n s) w.stages
-      (safe_over x S one other there back w first s) (safe_over x S other one back there w first s)
-      (limit_over x S one other there back w first s) (limit_over x S other one back there w first s) v is
 
 -- ---- the listed methods
 

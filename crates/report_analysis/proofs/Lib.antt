@@ -8,4 +8,6 @@ mod FoundLines
 mod CallTargets
 mod KnownSites
 mod Agreeing
+mod ListedVerdicts
+mod TurnedRound
 mod Reported

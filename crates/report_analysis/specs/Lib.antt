@@ -1,3 +1,6 @@
 pub mod Analyses
+pub mod Stages
 pub mod Texts
 pub mod Written
+pub mod Numbers
+pub mod Later

@@ -1,6 +1,6 @@
 -- This crate's own proofs alone rest on this module.
 -- The report on sites of which the verdicts are known.
-use Rattle.std.specs.Prelude.{◌≡◌, ◌↔◌, ◌+◌, ◌<◌, ◌^◌, ℕ, Bool, true, false, List, zip, map, count_by, All, IsTrue}
+use Rattle.std.specs.Prelude.{◌≡◌, ◌↔◌, ◌+◌, ◌<◌, ◌^◌, ℕ, Bool, true, false, List, zip, map, count_by, All, Contains, IsTrue}
 use Rattle.jvm_model.specs.Programs.{Program}
 use Rattle.site_report.specs.declared.tracked_site.TrackedSite.{TrackedSite}
 use Rattle.site_report.specs.declared.verdict.Verdict.{Verdict}
@@ -9,10 +9,14 @@ use Rattle.report_spec.specs.Reports.{is_safe, is_unproved, is_limit, line_of, r
 use Rattle.report_analysis.specs.declared.writing.Counts.{Counts}
 use Rattle.report_analysis.specs.Texts.{text_of}
 
--- The verdict where the first stage alone is asked for: by whether it proves the site safe.
+-- The verdict by the first stage alone: by whether it proves the site safe.
 abbrev pub verdict_of : Bool → Verdict
 verdict_of true = Safe 1
 verdict_of false = Unproved
+
+-- A site that the first stage does not prove safe is there only where no later one is asked for.
+pub record FirstSuffices (stages : ℕ) (answers : List Bool) : Type 0 where
+  pub each : Contains answers false → stages ≡ 1
 
 -- The lines of the sites.
 abbrev pub lines_of : Program → List TrackedSite → List Verdict → List (List ℕ)

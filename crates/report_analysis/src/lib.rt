@@ -1,14 +1,19 @@
 //! From a linked program to its report. The run calls `analyse`: the points-to analysis, which lowers methods on demand, and its ground;
 //! and then `report_of`: the tracked sites, the verdict of each, and the text of the lines.
 //! The law `analyses_are_covered` says that the facts of an analysis cover each state of each execution on the folder's methods as nodes.
-//! Begin with src/analysis.rt and src/report.rt; verdicts.rt has the verdict of each site, writing.rt the text.
+//! Begin with src/analysis.rt and src/report.rt; asked.rt says what a report is asked for, verdicts.rt and later.rt have the verdict of each site, numbers.rt
+//! their numbers in the ground, writing.rt the text.
 #![tactic(auto)]
 
 mod analysis;
+mod asked;
 pub mod covered;
+mod later;
+mod numbers;
 mod report;
 mod verdicts;
 mod writing;
 
 pub use analysis::{analyse, solve_folder};
+pub use asked::ReportStages;
 pub use report::{Report, report_of};

@@ -2,13 +2,13 @@
 
 ghost use Rattle.std.specs.Prelude.{◌≡◌, ℕ, Contains, IfOk};
 ghost use Rattle.jvm_model.specs.Automata.{IsAutomaton};
-ghost use Rattle.jvm_model.specs.declared.number.MethodNo.{MethodNo as RuleMethodNo};
 ghost use Rattle.report_analysis.specs.Analyses.{IsAnalysis};
+ghost use Rattle.report_analysis.specs.Stages.{AreInRange, asked_of, subject_of};
 ghost use Rattle.report_analysis.specs.Texts.{IsReportText};
 ghost use Rattle.lowering_supply.specs.Supplied.{IsSupplied};
-ghost use Rattle.report_spec.specs.Verdicts.{Asked};
-ghost use Rattle.program_model.specs.Numbers.{name_at, IsClassNumber};
+ghost use Rattle.program_model.specs.Numbers.{name_at, IsClassNumber, IsMethodNumber};
 
+use crate::asked::ReportStages;
 use crate::verdicts::verdicts_of;
 use crate::writing::written;
 use ground::Ground;
@@ -24,25 +24,27 @@ pub struct Report {
     pub all_safe: bool,
 }
 
-/// The report on an analysis of the program, where the first stage alone is asked for: a line for each tracked site with its verdict, and the summary.
+/// The report on an analysis of the program from an entry, by the stages that are asked for: a line for each tracked site with its verdict, and the summary.
 /// `upper` is the property's class.
 pub fn report_of(
     alloc: Global,
     ground: &Ground<'_>,
     automaton: &Automaton,
     upper: ClassNo,
+    asked: ReportStages,
 ) -> Result<Report, AllocError>
     requires automaton { IsAutomaton automaton.now }
     requires upper { IsClassNumber ground.now.program upper.0 }
     requires class { name_at ground.now.program upper.0 ≡ automaton.now.class_name }
-    requires analysis { (entry : RuleMethodNo) × (limit : ℕ) × IsAnalysis ground.now.program (IsSupplied ground.now.program) entry limit ground.now }
-    ensures { IfOk result (λ r. (first : ℕ) (w : Asked) → w.stages ≡ 1
-        → IsReportText (record { program = ground.now.program; property = automaton.now; entry = first }) (IsSupplied ground.now.program)
-        (Contains ground.now.facts) w r.text.items r.all_safe) }
+    requires asked { AreInRange (asked_of asked) }
+    requires entry { IsMethodNumber ground.now.program asked.entry.0 }
+    requires analysis { (limit : ℕ) × IsAnalysis ground.now.program (IsSupplied ground.now.program) asked.entry limit ground.now }
+    ensures { IfOk result (λ r. IsReportText (subject_of ground.now.program automaton.now asked) (IsSupplied ground.now.program)
+        (Contains ground.now.facts) (asked_of asked) r.text.items r.all_safe) }
 {
     supplied_methods_are_whole();
     let sites = tracked(alloc, ground, upper)?;
-    let verdicts = verdicts_of(alloc, ground, automaton, sites.as_slice())?;
+    let verdicts = verdicts_of(alloc, ground, automaton, sites.as_slice(), asked)?;
     written(
         alloc,
         ground.program(),

@@ -1,18 +1,22 @@
-//! The verdict of each site, where the first stage alone is asked for: a site is safe by it or unproved.
+//! The verdict of each site: by the first stage where that proves it safe, and else by the later ones that are asked for.
 
-ghost use Rattle.std.specs.Prelude.{◌≡◌, ℕ, map, Contains, IfOk};
+ghost use Rattle.std.specs.Prelude.{◌≡◌, Bool, false, map, Contains, IfOk, IsTrue};
 ghost use Rattle.std.specs.List.{AllZip};
 ghost use Rattle.jvm_model.specs.Automata.{IsAutomaton};
-ghost use Rattle.program_model.specs.Numbers.{IsClassNumber};
+ghost use Rattle.program_model.specs.Numbers.{IsClassNumber, IsMethodNumber};
 ghost use Rattle.ground.specs.Findings.{gives_listed};
 ghost use Rattle.site_report.specs.Sites.{AreInOrder};
-ghost use Rattle.report_spec.specs.Verdicts.{Asked, IsVerdict};
-ghost use Rattle.report_analysis.specs.Written.{verdict_of};
+ghost use Rattle.report_spec.specs.Verdicts.{IsVerdict};
+ghost use Rattle.report_analysis.specs.Stages.{AreInRange, asked_of, subject_of};
+ghost use Rattle.report_analysis.specs.Written.{FirstSuffices, verdict_of};
 
+use crate::asked::ReportStages;
+use crate::later::later_verdicts;
 use ground::Ground;
 use jvm_model::Automaton;
 use prune_stage::prune;
 use site_report::{TrackedSite, Verdict};
+use stage_verdicts::LaterStages;
 use std::alloc::{AllocError, Global};
 
 /// The verdict of each site, in their order.
@@ -21,31 +25,54 @@ pub(crate) fn verdicts_of(
     ground: &Ground<'_>,
     automaton: &Automaton,
     sites: &[TrackedSite],
+    asked: ReportStages,
 ) -> Result<Vec<Verdict>, AllocError>
     requires automaton { IsAutomaton automaton.now }
     requires order { AreInOrder sites.now }
     requires known { (t : TrackedSite) → Contains sites.now t → IsClassNumber ground.now.program t.class.0 }
-    ensures { IfOk result (λ verdicts. (entry : ℕ) (w : Asked) → w.stages ≡ 1
-        → AllZip (IsVerdict (record { program = ground.now.program; property = automaton.now; entry = entry }) (gives_listed ground.now.methods)
-        (Contains ground.now.facts) w) sites.now verdicts.items) }
+    requires asked { AreInRange (asked_of asked) }
+    requires entry { IsMethodNumber ground.now.program asked.entry.0 }
+    ensures { IfOk result (λ verdicts. AllZip (IsVerdict (subject_of ground.now.program automaton.now asked) (gives_listed ground.now.methods)
+        (Contains ground.now.facts) (asked_of asked)) sites.now verdicts.items) }
 {
     let answers = prune(alloc, ground, automaton, sites)?;
-    stage_verdicts(alloc, answers.as_slice())
+    if first_suffices(asked.stages, answers.as_slice()) {
+        return first_verdicts(alloc, answers.as_slice());
+    }
+    let later = LaterStages {
+        ground,
+        entry: asked.entry,
+        automaton,
+        stages: asked.stages,
+        depth: asked.depth,
+        limit: asked.fact_limit as usize,
+    };
+    later_verdicts(alloc, later, sites, answers.as_slice())
+}
+
+/// Whether no later stage is asked for, or the first one proves each site safe.
+fn first_suffices(stages: u8, answers: &[bool]) -> bool
+    ensures { IsTrue result → FirstSuffices stages answers.now }
+{
+    if stages == 1 {
+        return true;
+    }
+    answers.iter().all(|answer| *answer)
 }
 
 /// What the first stage finds of each site, by whether it proves it safe.
-fn stage_verdicts(alloc: Global, answers: &[bool]) -> Result<Vec<Verdict>, AllocError>
+fn first_verdicts(alloc: Global, answers: &[bool]) -> Result<Vec<Verdict>, AllocError>
     ensures { IfOk result (λ verdicts. verdicts.items ≡ map verdict_of answers.now) }
 {
     let mut verdicts = Vec::new(alloc);
     for answer in answers {
-        verdicts.push(stage_verdict(*answer))?;
+        verdicts.push(first_verdict(*answer))?;
     }
     Ok(verdicts)
 }
 
 /// What the first stage finds of a site, by whether it proves it safe.
-fn stage_verdict(is_pruned: bool) -> Verdict
+fn first_verdict(is_pruned: bool) -> Verdict
     ensures { result ≡ verdict_of is_pruned }
 {
     if is_pruned {

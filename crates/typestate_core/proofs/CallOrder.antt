@@ -9,14 +9,14 @@ use Rattle.jvm_model.specs.declared.program.NamedClass.{NamedClass}
 use Rattle.jvm_model.specs.declared.stub.StubClass.{StubClass}
 use Rattle.class_folder.specs.declared.fault.FolderFault.{FolderFault}
 use Rattle.class_folder.specs.ClassFiles.{AreClassFiles}
-use Rattle.class_folder.specs.FolderCalls.{AreNames, StopsReading, folder_questions, names_of_files}
+use Rattle.class_folder.specs.FolderCalls.{StopsReading, folder_questions, names_of_files}
 use Rattle.class_folder.proofs.FileNames.{names_listed}
 use Rattle.command_words.specs.Requests.{Wanted, AsksFor}
 use Rattle.property_file.specs.PropertyFile.{IsPropertyFile}
 use Rattle.stub_file.specs.StubFile.{IsStubFile}
 use Rattle.run_spec.specs.declared.status.Status.{Status}
 use Rattle.typestate_core.specs.declared.answer.Answer.{Answer}
-use Rattle.typestate_core.specs.Answers.{Says, reports}
+use Rattle.typestate_core.specs.Answers.{reports}
 use Rattle.typestate_core.specs.ReadingOrder.{AsksInOrder, FolderCalls, HasProperty, HasStubs, PropertyCalls, RunCalls, StubCalls, document_question, folder_read, folder_stops, is_report, no_calls, property_read, property_stops, some_calls, stubs_read, stubs_stop, without_stubs}
 use Rattle.typestate_core.proofs.Judging.{IsRead, SaysLine, read_of}
 use Rattle.typestate_core.proofs.Options.{if_some}

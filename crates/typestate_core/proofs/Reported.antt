@@ -9,26 +9,25 @@ use Rattle.command_words.specs.Requests.{Wanted}
 use Rattle.report_analysis.specs.Analyses.{IsAnalysis}
 use Rattle.lowering_supply.specs.Supplied.{IsSupplied}
 use Rattle.report_spec.specs.Reports.{IsReport}
-use Rattle.report_spec.specs.Verdicts.{Asked}
 use Rattle.run_spec.specs.Inputs.{Input}
 use Rattle.run_spec.specs.Outcomes.{AnalysisOutcome, asked_of, report_status, reported}
 use Rattle.typestate_core.specs.declared.answer.Answer.{Answer}
 use Rattle.typestate_core.specs.Answers.{OfInputs, lines_of}
+use Rattle.typestate_core.specs.Numbers.{asked_by}
 
 -- a program with a property and an entry
 abbrev run : Program → Automaton → ℕ → Subject
 run p a entry = record { program = p; property = a; entry = entry }
 
 pub reported_told : {E : Type 0} (r : Result Answer E) (w : Wanted) (a : Automaton) (p : Program) (entry : MethodNo) (limit : ℕ) (g : Findings)
-    → limit ≡ w.pair_limit → w.stages ≡ 1 → IsAnalysis p (IsSupplied p) entry limit g
-    → IfOk r (λ x. (first : ℕ) (asked : Asked) → asked.stages ≡ 1 → (all_safe : Bool)
-    × IsReport (record { program = g.program; property = a; entry = first }) (IsSupplied g.program) (Contains g.facts) asked (lines_of x) all_safe
+    → limit ≡ w.pair_limit → IsAnalysis p (IsSupplied p) entry limit g
+    → IfOk r (λ x. (all_safe : Bool) × IsReport (run g.program a entry.0) (IsSupplied g.program) (Contains g.facts) (asked_by w) (lines_of x) all_safe
     × (x.status ≡ report_status all_safe))
     → IfOk r (λ x. OfInputs w a (λ i. AnalysisOutcome i p entry x.status (lines_of x)))
-reported_told (Err e) w a p entry limit g limit_is one at_limit says = tt
-reported_told (Ok x) w a p entry limit g limit_is one at_limit says = λ stubs classes.
+reported_told (Err e) w a p entry limit g limit_is at_limit says = tt
+reported_told (Ok x) w a p entry limit g limit_is at_limit says = λ stubs classes.
     let i : Input = record { wanted = w; property = a; stubs = stubs; classes = classes } in
     let analysis : IsAnalysis p (IsSupplied p) entry w.pair_limit g = subst (λ (n : ℕ). IsAnalysis p (IsSupplied p) entry n g) limit_is at_limit in
-    let (all_safe, of_ground, status_is) = says entry.0 (asked_of i) one in
+    let (all_safe, of_ground, status_is) = says in
     let report = subst (λ (q : Program). IsReport (run q a entry.0) (IsSupplied q) (Contains g.facts) (asked_of i) (lines_of x) all_safe) analysis.program of_ground in
     reported analysis.found g.facts all_safe analysis.solution (record { least = analysis.least; unrefused = analysis.unrefused }) report status_is

@@ -1,7 +1,7 @@
 -- Public contracts rest on this module.
 -- The order in which a run asks its tree: the property file, the stub file if the words name one, the listing, and each class file. It stops where something
 -- is not given or is refused.
-use Rattle.std.specs.Prelude.{◌≡◌, ◌≢◌, ℕ, Bool, true, false, List, [], ◌∷◌, Option, Some, None, IfSome}
+use Rattle.std.specs.Prelude.{◌≡◌, ℕ, Bool, true, false, List, [], ◌∷◌, Option, Some, None, IfSome}
 use Rattle.ts_outside.specs.Calls.{Called, Calls, Question, all_given, given, reading}
 use Rattle.ts_outside.specs.Files.{File, file_at}
 use Rattle.failure.specs.declared.Failure.{Failure}

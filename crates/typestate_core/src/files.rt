@@ -7,7 +7,9 @@ ghost use Rattle.jvm_model.specs.StubRules.{IsSoundStub};
 ghost use Rattle.ts_outside.specs.Counts.{Rose};
 ghost use Rattle.command_words.specs.Requests.{wanted_of};
 ghost use Rattle.typestate_core.specs.Answers.{IsReported, SaysUsage, lines_of, read_fault, reports};
+ghost use Rattle.typestate_core.specs.Numbers.{asked_by};
 ghost use Rattle.typestate_core.specs.ReadingOrder.{AsksInOrder, FolderCalls, IsMisused, PropertyCalls, RunCalls, StubCalls};
+ghost use Rattle.report_analysis.specs.Stages.{AreInRange};
 ghost use Rattle.run_spec.specs.Outcomes.{FolderOutcome, Outcome, PropertyOutcome, StubOutcome};
 
 use crate::answer::{Answer, ReadFault, RunFailure, miss, misuse, refuse};
@@ -53,7 +55,7 @@ fn judge_request<T: Tree>(
     request: &Request<'_>,
     tree: &mut T,
 ) -> Result<Answer, RunFailure>
-    requires stages { request.now.stages ≡ 1 }
+    requires numbers { AreInRange (asked_by (wanted_of request.now)) }
     ensures told { IfOk result (λ a. IfSome (T.files tree.old) (λ files. PropertyOutcome files (wanted_of request.now) a.status (lines_of a))) }
     ensures reported { IfOk result (λ a. IsReported a.status) }
     ensures read_fault { IsErrOf result (Cause read_fault) → Rose (T.faults tree.old) (T.faults tree.new) }
@@ -89,7 +91,7 @@ fn judge_property<T: Tree>(
     automaton: &Automaton,
     tree: &mut T,
 ) -> Result<Answer, RunFailure>
-    requires stages { request.now.stages ≡ 1 }
+    requires numbers { AreInRange (asked_by (wanted_of request.now)) }
     requires automaton { IsAutomaton automaton.now }
     ensures told { IfOk result (λ a. IfSome (T.files tree.old) (λ files. StubOutcome files (wanted_of request.now) automaton.now a.status (lines_of a))) }
     ensures reported { IfOk result (λ a. IsReported a.status) }
@@ -134,7 +136,7 @@ fn judge_stubs<T: Tree>(
     stubs: Vec<StubClass>,
     tree: &mut T,
 ) -> Result<Answer, RunFailure>
-    requires stages { request.now.stages ≡ 1 }
+    requires numbers { AreInRange (asked_by (wanted_of request.now)) }
     requires automaton { IsAutomaton automaton.now }
     requires stubs { All IsSoundStub stubs.items }
     ensures told { IfOk result (λ a. IfSome (T.files tree.old) (λ files. FolderOutcome files (wanted_of request.now) automaton.now stubs.items a.status (lines_of a))) }

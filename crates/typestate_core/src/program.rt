@@ -3,19 +3,19 @@
 ghost use Rattle.std.specs.Prelude.{◌≡◌, ◌↔◌, ℕ, Bool, All, Contains, IfOk, IfErr, IsTrue};
 ghost use Rattle.failure.specs.declared.Failure.TheVariants.{OutOfMemory};
 ghost use Rattle.jvm_model.specs.Automata.{IsAutomaton};
-ghost use Rattle.jvm_model.specs.declared.number.MethodNo.{MethodNo as RuleMethodNo};
 ghost use Rattle.jvm_model.specs.declared.program.NamedClass.{NamedClass as RuleNamedClass};
 ghost use Rattle.jvm_model.specs.Soundness.{IsChecked};
 ghost use Rattle.program_model.specs.Numbers.{IsMethodNumber, IsClassNumber, name_at};
 ghost use Rattle.jvm_model.specs.StubRules.{IsSoundStub};
 ghost use Rattle.command_words.specs.Requests.{wanted_of};
 ghost use Rattle.report_analysis.specs.Analyses.{IsAnalysis};
+ghost use Rattle.report_analysis.specs.Stages.{AreInRange, asked_of, subject_of};
 ghost use Rattle.lowering_supply.specs.Supplied.{IsSupplied};
 ghost use Rattle.report_spec.specs.Reports.{IsReport};
-ghost use Rattle.report_spec.specs.Verdicts.{Asked};
 ghost use Rattle.entry_points.specs.Entries.{NamesMethod};
 ghost use Rattle.typestate_core.specs.Answers.{IsReported, OfInputs, lines_of};
 ghost use Rattle.typestate_core.specs.Ends.{SaysEnd};
+ghost use Rattle.typestate_core.specs.Numbers.{asked_by};
 ghost use Rattle.run_spec.specs.Outcomes.{AnalysisOutcome, ClassOutcome, EntryOutcome, LinkOutcome, report_status};
 
 use crate::answer::{Answer, RunFailure, refuse};
@@ -28,7 +28,7 @@ use points_to_rules::{SolveFailure, SolveFault};
 use program_linking::link::link;
 use program_model::link_failure::LinkFault;
 use program_model::program::Program;
-use report_analysis::{Report, analyse, report_of};
+use report_analysis::{Report, ReportStages, analyse, report_of};
 use run_spec::Status;
 use std::alloc::Global;
 use stub_file::{base_stubs, base_stubs_are_closed};
@@ -41,7 +41,7 @@ pub(crate) fn judge_classes(
     stubs: Vec<StubClass>,
     classes: Vec<NamedClass>,
 ) -> Result<Answer, RunFailure>
-    requires stages { request.now.stages ≡ 1 }
+    requires numbers { AreInRange (asked_by (wanted_of request.now)) }
     requires automaton { IsAutomaton automaton.now }
     requires stubs { All IsSoundStub stubs.items }
     requires classes { All (λ (c : RuleNamedClass). IsChecked c.class) classes.items }
@@ -79,7 +79,7 @@ fn judge_program(
     named: bool,
     program: &Program,
 ) -> Result<Answer, RunFailure>
-    requires stages { request.now.stages ≡ 1 }
+    requires numbers { AreInRange (asked_by (wanted_of request.now)) }
     requires automaton { IsAutomaton automaton.now }
     ensures told { IfOk result (λ a. OfInputs (wanted_of request.now) automaton.now (λ i.
         IsTrue named ↔ NamesMethod i.classes request.now.class.now request.now.method.now → EntryOutcome i program.now a.status (lines_of a))) }
@@ -101,7 +101,7 @@ fn judge_entry(
     program: &Program,
     entry: MethodNo,
 ) -> Result<Answer, RunFailure>
-    requires stages { request.now.stages ≡ 1 }
+    requires numbers { AreInRange (asked_by (wanted_of request.now)) }
     requires automaton { IsAutomaton automaton.now }
     requires entry { IsMethodNumber program.now entry.0 }
     ensures told { IfOk result (λ a. OfInputs (wanted_of request.now) automaton.now (λ i. ClassOutcome i program.now entry a.status (lines_of a))) }
@@ -124,7 +124,7 @@ fn judge_analysis(
     entry: MethodNo,
     class: ClassNo,
 ) -> Result<Answer, RunFailure>
-    requires stages { request.now.stages ≡ 1 }
+    requires numbers { AreInRange (asked_by (wanted_of request.now)) }
     requires automaton { IsAutomaton automaton.now }
     requires entry { IsMethodNumber program.now entry.0 }
     requires class { IsClassNumber program.now class.0 }
@@ -134,7 +134,18 @@ fn judge_analysis(
     ensures memory { IfErr result (λ e. e ≡ OutOfMemory) }
 {
     match analyse(alloc, program, entry, u64::from(request.pair_limit)) {
-        Ok(ground) => report_on(alloc, automaton, &ground, class),
+        Ok(ground) => report_on(
+            alloc,
+            automaton,
+            &ground,
+            class,
+            ReportStages {
+                entry,
+                stages: request.stages,
+                depth: request.depth,
+                fact_limit: request.fact_limit,
+            },
+        ),
         Err(failure) => refuse_end(alloc, &failure),
     }
 }
@@ -158,24 +169,26 @@ fn refuse_end(alloc: Global, failure: &SolveFailure) -> Result<Answer, RunFailur
     }
 }
 
-/// Reports on the tracked sites of a program that is analysed, where the first stage alone is asked for.
+/// Reports on the tracked sites of a program that is analysed, by the stages that are asked for.
 fn report_on(
     alloc: Global,
     automaton: &Automaton,
     ground: &Ground<'_>,
     class: ClassNo,
+    asked: ReportStages,
 ) -> Result<Answer, RunFailure>
     requires automaton { IsAutomaton automaton.now }
     requires class { IsClassNumber ground.now.program class.0 }
     requires named { name_at ground.now.program class.0 ≡ automaton.now.class_name }
-    requires analysis { (entry : RuleMethodNo) × (limit : ℕ) × IsAnalysis ground.now.program (IsSupplied ground.now.program) entry limit ground.now }
-    ensures told { IfOk result (λ a. (first : ℕ) (w : Asked) → w.stages ≡ 1 → (all_safe : Bool)
-        × IsReport (record { program = ground.now.program; property = automaton.now; entry = first }) (IsSupplied ground.now.program)
-        (Contains ground.now.facts) w (lines_of a) all_safe × (a.status ≡ report_status all_safe)) }
+    requires asked { AreInRange (asked_of asked) }
+    requires entry { IsMethodNumber ground.now.program asked.entry.0 }
+    requires analysis { (limit : ℕ) × IsAnalysis ground.now.program (IsSupplied ground.now.program) asked.entry limit ground.now }
+    ensures told { IfOk result (λ a. (all_safe : Bool) × IsReport (subject_of ground.now.program automaton.now asked) (IsSupplied ground.now.program)
+        (Contains ground.now.facts) (asked_of asked) (lines_of a) all_safe × (a.status ≡ report_status all_safe)) }
     ensures reported { IfOk result (λ a. IsReported a.status) }
     ensures memory { IfErr result (λ e. e ≡ OutOfMemory) }
 {
-    let Report { text, all_safe } = report_of(alloc, ground, automaton, class)?;
+    let Report { text, all_safe } = report_of(alloc, ground, automaton, class, asked)?;
     Ok(Answer {
         status: report_status(all_safe),
         text,

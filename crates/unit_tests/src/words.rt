@@ -21,7 +21,7 @@ fn look_at_request(rt: &impl Abort, request: Request<'_>) {
     assert_eq!(rt; request.stubs, Some("s.toml"));
     assert_eq!(rt; request.class, b"a/b.C".as_slice());
     assert_eq!(rt; request.method, b"main".as_slice());
-    assert_eq!(rt; (request.stages, request.depth), (1, 3));
+    assert_eq!(rt; (request.stages, request.depth), (3, 3));
     assert_eq!(rt; (request.fact_limit, request.pair_limit), (1_000_000, 1));
 }
 
@@ -35,7 +35,7 @@ fn reads_each_option(rt: HostRuntime) -> Result<(), Fail> {
         "p.toml",
         "--stubs",
         "s.toml",
-        "--stages=1",
+        "--stages=3",
         "--depth",
         "03",
         "--fact-limit",
@@ -48,8 +48,12 @@ fn reads_each_option(rt: HostRuntime) -> Result<(), Fail> {
     Ok(())
 }
 
-#[test]
-fn refuses_a_depth(rt: HostRuntime) -> Result<(), Fail> {
+/// What is wrong with words that give one option more than they have to.
+fn fault_of(
+    alloc: Global,
+    option: &str,
+    value: &str,
+) -> Result<Option<Failure<UsageFault>>, AllocError> {
     let texts = [
         "--classes",
         "folder",
@@ -57,15 +61,32 @@ fn refuses_a_depth(rt: HostRuntime) -> Result<(), Fail> {
         "p.toml",
         "--entry",
         "C.main",
-        "--depth",
-        "+2",
+        option,
+        value,
     ];
-    let words = words_of(rt.alloc(), &texts)?;
-    let fault = read_words(rt.alloc(), &words).err();
+    let words = words_of(alloc, &texts)?;
+    Ok(read_words(alloc, &words).err())
+}
+
+#[test]
+fn refuses_a_depth(rt: HostRuntime) -> Result<(), Fail> {
+    let fault = fault_of(rt.alloc(), "--depth", "+2")?;
     assert!(rt;
         matches!(
             fault,
             Some(Failure::Cause(UsageFault::Range(NumberOption::Depth)))
+        )
+    );
+    Ok(())
+}
+
+#[test]
+fn refuses_a_fifth_stage(rt: HostRuntime) -> Result<(), Fail> {
+    let fault = fault_of(rt.alloc(), "--stages", "5")?;
+    assert!(rt;
+        matches!(
+            fault,
+            Some(Failure::Cause(UsageFault::Range(NumberOption::Stages)))
         )
     );
     Ok(())

@@ -1,4 +1,4 @@
-use Rattle.std.proofs.Common.{rules, ◌≡◌, ◌-◌, ◌<◌, ◌^◌, ◌∙◌, arith, count_by, length}
+use Rattle.std.proofs.Common.{rules, ◌≡◌, ◌<◌, ◌^◌, ◌∙◌, arith, count_by, length}
 use Rattle.report_spec.specs.Reports.{is_limit, is_safe}
 use Rattle.report_analysis.proofs.FoundLines.{all_counted}
 use Rattle.report_analysis.proofs.writing.counts_of.Goals as goal

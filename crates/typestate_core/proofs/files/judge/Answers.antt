@@ -5,12 +5,12 @@ use Rattle.run_spec.specs.Lines.{usage_line}
 use Rattle.typestate_core.specs.Answers.{reports}
 use Rattle.typestate_core.proofs.CallOrder.{no_report, no_run_calls, run_calls}
 use Rattle.typestate_core.proofs.Judging.{usable_told, usage_told}
-use Rattle.typestate_core.proofs.Stages.{one_stage}
+use Rattle.typestate_core.proofs.Stages.{numbers_in_range}
 use Rattle.typestate_core.proofs.files.judge.Goals as goal
 
 pub judge_request-requires : goal.judge_request-requires
 judge_request-requires g c = record {
-  stages = one_stage (map (string_bytes {Z = Global}) c.args.words.now) (wanted_of c.in-Ok.request) c.in-Ok.ensures.asks;
+  numbers = numbers_in_range (map (string_bytes {Z = Global}) c.args.words.now) (wanted_of c.in-Ok.request) c.in-Ok.ensures.asks;
 }
 
 pub returns-in-Ok-clause-told : goal.returns-in-Ok-clause-told

@@ -3,7 +3,7 @@ use Rattle.command_words.specs.Requests.{wanted_of}
 use Rattle.report_analysis.proofs.OwnProgram.{of_own_program}
 use Rattle.lowering_supply.specs.Supplied.{IsSupplied}
 use Rattle.jvm_model.specs.Programs.{Program}
-use Rattle.program_model.specs.Numbers.{IsClassNumber, name_at}
+use Rattle.program_model.specs.Numbers.{IsClassNumber, IsMethodNumber, name_at}
 use Rattle.points_to_rules.specs.Solutions.{IsSolveEnd}
 use Rattle.typestate_core.proofs.ProgramJudging.{end_told}
 use Rattle.typestate_core.proofs.Reported.{reported_told}
@@ -16,15 +16,18 @@ pub report_on-requires-clause-named : goal.report_on-requires-clause-named
 report_on-requires-clause-named c =
     subst (λ (p : Program). name_at p c.args.class.0 ≡ c.args.automaton.now.class_name) (sym c.in-Ok.ensures.ground.program) c.requires.named
 
+pub report_on-requires-clause-entry : goal.report_on-requires-clause-entry
+report_on-requires-clause-entry c = subst (λ (p : Program). IsMethodNumber p c.args.entry.0) (sym c.in-Ok.ensures.ground.program) c.requires.entry
+
 pub report_on-requires-clause-analysis : goal.report_on-requires-clause-analysis
 report_on-requires-clause-analysis c =
     let analysis = c.in-Ok.ensures.ground in
-    (c.args.entry, c.from.result, of_own_program c.args.program.now c.args.entry c.from.result c.in-Ok.ground analysis)
+    (c.from.result, of_own_program c.args.program.now c.args.entry c.from.result c.in-Ok.ground analysis)
 
 pub returns-in-Ok-clause-told : goal.returns-in-Ok-clause-told
 returns-in-Ok-clause-told c =
     reported_told c.report_on.result (wanted_of c.args.request.now) c.args.automaton.now c.args.program.now c.args.entry c.from.result c.in-Ok.ground
-    c.from.ensures c.requires.stages c.in-Ok.ensures.ground c.report_on.ensures.told
+    c.from.ensures c.in-Ok.ensures.ground c.report_on.ensures.told
 
 pub returns-in-Err-clause-told : goal.returns-in-Err-clause-told
 returns-in-Err-clause-told c =

@@ -1,0 +1,15 @@
+//! What a report is asked for.
+
+use jvm_model::MethodNo;
+
+/// An entry, and up to which stage objects are to keep the property from there; how many fields a store may give a path; and how many path edges are too many.
+#[derive(Clone, Copy)]
+pub struct ReportStages {
+    pub entry: MethodNo,
+    /// From 1 to 4.
+    pub stages: u8,
+    /// At most 3.
+    pub depth: u8,
+    /// At least 1.
+    pub fact_limit: u32,
+}
