@@ -5,7 +5,7 @@ For each public class they call each static method and each constructor that is 
 What the constructors give, and those static methods that give an object of just this class, goes to a static field.
 On the object that is there each public method of the class is called, and each one that it has from a supertype of
 the library of which no object is got so, as an abstract class or an interface. The code for one class stands in
-methods of its own, of some thousand bytes each.
+methods of its own, of some thousand bytes each. How a call is written, and what it is given, is a `NullCalls`, or another one in its place.
 """
 
 import pathlib
@@ -25,16 +25,10 @@ NAME = "Driver"
 # About so much code stands in one method, and so many entries in one constant pool, before another one is begun.
 MUCH_CODE = 4_000
 MANY_ENTRIES = 40_000
-# An object twice, and 255 units of arguments.
-MOST_STACK = 257
+# An object twice, 255 units of arguments, and what is on the stack while an argument is made.
+MOST_STACK = 272
 
 Key = tuple[str, str]
-
-
-def arguments(descriptor: str) -> bytes:
-    """Pushes 0 or null for each parameter."""
-    pushed = {"J": LCONST_0, "F": FCONST_0, "D": DCONST_0, "L": ACONST_NULL, "[": ACONST_NULL}
-    return bytes(pushed.get(kind[0], ICONST_0) for kind in parameter_types(descriptor))
 
 
 def dropped(descriptor: str) -> bytes:
@@ -90,18 +84,44 @@ def in_parts(calls: list[bytes], first: bytes = b"") -> list[bytes]:
     return parts
 
 
+class NullCalls:
+    """How calls are made: with 0 and null, one after the other. The object of a class stands in a static field of the class that calls it."""
+
+    def field_of(self, maker: ClassMaker, found: ClassFile) -> tuple[str, str]:
+        """The field for the object of a class that this maker calls: its class and its name."""
+        name = f"object{len(maker.fields)}"
+        maker.add_field(STATIC, name, own_type(found))
+        return maker.name, name
+
+    def argument(self, _maker: ClassMaker, kind: str) -> bytes:
+        """Pushes what is given for a parameter of a type."""
+        pushed = {"J": LCONST_0, "F": FCONST_0, "D": DCONST_0, "L": ACONST_NULL, "[": ACONST_NULL}
+        return bytes([pushed.get(kind[0], ICONST_0)])
+
+    def arguments(self, maker: ClassMaker, descriptor: str) -> bytes:
+        """Pushes what is given for each parameter."""
+        return b"".join(self.argument(maker, kind) for kind in parameter_types(descriptor))
+
+    def call(self, code: bytes) -> bytes:
+        """The code of a call, as it stands among the others."""
+        return code
+
+    def further_makers(self) -> list[ClassMaker]:
+        """What further classes there are."""
+        return []
+
+
 class ClassCalls:
     """The code that calls one class, as one class has it that is made."""
 
-    def __init__(self, maker: ClassMaker, found: ClassFile) -> None:
-        self.maker, self.found = maker, found
-        self.field = f"object{len(maker.fields)}"
-        if gives_objects(found):
-            maker.add_field(STATIC, self.field, own_type(found))
+    def __init__(self, maker: ClassMaker, found: ClassFile, way: NullCalls) -> None:
+        self.maker, self.found, self.way = maker, found, way
+        self.field = way.field_of(maker, found) if gives_objects(found) else None
 
     def on_field(self, opcode: int) -> bytes:
         """Reads or writes the field of the object."""
-        return self.maker.access(opcode, self.maker.name, self.field, own_type(self.found))
+        assert self.field
+        return self.maker.access(opcode, *self.field, own_type(self.found))
 
     def after_static(self, descriptor: str) -> bytes:
         """What becomes of the result of a static method."""
@@ -113,9 +133,11 @@ class ClassCalls:
         """The code of each call of a static method."""
         name, is_interface = self.found.name, self.found.has(INTERFACE)
         return [
-            arguments(descriptor)
-            + self.maker.call(INVOKESTATIC, name, method, descriptor, is_interface)
-            + self.after_static(descriptor)
+            self.way.call(
+                self.way.arguments(self.maker, descriptor)
+                + self.maker.call(INVOKESTATIC, name, method, descriptor, is_interface)
+                + self.after_static(descriptor)
+            )
             for method, descriptor in public_methods(self.found, static=True)
         ]
 
@@ -123,20 +145,24 @@ class ClassCalls:
         """The code of each making of an object."""
         name = self.found.name
         return [
-            self.maker.new(name)
-            + arguments(descriptor)
-            + self.maker.call(INVOKESPECIAL, name, "<init>", descriptor)
-            + self.on_field(PUTSTATIC)
+            self.way.call(
+                self.maker.new(name)
+                + self.way.arguments(self.maker, descriptor)
+                + self.maker.call(INVOKESPECIAL, name, "<init>", descriptor)
+                + self.on_field(PUTSTATIC)
+            )
             for descriptor in constructors(self.found)
         ]
 
     def calls(self, keys: list[Key]) -> list[bytes]:
         """The code of each call on the object, which stands in local variable 0."""
         return [
-            bytes([ALOAD_0])
-            + arguments(descriptor)
-            + self.maker.call(INVOKEVIRTUAL, self.found.name, method, descriptor)
-            + dropped(descriptor)
+            self.way.call(
+                bytes([ALOAD_0])
+                + self.way.arguments(self.maker, descriptor)
+                + self.maker.call(INVOKEVIRTUAL, self.found.name, method, descriptor)
+                + dropped(descriptor)
+            )
             for method, descriptor in keys
         ]
 
@@ -145,16 +171,25 @@ class ClassCalls:
         return self.on_field(GETSTATIC) + bytes([ASTORE_0])
 
 
-class Driver:
-    """The classes that are made, and how many classes they call, and how many calls are in them."""
+def public_classes(library: dict[str, ClassFile]) -> list[str]:
+    """The names of the public classes, in order."""
+    return [name for name in sorted(library) if library[name].has(PUBLIC)]
 
-    def __init__(self, library: dict[str, ClassFile]) -> None:
-        self.library = library
+
+def spread(names: list[str], most: int) -> list[str]:
+    """At most so many of the names, spread over all."""
+    return names[::max(1, len(names) // most)][:most]
+
+
+class Driver:
+    """The classes that are made, and how many classes they call, and how many calls are in them. Without names they call all public classes."""
+
+    def __init__(self, library: dict[str, ClassFile], way: NullCalls | None = None, names: list[str] | None = None) -> None:
+        self.library, self.way = library, way or NullCalls()
         self.makers: list[ClassMaker] = []
         self.classes = self.calls = 0
-        for name in sorted(library):
-            if library[name].has(PUBLIC):
-                self.add_class(library[name])
+        for name in public_classes(library) if names is None else names:
+            self.add_class(library[name])
 
     def maker(self) -> ClassMaker:
         """The class that is being made."""
@@ -165,7 +200,7 @@ class Driver:
     def add_class(self, found: ClassFile) -> None:
         """Adds the methods that call a class: its static methods, its constructors, and the methods of its object."""
         maker = self.maker()
-        made = ClassCalls(maker, found)
+        made = ClassCalls(maker, found, self.way)
         statics, objects, calls = made.statics(), [], []
         parts = in_parts(statics)
         if gives_objects(found):
@@ -180,9 +215,9 @@ class Driver:
         """The class files by their names."""
         for maker in self.makers:
             names = [f"part{number}" for number in range(len(maker.methods))]
-            parts = b"".join(maker.call(INVOKESTATIC, maker.name, name, "()V") for name in names)
-            maker.add_method(STATIC, "main", "()V", 0, 0, parts + bytes([RETURN]))
+            parts = b"".join(self.way.call(maker.call(INVOKESTATIC, maker.name, name, "()V")) for name in names)
+            maker.add_method(STATIC, "main", "()V", 1, 0, parts + bytes([RETURN]))
         entry = ClassMaker(NAME)
-        mains = b"".join(entry.call(INVOKESTATIC, maker.name, "main", "()V") for maker in self.makers)
-        entry.add_method(PUBLIC | STATIC, "main", "()V", 0, 0, mains + bytes([RETURN]))
-        return {f"{maker.name}.class": maker.content() for maker in [*self.makers, entry]}
+        mains = b"".join(self.way.call(entry.call(INVOKESTATIC, maker.name, "main", "()V")) for maker in self.makers)
+        entry.add_method(PUBLIC | STATIC, "main", "()V", 1, 0, mains + bytes([RETURN]))
+        return {f"{maker.name}.class": maker.content() for maker in [*self.makers, entry, *self.way.further_makers()]}

@@ -10,10 +10,12 @@ import tempfile
 ROOT = pathlib.Path(__file__).resolve().parent.parent
 sys.path.append(str(ROOT / "tools"))
 
+from class_file import ClassFile  # noqa: E402
 from closure import Closure  # noqa: E402
-from driver import Driver  # noqa: E402
+from driver import Driver, public_classes, spread  # noqa: E402
 from library import jdk_folder, open_jdk, read_base, read_folder  # noqa: E402
 from named import Named  # noqa: E402
+from object_calls import ObjectCalls  # noqa: E402
 
 STUBS = "stubs.toml"
 
@@ -50,14 +52,21 @@ def refused_methods(folder: str) -> dict[str, set[str]]:
     return found
 
 
-def unpack_library(jars: list[str], folder: str) -> tuple[Driver, int]:
-    """Puts the class files of jars into a folder, with their stub file and the driver. The driver, and how many class
+def driver_of(library: dict[str, ClassFile], most: int | None) -> Driver:
+    """The driver that calls all public classes, with 0 and null; or at most so many of them, with objects."""
+    if most is None:
+        return Driver(library)
+    names = spread(public_classes(library), most)
+    return Driver(library, ObjectCalls(library, names), names)
+
+
+def unpack_library(jars: list[str], folder: str, most: int | None = None) -> tuple[Driver, int]:
+    """Puts the class files of jars into a folder, with the driver (`driver_of`) and the stub file of both. The driver, and how many class
     files were taken out."""
     run_tool("unpack", *jars, folder)
     dropped = drop_classes_without_supers(folder)
-    stubs = run_tool("stubs", folder)
-    driver = Driver(read_folder(folder))
-    (pathlib.Path(folder) / STUBS).write_text(stubs)
+    driver = driver_of(read_folder(folder), most)
     for name, content in driver.files().items():
         (pathlib.Path(folder) / name).write_bytes(content)
+    (pathlib.Path(folder) / STUBS).write_text(run_tool("stubs", folder))
     return driver, dropped

@@ -211,7 +211,7 @@ class Finder:
 
     def allows(self, calls: list[str], name: str, key: Key) -> bool:
         """Whether a method that may call these may call this one of an object of a class."""
-        for word in calls:
+        for word in self.effects.with_inherited(calls, name) if name in self.program.code else calls:
             upper, _, method = word.partition(".")
             if self.program.is_below(name, upper) and (key[0] == method or not method and self.is_declared(name, key, upper)):
                 return True
@@ -438,6 +438,10 @@ class Resting:
         """The open assumptions that bear on a place."""
         return [each for each in self.open if bears(each, place)]
 
+    def without_places(self) -> "Resting":
+        """Those that bear on whether there is a place at all: the points-to analysis says so, which asks for no order."""
+        return Resting(*([each for each in some if each.stage < LATER] for some in (self.open, self.taken)))
+
     def taken_for(self, place: Place) -> list[Assumption]:
         """Those that bear on a place and were taken over."""
         return [each for each in self.taken if bears(each, place)]
@@ -459,6 +463,13 @@ def program_of(folder: str, words: RunWords) -> Program:
     return Program(folder, [os.path.join(folder, words.stubs)] if words.stubs else [])
 
 
+def later_calls(found: list[Assumption], finder: Finder) -> list[Assumption]:
+    """The call-backs that bear on the later stages alone."""
+    told = {each.line for each in found}
+    calls = [each for call in finder.calls for each in finder.call_backs(call)] + list(finder.of_models())
+    return [replace(each, stage=LATER) for each in dict.fromkeys(calls) if each.line not in told]
+
+
 def resting_of(program: Program, folder: str, words: RunWords, assumed: set[str]) -> Resting:
     """What the safe places of a run rest on."""
     reach = Reach(program, entry_methods(program, words.entry))
@@ -467,7 +478,9 @@ def resting_of(program: Program, folder: str, words: RunWords, assumed: set[str]
     except Unusable:
         declared = Declared(None)
     effects = Effects(reach, read_protocol(os.path.join(folder, words.property)), declared)
-    found = Finder(reach, effects, Sources(folder), words.providers).all()
+    sources = Sources(folder)
+    found = Finder(reach, effects, sources, words.providers).all()
+    found += later_calls(found, Finder(reach, Effects(reach, effects.protocol, declared, is_later=True), sources, words.providers))
     return Resting([each for each in found if not is_assumed(each, assumed)], [each for each in found if is_assumed(each, assumed)])
 
 

@@ -21,6 +21,8 @@ PROGRAM = os.path.join(TOP, "typestate")
 PROPERTIES = os.path.join(TOP, "properties")
 # The statuses of the verifier with which it printed what tools/explain puts into words.
 EXPLAINED = (0, 1, 2, 6)
+# The numbers that are handed on to the verifier as they are given.
+NUMBERS = ("stages", "depth", "fact_limit", "pair_limit")
 
 
 class Failed(Exception):
@@ -43,6 +45,10 @@ class Asked:
     keep: str | None = None
     assumptions: bool = False
     assume: str | None = None
+    stages: str | None = None
+    depth: str | None = None
+    fact_limit: str | None = None
+    pair_limit: str | None = None
 
 
 def say(message: str) -> None:
@@ -127,11 +133,17 @@ def hand_on(said: str) -> None:
             print(line, file=sys.stderr, flush=True)
 
 
+def numbers(asked: Asked) -> list[str]:
+    """The words of the verifier for the numbers that are asked."""
+    given = {name: getattr(asked, name) for name in NUMBERS}
+    return [f"--{name.replace('_', '-')}={value}" for name, value in given.items() if value is not None]
+
+
 def run(place: str, asked: Asked) -> int:
     """Runs the verifier, keeps its report, and explains it. The status."""
     say("running the verifier")
     words = ["--classes", os.path.join(place, "folder"), "--property", "property.toml", "--stubs", "stubs.toml", "--entry", asked.entry]
-    ran = subprocess.run([PROGRAM, *words], capture_output=True, stdin=subprocess.DEVNULL, check=False)
+    ran = subprocess.run([PROGRAM, *words, *numbers(asked)], capture_output=True, stdin=subprocess.DEVNULL, check=False)
     with open(os.path.join(place, "report.txt"), "wb") as file:
         file.write(ran.stdout)
     hand_on(ran.stderr.decode("utf-8", "replace"))

@@ -72,13 +72,15 @@ class Declared:
 
 
 class Effects:
-    """What calls of the library could do in a program of which this may run, under a protocol."""
+    """What calls of the library could do in a program of which this may run, under a protocol. To the stages after the first matters more, as
+    `is_later` says: when an initialiser runs, and that a text is put where else none is, since a call on null leads nowhere."""
 
-    def __init__(self, reach: Reach, protocol: Protocol, declared: Declared):
-        self.reach, self.program, self.protocol, self.declared = reach, reach.program, protocol, declared
+    def __init__(self, reach: Reach, protocol: Protocol, declared: Declared, is_later: bool = False):
+        self.reach, self.program, self.protocol, self.declared, self.is_later = reach, reach.program, protocol, declared, is_later
         self.harmless: set[Method] = set()
         self.overriding: dict[str, list[Key]] = {}
         self.opened: dict[tuple[str, str], list[Key]] = {}
+        self.inherited: dict[tuple[str, ...], list[str]] = {}
         self.storing = storing_models(self.program)
         own = [name for name in self.program.code if name not in self.program.models]
         tracked = [name for name in [protocol.class_name, *reach.made, *own] if self.is_tracked(name)]
@@ -183,48 +185,58 @@ class Effects:
     def of_use(self, method: Method, body: Body, use: Use, made: dict[str, None]) -> tuple[str, list[Method]]:
         """Why an instruction matters, or else the methods of the folder that it calls."""
         if use.opcode in CALLS:
-            return self.of_call(body, use, made)
+            return self.of_call(method, body, use, made)
         if use.opcode == NEW and use.owner in self.program.code:
             if use.owner not in self.reach.made:
                 made[use.owner] = None
-            return "", self.initialisers(use.owner)
+            return "", self.initialisers(use.owner, method)
         stack = body.takes(use.offset, self.program.join)
         if use.opcode == THROW and any(not stack or self.program.is_below(name, stack[-1] or THROWABLE) for name in self.thrown):
             return "it may throw an exception of the program's own", []
         if use.opcode == CLASS_CONSTANT and use.owner in self.program.code:
-            return "", self.initialisers(use.owner)
+            return "", self.initialisers(use.owner, method)
         if use.opcode in (PUTFIELD, PUTSTATIC) and self.writes(method, use, stack):
             return "it writes a field", []
-        if use.opcode == ARRAY_STORE and stack and stack[-1] not in VALUES | {NULL} and not self.is_own_work(method, body):
+        if use.opcode == ARRAY_STORE and stack and stack[-1] not in self.still(method) | {NULL} and not self.is_own_work(method, body):
             return "it writes an array", []
-        return "", self.initialisers(use.owner) if use.opcode in FIELDS and use.opcode not in (GETFIELD, PUTFIELD) else []
+        return "", self.initialisers(use.owner, method) if use.opcode in FIELDS and use.opcode not in (GETFIELD, PUTFIELD) else []
 
     def writes(self, method: Method, use: Use, stack: list[str]) -> bool:
         """Whether an instruction writes an object into a field, other than a constructor into its own object."""
         kind = named_type(use.descriptor)
-        if not kind or kind in VALUES or not stack or stack[-1] == NULL:
+        if not kind or kind in self.still(method) or not stack or stack[-1] == NULL:
+            return False
+        if self.is_later and method == (use.owner, INITIALISER):
             return False
         if method[0] in self.program.models and stack[-1] in self.program.models and ("$" in stack[-1] or stack[-1].startswith("library/")):
             return any(self.program.is_below(name, stack[-1]) for name in self.above_code if name in self.program.code and name not in self.program.models)
         return not (use.opcode == PUTFIELD and len(stack) > 1 and isinstance(stack[-2], This))
 
     def is_own_work(self, method: Method, body: Body) -> bool:
-        """Whether a method is one of a model that works on an array of its own, or of who calls it: none that a program calls to write an array."""
+        """Whether a method is one of a model that works on an array of its own, or of who calls it: none that a program calls to write an array;
+        or an initialiser, if only the time when it runs is asked for."""
+        if self.is_later and method[1] == INITIALISER:
+            return True
         return method[0] in self.program.models and (not body.is_static or method[0].startswith("library/"))
 
-    def initialisers(self, name: str) -> list[Method]:
-        """The initialisers that run where a class is used first, and that do not run otherwise."""
-        return [(each, INITIALISER) for each in [name, *self.program.supers(name)]
-                if each not in self.reach.started and self.program.body(each, INITIALISER)]
+    def still(self, method: Method) -> set[str]:
+        """The types of objects that a method may put somewhere without a trace."""
+        return VALUES if not self.is_later or method[0] in self.program.models else set()
 
-    def of_call(self, body: Body, use: Use, made: dict[str, None]) -> tuple[str, list[Method]]:
+    def initialisers(self, name: str, method: Method) -> list[Method]:
+        """The initialisers that run where a method uses a class first; of those that run otherwise too only the time matters. Those of the
+        method's own class have run before."""
+        before = {*self.reach.first, method[0], *self.program.supers(method[0])} if self.is_later else self.reach.started
+        return [(each, INITIALISER) for each in [name, *self.program.supers(name)] if each not in before and self.program.body(each, INITIALISER)]
+
+    def of_call(self, method: Method, body: Body, use: Use, made: dict[str, None]) -> tuple[str, list[Method]]:
         """Why a call matters, or else the methods of the folder that it calls."""
         key = use.name, use.descriptor
         if use.owner == LIBRARY:
             return "", []
         if key in self.protocol.events and self.is_related(use.owner) and use.opcode != INVOKE_STATIC:
             return f"it may lead to the event {use.name}", []
-        called = self.initialisers(use.owner) if use.opcode == INVOKE_STATIC else []
+        called = self.initialisers(use.owner, method) if use.opcode == INVOKE_STATIC else []
         if use.opcode in (INVOKE_STATIC, INVOKE_SPECIAL):
             selected = [self.program.declaring(use.owner, key) or use.owner]
         else:
@@ -250,6 +262,8 @@ class Effects:
     def of_library(self, body: Body, use: Use, owner: str, made: dict[str, None]) -> tuple[str, list[Method]]:
         """Why a call of a described method matters, or else the methods of the folder that it may call in turn."""
         key = use.name, use.descriptor
+        if self.is_later and (owner, use.name) == ("java/lang/Enum", "<init>"):
+            return "", []
         calls = self.calls(owner, key)
         if calls is None or self.is_reflective(owner, key):
             return f"it calls {java_name(owner)}.{use.name}", []
@@ -262,11 +276,11 @@ class Effects:
             if any(self.matters(kind) for kind in arguments(body, use, self.program, owner)):
                 return f"it gives an object to {java_name(owner)}.{use.name}", []
         called = []
-        for word in calls:
-            upper, _, name = word.partition(".")
-            for below in [each for each in [*self.reach.made, *made] if each in self.program.code and self.program.is_below(each, upper)]:
-                keys = [key for key in self.open_keys(below, upper) if not name or key[0] == name]
-                called += [(each, key) for key in keys for each in self.program.selected(below, key) if each in self.program.code]
+        for below in [each for each in [*self.reach.made, *made] if each in self.program.code]:
+            for word in self.with_inherited(calls, below):
+                upper, _, name = word.partition(".")
+                keys = self.open_keys(below, upper) if self.program.is_below(below, upper) else []
+                called += [(each, key) for key in keys if not name or key[0] == name for each in self.program.selected(below, key) if each in self.program.code]
         return "", list(dict.fromkeys(called + self.of_receiver(use, owner, made)))
 
     def is_reflective(self, owner: str, key: Key) -> bool:
@@ -322,6 +336,28 @@ class Effects:
             return None
         kin = [each for each in [owner, *self.program.supers(owner)] if each not in WITHOUT_KIN] if "kin" in found else []
         return [word for word in found if word not in WORDS] + kin
+
+    def with_inherited(self, words: list[str], name: str) -> list[str]:
+        """What these words allow of an object of a class of the folder: they themselves, and what methods that it has from the library do in turn,
+        as `toString` of Object asks for the hash code."""
+        if (name, *words) not in self.inherited:
+            found = dict.fromkeys(words)
+            for word in (ways := list(words)):
+                more = [each for key in self.keys_from_above(name, word) for each in self.calls(name, key) or () if each not in found]
+                found.update(dict.fromkeys(more))
+                ways.extend(dict.fromkeys(more))
+            self.inherited[name, *words] = list(found)
+        return self.inherited[name, *words]
+
+    def keys_from_above(self, name: str, word: str) -> list[Key]:
+        """The methods that a word names and that a class of the folder has from the library. `equals` and `hashCode` of Object call nothing."""
+        upper, _, method = word.partition(".")
+        if not method or not self.program.is_below(name, upper):
+            return []
+        keys = [key for key in self.declared.keys(upper) or () if key[0] == method]
+        selected = {key: self.program.selected(name, key) for key in keys}
+        return [key for key in keys if not any(each in self.program.code for each in selected[key])
+                and not (method in ("equals", "hashCode") and selected[key] == [OBJECT])]
 
     def is_of_any(self, owner: str, key: Key) -> bool:
         """Whether what a described method calls may be of an object that was not given to the library to keep."""

@@ -185,7 +185,8 @@ def look_for_assumptions(asked: Explaining, program: Program | None, places: lis
         return Resting([], [])
     if asked.run is None or program is None:
         return Resting([], [], looked=False)
-    return resting_of(program, asked.folder, asked.run, read_assumed(asked.assume) if asked.assume else set())
+    found = resting_of(program, asked.folder, asked.run, read_assumed(asked.assume) if asked.assume else set())
+    return found if places else found.without_places()
 
 
 def explain(report: str, asked: Explaining) -> int:

@@ -28,7 +28,8 @@ class LibraryCall:
 
 
 class Reach:
-    """What may run. `methods` are those with code, `natives` those of the folder without; `made` are classes of objects."""
+    """What may run. `methods` are those with code, `natives` those of the folder without; `made` are classes of objects; `first` those that are
+    initialised at the start."""
 
     def __init__(self, program: Program, entry: list[Method]):
         self.program = program
@@ -38,6 +39,7 @@ class Reach:
         self.made: dict[str, None] = {}
         self.library: dict[tuple[Method, int, str], LibraryCall] = {}
         self.started: set[str] = set()
+        self.first = {each for name in {name for name, _ in entry} for each in [name, *program.supers(name)]}
         self.called: dict[Key, set[str]] = defaultdict(set)
         self.callers: dict[tuple[Key, str], list[tuple[Method, Use]]] = defaultdict(list)
         self.selects: dict[tuple[Key, str], set[str]] = defaultdict(set)

@@ -5,7 +5,7 @@ from collections import Counter
 
 from bodies import parameter_types
 from class_file import ABSTRACT, INTERFACE, OBJECT, STATIC, in_byte_order
-from closure import MADE, result_class
+from closure import ENUM, MADE, result_class
 from facts import LIBRARY, OF_THE_MACHINE, UNCHECKED
 
 KINDS = {
@@ -16,6 +16,7 @@ KINDS = {
     "wide": "what it gives of the library's own making is of its type's class, or of a class below that the folder names",
     "made": "a class of its own stands for all classes below an abstract type",
     "array": "an array that it gives is an argument, or is new and has no elements",
+    "missing": "what it gives or throws of a class that is not there is of no class of the folder",
     "elements": "it keeps an array without its elements",
     "keeps nothing": "it keeps no argument (tools/facts/keeps_nothing)",
     "values": "it does not keep objects of the value classes",
@@ -38,7 +39,8 @@ class Writer:
     def __init__(self, closure, values, protocol):
         self.closure, self.values, self.protocol = closure, values, protocol
         self.counts = Counter()
-        self.open = {above for name in closure.own for above in closure.library_supers(name) if above not in closure.folder}
+        self.above_own = {above for name in closure.own for above in closure.library_supers(name)} - closure.own.keys()
+        self.open = self.above_own - closure.folder.keys()
 
     # ---- a method
 
@@ -69,7 +71,7 @@ class Writer:
         if given is None:
             return ["prim"], []
         if given in self.closure.missing:
-            return ["null"], []
+            return ["null", f"new:{OBJECT}"], ["missing"]
         is_fresh = self.is_fresh(name, key)
         wide = self.wide(name, key, given)
         kinds = ["fresh"] * is_fresh + ["wide"] + ["made"] * any(each in self.closure.made for each in [given] + wide)
@@ -107,28 +109,45 @@ class Writer:
 
     def throws(self, name, key, member):
         """The exceptions that a method may throw: those that it declares, and of those that the folder catches the ones below them and the
-        unchecked ones; where these are listed, only such as are listed, or below or above one that is."""
+        unchecked ones; where these are listed, and no object of the folder is called, only such as are listed, or below or above one that is. A
+        declared one that is not there may be below any that is caught."""
         closure = self.closure
         declared = [each for each in member.throws if each not in closure.missing]
-        listed = self.said("throws", name, key)
-        caught = [each for each in closure.caught if each not in declared and closure.get(each) and self.may_come(each, declared, listed)]
+        is_any = len(declared) < len(member.throws)
+        listed = None if self.calls_back(name, key, member) else self.said("throws", name, key)
+        caught = [each for each in closure.caught if each not in declared and closure.get(each) and (is_any or self.may_come(each, declared, listed))]
         return [self.class_of(each) for each in declared + caught]
+
+    def calls_back(self, name, key, member):
+        """Whether a method may call one of an object of the folder, which may throw what it likes."""
+        called = [word.partition(".")[0] for word in self.said("calls", name, key) or [OBJECT]]
+        kinds = [kind.lstrip("[") for _, kind in self.arguments(name, key, member)]
+        is_given = any(kind[0] == "L" and kind[1:-1] not in self.values for kind in kinds)
+        return is_given and any(each in self.above_own and (each != name or self.is_overridden(name)) for each in called)
+
+    def is_overridden(self, name):
+        """Whether a class of the folder overrides a method of a class of the library."""
+        keys = self.closure.get(name).methods if self.closure.get(name) else {}
+        below = [each for each in self.closure.own.values() if name in self.closure.library_supers(each.name)]
+        return any(key in keys and not key[0].startswith("<") for each in below for key in each.methods)
 
     def may_come(self, name, declared, listed):
         """Whether an exception that is caught may come from a method that declares these, and of which these unchecked ones are listed."""
         ways = {name, *self.closure.library_supers(name)}
         if ways & set(declared):
             return True
-        if not ways & set(UNCHECKED) or ways & set(OF_THE_MACHINE):
+        if not ways & set(UNCHECKED):
             return False
-        return listed is None or any(each in ways or name in self.closure.library_supers(each) for each in listed)
+        if listed is None:
+            return not ways & set(OF_THE_MACHINE)
+        return any(each in ways or name in self.closure.library_supers(each) for each in listed)
 
     def keeps(self, name, key, arguments):
-        """The arguments that a method keeps, and the kinds of what that assumes."""
+        """The arguments that a method keeps, and the kinds of what that assumes. The base stubs give the name of an enum's constant back."""
         is_quiet = name in self.closure.adopted and name != LIBRARY
         if is_quiet or self.said("keeps_nothing", name, key) is not None:
             return [], ["keeps nothing"] if arguments else []
-        kept = [word for word, kind in arguments if kind[1:-1] not in self.values or name == LIBRARY]
+        kept = [word for word, kind in arguments if kind[1:-1] not in self.values or name in (LIBRARY, ENUM)]
         return kept, ["values"] * (len(kept) < len(arguments))
 
     def method(self, name, key, member):

@@ -177,11 +177,9 @@ def asked(folder, name, entry):
 
 
 def verify(folder, name, entry):
-    """What the verifier says of a scenario and a property: unproved, safe, or the refusal."""
+    """What the verifier says of a scenario and a property: unproved, where it is or a limit was met; safe; or the refusal."""
     status, report = asked(folder, name, entry)
-    if status == 1 and "\nunproved" in "\n" + report:
-        return "unproved"
-    return "safe" if status == 0 else report.strip() or f"status {status}"
+    return {0: "safe", 1: "unproved"}.get(status) or report.strip() or f"status {status}"
 
 
 def in_parallel(jobs, task, todo):

@@ -1,5 +1,6 @@
 -- What is added for one fact, and for each of some facts.
-use Rattle.std.proofs.Common.{◌≡◌, ◌⊎◌, inl, inr, ℕ, List, [], ◌∷◌, ◌++◌, refl, sym, ap, ◌∙◌, subst}
+use Rattle.std.proofs.Common.{◌≡◌, ◌⊎◌, inl, inr, ℕ, List, [], ◌∷◌, ◌++◌, ◌==◌, Bool, true, length, refl, sym, ap, ◌∙◌, subst, arith}
+use Rattle.std.proofs.lemmas.Bool.{eqb-true}
 use Rattle.list_laws.proofs.Members.{contains_cases, contains_first, contains_later, contains_none, contains_only}
 use Rattle.op_model.specs.declared.node.Spot.{Spot}
 use Rattle.ground.specs.Added.{AreAdded, OfOne}
@@ -75,6 +76,12 @@ placed_each offsets facts others a b alike added = subst (λ (gs : List SiteFact
 
 pub begun_as : (methods : List EnteredMethod) (g h : SiteFact) (a b : List EnteredWith) → g ≡ h → AreAdded (OfOne (IsBegun g) methods) a b → AreAdded (OfOne (IsBegun h) methods) a b
 begun_as methods g h a b same added = subst (λ (f : SiteFact). AreAdded (OfOne (IsBegun f) methods) a b) same added
+
+-- where there are no methods nothing is added
+pub none_begin : (R : EnteredMethod → EnteredWith → Type 0) (methods : List EnteredMethod) (is_empty : Bool) → is_empty ≡ (length methods == 0) → is_empty ≡ true → (a : List EnteredWith)
+    → AreAdded (OfOne R methods) a a
+none_begin R [] is_empty is none a = of_none R a
+none_begin R (e ∷ methods) is_empty is none a = let no : length (e ∷ methods) ≡ 0 = eqb-true (length (e ∷ methods)) 0 (sym is ∙ none) in absurd (omega (arith, no))
 
 -- ---- by what the transfer gives
 

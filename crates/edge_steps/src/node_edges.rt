@@ -133,7 +133,7 @@ fn add_called<V: NodeSlots>(
     }
 }
 
-/// The same of one of the facts.
+/// The same of one of the facts. Where no method begins, it is not worked out with what it would.
 fn add_sent<V: NodeSlots>(
     view: &NodeView<'_, '_, V>,
     call: &Call,
@@ -144,11 +144,15 @@ fn add_sent<V: NodeSlots>(
     ensures { OnOk result ((w : Setting) → IsSettingBy view.now.setting.now w
         → AreAdded (BegunFrom (transfer_of w) call.now view.now.ways.now.called.items (fact_of sent.now)) methods.old.items methods.new.items) }
 {
+    let called = view.ways.called.as_slice();
+    if called.is_empty() {
+        return Ok(());
+    }
     let entry = entered(view.setting, Entering::Call(call), sent);
-    add_begun(view.ways.called.as_slice(), &entry, methods)
+    add_begun(called, &entry, methods)
 }
 
-/// Adds that the initialisers begin that the node may start.
+/// Adds that the initialisers begin that the node may start. Where none does, it is not worked out with what it would.
 fn add_started<V: NodeSlots>(
     view: &NodeView<'_, '_, V>,
     fact: &PlainFact,
@@ -157,6 +161,10 @@ fn add_started<V: NodeSlots>(
     ensures { OnOk result ((w : Setting) → IsSettingBy view.now.setting.now w
         → AreAdded (Starts (transfer_of w) view.now.ways.now (fact_of fact.now)) methods.old.items methods.new.items) }
 {
+    let started = view.ways.started.as_slice();
+    if started.is_empty() {
+        return Ok(());
+    }
     let entry = entered(view.setting, Entering::Trigger, fact);
-    add_begun(view.ways.started.as_slice(), &entry, methods)
+    add_begun(started, &entry, methods)
 }

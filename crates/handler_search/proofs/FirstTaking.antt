@@ -1,10 +1,16 @@
 -- The first handler of a list that takes an exception of a class.
-use Rattle.std.proofs.Common.{◌≡◌, ℕ, zero, suc, ◌<◌, List, [], ◌∷◌, Some, refl, sym, ◌∙◌, subst, arith, inl, inr}
+use Rattle.std.proofs.Common.{◌≡◌, ℕ, zero, suc, ◌<◌, List, [], ◌∷◌, length, Some, refl, sym, ◌∙◌, subst, arith, inl, inr}
 use Rattle.std.specs.List.{slice_get, Contains}
 use Rattle.std.proofs.lemmas.Option.{same_Some, none-some}
+use Rattle.list_laws.proofs.Members.{contains_none}
 use Rattle.jvm_model.specs.Programs.{Program}
 use Rattle.machine_nodes.specs.NodeSteps.{IsFirstTaking, Takes}
 use Rattle.op_model.specs.declared.node.NodeHandler.{NodeHandler}
+
+-- a list of no handlers has none
+pub none_in_empty : (hs : List NodeHandler) → length hs ≡ 0 → (h : NodeHandler) → Contains hs h → ⊥
+none_in_empty [] none h there = contains_none h there
+none_in_empty (x ∷ hs) none h there = omega (arith, none)
 
 module _ (p : Program) (class : List ℕ) where
   -- one that takes it is the first, where none before it does

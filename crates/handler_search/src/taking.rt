@@ -10,7 +10,7 @@ use jvm_model::ClassNo;
 use op_model::NodeHandler;
 use program_model::program::Program;
 
-/// The first handler that takes an exception of a class; `None` where none takes it.
+/// The first handler that takes an exception of a class; `None` where none takes it. The class is looked up only where there is a handler.
 pub fn first_taking(
     program: &Program,
     handlers: &[NodeHandler],
@@ -19,6 +19,9 @@ pub fn first_taking(
     ensures found { IfSome result (λ handler. IsFirstTaking program.now class.now handlers.now handler) }
     ensures none { IfNone result ((h : RuleHandler) → Contains handlers.now h → Takes program.now h class.now → ⊥) }
 {
+    if handlers.is_empty() {
+        return None;
+    }
     let thrown = program.find(class);
     for handler in handlers {
         if takes(program, *handler, thrown, class) {

@@ -1,5 +1,5 @@
 -- Where exceptions go, by the entry of a catch chain.
-use Rattle.std.proofs.Common.{◌≡◌, ℕ, ◌+◌, ◌<◌, get_or, drop, List, [], ◌∷◌, Some, length, refl, sym, ap, ◌∙◌, subst, inl, inr}
+use Rattle.std.proofs.Common.{◌≡◌, ℕ, ◌+◌, ◌<◌, get_or, drop, List, [], ◌∷◌, Some, length, refl, sym, ap, ◌∙◌, subst, inl, inr, arith}
 use Rattle.std.specs.List.{slice_get, AllZip}
 use Rattle.std.proofs.lemmas.List.{drop_more}
 use Rattle.jvm_model.specs.Programs.{Program}
@@ -15,6 +15,11 @@ use Rattle.points_to_numbers.specs.Numbered.{Numbered, IsCatchClauseAt, IsCatchC
 use Rattle.points_to_calls.specs.Parts.{GoesTo, IsCatchChainPlace}
 
 -- ---- where an exception goes
+
+-- without a catch clause it leaves the method
+pub goes_out : (p : Program) (class : List ℕ) (entries : List CatchClause) (outside : PlaceNo) → length entries ≡ 0 → GoesTo p class entries outside outside
+goes_out p class [] outside none = refl
+goes_out p class (a ∷ entries) outside none = absurd (omega (arith, none))
 
 pub goes_by : (p : Program) (n : Numbered) (class : List ℕ) (entries : List CatchClause) (catch_clauses : List ItemCatchClause) (outside to : PlaceNo) (o : Holder) → AllZip (IsCatchClauseAt n) entries catch_clauses
     → slice_get n.holders outside.0 ≡ Some o → GoesTo p class entries outside to → (h : Holder) × (slice_get n.holders to.0 ≡ Some h) × LandsIn p class catch_clauses o h

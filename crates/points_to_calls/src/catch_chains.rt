@@ -23,10 +23,13 @@ pub(crate) fn lands(
     goes_to(program, tables.catch_chain_of(catch_chain), class)
 }
 
-/// Where an exception of a class goes, by the entry of the catch chain.
+/// Where an exception of a class goes, by the entry of the catch chain. The class is looked up only where there is a catch clause.
 fn goes_to(program: &Program, catch_chain: &CatchChain, class: &[u8]) -> PlaceNo
     ensures { GoesTo program.now class.now catch_chain.now.catch_clauses catch_chain.now.outside result }
 {
+    if catch_chain.catch_clauses.is_empty() {
+        return catch_chain.outside;
+    }
     let thrown = program.find(class);
     for catch_clause in catch_chain.catch_clauses.as_slice() {
         if takes(program, catch_clause.handler, thrown, class) {

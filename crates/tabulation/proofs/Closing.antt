@@ -2,7 +2,7 @@
 use Rattle.std.proofs.Common.{◌≡◌, ◌∙◌, ◌<◌, ◌⊎◌, inl, inr, ℕ, List, [], ◌∷◌, length, Some, refl, sym, ap, subst}
 use Rattle.std.specs.List.{Contains, slice_get}
 use Rattle.std.proofs.lemmas.Option.{none-some, same_Some, slice_get_within}
-use Rattle.list_laws.proofs.Members.{contained_in_map, contains_map}
+use Rattle.list_laws.proofs.Members.{contained_in_map}
 use Rattle.list_laws.proofs.Places.{contains_at, place_of}
 use Rattle.op_model.specs.declared.node.Spot.TheVariants as spots
 use Rattle.op_model.specs.Supplies.{GivenAs}
@@ -16,9 +16,9 @@ use Rattle.stage_edges.specs.Rules.{Edge, Instance, IsExit, before, edge, trigge
 use Rattle.edge_numbers.specs.declared.numbered.NumberedEdge.{NumberedEdge}
 use Rattle.end_numbers.specs.Ends.{End}
 use Rattle.ground_views.proofs.Shapes.{IsShape, first_leads, from_nothing, shape, start_edge, nothing, one, two}
-use Rattle.tabulation_tables.specs.Lists.{Calls, Exits, HasEdge, IsBegun, IsFollowed, IsLedTo, IsProcessed, IsShaped, IsSound, IsVisited, Leads, Lists, edge_of_numbers, edge_to, edges_of, numbered}
+use Rattle.tabulation_tables.specs.Lists.{Calls, Exits, HasEdge, IsBegun, IsFollowed, IsLedTo, IsProcessed, IsShaped, IsSound, IsVisited, Leads, Lists, edge_of_numbers, edge_to, edges_of}
 use Rattle.tabulation.specs.Kept.{HasStart}
-use Rattle.tabulation.proofs.Full.{edge_is}
+use Rattle.tabulation_tables.proofs.Edges.{edge_is, edge_there}
 
 -- ---- two premises
 
@@ -132,8 +132,7 @@ module _ (x : Subject) (gives : GivenAs) (S : Fact → Type 0) (t : Transfer) (l
       subst IsListed one.2 (listed_at one.0 place.0 place.1)
 
   in_list : (b n : ℕ) (begin end : End) → slice_get l.ends b ≡ Some begin → slice_get l.ends n ≡ Some end → HasEdge l b n → Contains (edges_of l) (edge_to end begin.fact)
-  in_list b n begin end begin_at end_at there =
-      subst (Contains (edges_of l)) (edge_is l b n begin end begin_at end_at) (contains_map (edge_of_numbers l) l.edges (numbered b n) there)
+  in_list b n begin end begin_at end_at there = edge_there l b n there begin end begin_at end_at
 
   -- an end that the edge's end leads to
   by_lead : (p : Edge) (is : IsListed p) (to : Edge) → IsLedTo l is.n is.begin.fact to → Contains (edges_of l) to

@@ -10,8 +10,7 @@ use Rattle.op_model.specs.declared.node.Spot.{Spot}
 use Rattle.op_model.specs.declared.node.Spot.TheVariants as spots
 use Rattle.machine_bytecode.specs.Objects.{Subject}
 use Rattle.list_laws.proofs.Members.{contains_none}
-use Rattle.least_sets.specs.Rules.{Hold, IsDerivable}
-use Rattle.least_sets.proofs.Joined.{derivable_is_closed}
+use Rattle.least_sets.specs.Rules.{Hold}
 use Rattle.ground.specs.Findings.{gives_listed}
 use Rattle.stage_facts.specs.Facts.{SiteFact}
 use Rattle.stage_transfer.specs.Settings.{Setting}
@@ -23,11 +22,12 @@ use Rattle.edge_steps.specs.Steps.{AreFollowing, IsOneOf, begins, begun, goes, w
 use Rattle.end_numbers.specs.Ends.{End}
 use Rattle.ground_views.specs.declared.question.Question.{Question}
 use Rattle.ground_views.specs.declared.viewed_node.ViewedNode.{ViewedNode}
-use Rattle.ground_views.specs.Questions.{GroundInstance, IsAskedOf}
+use Rattle.ground_views.specs.Questions.{IsAskedOf}
 use Rattle.ground_views.specs.Views.{FollowAt, IsSeen}
 use Rattle.ground_views.proofs.Shapes.{LeadsToNode, first_leads, second_of_method}
-use Rattle.tabulation_tables.specs.Lists.{IsBegun, IsDerived, IsLedTo, Lists, edge_to}
-use Rattle.tabulation.specs.Kept.{Concludes, HasFollowedAll, HasMetAll, IsReached, IsRight, LeadsToConclusion, MayBegin}
+use Rattle.tabulation_tables.specs.Lists.{IsBegun, IsLedTo, IsShaped, Lists, edge_to, edges_of}
+use Rattle.tabulation_tables.proofs.Edges.{edge_there}
+use Rattle.tabulation.specs.Kept.{Concludes, HasFollowedAll, HasMetAll, IsReached, LeadsToConclusion, MayBegin}
 
 -- Just these follow from an edge to the end, or from it with another edge.
 pub record AreFound (q : Question) (a : End) (others : List Edge) (conclusions : List Conclusion) (entered : List EnteredWith) : Type 0 where
@@ -52,25 +52,29 @@ module _ (q : Question) (t : Lists) (n : ℕ) (a : End) (at : slice_get t.ends n
   same_end : (b : End) → slice_get t.ends n ≡ Some b → b ≡ a
   same_end b also = same_Some b a (sym also ∙ at)
 
-  -- a conclusion is derivable where its premises are
+  -- a conclusion follows
   pub concludes : (others : List Edge) (conclusions : List Conclusion) (entered : List EnteredWith) → AreFound q a others conclusions entered
-      → ((x : Subject) (w : Setting) → IsAskedOf q x w → Hold (IsDerivable (GroundInstance q x w)) others) → (c : Conclusion) → Contains conclusions c → Concludes q t n a.method c
+      → Hold (Contains (edges_of t)) others → (c : Conclusion) → Contains conclusions c → Concludes q t n a.method c
   concludes others conclusions entered found hold c there = record {
     end = a;
     end_at = at;
-    follows = λ x w asked entry derivable.
-        derivable_is_closed (GroundInstance q x w) (edge_to a entry ∷ others) (within a.method entry c) ((found.each x w asked).within_follow c entry there) (derivable, hold x w asked);
+    others = others;
+    there = hold;
+    follows = λ x w asked entry. (found.each x w asked).within_follow c entry there;
   }
 
   -- so is that a method begins, of an end that is reached
-  pub may_begin : (conclusions : List Conclusion) (entered : List EnteredWith) → AreFound q a [] conclusions entered → IsRight q t → IsReached t n → (b : EnteredWith) → Contains entered b
-      → MayBegin q b
-  may_begin conclusions entered found right reached b there = record { derivable = λ x w asked. by x w asked ((right.sound x w asked).derived reached.begin n reached.there) }
-    where
-      by : (x : Subject) (w : Setting) → IsAskedOf q x w → IsDerived (GroundInstance q x w) t reached.begin n → IsDerivable (GroundInstance q x w) (begun b)
-      by x w asked is =
-          derivable_is_closed (GroundInstance q x w) (edge_to a is.begin.fact ∷ []) (begun b) ((found.each x w asked).begun_follow b is.begin.fact there)
-          (subst (λ (e : End). IsDerivable (GroundInstance q x w) (edge_to e is.begin.fact)) (same_end is.end is.end_at) is.derivable, tt)
+  pub may_begin : (conclusions : List Conclusion) (entered : List EnteredWith) → AreFound q a [] conclusions entered → IsShaped t → IsReached t n → (b : EnteredWith) → Contains entered b
+      → MayBegin q t b
+  may_begin conclusions entered found shape reached b there =
+      let is = shape.edges reached.begin n reached.there in
+      record {
+        follows = λ x w asked. record {
+          premises = edge_to a is.begin.fact ∷ [];
+          instance = (found.each x w asked).begun_follow b is.begin.fact there;
+          hold = (edge_there t reached.begin n reached.there is.begin a is.begin_at at, tt);
+        };
+      }
 
   led_to : (m : Option MethodNo) (c : Conclusion) (entry : SiteFact) → LeadsToConclusion t n m c → IsLedTo t n entry (within m entry c)
   led_to m c entry is = record { number = is.number; end = _; end_at = is.at; leads = is.leads; is = refl }

@@ -1,14 +1,13 @@
 -- The listed edges: each is derivable, and stands once.
-use Rattle.std.proofs.Common.{◌≡◌, ◌∙◌, ◌+◌, ◌<◌, ◌≤◌, ℕ, Bool, true, false, List, length, Some, sym, ap, subst, arith}
+use Rattle.std.proofs.Common.{◌≡◌, ◌∙◌, ◌+◌, ◌<◌, ◌≤◌, ℕ, Bool, true, false, List, length, Some, sym, ap, arith}
 use Rattle.std.specs.Prelude.{if◌then◌else◌}
-use Rattle.std.specs.List.{All, Contains, slice_get}
-use Rattle.std.proofs.lemmas.Option.{slice_get_within, slice_get-get_or, same_Some}
+use Rattle.std.specs.List.{All, slice_get}
 use Rattle.std.proofs.lemmas.List.{length-map}
-use Rattle.list_laws.proofs.Members.{all_from_contains, contained_in_map}
 use Rattle.list_laws.proofs.Places.{contains_at, map_at}
 use Rattle.machine_bytecode.specs.Objects.{Subject}
 use Rattle.least_sets.specs.Parts.{HasAtLeast}
 use Rattle.least_sets.specs.Rules.{IsDerivable, IsWithoutDoubles}
+use Rattle.least_sets.proofs.Derivations.{All-derivable}
 use Rattle.stage_transfer.specs.Settings.{Setting}
 use Rattle.stage_edges.specs.Rules.{Edge}
 use Rattle.edge_numbers.specs.declared.numbered.NumberedEdge.{NumberedEdge}
@@ -16,26 +15,14 @@ use Rattle.end_numbers.specs.Ends.{End}
 use Rattle.ground_views.specs.declared.question.Question.{Question}
 use Rattle.ground_views.specs.Questions.{GroundInstance, IsAskedOf}
 use Rattle.ground_views.proofs.Ends.{at_least}
-use Rattle.tabulation_tables.specs.Lists.{IsEdgeBetween, IsShaped, IsSound, Lists, edge_of_numbers, edge_to, edges_of, end_or_any}
+use Rattle.tabulation_tables.specs.Lists.{IsEdgeBetween, IsShaped, IsSound, Lists, edge_of_numbers, edge_to, edges_of}
+use Rattle.tabulation_tables.proofs.Edges.{edge_is}
 use Rattle.tabulation.specs.Kept.{IsRight}
-
-pub end_is : (t : Lists) (n : ℕ) (a : End) → slice_get t.ends n ≡ Some a → end_or_any t n ≡ a
-end_is t n a at = same_Some (end_or_any t n) a (sym (slice_get-get_or t.ends n _ (slice_get_within t.ends n a at)) ∙ at)
-
-pub edge_is : (t : Lists) (b x : ℕ) (begin end : End) → slice_get t.ends b ≡ Some begin → slice_get t.ends x ≡ Some end
-    → edge_of_numbers t (record { begin = b; end = x }) ≡ edge_to end begin.fact
-edge_is t b x begin end begin_at end_at =
-    ap (λ (a : End). edge_to a (end_or_any t b).fact) (end_is t x end end_at) ∙ ap (λ (a : End). edge_to end a.fact) (end_is t b begin begin_at)
 
 -- ---- each is derivable
 
 pub all_derivable : (I : List Edge → Edge → Type 0) (t : Lists) → IsSound I t → All (IsDerivable I) (edges_of t)
-all_derivable I t sound = all_from_contains (IsDerivable I) (edges_of t) (λ f there. by f (contained_in_map (edge_of_numbers t) t.edges f there))
-  where
-    by : (f : Edge) → (p : NumberedEdge) × Contains t.edges p × (edge_of_numbers t p ≡ f) → IsDerivable I f
-    by f one =
-        let is = sound.derived (one.0.begin) (one.0.end) one.1 in
-        subst (IsDerivable I) (sym (edge_is t one.0.begin one.0.end is.begin is.end is.begin_at is.end_at) ∙ one.2) is.derivable
+all_derivable I t sound = All-derivable I (edges_of t) sound.order
 
 -- ---- each stands once
 

@@ -1,22 +1,24 @@
 -- The beginning: there is nothing, and then the edge with which the program starts.
-use Rattle.std.proofs.Common.{◌≡◌, ◌<◌, ℕ, List, [], length, None, Some, refl, sym, subst}
+use Rattle.std.proofs.Common.{◌≡◌, ◌∙◌, ◌<◌, ℕ, Bool, true, List, [], length, map, None, Some, refl, sym, ap, subst}
+use Rattle.chained_lists.specs.Entries.{Entry, entry}
 use Rattle.std.specs.List.{Contains, slice_get}
+use Rattle.std.proofs.lemmas.Option.{none-some}
 use Rattle.list_laws.proofs.Members.{contains_none}
 use Rattle.op_model.specs.declared.node.Spot.TheVariants as spots
-use Rattle.ground.specs.Findings.{gives_listed}
 use Rattle.stage_facts.specs.Facts.{none_yet}
-use Rattle.stage_transfer.specs.Stages.{transfer_of}
-use Rattle.stage_edges.specs.Rules.{Edge}
+use Rattle.least_sets.specs.Rules.{Follows, IsDerivation}
+use Rattle.stage_edges.specs.Rules.{Edge, start}
 use Rattle.edge_numbers.specs.declared.numbered.NumberedEdge.{NumberedEdge}
 use Rattle.end_numbers.specs.Ends.{end}
 use Rattle.ground_views.specs.declared.question.Question.{Question}
-use Rattle.ground_views.proofs.Ends.{start_derivable}
-use Rattle.tabulation_tables.specs.Lists.{IsShaped, IsSound, Lists, numbered}
+use Rattle.ground_views.specs.Questions.{GroundInstance}
+use Rattle.tabulation_tables.specs.Lists.{IsShaped, IsSound, Lists, edge_of_numbers, edges_of, numbered}
+use Rattle.tabulation_tables.proofs.Edges.{edge_is}
 use Rattle.tabulation_tables.specs.Steps.{AreEmpty}
 use Rattle.tabulation.specs.Kept.{IsKept, MayTake}
 
-none_in : (xs : List ℕ) (n : ℕ) → xs ≡ [] → Contains xs n → ⊥
-none_in xs n is there = contains_none n (subst (λ (ys : List ℕ). Contains ys n) is there)
+none_in : (es : List Entry) (n v : ℕ) → es ≡ [] → Contains es (entry n v) → ⊥
+none_in es n v is there = contains_none (entry n v) (subst (λ (fs : List Entry). Contains fs (entry n v)) is there)
 
 no_edge : (es : List NumberedEdge) (e : NumberedEdge) → es ≡ [] → Contains es e → ⊥
 no_edge es e is there = contains_none e (subst (λ (fs : List NumberedEdge). Contains fs e) is there)
@@ -25,18 +27,19 @@ empty_shaped : (t : Lists) → AreEmpty t → IsShaped t
 empty_shaped t none = record {
   edges = λ b x there. absurd (no_edge t.edges (numbered b x) none.edges there);
   begins = λ b x there. absurd (no_edge t.edges (numbered b x) none.edges there);
-  begun = λ x b there. absurd (none_in (t.begins x) b (none.begins x) there);
-  leads = λ x y there. absurd (none_in (t.leads x) y (none.leads x) there);
-  callers = λ b c there. absurd (none_in (t.callers b) c (none.callers b) there);
-  exits = λ b z there. absurd (none_in (t.exits b) z (none.exits b) there);
+  begun = λ x b there. absurd (none_in t.begins x b none.begins there);
+  count = ap (λ (es : List Entry). length es) none.begins ∙ sym (ap (λ (es : List NumberedEdge). length es) none.edges);
+  leads = λ x y there. absurd (none_in t.leads x y none.leads there);
+  callers = λ b c there. absurd (none_in t.callers b c none.callers there);
+  exits = λ b z there. absurd (none_in t.exits b z none.exits there);
 }
 
 empty_sound : (I : List Edge → Edge → Type 0) (t : Lists) → AreEmpty t → IsSound I t
 empty_sound I t none = record {
-  derived = λ b x there. absurd (no_edge t.edges (numbered b x) none.edges there);
-  leads = λ x y there. absurd (none_in (t.leads x) y (none.leads x) there);
-  followed = λ x there. absurd (none_in (t.visits x) there.0 (none.visits x) there.1);
-  met = λ b c z there also. absurd (none_in (t.callers b) c (none.callers b) there);
+  order = subst (λ (es : List NumberedEdge). IsDerivation I (map (edge_of_numbers t) es)) (sym none.edges) (λ k e at. absurd (none-some e at));
+  leads = λ x y there. absurd (none_in t.leads x y none.leads there);
+  followed = λ x there. absurd (none-some true (subst (λ (vs : List Bool). slice_get vs x ≡ Some true) none.visits there));
+  met = λ b c z there also. absurd (none_in t.callers b c none.callers there);
 }
 
 -- empty tables are kept
@@ -50,11 +53,6 @@ empty_kept q t limit none = record {
 pub may_take_start : (q : Question) (t : Lists) (n : ℕ) → slice_get t.ends n ≡ Some (end None (spots.Node 0) none_yet) → MayTake q t n n
 may_take_start q t n at = record {
   between = record { begin = _; end = _; begin_at = at; end_at = at; first = refl; same = refl };
-  derived = λ x w asked. record {
-    begin = _;
-    end = _;
-    begin_at = at;
-    end_at = at;
-    derivable = start_derivable x (gives_listed q.ground.now.methods) (Contains q.ground.now.facts) (transfer_of w);
-  };
+  follows = λ x w asked.
+      subst (Follows (GroundInstance q x w) (edges_of t)) (sym (edge_is t n n _ _ at at)) (record { premises = []; instance = start; hold = tt });
 }

@@ -1,20 +1,21 @@
 -- This crate's own proofs alone rest on this module.
 -- What holds of the tables of tabulation all the time, and what each step keeps.
-use Rattle.std.specs.Prelude.{◌≡◌, ◌<◌, ℕ, length, Option, None, Some, slice_get}
+use Rattle.std.specs.Prelude.{◌≡◌, ◌<◌, ℕ, List, ◌∷◌, length, Option, None, Some, slice_get, Contains}
 use Rattle.op_model.specs.declared.node.Spot.TheVariants as spots
 use Rattle.jvm_model.specs.declared.number.MethodNo.{MethodNo}
 use Rattle.machine_bytecode.specs.Objects.{Subject}
-use Rattle.least_sets.specs.Rules.{IsDerivable}
+use Rattle.least_sets.specs.Rules.{Follows, Hold}
 use Rattle.stage_facts.specs.Facts.{SiteFact, none_yet}
 use Rattle.stage_facts.specs.Plain.{fact_of}
 use Rattle.stage_transfer.specs.Settings.{Setting}
+use Rattle.stage_edges.specs.Rules.{Edge}
 use Rattle.edge_steps.specs.declared.conclusions.Conclusion.{Conclusion}
 use Rattle.edge_steps.specs.declared.conclusions.EnteredWith.{EnteredWith}
 use Rattle.edge_steps.specs.Steps.{begun, within}
 use Rattle.end_numbers.specs.Ends.{End, end}
 use Rattle.ground_views.specs.declared.question.Question.{Question}
 use Rattle.ground_views.specs.Questions.{GroundInstance, IsAskedOf}
-use Rattle.tabulation_tables.specs.Lists.{Calls, Exits, HasEdge, IsDerived, IsEdgeBetween, IsFollowed, IsLeadBetween, IsMet, IsProcessed, IsShaped, IsSound, Leads, LeadsSoundly, Lists, edge_to}
+use Rattle.tabulation_tables.specs.Lists.{HasEdge, IsEdgeBetween, IsFollowed, IsLeadBetween, IsMet, IsProcessed, IsShaped, IsSound, Leads, LeadsSoundly, Lists, edge_of_numbers, edge_to, edges_of, numbered}
 use Rattle.tabulation_tables.specs.Steps.{Grows}
 
 -- ---- all the time
@@ -29,10 +30,10 @@ pub record IsKept (q : Question) (t : Lists) : Type 0 where
   pub right : IsRight q t
   pub roomy : length t.edges < q.limit
 
--- The edge may be taken in.
+-- The edge may be taken in: it follows from those that are there.
 pub record MayTake (q : Question) (t : Lists) (b x : ℕ) : Type 0 where
   pub between : IsEdgeBetween t b x
-  pub derived : (s : Subject) (w : Setting) → IsAskedOf q s w → IsDerived (GroundInstance q s w) t b x
+  pub follows : (s : Subject) (w : Setting) → IsAskedOf q s w → Follows (GroundInstance q s w) (edges_of t) (edge_of_numbers t (numbered b x))
 
 -- The end may lead to the other one.
 pub record MayLead (q : Question) (t : Lists) (x y : ℕ) : Type 0 where
@@ -47,16 +48,6 @@ pub record IsStep (q : Question) (old new : Lists) : Type 0 where
   pub grows : Grows old new
   pub processed : (k : ℕ) → IsProcessed old k → IsProcessed new k
 
--- No caller and no exit is noted.
-pub record CallsStay (old new : Lists) : Type 0 where
-  pub callers : (b c : ℕ) → Calls new b c → Calls old b c
-  pub exits : (b z : ℕ) → Exits new b z → Exits old b z
-
--- Nor is a lead.
-pub record OnlyEdges (old new : Lists) : Type 0 where
-  pub leads : (x y : ℕ) → Leads new x y → Leads old x y
-  pub calls : CallsStay old new
-
 -- ---- what was found
 
 -- The end of a conclusion within the method of an end.
@@ -69,12 +60,13 @@ pub record IsOfMethod (t : Lists) (n : ℕ) (m : Option MethodNo) : Type 0 where
   pub end_at : slice_get t.ends n ≡ Some end
   pub is : end.method ≡ m
 
--- With each entry the edge to the conclusion is derivable where that to the end is.
+-- With each entry the edge to the conclusion follows from that to the end, and from others that are there.
 pub record Concludes (q : Question) (t : Lists) (n : ℕ) (m : Option MethodNo) (c : Conclusion) : Type 0 where
   pub end : End
   pub end_at : slice_get t.ends n ≡ Some end
-  pub follows : (x : Subject) (w : Setting) → IsAskedOf q x w → (entry : SiteFact) → IsDerivable (GroundInstance q x w) (edge_to end entry)
-      → IsDerivable (GroundInstance q x w) (within m entry c)
+  pub others : List Edge
+  pub there : Hold (Contains (edges_of t)) others
+  pub follows : (x : Subject) (w : Setting) → IsAskedOf q x w → (entry : SiteFact) → GroundInstance q x w (edge_to end entry ∷ others) (within m entry c)
 
 -- The end leads to the conclusion.
 pub record LeadsToConclusion (t : Lists) (x : ℕ) (m : Option MethodNo) (c : Conclusion) : Type 0 where
@@ -82,9 +74,9 @@ pub record LeadsToConclusion (t : Lists) (x : ℕ) (m : Option MethodNo) (c : Co
   pub at : slice_get t.ends number ≡ Some (end_within m c)
   pub leads : Leads t x number
 
--- The method may begin so.
-pub record MayBegin (q : Question) (b : EnteredWith) : Type 0 where
-  pub derivable : (x : Subject) (w : Setting) → IsAskedOf q x w → IsDerivable (GroundInstance q x w) (begun b)
+-- The method may begin so: that it does follows from the edges that are there.
+pub record MayBegin (q : Question) (t : Lists) (b : EnteredWith) : Type 0 where
+  pub follows : (x : Subject) (w : Setting) → IsAskedOf q x w → Follows (GroundInstance q x w) (edges_of t) (begun b)
 
 -- The exits that were noted of a method were met by the caller.
 pub record HasMetAll (q : Question) (t : Lists) (b c z : ℕ) : Type 0 where

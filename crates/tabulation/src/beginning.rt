@@ -27,7 +27,7 @@ pub(crate) fn begin_all(
     requires work { IsWork work }
     requires kept { IsKept work.question.now (lists_of tables.old) }
     requires caller { IsNumber (lists_of tables.old) caller }
-    requires may { (b : RuleEntered) → Contains entered.now b → MayBegin work.question.now b }
+    requires may { (b : RuleEntered) → Contains entered.now b → MayBegin work.question.now (lists_of tables.old) b }
     ensures step { OnOk result (IsStep work.entry.question.now (lists_of tables.old) (lists_of tables.new)) }
     ensures begun { OnOk result (All (λ (b : RuleEntered). IsBegun (lists_of tables.new) caller (begun b)) entered.now) }
     ensures end { IfErr result (IsEdgesEnd work.entry.question.now) }
@@ -48,7 +48,7 @@ fn begin(
     requires work { IsWork work }
     requires kept { IsKept work.question.now (lists_of tables.old) }
     requires caller { IsNumber (lists_of tables.old) caller }
-    requires may { MayBegin work.question.now entered.now }
+    requires may { MayBegin work.question.now (lists_of tables.old) entered.now }
     ensures step { OnOk result (IsStep work.entry.question.now (lists_of tables.old) (lists_of tables.new)) }
     ensures begun { OnOk result (IsBegun (lists_of tables.new) caller (begun entered.now)) }
     ensures end { IfErr result (IsEdgesEnd work.entry.question.now) }

@@ -1,10 +1,11 @@
 //! Ends that lead to other ends.
 
-ghost use Rattle.std.specs.Prelude.{◌↔◌, Contains, IsTrue, All, IfErr, OnOk};
+ghost use Rattle.std.specs.Prelude.{Contains, All, IfErr, OnOk};
 ghost use Rattle.edge_steps.specs.declared.conclusions.Conclusion.{Conclusion as RuleConclusion};
 ghost use Rattle.ground_views.specs.Questions.{IsEdgesEnd};
 ghost use Rattle.tabulation_tables.specs.Lists.{Leads, lists_of};
-ghost use Rattle.tabulation.specs.Kept.{CallsStay, Concludes, IsKept, IsOfMethod, IsStep, LeadsToConclusion, MayLead};
+ghost use Rattle.tabulation_tables.specs.Steps.{CallsStay};
+ghost use Rattle.tabulation.specs.Kept.{Concludes, IsKept, IsOfMethod, IsStep, LeadsToConclusion, MayLead};
 
 use crate::taking::take_edge;
 use crate::work::Work;
@@ -70,26 +71,15 @@ fn lead_to(
     ensures leads { OnOk result (Leads (lists_of tables.new) from to) }
     ensures end { IfErr result (IsEdgesEnd work.entry.question.now) }
 {
-    if is_among(tables.leads_of(from), to) {
+    if tables.leads.has(from, to) {
         return Ok(());
     }
-    let begins = Vec::from_slice(work.alloc, tables.begins_of(from))?;
-    for begin in begins.as_slice() {
-        let begin = *begin;
+    let mut last = None;
+    while let Some(place) = tables.begins.after(from, last) {
+        let begin = tables.begins.value(place);
         take_edge(work, tables, NumberedEdge { begin, end: to })?;
+        last = Some(place);
     }
     tables.lead(from, to)?;
     Ok(())
-}
-
-/// Whether a number is among some.
-fn is_among(numbers: &[u32], number: u32) -> bool
-    ensures { IsTrue result ↔ Contains numbers.now number }
-{
-    for other in numbers {
-        if *other == number {
-            return true;
-        }
-    }
-    false
 }

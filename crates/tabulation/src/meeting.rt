@@ -3,7 +3,8 @@
 ghost use Rattle.std.specs.Prelude.{ℕ, IfErr, OnOk};
 ghost use Rattle.ground_views.specs.Questions.{IsEdgesEnd};
 ghost use Rattle.tabulation_tables.specs.Lists.{Calls, Exits, HasEdge, IsNumber, lists_of};
-ghost use Rattle.tabulation.specs.Kept.{CallsStay, HasMetAll, IsKept, IsStep};
+ghost use Rattle.tabulation_tables.specs.Steps.{CallsStay};
+ghost use Rattle.tabulation.specs.Kept.{HasMetAll, IsKept, IsStep};
 ghost use Rattle.tabulation.specs.Works.{IsWork};
 
 use crate::leading::lead_to_all;
@@ -77,9 +78,11 @@ pub(crate) fn meet_exits(
     ensures met { OnOk result ((z : ℕ) → Exits (lists_of tables.new) begin z → HasMetAll work.entry.question.now (lists_of tables.new) begin caller z) }
     ensures end { IfErr result (IsEdgesEnd work.entry.question.now) }
 {
-    let exits = Vec::from_slice(work.alloc, tables.exits_of(begin))?;
-    for exit in exits.as_slice() {
-        meet(work, tables, begin, caller, *exit)?;
+    let mut last = None;
+    while let Some(place) = tables.exits.after(begin, last) {
+        let exit = tables.exits.value(place);
+        meet(work, tables, begin, caller, exit)?;
+        last = Some(place);
     }
     Ok(())
 }
@@ -99,9 +102,11 @@ pub(crate) fn meet_callers(
     ensures met { OnOk result ((c : ℕ) → Calls (lists_of tables.new) begin c → HasMetAll work.entry.question.now (lists_of tables.new) begin c exit) }
     ensures end { IfErr result (IsEdgesEnd work.entry.question.now) }
 {
-    let callers = Vec::from_slice(work.alloc, tables.callers_of(begin))?;
-    for caller in callers.as_slice() {
-        meet(work, tables, begin, *caller, exit)?;
+    let mut last = None;
+    while let Some(place) = tables.callers.after(begin, last) {
+        let caller = tables.callers.value(place);
+        meet(work, tables, begin, caller, exit)?;
+        last = Some(place);
     }
     Ok(())
 }

@@ -136,11 +136,12 @@ fn extend(
     ensures led { OnOk result ((y : ℕ) → Leads (lists_of tables.new) edge.end y → HasEdge (lists_of tables.new) edge.begin y) }
     ensures end { IfErr result (IsEdgesEnd work.entry.question.now) }
 {
-    let leads = Vec::from_slice(work.alloc, tables.leads_of(edge.end))?;
-    for to in leads.as_slice() {
-        let end = *to;
-        let begin = edge.begin;
+    let begin = edge.begin;
+    let mut last = None;
+    while let Some(place) = tables.leads.after(edge.end, last) {
+        let end = tables.leads.value(place);
         take_edge(work, tables, NumberedEdge { begin, end })?;
+        last = Some(place);
     }
     Ok(())
 }

@@ -3,7 +3,8 @@
 ghost use Rattle.std.specs.Prelude.{IfErr, OnOk};
 ghost use Rattle.ground_views.specs.Questions.{IsEdgesEnd};
 ghost use Rattle.tabulation_tables.specs.Lists.{HasEdge, lists_of};
-ghost use Rattle.tabulation.specs.Kept.{IsKept, IsStep, MayTake, OnlyEdges};
+ghost use Rattle.tabulation_tables.specs.Steps.{NotesStay};
+ghost use Rattle.tabulation.specs.Kept.{IsKept, IsStep, MayTake};
 
 use crate::work::Work;
 use edge_numbers::NumberedEdge;
@@ -20,7 +21,7 @@ pub(crate) fn take_edge(
     requires kept { IsKept work.question.now (lists_of tables.old) }
     requires may { MayTake work.question.now (lists_of tables.old) edge.begin edge.end }
     ensures step { OnOk result (IsStep work.entry.question.now (lists_of tables.old) (lists_of tables.new)) }
-    ensures only { OnOk result (OnlyEdges (lists_of tables.old) (lists_of tables.new)) }
+    ensures stay { OnOk result (NotesStay (lists_of tables.old) (lists_of tables.new)) }
     ensures there { OnOk result (HasEdge (lists_of tables.new) edge.begin edge.end) }
     ensures end { IfErr result (IsEdgesEnd work.entry.question.now) }
 {

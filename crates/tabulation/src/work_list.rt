@@ -2,10 +2,11 @@
 
 ghost use Rattle.std.specs.Prelude.{◌≡◌, ◌<◌, ◌≤◌, Some, length, slice_get, Contains, IfErr, IfOk, OnOk};
 ghost use Rattle.machine_bytecode.specs.Objects.{Subject};
+ghost use Rattle.least_sets.specs.Rules.{IsDerivation};
 ghost use Rattle.stage_transfer.specs.Settings.{Setting};
 ghost use Rattle.stage_edges.specs.Edges.{ArePathEdges};
 ghost use Rattle.ground.specs.Findings.{gives_listed};
-ghost use Rattle.ground_views.specs.Questions.{IsAskedOf, IsEdgesEnd};
+ghost use Rattle.ground_views.specs.Questions.{GroundInstance, IsAskedOf, IsEdgesEnd};
 ghost use Rattle.ground_views.specs.Views.{AreViewsOf};
 ghost use Rattle.tabulation_tables.specs.Lists.{edges_of, lists_of};
 ghost use Rattle.tabulation_tables.specs.Steps.{AreEmpty};
@@ -23,7 +24,7 @@ use stage_facts::PlainFact;
 use std::alloc::Global;
 use tabulation_tables::Tables;
 
-/// The path edges of a site, each once. It fails with the limit where there are as many or more.
+/// The path edges of a site, each once, and each behind those from which it follows by a rule. It fails with the limit where there are as many or more.
 pub fn tabulate(
     alloc: Global,
     views: &GroundViews<'_>,
@@ -35,6 +36,7 @@ pub fn tabulate(
     requires limit { 0 < question.now.limit }
     ensures edges { IfOk result (λ edges. (x : Subject) (w : Setting) → IsAskedOf question.now x w
         → ArePathEdges x (gives_listed question.now.ground.now.methods) (Contains question.now.ground.now.facts) w edges) }
+    ensures order { IfOk result (λ edges. (x : Subject) (w : Setting) → IsAskedOf question.now x w → IsDerivation (GroundInstance question.now x w) edges) }
     ensures few { IfOk result (λ edges. length edges < question.now.limit) }
     ensures end { IfErr result (IsEdgesEnd question.now) }
 {

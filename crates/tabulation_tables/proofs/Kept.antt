@@ -1,11 +1,12 @@
 -- What holds of all entries still holds where what is added is right.
-use Rattle.std.proofs.Common.{◌≡◌, ◌∙◌, ◌⊎◌, inl, inr, ℕ, List, Some, ap, sym}
+use Rattle.std.proofs.Common.{◌≡◌, ◌∙◌, ◌⊎◌, inl, inr, ℕ, List, Some, ap, sym, arith}
 use Rattle.std.proofs.lemmas.Option.{same_Some}
 use Rattle.list_laws.proofs.Places.{contains_at}
+use Rattle.least_sets.specs.Rules.{IsDerivation}
 use Rattle.stage_edges.specs.Rules.{Edge}
-use Rattle.tabulation_tables.specs.Lists.{Begins, Calls, Exits, HasEdge, IsDerived, IsEdgeBetween, IsFollowed, IsLeadBetween, IsMet, IsNumber, IsProcessed, IsShaped, IsSound, IsVisited, Leads, LeadsSoundly, Lists}
+use Rattle.tabulation_tables.specs.Lists.{Begins, Calls, Exits, HasEdge, IsEdgeBetween, IsFollowed, IsLeadBetween, IsMet, IsNumber, IsProcessed, IsShaped, IsSound, IsVisited, Leads, LeadsSoundly, Lists, edges_of}
 use Rattle.tabulation_tables.specs.Steps.{Adds, Grows}
-use Rattle.tabulation_tables.proofs.Still.{between_still, derived_still, edge_still, followed_still, lead_between_still, met_still, number_still, soundly_still, visited_still}
+use Rattle.tabulation_tables.proofs.Still.{begins_still, between_still, edge_still, exits_still, followed_still, lead_between_still, met_still, number_still, soundly_still}
 
 module _ (E L C Z : ℕ → ℕ → Type 0) (V : ℕ → Type 0) (old new : Lists) (grows : Grows old new) (adds : Adds E L C Z V old new) where
   pub kept_shape : ((b x : ℕ) → E b x → IsEdgeBetween new b x) → ((x y : ℕ) → L x y → IsLeadBetween new x y) → ((b c : ℕ) → C b c → IsNumber new c) → ((b z : ℕ) → Z b z → HasEdge new b z) → IsShaped old → IsShaped new
@@ -13,6 +14,7 @@ module _ (E L C Z : ℕ → ℕ → Type 0) (V : ℕ → Type 0) (old new : List
     edges = λ b x there. edges b x (adds.edges b x there);
     begins = λ b x there. begins b x (adds.edges b x there);
     begun = λ x b there. begun x b (adds.begins x b there);
+    count = let was = is.count in let more = adds.count in omega (arith, was, more);
     leads = λ x y there. leads x y (adds.leads x y there);
     callers = λ b c there. callers b c (adds.callers b c there);
     exits = λ b z there. exits b z (adds.exits b z there);
@@ -23,7 +25,7 @@ module _ (E L C Z : ℕ → ℕ → Type 0) (V : ℕ → Type 0) (old new : List
       edges b x (inr fresh) = edge b x fresh
 
       begins : (b x : ℕ) → HasEdge old b x ⊎ E b x → Begins new x b
-      begins b x (inl was) = grows.begins x b (is.begins b x was)
+      begins b x (inl was) = begins_still old new grows x b (is.begins b x was)
       begins b x (inr fresh) = (adds.found b x fresh).1
 
       begun : (x b : ℕ) → Begins old x b ⊎ E b x → HasEdge new b x
@@ -42,21 +44,17 @@ module _ (E L C Z : ℕ → ℕ → Type 0) (V : ℕ → Type 0) (old new : List
       exits b z (inl was) = edge_still old new grows b z (is.exits b z was)
       exits b z (inr fresh) = exit b z fresh
 
-  pub kept_sound : (I : List Edge → Edge → Type 0) → ((b x : ℕ) → E b x → IsDerived I new b x) → ((x y : ℕ) → L x y → LeadsSoundly I new x y) → ((x : ℕ) → V x → IsFollowed I new x)
+  pub kept_sound : (I : List Edge → Edge → Type 0) → IsShaped old → IsDerivation I (edges_of new) → ((x y : ℕ) → L x y → LeadsSoundly I new x y) → ((x : ℕ) → V x → IsFollowed I new x)
       → ((b c z : ℕ) → C b c → Exits new b z → IsMet I new b c z) → ((b c z : ℕ) → Z b z → Calls new b c → IsMet I new b c z) → IsSound I old → IsSound I new
-  kept_sound I edge lead visit call exit is = record {
-    derived = λ b x there. derived b x (adds.edges b x there);
+  kept_sound I shape order lead visit call exit is = record {
+    order = order;
     leads = λ x y there. leads x y (adds.leads x y there);
     followed = λ x there. followed x (adds.visits x there);
     met = λ b c z there also. met b c z there also (adds.callers b c there) (adds.exits b z also);
   }
     where
-      derived : (b x : ℕ) → HasEdge old b x ⊎ E b x → IsDerived I new b x
-      derived b x (inl was) = derived_still old new grows I b x (is.derived b x was)
-      derived b x (inr fresh) = edge b x fresh
-
       leads : (x y : ℕ) → Leads old x y ⊎ L x y → LeadsSoundly I new x y
-      leads x y (inl was) = soundly_still old new grows I x y (is.leads x y was)
+      leads x y (inl was) = soundly_still old new grows I shape x y (is.leads x y was)
       leads x y (inr fresh) = lead x y fresh
 
       followed : (x : ℕ) → IsVisited old x ⊎ V x → IsFollowed I new x
@@ -76,8 +74,8 @@ module _ (E L C Z : ℕ → ℕ → Type 0) (V : ℕ → Type 0) (old new : List
     at = grows.edges k is.edge is.at;
     end = is.end;
     end_at = grows.ends is.edge.end is.end is.end_at;
-    visited = λ offset spot. visited_still old new grows is.edge.end (is.visited offset spot);
-    left = λ exit. grows.exits is.edge.begin is.edge.end (is.left exit);
+    visited = λ offset spot. grows.visits is.edge.end (is.visited offset spot);
+    left = λ exit. exits_still old new grows is.edge.begin is.edge.end (is.left exit);
     led = λ y there. led y (adds.leads is.edge.end y there);
   }
     where

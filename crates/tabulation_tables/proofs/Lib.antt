@@ -1,3 +1,4 @@
+pub mod Edges
 pub mod Still
 pub mod Kept
 mod Noted

@@ -1,9 +1,11 @@
--- What the answers of the tables' functions rest on: an edge more, and whether an end was visited.
-use Rattle.std.proofs.Common.{◌≡◌, ◌==◌, ◌↔◌, ◌⊎◌, inl, inr, ℕ, Bool, not, IsTrue, List, [], ◌∷◌, length, sym, ◌∙◌, ap, subst, arith}
+-- What the answers of the tables' functions rest on: an edge more.
+use Rattle.std.proofs.Common.{◌≡◌, ◌∙◌, ◌⊎◌, inl, inr, ℕ, ◌+◌, Bool, true, List, [], ◌∷◌, ◌++◌, length, sym, ap, subst, arith}
 use Rattle.std.specs.List.{Contains}
-use Rattle.std.proofs.lemmas.Bool.{ne_eqb, true≢false}
+use Rattle.std.proofs.lemmas.Bool.{true≢false}
+use Rattle.std.proofs.lemmas.List.{length-append}
 use Rattle.std.proofs.lemmas.List.Elements.{Contains-push, Contains-push_cases}
-use Rattle.list_laws.proofs.Members.{contains_first, contains_none}
+use Rattle.chained_lists.specs.Entries.{Entry, entry}
+use Rattle.chained_lists.proofs.Walks.{added_cases, added_there}
 use Rattle.edge_numbers.specs.declared.numbered.NumberedEdge.{NumberedEdge}
 use Rattle.edge_numbers.specs.Inserted.{IsInserted, is_added, was_held}
 use Rattle.tabulation_tables.specs.Lists.{Lists, numbered}
@@ -25,28 +27,32 @@ inserted_cases added old new e (is_added _ _ _ fresh more) b x contained =
       | inr same ↦ inr (ap (λ (a : NumberedEdge). a.begin) (sym same), ap (λ (a : NumberedEdge). a.end) (sym same))
     ]
 
-abbrev with_edge : Lists → List NumberedEdge → (ℕ → List ℕ) → Lists
+-- one that was added is behind the others
+added_is : (added : Bool) (old new : List NumberedEdge) (e : NumberedEdge) → added ≡ true → IsInserted added old new e → new ≡ old ++ e ∷ []
+added_is added old new e is (was_held _ _ _ there same) = absurd (true≢false (sym is))
+added_is added old new e is (is_added _ _ _ fresh more) = more
+
+abbrev with_edge : Lists → List NumberedEdge → List Entry → Lists
 with_edge t edges begins =
     record { ends = t.ends; edges = edges; begins = begins; leads = t.leads; callers = t.callers; exits = t.exits; visits = t.visits }
 
-module _ (t : Lists) (added : Bool) (es : List NumberedEdge) (e : NumberedEdge) (f : ℕ → List ℕ) (is : IsInserted added t.edges es e) where
+module _ (t : Lists) (added : Bool) (es : List NumberedEdge) (e : NumberedEdge) (bs : List Entry) (yes : added ≡ true) (is : IsInserted added t.edges es e)
+    (more : bs ≡ t.begins ++ entry e.end e.begin ∷ []) where
   -- the edge, which is found by its end
-  pub insertion_adds : Contains (f e.end) e.begin → ((q x : ℕ) → Contains (f q) x → Contains (t.begins q) x ⊎ ((e.end ≡ q) × (e.begin ≡ x))) → Adds (IsPair e.begin e.end) None2 None2 None2 None1 t (with_edge t es f)
-  insertion_adds found cases = record {
+  pub insertion_adds : Adds (IsPair e.begin e.end) None2 None2 None2 None1 t (with_edge t es bs)
+  insertion_adds = record {
     edges = inserted_cases added t.edges es e is;
-    begins = λ x b there. elim (cases x b there) [ inl was ↦ inl was | inr same ↦ inr (sym same.1, sym same.0) ];
+    begins = λ x b there. elim (added_cases t.begins bs e.end e.begin more x b there) [ inl was ↦ inl was | inr same ↦ inr (same.1, same.0) ];
     found = λ b x same. (
       subst (λ (a : NumberedEdge). Contains es a) (λ i. record { begin = sym same.0 i; end = sym same.1 i }) (inserted_there added t.edges es e is),
-      subst (λ (y : ℕ). Contains (f y) b) (sym same.1) (subst (λ (a : ℕ). Contains (f e.end) a) (sym same.0) found),
+      subst (λ (y : ℕ). Contains bs (entry y b)) (sym same.1) (subst (λ (a : ℕ). Contains bs (entry e.end a)) (sym same.0) (added_there t.begins bs e.end e.begin more)),
     );
+    count =
+        let longer : length bs ≡ length t.begins + 1 = ap (λ (xs : List Entry). length xs) more ∙ length-append t.begins (entry e.end e.begin ∷ []) in
+        let one : length es ≡ length t.edges + 1 = ap (λ (xs : List NumberedEdge). length xs) (added_is added t.edges es e yes is) ∙ length-append t.edges (e ∷ []) in
+        omega (arith, longer, one);
     leads = λ x y there. inl there;
     callers = λ b c there. inl there;
     exits = λ b z there. inl there;
     visits = λ x there. inl there;
   }
-
--- ---- a visit
-
-pub some_or_none : (vs : List ℕ) (is_empty : Bool) → is_empty ≡ (length vs == 0) → IsTrue (not is_empty) ↔ ((v : ℕ) × Contains vs v)
-some_or_none [] is_empty is = (λ none. absurd (true≢false (sym none ∙ ap not is)), λ there. absurd (contains_none there.0 there.1))
-some_or_none (v ∷ vs) is_empty is = (λ some. (v, contains_first v vs), λ there. ap not (is ∙ ne_eqb (length (v ∷ vs)) 0 (λ none. omega arith)))

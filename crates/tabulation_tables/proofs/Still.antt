@@ -2,31 +2,33 @@
 use Rattle.std.proofs.Common.{◌⊎◌, inl, inr, ℕ, List}
 use Rattle.stage_facts.specs.Facts.{SiteFact}
 use Rattle.stage_edges.specs.Rules.{Edge}
-use Rattle.tabulation_tables.specs.Lists.{IsBegun, IsDerived, IsEdgeBetween, IsFollowed, IsLeadBetween, IsLedTo, IsMet, IsNumber, IsVisited, LeadsSoundly, Lists, HasEdge, numbered}
+use Rattle.tabulation_tables.specs.Lists.{Begins, Calls, Exits, IsBegun, IsEdgeBetween, IsFollowed, IsLeadBetween, IsLedTo, IsMet, IsNumber, IsShaped, Leads, LeadsSoundly, Lists, HasEdge, numbered}
 use Rattle.tabulation_tables.specs.Steps.{Grows}
 use Rattle.list_laws.proofs.Places.{contains_at, place_of}
+use Rattle.chained_lists.proofs.Walks.{contained_still, front_more, front_none}
+use Rattle.tabulation_tables.proofs.Edges.{hold_still}
 
 -- growth in two steps, and none
 pub grows_more : (a b c : Lists) → Grows a b → Grows b c → Grows a c
 grows_more a b c first second = record {
   ends = λ n e at. second.ends n e (first.ends n e at);
   edges = λ k e at. second.edges k e (first.edges k e at);
-  begins = λ x v there. second.begins x v (first.begins x v there);
-  leads = λ x v there. second.leads x v (first.leads x v there);
-  callers = λ x v there. second.callers x v (first.callers x v there);
-  exits = λ x v there. second.exits x v (first.exits x v there);
-  visits = λ x v there. second.visits x v (first.visits x v there);
+  begins = front_more a.begins b.begins c.begins first.begins second.begins;
+  leads = front_more a.leads b.leads c.leads first.leads second.leads;
+  callers = front_more a.callers b.callers c.callers first.callers second.callers;
+  exits = front_more a.exits b.exits c.exits first.exits second.exits;
+  visits = λ x is. second.visits x (first.visits x is);
 }
 
 pub grows_none : (t : Lists) → Grows t t
 grows_none t = record {
   ends = λ n e at. at;
   edges = λ k e at. at;
-  begins = λ x v there. there;
-  leads = λ x v there. there;
-  callers = λ x v there. there;
-  exits = λ x v there. there;
-  visits = λ x v there. there;
+  begins = front_none t.begins;
+  leads = front_none t.leads;
+  callers = front_none t.callers;
+  exits = front_none t.exits;
+  visits = λ x is. is;
 }
 
 module _ (old new : Lists) (grows : Grows old new) where
@@ -35,8 +37,17 @@ module _ (old new : Lists) (grows : Grows old new) where
       let place = place_of old.edges (numbered b x) there in
       contains_at new.edges place.0 (numbered b x) (grows.edges place.0 (numbered b x) place.1)
 
-  pub visited_still : (x : ℕ) → IsVisited old x → IsVisited new x
-  visited_still x is = (is.0, grows.visits x is.0 is.1)
+  pub begins_still : (x b : ℕ) → Begins old x b → Begins new x b
+  begins_still x b there = contained_still old.begins new.begins grows.begins x b there
+
+  pub leads_still : (x y : ℕ) → Leads old x y → Leads new x y
+  leads_still x y there = contained_still old.leads new.leads grows.leads x y there
+
+  pub calls_still : (b c : ℕ) → Calls old b c → Calls new b c
+  calls_still b c there = contained_still old.callers new.callers grows.callers b c there
+
+  pub exits_still : (b z : ℕ) → Exits old b z → Exits new b z
+  exits_still b z there = contained_still old.exits new.exits grows.exits b z there
 
   pub number_still : (n : ℕ) → IsNumber old n → IsNumber new n
   number_still n is = record { end = is.end; end_at = grows.ends n is.end is.end_at }
@@ -60,7 +71,7 @@ module _ (old new : Lists) (grows : Grows old new) where
     number = is.number;
     end = is.end;
     end_at = grows.ends is.number is.end is.end_at;
-    leads = grows.leads x is.number is.leads;
+    leads = leads_still x is.number is.leads;
     is = is.is;
   }
 
@@ -69,24 +80,22 @@ module _ (old new : Lists) (grows : Grows old new) where
     number = is.number;
     begin = is.begin;
     begin_at = grows.ends is.number is.begin is.begin_at;
-    called = grows.callers is.number x is.called;
+    called = calls_still is.number x is.called;
     there = edge_still is.number is.number is.there;
     is = is.is;
   }
 
   module _ (I : List Edge → Edge → Type 0) where
-    pub derived_still : (b x : ℕ) → IsDerived I old b x → IsDerived I new b x
-    derived_still b x is = record {
-      begin = is.begin;
-      end = is.end;
-      begin_at = grows.ends b is.begin is.begin_at;
-      end_at = grows.ends x is.end is.end_at;
-      derivable = is.derivable;
+    pub soundly_still : IsShaped old → (x y : ℕ) → LeadsSoundly I old x y → LeadsSoundly I new x y
+    soundly_still shape x y is = record {
+      from = is.from;
+      to = is.to;
+      from_at = grows.ends x is.from is.from_at;
+      to_at = grows.ends y is.to is.to_at;
+      others = is.others;
+      there = hold_still old new grows shape is.others is.there;
+      follows = is.follows;
     }
-
-    pub soundly_still : (x y : ℕ) → LeadsSoundly I old x y → LeadsSoundly I new x y
-    soundly_still x y is =
-        record { from = is.from; to = is.to; from_at = grows.ends x is.from is.from_at; to_at = grows.ends y is.to is.to_at; sound = is.sound }
 
     pub followed_still : (x : ℕ) → IsFollowed I old x → IsFollowed I new x
     followed_still x is = record { end = is.end; end_at = grows.ends x is.end is.end_at; all = λ entry to i. by entry to (is.all entry to i) }

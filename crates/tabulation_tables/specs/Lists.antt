@@ -1,9 +1,9 @@
 -- Public contracts rest on this module.
 -- What tabulation has found, as lists by number; and what each of its entries claims.
-use Rattle.std.specs.Prelude.{◌≡◌, ◌⊎◌, ℕ, List, [], ◌∷◌, map, None, Some, slice_get, slice_index_or, Contains}
+use Rattle.std.specs.Prelude.{◌≡◌, ◌⊎◌, ℕ, Bool, true, List, [], ◌∷◌, length, map, None, Some, slice_get, slice_index_or, Contains}
 use Rattle.op_model.specs.declared.node.Spot.TheVariants as spots
-use Rattle.least_sets.specs.Rules.{IsDerivable}
-use Rattle.grouped_lists.specs.Groups.{values_at}
+use Rattle.least_sets.specs.Rules.{Hold, IsDerivation}
+use Rattle.chained_lists.specs.Entries.{Entry, entry}
 use Rattle.stage_facts.specs.Facts.{SiteFact, none_yet}
 use Rattle.stage_edges.specs.Rules.{Edge, IsExit, edge}
 use Rattle.edge_numbers.specs.declared.numbered.NumberedEdge.{NumberedEdge}
@@ -13,25 +13,25 @@ use Rattle.tabulation_tables.specs.declared.tables.Tables.{Tables}
 -- ---- what is found
 
 -- The ends and the edges, each once. Of an end: with which ends its edges begin, to which ends it leads, and whether it was visited. Of an end with which a
--- method begins: which ends enter the method with it, and at which exits its edges end.
+-- method begins: which ends enter the method with it, and at which exits its edges end. Each stands in the order in which it was found.
 pub record Lists : Type 0 where
   pub ends : List End
   pub edges : List NumberedEdge
-  pub begins : ℕ → List ℕ
-  pub leads : ℕ → List ℕ
-  pub callers : ℕ → List ℕ
-  pub exits : ℕ → List ℕ
-  pub visits : ℕ → List ℕ
+  pub begins : List Entry
+  pub leads : List Entry
+  pub callers : List Entry
+  pub exits : List Entry
+  pub visits : List Bool
 
 abbrev pub lists_of : Tables → Lists
 lists_of t = record {
   ends = t.ends;
   edges = t.edges;
-  begins = λ n. values_at t.begins.groups.items n;
-  leads = λ n. values_at t.leads.groups.items n;
-  callers = λ n. values_at t.callers.groups.items n;
-  exits = λ n. values_at t.exits.groups.items n;
-  visits = λ n. values_at t.visits.groups.items n;
+  begins = t.begins;
+  leads = t.leads;
+  callers = t.callers;
+  exits = t.exits;
+  visits = t.visits.items;
 }
 
 abbrev pub numbered : ℕ → ℕ → NumberedEdge
@@ -41,19 +41,19 @@ abbrev pub HasEdge : Lists → ℕ → ℕ → Type 0
 HasEdge t b x = Contains t.edges (numbered b x)
 
 abbrev pub Begins : Lists → ℕ → ℕ → Type 0
-Begins t x b = Contains (t.begins x) b
+Begins t x b = Contains t.begins (entry x b)
 
 abbrev pub Leads : Lists → ℕ → ℕ → Type 0
-Leads t x y = Contains (t.leads x) y
+Leads t x y = Contains t.leads (entry x y)
 
 abbrev pub Calls : Lists → ℕ → ℕ → Type 0
-Calls t b c = Contains (t.callers b) c
+Calls t b c = Contains t.callers (entry b c)
 
 abbrev pub Exits : Lists → ℕ → ℕ → Type 0
-Exits t b z = Contains (t.exits b) z
+Exits t b z = Contains t.exits (entry b z)
 
 abbrev pub IsVisited : Lists → ℕ → Type 0
-IsVisited t x = (v : ℕ) × Contains (t.visits x) v
+IsVisited t x = slice_get t.visits x ≡ Some true
 
 -- ---- edges
 
@@ -82,14 +82,6 @@ pub record IsEdgeBetween (t : Lists) (b x : ℕ) : Type 0 where
   pub first : begin.spot ≡ spots.Node 0
   pub same : begin.method ≡ end.method
 
--- The edge is derivable.
-pub record IsDerived (I : List Edge → Edge → Type 0) (t : Lists) (b x : ℕ) : Type 0 where
-  pub begin : End
-  pub end : End
-  pub begin_at : slice_get t.ends b ≡ Some begin
-  pub end_at : slice_get t.ends x ≡ Some end
-  pub derivable : IsDerivable I (edge_to end begin.fact)
-
 -- The numbers are those of two ends of one method.
 pub record IsLeadBetween (t : Lists) (x y : ℕ) : Type 0 where
   pub from : End
@@ -98,13 +90,15 @@ pub record IsLeadBetween (t : Lists) (x y : ℕ) : Type 0 where
   pub to_at : slice_get t.ends y ≡ Some to
   pub same : from.method ≡ to.method
 
--- With each entry the edge to the second end is derivable where that to the first is.
+-- With each entry the edge to the second end follows from that to the first, and from others that are there.
 pub record LeadsSoundly (I : List Edge → Edge → Type 0) (t : Lists) (x y : ℕ) : Type 0 where
   pub from : End
   pub to : End
   pub from_at : slice_get t.ends x ≡ Some from
   pub to_at : slice_get t.ends y ≡ Some to
-  pub sound : (entry : SiteFact) → IsDerivable I (edge_to from entry) → IsDerivable I (edge_to to entry)
+  pub others : List Edge
+  pub there : Hold (Contains (edges_of t)) others
+  pub follows : (entry : SiteFact) → I (edge_to from entry ∷ others) (edge_to to entry)
 
 -- The end leads to the edge with this entry.
 pub record IsLedTo (t : Lists) (x : ℕ) (entry : SiteFact) (to : Edge) : Type 0 where
@@ -146,18 +140,19 @@ pub record IsNumber (t : Lists) (n : ℕ) : Type 0 where
   pub end : End
   pub end_at : slice_get t.ends n ≡ Some end
 
--- Numbers are those of ends, and edges are found by their ends.
+-- Numbers are those of ends, and each edge is found once by its end.
 pub record IsShaped (t : Lists) : Type 0 where
   pub edges : (b x : ℕ) → HasEdge t b x → IsEdgeBetween t b x
   pub begins : (b x : ℕ) → HasEdge t b x → Begins t x b
   pub begun : (x b : ℕ) → Begins t x b → HasEdge t b x
+  pub count : length t.begins ≡ length t.edges
   pub leads : (x y : ℕ) → Leads t x y → IsLeadBetween t x y
   pub callers : (b c : ℕ) → Calls t b c → IsNumber t c
   pub exits : (b z : ℕ) → Exits t b z → HasEdge t b z
 
--- Each entry is true by the rules.
+-- Each edge follows from those before it, and each entry is true by the rules.
 pub record IsSound (I : List Edge → Edge → Type 0) (t : Lists) : Type 0 where
-  pub derived : (b x : ℕ) → HasEdge t b x → IsDerived I t b x
+  pub order : IsDerivation I (edges_of t)
   pub leads : (x y : ℕ) → Leads t x y → LeadsSoundly I t x y
   pub followed : (x : ℕ) → IsVisited t x → IsFollowed I t x
   pub met : (b c z : ℕ) → Calls t b c → Exits t b z → IsMet I t b c z

@@ -4,5 +4,6 @@
 #![tactic(auto)]
 
 mod tables;
+mod visits;
 
 pub use tables::Tables;

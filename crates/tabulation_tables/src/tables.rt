@@ -2,29 +2,31 @@
 
 ghost use Rattle.std.specs.Prelude.{◌≡◌, ◌↔◌, ◌+◌, Some, length, slice_get, IsTrue, IfOk, OnOk, if◌then◌else◌};
 ghost use Rattle.stage_facts.specs.Plain.{fact_of};
+ghost use Rattle.edge_numbers.specs.Inserted.{IsInserted};
 ghost use Rattle.end_numbers.specs.Ends.{end};
 ghost use Rattle.tabulation_tables.specs.Lists.{HasEdge, IsVisited, Calls, Exits, Leads, lists_of};
-ghost use Rattle.tabulation_tables.specs.Steps.{Adds, AreEmpty, Grows, IsAdded, IsOnly, IsPair, None1, None2};
+ghost use Rattle.tabulation_tables.specs.Steps.{Adds, AreEmpty, CallsStay, Grows, IsAdded, IsOnly, IsPair, None1, None2, NotesStay};
 
+use crate::visits::{is_marked, mark};
+use chained_lists::Chains;
 use edge_numbers::{EdgeNumbers, NumberedEdge};
 use end_numbers::EndNumbers;
-use grouped_lists::Groups;
 use jvm_model::MethodNo;
 use op_model::Spot;
 use stage_facts::PlainFact;
 use std::alloc::{AllocError, Global};
 
 /// What is found: ends by number, and edges; and by the number of an end with which ends the edges to it begin, to which ends it leads, which ends enter the
-/// method that begins with it, at which exits the edges of this method end, and whether it was visited.
+/// method that begins with it, at which exits the edges of this method end, and whether it was visited. These lists may be walked while they grow.
 #[derive(Drop)]
 pub struct Tables {
     pub ends: EndNumbers,
     pub edges: EdgeNumbers,
-    pub begins: Groups<u32>,
-    pub leads: Groups<u32>,
-    pub callers: Groups<u32>,
-    pub exits: Groups<u32>,
-    pub visits: Groups<u32>,
+    pub begins: Chains,
+    pub leads: Chains,
+    pub callers: Chains,
+    pub exits: Chains,
+    pub visits: Vec<bool>,
 }
 
 impl Tables {
@@ -35,11 +37,11 @@ impl Tables {
         Tables {
             ends: EndNumbers::new(alloc),
             edges: EdgeNumbers::new(alloc),
-            begins: Groups::new(alloc),
-            leads: Groups::new(alloc),
-            callers: Groups::new(alloc),
-            exits: Groups::new(alloc),
-            visits: Groups::new(alloc),
+            begins: Chains::new(alloc),
+            leads: Chains::new(alloc),
+            callers: Chains::new(alloc),
+            exits: Chains::new(alloc),
+            visits: Vec::new(alloc),
         }
     }
 
@@ -53,6 +55,7 @@ impl Tables {
         ensures number { IfOk result (λ number. slice_get self.new.ends number ≡ Some (end method spot (fact_of fact.now))) }
         ensures grows { Grows (lists_of self.old) (lists_of self.new) }
         ensures adds { Adds None2 None2 None2 None2 None1 (lists_of self.old) (lists_of self.new) }
+        ensures stay { NotesStay (lists_of self.old) (lists_of self.new) }
         ensures edges { self.new.edges ≡ self.old.edges }
     {
         self.ends.number(method, spot, fact)
@@ -62,9 +65,11 @@ impl Tables {
     pub fn insert(&mut self, edge: NumberedEdge) -> Result<bool, AllocError>
         ensures grows { OnOk result (Grows (lists_of self.old) (lists_of self.new)) }
         ensures adds { IfOk result (λ added. Adds (IsAdded added edge.begin edge.end) None2 None2 None2 None1 (lists_of self.old) (lists_of self.new)) }
+        ensures stay { OnOk result (NotesStay (lists_of self.old) (lists_of self.new)) }
         ensures there { OnOk result (HasEdge (lists_of self.new) edge.begin edge.end) }
         ensures count { IfOk result (λ added. length self.new.edges ≡ length self.old.edges + (if added then 1 else 0)) }
         ensures ends { self.new.ends ≡ self.old.ends }
+        ensures inserted { IfOk result (λ added. IsInserted added self.old.edges self.new.edges edge) }
     {
         if !self.edges.insert(edge)? {
             return Ok(false);
@@ -77,6 +82,7 @@ impl Tables {
     pub fn lead(&mut self, from: u32, to: u32) -> Result<(), AllocError>
         ensures grows { OnOk result (Grows (lists_of self.old) (lists_of self.new)) }
         ensures adds { OnOk result (Adds None2 (IsPair from to) None2 None2 None1 (lists_of self.old) (lists_of self.new)) }
+        ensures stay { OnOk result (CallsStay (lists_of self.old) (lists_of self.new)) }
         ensures there { OnOk result (Leads (lists_of self.new) from to) }
         ensures edges { self.new.edges ≡ self.old.edges }
         ensures ends { self.new.ends ≡ self.old.ends }
@@ -114,41 +120,13 @@ impl Tables {
         ensures edges { self.new.edges ≡ self.old.edges }
         ensures ends { self.new.ends ≡ self.old.ends }
     {
-        self.visits.add(end, 0)
+        mark(&mut self.visits, end as usize)
     }
 
     /// Whether an end was visited.
     pub fn is_visited(&self, end: u32) -> bool
         ensures { IsTrue result ↔ IsVisited (lists_of self.now) end }
     {
-        !self.visits.get(end).is_empty()
-    }
-
-    /// With which ends the methods of edges to an end begin, by number.
-    pub fn begins_of(&self, end: u32) -> &[u32]
-        ensures { result.now ≡ (lists_of self.now).begins end }
-    {
-        self.begins.get(end)
-    }
-
-    /// The ends to which an end leads.
-    pub fn leads_of(&self, end: u32) -> &[u32]
-        ensures { result.now ≡ (lists_of self.now).leads end }
-    {
-        self.leads.get(end)
-    }
-
-    /// The ends that enter the method that begins with an end.
-    pub fn callers_of(&self, begin: u32) -> &[u32]
-        ensures { result.now ≡ (lists_of self.now).callers begin }
-    {
-        self.callers.get(begin)
-    }
-
-    /// The exits that were noted of the method that begins with an end.
-    pub fn exits_of(&self, begin: u32) -> &[u32]
-        ensures { result.now ≡ (lists_of self.now).exits begin }
-    {
-        self.exits.get(begin)
+        is_marked(&self.visits, end as usize)
     }
 }

@@ -6,17 +6,24 @@ use Rattle.stage_facts.specs.Plain.{fact_of}
 use Rattle.stage_transfer.specs.Calls.{by_call}
 use Rattle.stage_transfer.specs.Stages.{transfer_of}
 use Rattle.edge_steps.specs.Parts.{IsBegun}
-use Rattle.edge_steps.proofs.Adding.{begun_as}
+use Rattle.edge_steps.proofs.Adding.{begun_as, none_begin}
 use Rattle.edge_steps.proofs.node_edges.add_sent.Goals as goal
+
+pub returns-then-is_empty : goal.returns-then-is_empty
+returns-then-is_empty g c = λ w like.
+    let methods = c.as_slice-called.result.now in
+    let begun = (transfer_of w).enter (by_call c.args.call.now) (fact_of c.args.sent.now) in
+    subst (λ (ms : List EnteredMethod). AreAdded (OfOne (IsBegun begun) ms) c.args.methods.now.items c.args.methods.now.items) c.as_slice-called.ensures.value
+    (none_begin (IsBegun begun) methods c.is_empty.result c.is_empty.ensures c.if-is_empty.true c.args.methods.now.items)
 
 pub returns : goal.returns
 returns g c =
     let a = c.args.methods.now.items in
     let b = c.add_begun.new.entered.items in
-    let methods = c.as_slice.result.now in
+    let methods = c.as_slice-called.result.now in
     on_ok_weaker c.add_begun.result
     (λ added. λ w like.
     let begun = (transfer_of w).enter (by_call c.args.call.now) (fact_of c.args.sent.now) in
-    subst (λ (ms : List EnteredMethod). AreAdded (OfOne (IsBegun begun) ms) a b) c.as_slice.ensures.value
+    subst (λ (ms : List EnteredMethod). AreAdded (OfOne (IsBegun begun) ms) a b) c.as_slice-called.ensures.value
     (begun_as methods (fact_of c.entered-entry.result) begun a b (c.entered-entry.ensures w like c.requires) added))
     c.add_begun.ensures

@@ -1,13 +1,16 @@
 use Rattle.std.proofs.Common.{All, take, sym, ◌∙◌, subst}
-use Rattle.std.proofs.lemmas.Bool.{false≢true}
+use Rattle.std.proofs.lemmas.Bool.{eqb-true, false≢true}
 use Rattle.std.proofs.lemmas.List.{take_all}
 use Rattle.std.proofs.lemmas.List.Elements.{All-contains, All-more}
 use Rattle.std.proofs.lemmas.Option.{slice_get-get_or}
 use Rattle.list_laws.proofs.Places.{all_at, to_front}
 use Rattle.op_model.specs.declared.node.NodeHandler.{NodeHandler}
 use Rattle.machine_nodes.specs.NodeSteps.{Takes}
-use Rattle.handler_search.proofs.FirstTaking.{first_taking}
+use Rattle.handler_search.proofs.FirstTaking.{first_taking, none_in_empty}
 use Rattle.handler_search.proofs.taking.first_taking.Goals as goal
+
+pub returns-then-is_empty-clause-none : goal.returns-then-is_empty-clause-none
+returns-then-is_empty-clause-none c = λ h there takes. none_in_empty c.args.handlers.now (eqb-true _ _ (sym c.is_empty.ensures ∙ c.if-is_empty.true)) h there
 
 pub returns-then-takes-clause-found : goal.returns-then-takes-clause-found
 returns-then-takes-clause-found c =

@@ -1,7 +1,10 @@
 use Rattle.std.proofs.Common.{◌<◌, length, ap, arith, sym, ◌∙◌}
 use Rattle.std.proofs.lemmas.Bool.{false≢true}
-use Rattle.points_to_calls.proofs.CatchChain.{goes_here, goes_later}
+use Rattle.points_to_calls.proofs.CatchChain.{goes_here, goes_later, goes_out}
 use Rattle.points_to_calls.proofs.catch_chains.goes_to.Goals as goal
+
+pub returns-then-is_empty : goal.returns-then-is_empty
+returns-then-is_empty c = goes_out c.args.program.now c.args.class.now c.args.catch_chain.now.catch_clauses c.args.catch_chain.now.outside (c.is_empty.ensures.0 c.if-is_empty.true)
 
 pub returns-then-takes : goal.returns-then-takes
 returns-then-takes c =

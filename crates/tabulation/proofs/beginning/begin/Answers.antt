@@ -3,7 +3,7 @@ use Rattle.edge_numbers.specs.declared.numbered.NumberedEdge.{NumberedEdge}
 use Rattle.tabulation_tables.specs.Lists.{lists_of}
 use Rattle.tabulation_tables.proofs.Still.{edge_still, grows_more, number_still}
 use Rattle.tabulation.proofs.Led.{may_take_begun}
-use Rattle.tabulation.proofs.Steps.{call_step, met_all_still, numbered_step, step_more}
+use Rattle.tabulation.proofs.Steps.{call_step, may_begin_still, met_all_still, numbered_step, step_more}
 use Rattle.tabulation.proofs.beginning.begin.Goals as goal
 
 pub take_edge-requires-clause-kept : goal.take_edge-requires-clause-kept
@@ -12,7 +12,8 @@ take_edge-requires-clause-kept c =
     (ap (λ (es : List NumberedEdge). length es) c.number.ensures.edges) c.requires.kept).kept
 
 pub take_edge-requires-clause-may : goal.take_edge-requires-clause-may
-take_edge-requires-clause-may c = may_take_begun c.args.work.question.now (lists_of c.number.new.self) c.args.entered.now c.requires.may c.in_ok-begin.begin c.in_ok-begin.ensures.number
+take_edge-requires-clause-may c = may_take_begun c.args.work.question.now (lists_of c.number.new.self) c.args.entered.now
+    (may_begin_still c.args.work.question.now (lists_of c.args.tables.now) (lists_of c.number.new.self) c.number.ensures.grows c.requires.kept.right.shape c.args.entered.now c.requires.may) c.in_ok-begin.begin c.in_ok-begin.ensures.number
 
 pub meet_exits-requires-clause-caller : goal.meet_exits-requires-clause-caller
 meet_exits-requires-clause-caller c =

@@ -5,7 +5,7 @@ use Rattle.edge_steps.specs.declared.conclusions.EnteredWith.{EnteredWith}
 use Rattle.edge_steps.specs.Steps.{begun}
 use Rattle.tabulation_tables.specs.Lists.{IsBegun, lists_of}
 use Rattle.tabulation_tables.proofs.Still.{begun_still, number_still}
-use Rattle.tabulation.proofs.Steps.{read_there, step_more}
+use Rattle.tabulation.proofs.Steps.{may_begin_still, read_there, step_more}
 use Rattle.tabulation.proofs.beginning.begin_all.Goals as goal
 
 pub begin-requires-clause-kept : goal.begin-requires-clause-kept
@@ -15,7 +15,9 @@ pub begin-requires-clause-caller : goal.begin-requires-clause-caller
 begin-requires-clause-caller c = number_still (lists_of c.args.tables.now) (lists_of c.loop-one.tables) c.loop-one.invariant.step.grows c.args.caller c.requires.caller
 
 pub begin-requires-clause-may : goal.begin-requires-clause-may
-begin-requires-clause-may c = c.requires.may c.one-item.result (read_there c.args.entered.now c.loop-one.one-index c.one-item.result c.loop-one-test.true c.one-item.is)
+begin-requires-clause-may c =
+    may_begin_still c.args.work.question.now (lists_of c.args.tables.now) (lists_of c.loop-one.tables) c.loop-one.invariant.step.grows c.requires.kept.right.shape c.one-item.result
+    (c.requires.may c.one-item.result (read_there c.args.entered.now c.loop-one.one-index c.one-item.result c.loop-one-test.true c.one-item.is))
 
 pub loop-one-preserved : goal.loop-one-preserved
 loop-one-preserved c =

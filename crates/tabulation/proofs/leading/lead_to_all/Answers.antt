@@ -16,7 +16,7 @@ lead_to_conclusion-requires-clause-of_method c =
 pub lead_to_conclusion-requires-clause-concludes : goal.lead_to_conclusion-requires-clause-concludes
 lead_to_conclusion-requires-clause-concludes c =
     let one = c.conclusion-item.result in
-    concludes_still c.args.work.question.now (lists_of c.args.tables.now) (lists_of c.loop-conclusion.tables) c.loop-conclusion.invariant.step.grows c.args.from c.args.method one
+    concludes_still c.args.work.question.now (lists_of c.args.tables.now) (lists_of c.loop-conclusion.tables) c.loop-conclusion.invariant.step.grows c.requires.kept.right.shape c.args.from c.args.method one
     (c.requires.conclude one (read_there c.args.conclusions.now c.loop-conclusion.conclusion-index one c.loop-conclusion-test.true c.conclusion-item.is))
 
 pub loop-conclusion-preserved : goal.loop-conclusion-preserved

@@ -1,7 +1,8 @@
 use Rattle.std.proofs.Common.{take}
 use Rattle.std.specs.List.{All}
 use Rattle.tabulation_tables.specs.Lists.{lists_of}
-use Rattle.tabulation.specs.Kept.{CallsStay, IsStep, LeadsToConclusion}
+use Rattle.tabulation_tables.specs.Steps.{CallsStay}
+use Rattle.tabulation.specs.Kept.{IsStep, LeadsToConclusion}
 use Rattle.tabulation.proofs.leading.lead_to_all.Given as goal
 
 abbrev pub invariant-loop-conclusion : goal.invariant-loop-conclusion

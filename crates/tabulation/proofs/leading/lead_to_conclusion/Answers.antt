@@ -4,7 +4,7 @@ use Rattle.edge_numbers.specs.declared.numbered.NumberedEdge.{NumberedEdge}
 use Rattle.std.proofs.Common.{List}
 use Rattle.tabulation_tables.specs.Lists.{lists_of}
 use Rattle.tabulation.proofs.Led.{may_lead_there}
-use Rattle.tabulation.proofs.Steps.{numbered_stay, numbered_step, on_ok_both, stay_more, step_more}
+use Rattle.tabulation.proofs.Steps.{numbered_step, on_ok_both, stay_more, step_more}
 use Rattle.tabulation.proofs.leading.lead_to_conclusion.Goals as goal
 
 pub lead_to-requires-clause-kept : goal.lead_to-requires-clause-kept
@@ -14,7 +14,7 @@ lead_to-requires-clause-kept c =
 
 pub lead_to-requires-clause-may : goal.lead_to-requires-clause-may
 lead_to-requires-clause-may c =
-    may_lead_there c.args.work.question.now (lists_of c.args.tables.now) (lists_of c.number.new.self) c.number.ensures.grows c.args.from c.args.method c.args.conclusion.now c.requires.of_method
+    may_lead_there c.args.work.question.now (lists_of c.args.tables.now) (lists_of c.number.new.self) c.number.ensures.grows c.requires.kept.right.shape c.args.from c.args.method c.args.conclusion.now c.requires.of_method
     c.requires.concludes c.in_ok-to.to c.in_ok-to.ensures.number
 
 pub returns-clause-step : goal.returns-clause-step
@@ -28,10 +28,9 @@ returns-clause-step c =
 
 pub returns-clause-stay : goal.returns-clause-stay
 returns-clause-stay c =
-    let q = c.args.work.question.now in
     let first = lists_of c.args.tables.now in
     let mid = lists_of c.number.new.self in
-    on_ok_weaker c.lead_to.result (λ stay. stay_more first mid (lists_of c.lead_to.new.tables) (numbered_stay q first mid c.number.ensures.grows c.number.ensures.adds) stay) c.lead_to.ensures.stay
+    on_ok_weaker c.lead_to.result (λ stay. stay_more first mid (lists_of c.lead_to.new.tables) c.number.ensures.stay.calls stay) c.lead_to.ensures.stay
 
 pub returns-clause-leads : goal.returns-clause-leads
 returns-clause-leads c =

@@ -5,7 +5,8 @@ use Rattle.end_numbers.specs.Ends.{End, end_of}
 use Rattle.tabulation_tables.specs.Lists.{edge_to, lists_of}
 use Rattle.ground_views.specs.Views.{FollowAt}
 use Rattle.tabulation.proofs.Found.{concludes, found_at, met, met_none, met_start, no_node_at, no_node_by}
-use Rattle.tabulation.proofs.Led.{exit_derivable, exit_edge}
+use Rattle.tabulation_tables.proofs.Edges.{edge_there}
+use Rattle.tabulation.proofs.Led.{exit_edge}
 use Rattle.tabulation.proofs.Steps.{on_ok_both, stay_none, step_none}
 use Rattle.tabulation.proofs.meeting.meet.Goals as goal
 
@@ -72,7 +73,7 @@ lead_to_all-requires-clause-conclude c = λ d there.
     concludes q t c.args.caller a c.end-called_at.ensures (edge_to (end_of c.end-ended.result) (end_of c.end-begun.result).fact ∷ []) cs []
     (found_at q a c.in-Node.offset c.in-Node.is c.in-Some-node.seen c.in-Some-node.ensures.found (edge_to (end_of c.end-ended.result) (end_of c.end-begun.result).fact ∷ []) cs []
     (subst (λ (e : _). FollowAt q c.in-Some-node.seen a.fact (e ∷ []) cs []) other c.in_ok-conclusions.ensures))
-    (λ x w asked. (exit_derivable q t c.args.begin c.args.exit c.requires.kept.right c.requires.exit (end_of c.end-begun.result) (end_of c.end-ended.result) c.end-begun.ensures c.end-ended.ensures x w asked, tt))
+    (edge_there t c.args.begin c.args.exit c.requires.exit (end_of c.end-begun.result) (end_of c.end-ended.result) c.end-begun.ensures c.end-ended.ensures, tt)
     d (rw (← c.as_slice.ensures.value) there)
 
 pub returns-clause-met : goal.returns-clause-met

@@ -1,53 +1,69 @@
-use Rattle.std.proofs.Common.{get_or, ◌∙◌, ℕ, List, take, sym, subst}
-use Rattle.std.specs.List.{Contains}
-use Rattle.std.proofs.lemmas.List.Elements.{All-contains, All-more, All-weaker, Contains-get_or}
-use Rattle.list_laws.proofs.Members.{all_from_front}
-use Rattle.tabulation_tables.specs.Lists.{lists_of}
-use Rattle.tabulation_tables.proofs.Still.{edge_still, number_still}
+use Rattle.std.proofs.Common.{ℕ, List, length, sym, ap, subst, arith}
+use Rattle.std.proofs.lemmas.Option.{slice_get_within}
+use Rattle.list_laws.proofs.Places.{contains_at}
+use Rattle.chained_lists.specs.Entries.{Entry, entry}
+use Rattle.chained_lists.proofs.Walks.{walk_begins, walk_ends, walk_goes}
+use Rattle.tabulation_tables.specs.Lists.{IsNumber, lists_of}
+use Rattle.tabulation_tables.proofs.Still.{edge_still}
 use Rattle.tabulation.specs.Kept.{HasMetAll}
-use Rattle.tabulation.proofs.Steps.{met_all_still, stay_more, step_more}
+use Rattle.tabulation.proofs.Steps.{met_all_still, stay_more, stay_none, step_more, step_none}
 use Rattle.tabulation.proofs.meeting.meet_callers.Goals as goal
 
+pub loop-place-init : goal.loop-place-init
+loop-place-init c =
+    let q = c.args.work.question.now in
+    let first = lists_of c.args.tables.now in
+    record {
+      step = step_none q first c.requires.kept;
+      stay = stay_none first;
+      walked = walk_begins (λ (n : ℕ). HasMetAll q first c.args.begin n c.args.exit) first.callers c.args.begin;
+    }
+
+pub value-caller-requires : goal.value-caller-requires
+value-caller-requires c =
+    let there = c.in-Some.ensures.there in
+    slice_get_within (lists_of c.loop-place.tables).callers c.in-Some.place.0 (entry c.args.begin there.value) there.at
+
 pub meet-requires-clause-kept : goal.meet-requires-clause-kept
-meet-requires-clause-kept c = c.loop-caller.invariant.step.kept
+meet-requires-clause-kept c = c.loop-place.invariant.step.kept
 
 pub meet-requires-clause-caller : goal.meet-requires-clause-caller
 meet-requires-clause-caller c =
-    let first = lists_of c.args.tables.now in
-    let old = lists_of c.loop-caller.tables in
-    let one = (get_or c.as_slice-caller-items.result.now c.loop-caller.caller-index 0) in
-    number_still first old c.loop-caller.invariant.step.grows one (c.requires.kept.right.shape.callers c.args.begin one (subst (λ (xs : List ℕ). Contains xs one) (c.as_slice-caller-items.ensures.value ∙ c.in_ok-callers.ensures.items ∙ c.callers_of.ensures) (Contains-get_or c.as_slice-caller-items.result.now c.loop-caller.caller-index 0 c.loop-caller-test.true)))
+    let old = lists_of c.loop-place.tables in
+    let there = c.in-Some.ensures.there in
+    subst (IsNumber old) (sym (c.value-caller.ensures c.args.begin there.value there.at))
+    (c.loop-place.invariant.step.kept.right.shape.callers c.args.begin there.value (contains_at old.callers c.in-Some.place.0 (entry c.args.begin there.value) there.at))
 
 pub meet-requires-clause-exit : goal.meet-requires-clause-exit
 meet-requires-clause-exit c =
-    let first = lists_of c.args.tables.now in
-    let old = lists_of c.loop-caller.tables in
-    edge_still first old c.loop-caller.invariant.step.grows c.args.begin c.args.exit c.requires.exit
+    edge_still (lists_of c.args.tables.now) (lists_of c.loop-place.tables) c.loop-place.invariant.step.grows c.args.begin c.args.exit c.requires.exit
 
-pub loop-caller-preserved : goal.loop-caller-preserved
-loop-caller-preserved c =
+pub loop-place-preserved : goal.loop-place-preserved
+loop-place-preserved c =
     let q = c.args.work.question.now in
-    let all = c.as_slice-caller-items.result.now in
     let first = lists_of c.args.tables.now in
-    let old = lists_of c.loop-caller.tables in
+    let old = lists_of c.loop-place.tables in
     let new = lists_of c.meet.new.tables in
-    let before = c.loop-caller.invariant in
+    let before = c.loop-place.invariant in
     let done = c.in_ok-meet.ensures in
     record {
       step = step_more q first old new before.step done.step;
       stay = stay_more first old new before.stay done.stay;
-      met =
-          All-more (λ (n : ℕ). HasMetAll q new c.args.begin n c.args.exit) all c.loop-caller.caller-index 0 c.loop-caller-test.true
-          (All-weaker (λ (n : ℕ). HasMetAll q old c.args.begin n c.args.exit) (λ (n : ℕ). HasMetAll q new c.args.begin n c.args.exit)
-          (λ n was. met_all_still q old new done.step.grows c.args.begin n c.args.exit was) (take c.loop-caller.caller-index all) before.met)
-          done.met;
+      walked =
+          walk_goes (λ (n : ℕ). HasMetAll q old c.args.begin n c.args.exit) (λ (n : ℕ). HasMetAll q new c.args.begin n c.args.exit) old.callers new.callers done.step.grows.callers
+          (λ n was. met_all_still q old new done.step.grows c.args.begin n c.args.exit was) c.args.begin c.loop-place.last before.walked c.in-Some.place c.in-Some.ensures
+          (λ m at. subst (λ (n : ℕ). HasMetAll q new c.args.begin n c.args.exit) (c.value-caller.ensures c.args.begin m at) done.met);
     }
+
+pub loop-place-smaller : goal.loop-place-smaller
+loop-place-smaller c =
+    let there = c.in-Some.ensures.there in
+    let within = slice_get_within (lists_of c.loop-place.tables).callers c.in-Some.place.0 (entry c.args.begin there.value) there.at in
+    let same = ap (λ (es : List Entry). length es) c.in_ok-meet.ensures.stay.callers in
+    let from = c.in-Some.ensures.from in
+    omega (arith, within, same, from)
 
 pub returns-clause-met : goal.returns-clause-met
 returns-clause-met c =
-    let q = c.args.work.question.now in
-    let all = c.as_slice-caller-items.result.now in
-    let first = lists_of c.args.tables.now in
-    let new = lists_of c.loop-caller.tables in
-    let met = all_from_front (λ (n : ℕ). HasMetAll q new c.args.begin n c.args.exit) all c.loop-caller.caller-index c.loop-caller-test.false c.loop-caller.invariant.met in
-    λ n there. All-contains (λ (n : ℕ). HasMetAll q new c.args.begin n c.args.exit) all n met (subst (λ (xs : List ℕ). Contains xs n) (sym (c.as_slice-caller-items.ensures.value ∙ c.in_ok-callers.ensures.items ∙ c.callers_of.ensures)) (c.loop-caller.invariant.stay.callers c.args.begin n there))
+    let new = lists_of c.loop-place.tables in
+    walk_ends (λ (n : ℕ). HasMetAll c.args.work.question.now new c.args.begin n c.args.exit) new.callers c.args.begin c.loop-place.last c.loop-place.invariant.walked c.in_default.ensures

@@ -1,12 +1,16 @@
-use Rattle.std.proofs.Common.{ℕ, take}
-use Rattle.std.specs.List.{All}
+use Rattle.std.proofs.Common.{ℕ, ◌-◌, length}
+use Rattle.chained_lists.specs.Entries.{IsWalked, passed}
 use Rattle.tabulation_tables.specs.Lists.{lists_of}
-use Rattle.tabulation.specs.Kept.{CallsStay, HasMetAll, IsStep}
+use Rattle.tabulation_tables.specs.Steps.{CallsStay}
+use Rattle.tabulation.specs.Kept.{HasMetAll, IsStep}
 use Rattle.tabulation.proofs.meeting.meet_callers.Given as goal
 
-abbrev pub invariant-loop-caller : goal.invariant-loop-caller
-invariant-loop-caller l = record {
+abbrev pub invariant-loop-place : goal.invariant-loop-place
+invariant-loop-place l = record {
   step : IsStep l.work.question.now (lists_of l.initial.tables) (lists_of l.tables);
   stay : CallsStay (lists_of l.initial.tables) (lists_of l.tables);
-  met : All (λ (n : ℕ). HasMetAll l.work.question.now (lists_of l.tables) l.begin n l.exit) (take l.caller-index l.caller-items);
+  walked : IsWalked (λ (n : ℕ). HasMetAll l.work.question.now (lists_of l.tables) l.begin n l.exit) l.tables.callers l.begin l.last;
 }
+
+abbrev pub decreases-loop-place : goal.decreases-loop-place
+decreases-loop-place l = length l.tables.callers - passed l.last

@@ -1,52 +1,72 @@
-use Rattle.std.proofs.Common.{get_or, ◌∙◌, ℕ, List, take, sym, subst}
-use Rattle.std.specs.List.{Contains}
-use Rattle.std.proofs.lemmas.List.Elements.{All-contains, All-more, All-weaker, Contains-get_or}
-use Rattle.list_laws.proofs.Members.{all_from_front}
+use Rattle.std.proofs.Common.{ℕ, List, length, sym, ap, subst, arith}
+use Rattle.std.proofs.lemmas.Option.{slice_get_within}
+use Rattle.list_laws.proofs.Places.{contains_at}
+use Rattle.chained_lists.specs.Entries.{Entry, entry}
+use Rattle.chained_lists.proofs.Walks.{walk_begins, walk_ends, walk_goes}
 use Rattle.tabulation_tables.specs.Lists.{HasEdge, lists_of}
 use Rattle.tabulation_tables.proofs.Still.{edge_still}
-use Rattle.tabulation.proofs.Steps.{lead_may, may_take_still, only_more, step_more, take_by_lead}
+use Rattle.tabulation.specs.Kept.{MayTake}
+use Rattle.tabulation.proofs.Steps.{lead_may, notes_more, notes_none, step_more, step_none, take_by_lead}
 use Rattle.tabulation.proofs.processing.extend.Goals as goal
 
+pub loop-place-init : goal.loop-place-init
+loop-place-init c =
+    let first = lists_of c.args.tables.now in
+    record {
+      step = step_none c.args.work.question.now first c.requires.kept;
+      stay = notes_none first;
+      walked = walk_begins (λ (y : ℕ). HasEdge first c.args.edge.begin y) first.leads c.args.edge.end;
+    }
+
+pub value-end-requires : goal.value-end-requires
+value-end-requires c =
+    let there = c.in-Some.ensures.there in
+    slice_get_within (lists_of c.loop-place.tables).leads c.in-Some.place.0 (entry c.args.edge.end there.value) there.at
+
 pub take_edge-requires-clause-kept : goal.take_edge-requires-clause-kept
-take_edge-requires-clause-kept c = c.loop-to.invariant.step.kept
+take_edge-requires-clause-kept c = c.loop-place.invariant.step.kept
 
 pub take_edge-requires-clause-may : goal.take_edge-requires-clause-may
 take_edge-requires-clause-may c =
     let q = c.args.work.question.now in
     let first = lists_of c.args.tables.now in
-    let old = lists_of c.loop-to.tables in
-    let one = (get_or c.as_slice-to-items.result.now c.loop-to.to-index 0) in
-    let right = c.requires.kept.right in
+    let old = lists_of c.loop-place.tables in
+    let before = c.loop-place.invariant in
+    let right = before.step.kept.right in
     let b = c.args.edge.begin in
     let x = c.args.edge.end in
-    let same = c.as_slice-to-items.ensures.value ∙ c.in_ok-leads.ensures.items ∙ c.leads_of.ensures in
-    let there = subst (λ (xs : List ℕ). Contains xs one) same (Contains-get_or c.as_slice-to-items.result.now c.loop-to.to-index 0 c.loop-to-test.true) in
-    may_take_still q first old c.loop-to.invariant.step.grows b one (take_by_lead q first b x one right c.requires.there (lead_may q first x one right there))
+    let there = c.in-Some.ensures.there in
+    let leads = contains_at old.leads c.in-Some.place.0 (entry x there.value) there.at in
+    subst (MayTake q old b) (sym (c.value-end.ensures x there.value there.at))
+    (take_by_lead q old b x there.value right (edge_still first old before.step.grows b x c.requires.there) (lead_may q old x there.value right leads))
 
-pub loop-to-preserved : goal.loop-to-preserved
-loop-to-preserved c =
+pub loop-place-preserved : goal.loop-place-preserved
+loop-place-preserved c =
     let q = c.args.work.question.now in
-    let all = c.as_slice-to-items.result.now in
     let first = lists_of c.args.tables.now in
-    let old = lists_of c.loop-to.tables in
+    let old = lists_of c.loop-place.tables in
     let new = lists_of c.take_edge.new.tables in
-    let before = c.loop-to.invariant in
+    let before = c.loop-place.invariant in
     let done = c.in_ok-take_edge.ensures in
     let b = c.args.edge.begin in
+    let x = c.args.edge.end in
     record {
       step = step_more q first old new before.step done.step;
-      only = only_more first old new before.only done.only;
-      held =
-          All-more (λ (y : ℕ). HasEdge new b y) all c.loop-to.to-index 0 c.loop-to-test.true
-          (All-weaker (λ (y : ℕ). HasEdge old b y) (λ (y : ℕ). HasEdge new b y) (λ y was. edge_still old new done.step.grows b y was) (take c.loop-to.to-index all) before.held)
-          done.there;
+      stay = notes_more first old new before.stay done.stay;
+      walked =
+          walk_goes (λ (y : ℕ). HasEdge old b y) (λ (y : ℕ). HasEdge new b y) old.leads new.leads done.step.grows.leads (λ y was. edge_still old new done.step.grows b y was) x
+          c.loop-place.last before.walked c.in-Some.place c.in-Some.ensures (λ y at. subst (HasEdge new b) (c.value-end.ensures x y at) done.there);
     }
 
+pub loop-place-smaller : goal.loop-place-smaller
+loop-place-smaller c =
+    let there = c.in-Some.ensures.there in
+    let within = slice_get_within (lists_of c.loop-place.tables).leads c.in-Some.place.0 (entry c.args.edge.end there.value) there.at in
+    let same = ap (λ (es : List Entry). length es) c.in_ok-take_edge.ensures.stay.leads in
+    let from = c.in-Some.ensures.from in
+    omega (arith, within, same, from)
+
 pub returns-clause-led : goal.returns-clause-led
-returns-clause-led c = λ y leads.
-    let all = c.as_slice-to-items.result.now in
-    let new = lists_of c.loop-to.tables in
-    let b = c.args.edge.begin in
-    let same = c.as_slice-to-items.ensures.value ∙ c.in_ok-leads.ensures.items ∙ c.leads_of.ensures in
-    let held = all_from_front (λ (z : ℕ). HasEdge new b z) all c.loop-to.to-index c.loop-to-test.false c.loop-to.invariant.held in
-    All-contains (λ (z : ℕ). HasEdge new b z) all y held (subst (λ (xs : List ℕ). Contains xs y) (sym same) (c.loop-to.invariant.only.leads c.args.edge.end y leads))
+returns-clause-led c =
+    let new = lists_of c.loop-place.tables in
+    walk_ends (λ (y : ℕ). HasEdge new c.args.edge.begin y) new.leads c.args.edge.end c.loop-place.last c.loop-place.invariant.walked c.in_default.ensures

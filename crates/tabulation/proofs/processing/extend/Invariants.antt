@@ -1,12 +1,16 @@
-use Rattle.std.proofs.Common.{ℕ, take}
-use Rattle.std.specs.List.{All}
+use Rattle.std.proofs.Common.{ℕ, ◌-◌, length}
+use Rattle.chained_lists.specs.Entries.{IsWalked, passed}
 use Rattle.tabulation_tables.specs.Lists.{HasEdge, lists_of}
-use Rattle.tabulation.specs.Kept.{IsStep, OnlyEdges}
+use Rattle.tabulation_tables.specs.Steps.{NotesStay}
+use Rattle.tabulation.specs.Kept.{IsStep}
 use Rattle.tabulation.proofs.processing.extend.Given as goal
 
-abbrev pub invariant-loop-to : goal.invariant-loop-to
-invariant-loop-to l = record {
+abbrev pub invariant-loop-place : goal.invariant-loop-place
+invariant-loop-place l = record {
   step : IsStep l.work.question.now (lists_of l.initial.tables) (lists_of l.tables);
-  only : OnlyEdges (lists_of l.initial.tables) (lists_of l.tables);
-  held : All (λ (y : ℕ). HasEdge (lists_of l.tables) l.edge.begin y) (take l.to-index l.to-items);
+  stay : NotesStay (lists_of l.initial.tables) (lists_of l.tables);
+  walked : IsWalked (λ (n : ℕ). HasEdge (lists_of l.tables) l.edge.begin n) l.tables.leads l.edge.end l.last;
 }
+
+abbrev pub decreases-loop-place : goal.decreases-loop-place
+decreases-loop-place l = length l.tables.leads - passed l.last

@@ -6,7 +6,7 @@ use Rattle.end_numbers.specs.Ends.{end_of}
 use Rattle.tabulation_tables.specs.Lists.{lists_of}
 use Rattle.tabulation.specs.Kept.{LeadsToConclusion}
 use Rattle.tabulation.proofs.Found.{concludes, followed, followed_none, found_at, may_begin, no_node_at, no_node_by}
-use Rattle.tabulation.proofs.Steps.{on_ok_both, step_more, step_none, to_conclusion_still}
+use Rattle.tabulation.proofs.Steps.{may_begin_still, on_ok_both, step_more, step_none, to_conclusion_still}
 use Rattle.tabulation.proofs.processing.follow.Goals as goal
 
 pub end-reached-requires : goal.end-reached-requires
@@ -40,7 +40,7 @@ lead_to_all-requires-clause-conclude c = λ d there.
     let a = end_of c.end-reached.result in
     let cs = c.in_ok-following.following.within.items in
     let es = c.in_ok-following.following.entered.items in
-    concludes q t c.args.end a c.end-reached.ensures [] cs es (found_at q a c.in-Node.offset c.in-Node.is c.in-Some.seen c.in-Some.ensures.found [] cs es c.in_ok-following.ensures) (λ x w asked. tt) d
+    concludes q t c.args.end a c.end-reached.ensures [] cs es (found_at q a c.in-Node.offset c.in-Node.is c.in-Some.seen c.in-Some.ensures.found [] cs es c.in_ok-following.ensures) tt d
     (rw (← c.as_slice.ensures.value) there)
 
 pub begin_all-requires-clause-may : goal.begin_all-requires-clause-may
@@ -50,8 +50,9 @@ begin_all-requires-clause-may c = λ b there.
     let a = end_of c.end-reached.result in
     let cs = c.in_ok-following.following.within.items in
     let es = c.in_ok-following.following.entered.items in
-    may_begin q t c.args.end a c.end-reached.ensures cs es (found_at q a c.in-Node.offset c.in-Node.is c.in-Some.seen c.in-Some.ensures.found [] cs es c.in_ok-following.ensures)
-    c.requires.kept.right c.requires.reached b (rw (← c.as_slice-2.ensures.value) there)
+    may_begin_still q t (lists_of c.lead_to_all.new.tables) c.in_ok-lead_to_all.ensures.step.grows c.requires.kept.right.shape b
+    (may_begin q t c.args.end a c.end-reached.ensures cs es (found_at q a c.in-Node.offset c.in-Node.is c.in-Some.seen c.in-Some.ensures.found [] cs es c.in_ok-following.ensures)
+    c.requires.kept.right.shape c.requires.reached b (rw (← c.as_slice-2.ensures.value) there))
 
 pub returns-clause-step : goal.returns-clause-step
 returns-clause-step c =

@@ -1,7 +1,7 @@
 use Rattle.std.proofs.lemmas.Result.{on_ok_weaker}
 use Rattle.list_laws.proofs.Places.{contains_at}
 use Rattle.tabulation_tables.specs.Lists.{lists_of}
-use Rattle.tabulation_tables.proofs.Still.{visited_still}
+use Rattle.tabulation_tables.proofs.Still.{exits_still}
 use Rattle.tabulation.proofs.Steps.{on_ok_both, step_more}
 use Rattle.tabulation.proofs.processing.process.Goals as goal
 
@@ -24,7 +24,7 @@ returns-clause-processed c =
       at = both.0.grows.edges c.args.place e (came.step.grows.edges c.args.place e c.at-edge.ensures);
       end = is.end;
       end_at = both.0.grows.ends e.end is.end (came.step.grows.ends e.end is.end is.end_at);
-      visited = λ offset spot. visited_still one two both.0.grows e.end (came.visited is.end offset is.end_at spot);
-      left = λ exit. both.0.grows.exits e.begin e.end (came.left is.end is.end_at exit);
+      visited = λ offset spot. both.0.grows.visits e.end (came.visited is.end offset is.end_at spot);
+      left = λ exit. exits_still one two both.0.grows e.begin e.end (came.left is.end is.end_at exit);
       led = both.1;
     }) (on_ok_both c.extend.result _ _ c.extend.ensures.step c.extend.ensures.led)

@@ -1,7 +1,7 @@
 use Rattle.std.proofs.Common.{arith}
 use Rattle.tabulation_tables.specs.Lists.{lists_of}
 use Rattle.tabulation.proofs.Full.{added_to_limit, limit_reached}
-use Rattle.tabulation.proofs.Steps.{taken_only, taken_processed, taken_right}
+use Rattle.tabulation.proofs.Steps.{taken_processed, taken_right}
 use Rattle.tabulation.proofs.taking.take_edge.Goals as goal
 
 pub returns-then-len-work-clause-end : goal.returns-then-len-work-clause-end
@@ -11,7 +11,7 @@ returns-then-len-work-clause-end c =
     let new = lists_of c.insert.new.self in
     let count = c.in_ok-insert.ensures.count in
     limit_reached q new
-    (taken_right q old new c.in_ok-insert.ensures.grows c.args.edge.begin c.args.edge.end c.in_ok-insert.field-0 c.in_ok-insert.ensures.adds c.requires.may c.requires.kept.right)
+    (taken_right q old new c.in_ok-insert.ensures.grows c.args.edge.begin c.args.edge.end c.in_ok-insert.field-0 c.in_ok-insert.ensures.adds c.in_ok-insert.ensures.inserted c.requires.may c.requires.kept.right)
     c.well_formed-2.ensures.apart c.apart.ensures
     (added_to_limit c.in_ok-insert.field-0 old new q.limit count c.requires.kept.roomy
     (let long = c.if-len-work.true in let len = c.len.ensures in omega (arith, long, len)))
@@ -25,14 +25,9 @@ returns-clause-step c =
     let adds = c.in_ok-insert.ensures.adds in
     record {
       kept = record {
-        right = taken_right q old new grows c.args.edge.begin c.args.edge.end c.in_ok-insert.field-0 adds c.requires.may c.requires.kept.right;
+        right = taken_right q old new grows c.args.edge.begin c.args.edge.end c.in_ok-insert.field-0 adds c.in_ok-insert.ensures.inserted c.requires.may c.requires.kept.right;
         roomy = let short = c.if-len-work.false in let len = c.len.ensures in omega (arith, short, len);
       };
       grows = grows;
       processed = taken_processed q old new grows c.args.edge.begin c.args.edge.end c.in_ok-insert.field-0 adds;
     }
-
-pub returns-clause-only : goal.returns-clause-only
-returns-clause-only c =
-    taken_only c.args.work.question.now (lists_of c.args.tables.now) (lists_of c.insert.new.self) c.in_ok-insert.ensures.grows c.args.edge.begin c.args.edge.end c.in_ok-insert.field-0
-    c.in_ok-insert.ensures.adds

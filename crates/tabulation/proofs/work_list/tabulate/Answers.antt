@@ -22,3 +22,6 @@ returns-clause-edges c = λ x w asked.
       };
       apart = edges_apart t right.shape c.well_formed-2.ensures.apart c.apart.ensures;
     }
+
+pub returns-clause-order : goal.returns-clause-order
+returns-clause-order c = λ x w asked. (c.in_ok-process_all.ensures.finished.kept.right.sound x w asked).order

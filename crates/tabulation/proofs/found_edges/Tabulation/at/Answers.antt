@@ -6,7 +6,7 @@ use Rattle.stage_edges.specs.Rules.{Edge}
 use Rattle.end_numbers.specs.Ends.{end_of}
 use Rattle.ground_views.specs.Questions.{edge_of}
 use Rattle.tabulation_tables.specs.Lists.{edge_of_numbers, lists_of}
-use Rattle.tabulation.proofs.Full.{edge_is}
+use Rattle.tabulation_tables.proofs.Edges.{edge_is}
 use Rattle.tabulation.proofs.found_edges.Tabulation.at.Goals as goal
 
 pub end-begin-requires : goal.end-begin-requires

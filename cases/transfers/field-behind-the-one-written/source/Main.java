@@ -1,0 +1,33 @@
+// A path that goes on behind the field that is written is lost: its last cell still has the object.
+
+class F {
+    void read() {}
+    void close() {}
+}
+
+class Holder {
+    F f;
+}
+
+class Outer {
+    Holder inner;
+}
+
+final class Main {
+    public static void main(String[] words) {
+        Holder h = new Holder();
+        Outer o = new Outer();
+        F a = new F();
+        F[] box = new F[1];
+        if (words.length > 1) {
+            // So the array may have it, for whoever does not look at the order.
+            box[0] = a;
+            return;
+        }
+        h.f = a;
+        o.inner = h;
+        o.inner = null;
+        box[0].close();
+        a.read();
+    }
+}

@@ -1,0 +1,20 @@
+// The constructor of AssertionError makes a text of an exception, and so asks for its message.
+public final class Keeps {
+    static class F {
+        boolean closed;
+        void read() { if (closed) throw new IllegalStateException("read after close"); }
+        void close() { closed = true; }
+    }
+
+    static final class Fault extends RuntimeException {
+        final transient F file;
+        Fault(F file) { this.file = file; }
+        public String getMessage() { file.close(); return "closed"; }
+    }
+
+    public static void main(String[] args) {
+        F file = new F();
+        file.read();
+        new AssertionError(new Fault(file));
+    }
+}

@@ -1,0 +1,18 @@
+// System.loadLibrary throws an UnsatisfiedLinkError where the library is not there.
+public final class Breaks {
+    static class F {
+        boolean closed;
+        void read() { if (closed) throw new IllegalStateException("read after close"); }
+        void close() { closed = true; }
+    }
+
+    public static void main(String[] args) {
+        F file = new F();
+        file.close();
+        try {
+            System.loadLibrary("not-there");
+        } catch (UnsatisfiedLinkError fault) {
+            file.read();  // errs here
+        }
+    }
+}

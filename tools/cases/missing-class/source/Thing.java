@@ -1,0 +1,3 @@
+/** Not in the jar. */
+final class Thing {
+}
