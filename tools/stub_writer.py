@@ -71,7 +71,9 @@ class Writer:
         if given is None:
             return ["prim"], []
         if given in self.closure.missing:
-            return ["null", f"new:{OBJECT}"], ["missing"]
+            named = self.closure.named
+            kinds = ["missing"] + ["made"] * any(each in self.closure.made for each in named)
+            return ["null", f"new:{OBJECT}"] + ["new:" + self.class_of(each) for each in named if each != OBJECT], kinds
         is_fresh = self.is_fresh(name, key)
         wide = self.wide(name, key, given)
         kinds = ["fresh"] * is_fresh + ["wide"] + ["made"] * any(each in self.closure.made for each in [given] + wide)

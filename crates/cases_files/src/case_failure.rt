@@ -1,5 +1,6 @@
 //! Why a case has no answers.
 
+use anyhow::Result;
 use failure::Failure;
 use jvm_model::Refusal;
 use thiserror::Error;
@@ -33,4 +34,13 @@ impl From<TreeFault> for CaseFault {
 /// Whether a file is refused.
 pub fn is_refusal(failure: &CaseFailure) -> bool {
     matches!(failure, Failure::Cause(CaseFault::Refused(_)))
+}
+
+/// Prints the refusal for which nothing is linked. Another failure is handed on.
+pub fn tell_failure<R: Print>(rt: &R, failure: CaseFailure) -> Result<()> {
+    if is_refusal(&failure) {
+        println!(rt; "{failure}")?;
+        return Ok(());
+    }
+    Err(failure.into())
 }

@@ -2,12 +2,13 @@
 """Compares the solver of the points-to analysis with the second writing of its rules, on random programs. For tests
 alone.
 
-  compare.py CASES_STAGES ASSEMBLER COUNT SEED
+  compare.py CASES_LINKS CASES_STAGES ASSEMBLER COUNT SEED
 
-The first is the path of the built program, ASSEMBLER is that of `assemble.py`. COUNT cases are made in a
-temporary folder by SEED. For some of them the number of pairs that they have, or the next one, becomes the number that
-is too many. The first case in which the lines differ is printed with them, `-` before those that the second writing has
-alone and `+` before those of the program; its folder is then kept, and the status is 1."""
+The first two are the paths of the built programs, ASSEMBLER is that of `assemble.py`. COUNT cases are made in a
+temporary folder by SEED, and the second writing begins with the nodes of the first program. For some of them the
+number of pairs that they have, or the next one, becomes the number that is too many. The first case in which the
+lines differ is printed with them, `-` before those that the second writing has alone and `+` before those of the
+second program; its folder is then kept, and the status is 1."""
 
 import shutil
 import subprocess
@@ -27,7 +28,7 @@ SHOWN_LINES = 40
 
 
 def printed(program: str, kind: str, cases: Path) -> str:
-    """What the program prints of the cases, of a kind."""
+    """What a program prints of the cases, of a kind."""
     ran = subprocess.run([program, kind, str(cases)], capture_output=True, text=True)
     if ran.returncode != 0:
         sys.exit(f"{program} {kind} {cases} ended with status {ran.returncode}: {ran.stderr}")
@@ -69,14 +70,14 @@ def ending(lines: list[str]) -> str:
 
 
 def main(words: list[str]) -> None:
-    if len(words) != 4:
-        sys.exit("usage: compare.py CASES_STAGES ASSEMBLER COUNT SEED")
-    program, assembler, count, seed = words
+    if len(words) != 5:
+        sys.exit("usage: compare.py CASES_LINKS CASES_STAGES ASSEMBLER COUNT SEED")
+    links, stages, assembler, count, seed = words
     above = Path(tempfile.mkdtemp(prefix="cases_stages_"))
     cases = above / "cases"
     write_folders(int(count), int(seed), cases, load_assembler(Path(assembler)))
-    expects = expected(cases, printed(program, "nodes", cases))
-    has = dict(blocks_of(printed(program, "sets", cases)))
+    expects = expected(cases, printed(links, "nodes", cases))
+    has = dict(blocks_of(printed(stages, "sets", cases)))
     for path in sorted(cases.iterdir()):
         lines = difference(expects.get(path.name, []), has.get(path.name, []))
         if lines or path.name not in expects:

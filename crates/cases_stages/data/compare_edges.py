@@ -2,14 +2,14 @@
 """Compares the path edges that the program finds with those of the second writing of their rules, on random programs.
 For tests alone.
 
-  compare_edges.py CASES_STAGES ASSEMBLER COUNT SEED [LIMIT]
+  compare_edges.py CASES_LINKS CASES_STAGES ASSEMBLER COUNT SEED [LIMIT]
 
-The first is the path of the built program, ASSEMBLER is that of `assemble.py`. COUNT cases are made in a temporary
-folder by SEED, one in four of any programs and the others of such as pass objects on, each with a property for objects
-that it makes. As many path edges of a site as LIMIT, or more, are too many; for some cases the number of a site's
-edges, or the next one, becomes this number. The first case in which the lines differ is printed with them, `-` before
-those that the second writing has alone and `+` before those of the program; its folder is then kept, and the status is
-1."""
+The first two are the paths of the built programs, ASSEMBLER is that of `assemble.py`. COUNT cases are made in a
+temporary folder by SEED, one in four of any programs and the others of such as pass objects on, each with a property
+for objects that it makes. The second writing begins with the nodes of the first program. As many path edges of a site
+as LIMIT, or more, are too many; for some cases the number of a site's edges, or the next one, becomes this number.
+The first case in which the lines differ is printed with them, `-` before those that the second writing has alone and
+`+` before those of the second program; its folder is then kept, and the status is 1."""
 
 import random
 import shutil
@@ -69,15 +69,15 @@ def expected(cases: Path, nodes: str, seed: int, limit: int) -> dict[str, list[s
 
 
 def main(words: list[str]) -> None:
-    if len(words) not in (4, 5):
-        sys.exit("usage: compare_edges.py CASES_STAGES ASSEMBLER COUNT SEED [LIMIT]")
-    program, assembler, count, seed, *limit = words
+    if len(words) not in (5, 6):
+        sys.exit("usage: compare_edges.py CASES_LINKS CASES_STAGES ASSEMBLER COUNT SEED [LIMIT]")
+    links, stages, assembler, count, seed, *limit = words
     above = Path(tempfile.mkdtemp(prefix="cases_stages_"))
     cases = above / "cases"
     write_cases(int(count), int(seed), cases, Path(assembler))
-    nodes = printed(program, "nodes", cases)
+    nodes = printed(links, "nodes", cases)
     expects = expected(cases, nodes, int(seed), int(limit[0]) if limit else DEFAULT_LIMIT)
-    has = dict(blocks_of(printed(program, "edges", cases)))
+    has = dict(blocks_of(printed(stages, "edges", cases)))
     for path in sorted(cases.iterdir()):
         lines = difference(expects.get(path.name, []), has.get(path.name, []))
         if lines or path.name not in expects:

@@ -6,8 +6,8 @@ least, with those of two cases of the same class files. For tests alone.
 
 They are compared with what the second writing finds in the class files of the case, and with what the program prints of it:
 the file `stdout` beside this folder, to which the gate holds the program. The nodes from which the second writing begins are
-those of `stdout`. The lines that differ are printed, `-` before those that are written out alone, and the status is 1. It is
-1, too, where one of the three has none."""
+those of the file `stdout` of `cases_links`. The lines that differ are printed, `-` before those that are written out alone, and
+the status is 1. It is 1, too, where one of the three has none."""
 
 import re
 import sys
@@ -23,7 +23,7 @@ from plain_rules import DEFAULT_LIMIT, START, lines_of as facts_of, solve  # noq
 
 SPECS = ROOT / "crates/example_edges/specs"
 DATA = ROOT / "crates/cases_stages/data"
-PRINTED = ROOT / "crates/cases_stages/stdout"
+PRINTED = [ROOT / "crates" / program / "stdout" for program in ("cases_links", "cases_stages")]
 
 # What stands in a definition: a name, or what stands in brackets.
 Term = Union[str, list["Term"]]
@@ -177,8 +177,9 @@ def edges_of_stage(example: Example, lines: list[str]) -> set[str]:
 
 
 def sections() -> dict[str, str]:
-    """The parts of what the program prints, by their kinds."""
-    _, *parts = re.split(r"^# (\w+)\n", PRINTED.read_text(encoding="utf-8"), flags=re.M)
+    """The parts of what the programs print, by their kinds."""
+    text = "".join(path.read_text(encoding="utf-8") for path in PRINTED)
+    _, *parts = re.split(r"^# (\w+)\n", text, flags=re.M)
     return dict(zip(parts[::2], parts[1::2]))
 
 

@@ -1,5 +1,5 @@
-"""Reads the nodes of methods from the text that `cases_stages nodes` prints: for each case its name, then either one line
-`refused ..`, or of each method its name and its refusal or its nodes. The head of crates/cases_stages/src/nodes.rt
+"""Reads the nodes of methods from the text that `cases_links nodes` prints: for each case its name, then either one line
+`refused ..`, or of each method its name and its refusal or its nodes. The head of crates/cases_links/src/nodes.rt
 describes the lines. For tests alone."""
 
 import re

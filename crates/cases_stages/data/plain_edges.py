@@ -4,7 +4,7 @@
   plain_edges.py CASES NODES [--write]
 
 CASES is a folder of cases, each with class files, perhaps `stubs.toml`, `property.toml`, and a file `entry`, whose
-second line may say how many path edges are too many; NODES is the text that `cases_stages nodes` or `expect.py` prints
+second line may say how many path edges are too many; NODES is the text that `cases_links nodes` or `expect.py` prints
 for it, or `-` for standard input. Of each case is printed what `cases_stages edges` has to print. With `--write` the
 file `expected` of the case gets that too, but for the name.
 

@@ -4,7 +4,7 @@ references lead, and the targets of special calls, by a plain search of the prog
 
   plain_nodes.py CASES
 
-Of each case is printed what `cases_stages nodes` has to print, but for methods that are refused: of them stands one
+Of each case is printed what `cases_links nodes` has to print, but for methods that are refused: of them stands one
 line, `refused`, without a place and a reason."""
 
 import sys
@@ -13,10 +13,12 @@ from typing import Iterator
 
 sys.dont_write_bytecode = True
 from code_words import WITH_MEMBER, CodeWords  # noqa: E402
-from expect import Code  # noqa: E402
 from node_text import NodeMethod, Refusal, read_methods  # noqa: E402
-from plain_program import Method, Program, link  # noqa: E402
+from plain_program import ROOT, Method, Program, link  # noqa: E402
 from random_names import resolve_field, resolve_method, special_target  # noqa: E402
+
+sys.path.append(str(ROOT / "crates/cases_links/data"))
+from expect import Code  # noqa: E402
 
 UNKNOWN = Refusal("-", 0, "-")
 REFUSED = "refused"

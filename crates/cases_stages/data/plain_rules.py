@@ -5,7 +5,7 @@ each place may hold; which methods may run, and from which calls; and which fiel
   plain_rules.py CASES NODES
 
 CASES is a folder of cases, each with class files, perhaps `stubs.toml`, and a file `entry`; NODES is the text that
-`cases_stages nodes` prints for it, or `-` for standard input. Of each case is printed what `cases_stages sets` has to print,
+`cases_links nodes` prints for it, or `-` for standard input. Of each case is printed what `cases_stages sets` has to print,
 the lines of one kind in the order of their texts.
 
 All rules are tried on all that is known, until nothing new follows: there is no list of what is still to be done, and

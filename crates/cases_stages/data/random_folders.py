@@ -9,7 +9,7 @@ the path of `assemble.py`. The same SEED gives the same folders. Most programs h
 may be reached, a few have no program or no entry, and some have a limit.
 
 The comments in `source.txt` say where references lead and what is refused, in the words that
-crates/cases_stages/data/expect.py reads."""
+crates/cases_links/data/expect.py reads."""
 
 import importlib.util
 import random

@@ -3,9 +3,8 @@
 ghost use Rattle.std.specs.Prelude.{IfOk, IfSome};
 ghost use Rattle.program_model.specs.Numbers.{IsMethodNumber};
 
-use crate::members::MemberName;
-use crate::names::{method_of, method_text};
 use anyhow::Result;
+use cases_files::{MemberName, method_of, method_text};
 use jvm_model::MethodNo;
 use program_model::program::Program;
 use std::alloc::{AllocError, Global};

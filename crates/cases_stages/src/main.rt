@@ -1,38 +1,57 @@
-//! Prints what four layers make of class files, for tests: linking with the searches in the program, lowering, the points-to analysis,
-//! and the path edges of stages. A case is a folder in the one that is named. Beside its files stands `source.txt`: what the class files were made of. It is
-//! not read. These are the forms of words:
+//! For tests: prints what the points-to analysis finds in class files, and the path edges of stages. A case is a folder in the one that is named.
+//! Beside its files stands `source.txt`: what the class files were made of. It is not read. These are the forms of words:
 //!
 //! ```text
-//! cases_stages all FOLDER                        the cases in FOLDER/links, FOLDER/nodes, FOLDER/sets and FOLDER/edges
-//! cases_stages links FOLDER                      what linking says of each case in the folder, and the answers to its queries
-//! cases_stages nodes FOLDER                      the nodes of each method of each case
-//! cases_stages sets FOLDER                       the points-to sets of each case
+//! cases_stages all FOLDER                        the cases in FOLDER/sets and FOLDER/edges
+//! cases_stages sets FOLDER                       the points-to sets of each case in the folder
 //! cases_stages edges FOLDER                      the path edges of each case
-//! cases_stages sets FOLDER ENTRY [LIMIT]         those of one folder of class files
+//! cases_stages sets FOLDER ENTRY [LIMIT]         the points-to sets of one folder of class files
 //! cases_stages counts FOLDER ENTRY [LIMIT]       how many lines of each kind these have
 //! ```
 //!
-//! Cases stand in the order of their names. Of each its name is printed, what `links`, `nodes`, `sets` or `edges` says, and an empty line.
+//! Cases stand in the order of their names. Of each its name is printed, what `sets` or `edges` says, and an empty line.
 #![tactic(auto)]
 
 mod edges;
+mod ends;
 mod entries;
 mod lines;
-mod links;
-mod members;
-mod names;
-mod nodes;
-mod programs;
 mod request;
 mod sets;
-mod sites;
 
-use crate::request::{Kind, Request, request_of};
+use crate::request::{Request, request_of};
 use anyhow::{Result, bail};
-use cases_files::folders;
+use cases_files::{Tell, tell_asked};
 use std::alloc::Global;
 use std::env;
+use std::rt::Files;
 use ts_outside::RealTree;
+
+/// What is printed of a case.
+#[derive(Clone, Copy)]
+enum Kind {
+    /// The points-to sets.
+    Sets,
+    /// The path edges.
+    Edges,
+}
+
+impl<R: Files + Print + Clone + Drop> Tell<R> for Kind {
+    fn word(&self) -> &str {
+        match self {
+            Kind::Sets => "sets",
+            Kind::Edges => "edges",
+        }
+    }
+
+    fn tell(&self, rt: &R, alloc: Global, folder: String) -> Result<()> {
+        let mut tree = RealTree::new(rt.clone()?, folder);
+        match self {
+            Kind::Sets => sets::case::tell_case(rt, alloc, &mut tree),
+            Kind::Edges => edges::case::tell_case(rt, alloc, &mut tree),
+        }
+    }
+}
 
 fn main(rt: HostRuntime) -> Result<()> {
     let alloc = rt.alloc();
@@ -40,54 +59,22 @@ fn main(rt: HostRuntime) -> Result<()> {
     for word in env::args(&rt)?.skip(1) {
         words.push(word)?;
     }
-    match request_of(alloc, &words)? {
-        Some(Request::All { folder }) => tell_all(&rt, alloc, folder.as_str()),
-        Some(Request::Cases { kind, folder }) => tell_cases(&rt, alloc, kind, folder.as_str()),
-        Some(
-            Request::One {
-                folder,
-                entry,
-                limit,
-                amount,
-            },
-        ) => {
-            let mut tree = RealTree::new(rt.clone()?, folder);
-            sets::case::tell_one(&rt, alloc, &mut tree, entry.as_str(), limit, amount)
-        }
-        None => bail!(
-            "usage: cases_stages all|links|nodes|sets|counts|edges FOLDER [ENTRY [LIMIT]]"
-        ),
+    if tell_asked(&rt, alloc, &[Kind::Sets, Kind::Edges], &words)? {
+        return Ok(());
+    }
+    match request_of(&words)? {
+        Some(request) => tell_request(&rt, alloc, request),
+        None => bail!("usage: cases_stages all|sets|counts|edges FOLDER [ENTRY [LIMIT]]"),
     }
 }
 
-/// Prints the cases of each kind, below a line with its word.
-fn tell_all(rt: &HostRuntime, alloc: Global, folder: &str) -> Result<()> {
-    for (kind, word) in [
-        (Kind::Links, "links"),
-        (Kind::Nodes, "nodes"),
-        (Kind::Sets, "sets"),
-        (Kind::Edges, "edges"),
-    ] {
-        println!(rt; "# {word}")?;
-        let cases = format!(in alloc; "{folder}/{word}")?;
-        tell_cases(rt, alloc, kind, cases.as_str())?;
-    }
-    Ok(())
-}
-
-/// Prints the cases of a kind, in the order of their names.
-fn tell_cases(rt: &HostRuntime, alloc: Global, kind: Kind, cases: &str) -> Result<()> {
-    for name in &folders(rt, alloc, cases)? {
-        println!(rt; "{name}")?;
-        let folder = format!(in alloc; "{cases}/{name}")?;
-        let mut tree = RealTree::new(rt.clone()?, folder);
-        match kind {
-            Kind::Links => links::case::tell_case(rt, alloc, &mut tree)?,
-            Kind::Nodes => nodes::case::tell_case(rt, alloc, &mut tree)?,
-            Kind::Sets => sets::case::tell_case(rt, alloc, &mut tree)?,
-            Kind::Edges => edges::case::tell_case(rt, alloc, &mut tree)?,
-        }
-        println!(rt; "")?;
-    }
-    Ok(())
+/// Prints the sets of one folder.
+fn tell_request<R: Files + Print + Clone + Drop>(
+    rt: &R,
+    alloc: Global,
+    request: Request<'_>,
+) -> Result<()> {
+    let folder = String::from_str(alloc, request.folder)?;
+    let mut tree = RealTree::new(rt.clone()?, folder);
+    sets::case::tell_one(rt, alloc, &mut tree, request.question)
 }

@@ -1,20 +1,6 @@
-//! What the words ask for.
+//! What is asked of one folder of class files.
 
 use anyhow::Result;
-use std::alloc::Global;
-
-/// What is printed of a case.
-#[derive(Clone, Copy, Debug, PartialEq, Eq)]
-pub enum Kind {
-    /// What linking says, and the answers to queries.
-    Links,
-    /// The nodes of the methods.
-    Nodes,
-    /// The points-to sets.
-    Sets,
-    /// The path edges.
-    Edges,
-}
 
 /// How much of the points-to sets is printed.
 #[derive(Clone, Copy, Debug, PartialEq, Eq)]
@@ -23,68 +9,53 @@ pub enum Amount {
     Counts,
 }
 
-/// What is asked for.
-#[derive(Debug, Drop)]
-pub enum Request {
-    /// All cases of each kind, in a folder with a folder for each kind.
-    All {
-        folder: String,
-    },
-    /// All cases of a kind, in a folder.
-    Cases {
-        kind: Kind,
-        folder: String,
-    },
-    /// The sets of one folder of class files, from an entry.
-    One {
-        folder: String,
-        entry: String,
-        limit: u64,
-        amount: Amount,
-    },
+/// The points-to sets from an entry, and how many pairs are too many.
+#[derive(Clone, Copy, Debug)]
+pub struct Question<'w> {
+    pub entry: &'w str,
+    pub limit: u64,
+    pub amount: Amount,
+}
+
+/// The points-to sets of one folder.
+#[derive(Clone, Copy, Debug)]
+pub struct Request<'w> {
+    pub folder: &'w str,
+    pub question: Question<'w>,
 }
 
 /// The limit of the pairs where none is named.
 pub const LIMIT: u64 = 20_000_000;
 
 /// What the words ask for; `None` for words that are of no form.
-pub fn request_of(alloc: Global, words: &[String]) -> Result<Option<Request>> {
-    let Some(form) = words.first() else {
+pub fn request_of(words: &[String]) -> Result<Option<Request<'_>>> {
+    let [form, folder, entry, limits @ ..] = words else {
         return Ok(None);
     };
-    match (form.as_str(), words.len()) {
-        ("all", 2) => Ok(Some(Request::All {
-            folder: String::from_str(alloc, words[1].as_str())?,
-        })),
-        ("links", 2) => cases(alloc, Kind::Links, words[1].as_str()),
-        ("nodes", 2) => cases(alloc, Kind::Nodes, words[1].as_str()),
-        ("sets", 2) => cases(alloc, Kind::Sets, words[1].as_str()),
-        ("edges", 2) => cases(alloc, Kind::Edges, words[1].as_str()),
-        ("sets", 3 | 4) => one(alloc, &words[1..], Amount::Everything),
-        ("counts", 3 | 4) => one(alloc, &words[1..], Amount::Counts),
-        _ => Ok(None),
-    }
-}
-
-/// A request of all cases of a kind.
-fn cases(alloc: Global, kind: Kind, folder: &str) -> Result<Option<Request>> {
-    let folder = String::from_str(alloc, folder)?;
-    Ok(Some(Request::Cases { kind, folder }))
-}
-
-/// A request of one folder.
-fn one(alloc: Global, words: &[String], amount: Amount) -> Result<Option<Request>> {
-    let (Some(folder), Some(entry)) = (words.first(), words.get(1)) else {
+    let Some(amount) = amount_of(form.as_str()) else {
         return Ok(None);
     };
-    let limit = match words.get(2) {
-        Some(word) => word.as_str().parse::<u64>()?,
-        None => LIMIT,
+    let limit = match limits {
+        [] => LIMIT,
+        [limit] => limit.as_str().parse::<u64>()?,
+        _ => return Ok(None),
     };
-    Ok(Some(Request::One {
-        folder: String::from_str(alloc, folder.as_str())?,
-        entry: String::from_str(alloc, entry.as_str())?,
+    let question = Question {
+        entry: entry.as_str(),
         limit,
         amount,
+    };
+    Ok(Some(Request {
+        folder: folder.as_str(),
+        question,
     }))
+}
+
+/// How much a word asks for.
+fn amount_of(form: &str) -> Option<Amount> {
+    match form {
+        "sets" => Some(Amount::Everything),
+        "counts" => Some(Amount::Counts),
+        _ => None,
+    }
 }

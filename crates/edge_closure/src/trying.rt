@@ -6,7 +6,7 @@ ghost use Rattle.edge_closure.specs.Tried.{AreExitsTriedAt, Grows, IsExitTriedAt
 
 use crate::room::Closing;
 use crate::taking::{take_begun, take_conclusions};
-use edge_steps::Exit;
+use edge_steps::{Exit, Following};
 use ground_views::{EdgesFailure, PathEdge, ViewedNode, after_exit, after_node};
 
 /// Tries all instances that have the edge at a place as their first premise, which is an edge to the node that is looked at.
@@ -26,12 +26,8 @@ pub(crate) fn try_node(
     ensures end { IfErr result (IsFull closing.now.room.limit (edges_in edges.new.items)) }
 {
     let limit = closing.room.limit;
-    let following = after_node(
-        closing.room.alloc,
-        closing.question,
-        seen,
-        &edges[place].fact,
-    )?;
+    let mut following = Following::new(closing.room.alloc);
+    after_node(closing.question, seen, &edges[place].fact, &mut following)?;
     take_conclusions(edges, place, following.within.as_slice(), limit)?;
     take_begun(edges, following.entered.as_slice(), limit)?;
     try_exits(closing, seen, edges, place)
@@ -89,12 +85,13 @@ fn try_exit(
         spot: ended.spot,
         fact: &ended.fact,
     };
-    let conclusions = after_exit(
-        closing.room.alloc,
+    let mut conclusions = Vec::new(closing.room.alloc);
+    after_exit(
         closing.question,
         seen,
         &premise.fact,
         exit,
+        &mut conclusions,
     )?;
     take_conclusions(edges, place, conclusions.as_slice(), closing.room.limit)
 }

@@ -1,7 +1,8 @@
 -- An edge is taken into a list in which each stands once.
-use Rattle.std.proofs.Common.{◌≡◌, ◌==◌, ℕ, Bool, true, false, not, cond, ◌||◌, ◌&&◌, List, [], ◌∷◌, ◌++◌, length, Some, refl, sym, ◌∙◌, ap, subst, inl, inr, ◌⊎◌}
+use Rattle.std.proofs.Common.{◌≡◌, ◌==◌, ◌+◌, ◌<◌, ◌≤◌, ℕ, arith, Bool, true, false, not, cond, ◌||◌, ◌&&◌, List, [], ◌∷◌, ◌++◌, length, Some, refl, sym, ◌∙◌, ap, subst, inl, inr, ◌⊎◌}
 use Rattle.std.specs.List.{slice_get, list_any, Contains}
 use Rattle.std.proofs.lemmas.Bool.{false≢true, eq-eqb}
+use Rattle.std.proofs.lemmas.List.{length-append}
 use Rattle.std.proofs.lemmas.Map.Views.{exact_unsigned_eq}
 use Rattle.list_laws.proofs.Members.{contains_cases, contains_first, contains_later, contains_none}
 use Rattle.list_laws.proofs.Places.{contains_at, push_cases}
@@ -64,6 +65,12 @@ still_apart added old new e (is_added _ _ _ none more) apart = subst IsWithoutDo
     by x i j (inl a) (inr b) = absurd (none (contains_at old i e (a ∙ ap Some b.1)))
     by x i j (inr a) (inl b) = absurd (none (contains_at old j e (b ∙ ap Some a.1)))
     by x i j (inr a) (inr b) = a.0 ∙ sym b.0
+
+-- there is one more at most
+pub still_few : (added : Bool) (old new : List NumberedEdge) (e : NumberedEdge) (most : ℕ) → IsInserted added old new e → length old < most → length new ≤ most
+still_few added old new e most (was_held _ _ _ there stays) few = let same = ap (λ (es : List NumberedEdge). length es) stays in omega (arith, same, few)
+still_few added old new e most (is_added _ _ _ none more) few =
+    let longer : length new ≡ length old + 1 = ap (λ (es : List NumberedEdge). length es) more ∙ length-append old (e ∷ []) in omega (arith, longer, few)
 
 itself : (a : NumberedEdge) → same a a ≡ true
 itself a = ap (λ (b : Bool). b && (a.end == a.end)) (eq-eqb a.begin a.begin refl) ∙ eq-eqb a.end a.end refl

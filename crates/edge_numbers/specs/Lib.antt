@@ -1,1 +1,3 @@
 pub mod Inserted
+pub mod Numbered
+pub mod Premises

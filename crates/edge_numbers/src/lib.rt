@@ -1,8 +1,11 @@
 //! Path edges by the numbers of their ends, each once: `EdgeNumbers`. Tabulation keeps here which edges it has found, in the order in which it found
 //! them, and goes over them in that order.
-//! Begin with src/numbered.rt.
+//! From which other edges an edge follows is told by their numbers (`Because`).
+//! Begin with src/numbered.rt and specs/Premises.antt.
 #![tactic(auto)]
 
+mod because;
 mod numbered;
 
+pub use because::{Because, EdgeNo, because_of};
 pub use numbered::{EdgeNumbers, NumberedEdge};

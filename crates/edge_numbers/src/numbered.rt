@@ -1,6 +1,6 @@
 //! A list of path edges, each once.
 
-ghost use Rattle.std.specs.Prelude.{◌≡◌, ◌↔◌, ◌<◌, [], IsTrue, Some, length, slice_get, IfOk, OnErr};
+ghost use Rattle.std.specs.Prelude.{◌≡◌, ◌↔◌, ◌<◌, ◌≤◌, [], IsTrue, Some, length, slice_get, IfOk, OnErr};
 ghost use Rattle.least_sets.specs.Rules.{IsWithoutDoubles};
 ghost use Rattle.edge_numbers.specs.Inserted.{IsInserted};
 
@@ -23,14 +23,14 @@ pub struct EdgeNumbers {
 
 impl Model for EdgeNumbers {
     ghost use Rattle.std.specs.Prelude.{List};
-    ghost use Rattle.least_sets.specs.Rules.{IsWithoutDoubles};
+    ghost use Rattle.edge_numbers.specs.Numbered.{AreNumbered};
     ghost use Rattle.edge_numbers.specs.declared.numbered.NumberedEdge.{NumberedEdge};
 
     ghost Value = { List NumberedEdge };
 
     ghost view = { λ e. e.edges.keys };
 
-    ghost invariant = { λ e. IsWithoutDoubles e.edges.keys };
+    ghost invariant = { λ e. AreNumbered e.edges.keys };
 }
 
 impl EdgeNumbers {
@@ -43,9 +43,10 @@ impl EdgeNumbers {
         }
     }
 
-    /// No edge stands twice. It does nothing.
-    pub fn apart(&self)
-        ensures { IsWithoutDoubles self.now }
+    /// What holds of all edges: each stands once, and each number is one of 32 bits. It does nothing.
+    pub fn well_formed(&self)
+        ensures apart { IsWithoutDoubles self.now }
+        ensures few { length self.now ≤ u32.MAX }
     {
         let _ = &self.edges;
     }
@@ -72,12 +73,15 @@ impl EdgeNumbers {
         self.edges.as_slice()[place]
     }
 
-    /// Adds an edge behind the others, unless it is among them, and tells whether it was added. It answers an error where memory runs out; the edges are
-    /// then those that there were.
+    /// Adds an edge behind the others, unless it is among them, and tells whether it was added. It answers an error where memory runs out, and
+    /// where there are 2^32 - 1 edges; they are then those that there were.
     pub fn insert(&mut self, edge: NumberedEdge) -> Result<bool, AllocError>
         ensures inserted { IfOk result (λ added. IsInserted added self.old self.new edge) }
         ensures err { OnErr result (self.new ≡ self.old) }
     {
+        if self.edges.len() >= u32::MAX as usize {
+            return Err(AllocError);
+        }
         let (_, added) = self.edges.insert_full(edge)?;
         Ok(added)
     }

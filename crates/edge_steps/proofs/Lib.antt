@@ -3,6 +3,7 @@
 pub mod Facts
 pub mod Adding
 pub mod Doing
+pub mod Staying
 pub mod Transfers
 pub mod OnePremise
 pub mod AllOfOne

@@ -8,9 +8,9 @@ use Rattle.op_model.specs.declared.node.Spot.{Spot}
 use Rattle.op_model.specs.declared.node.Spot.TheVariants as spots
 use Rattle.op_model.specs.declared.op.Call.{Call as NodeCall}
 use Rattle.op_model.specs.declared.op.Op.{Op}
-use Rattle.op_model.specs.declared.op.Op.TheVariants.{Call, Return}
+use Rattle.op_model.specs.declared.op.Op.TheVariants.{Assign, Load, Store, LoadElement, StoreElement, LoadStatic, StoreStatic, New, NewArray, Constant, Call, Return, Throw, Cast, Probe}
 use Rattle.ground.specs.Added.{OfOne}
-use Rattle.stage_facts.specs.Facts.{SiteFact}
+use Rattle.stage_facts.specs.Facts.{SiteFact, none_yet, some_yet, of_object}
 use Rattle.stage_facts.specs.Plain.{fact_of}
 use Rattle.stage_transfer.specs.Calls.{Entering, by_call, by_trigger}
 use Rattle.stage_transfer.specs.Stages.{Transfer}
@@ -54,6 +54,34 @@ pub record IsBegun (g : SiteFact) (e : EnteredMethod) (b : EnteredWith) : Type 0
 pub record IsReturn (op : Op) : Type 0 where
   pub value : Option ℕ
   pub is_return : op ≡ Return value
+
+-- The fact is of no object: there is none yet, or there are some.
+abbrev pub IsOfNone : SiteFact → Type 0
+IsOfNone none_yet = Unit {0}
+IsOfNone some_yet = Unit {0}
+IsOfNone (of_object t) = ⊥
+
+-- The operation makes no object of a class, and goes on. So no fact that is of no object changes there.
+abbrev pub GoesOn : Op → Type 0
+GoesOn (Assign moves) = Unit {0}
+GoesOn (Load object field target) = Unit {0}
+GoesOn (Store object field value) = Unit {0}
+GoesOn (LoadElement array target) = Unit {0}
+GoesOn (StoreElement array value) = Unit {0}
+GoesOn (LoadStatic field target) = Unit {0}
+GoesOn (StoreStatic field value) = Unit {0}
+GoesOn (New site target) = ⊥
+GoesOn (NewArray sites target) = Unit {0}
+GoesOn (Constant site target) = Unit {0}
+GoesOn (Call call) = Unit {0}
+GoesOn (Return value) = Unit {0}
+GoesOn (Throw value) = ⊥
+GoesOn (Cast class z) = Unit {0}
+GoesOn (Probe z) = Unit {0}
+
+pub record Stays (op : Op) (f : SiteFact) : Type 0 where
+  pub goes_on : GoesOn op
+  pub of_none : IsOfNone f
 
 -- It throws, and the object lands there.
 abbrev pub Raised : Transfer → LoweredMethod → Node → SiteFact → Option ℕ → Conclusion → Type 0

@@ -1,8 +1,11 @@
 //! What follows from path edges.
 
+ghost use Rattle.std.specs.Prelude.{◌≡◌, []};
+
 use jvm_model::MethodNo;
 use op_model::Spot;
 use stage_facts::PlainFact;
+use std::alloc::Global;
 
 /// An edge with the entry of its premise: where it ends, and the fact there.
 #[derive(Drop)]
@@ -23,4 +26,17 @@ pub struct EnteredWith {
 pub struct Following {
     pub within: Vec<Conclusion>,
     pub entered: Vec<EnteredWith>,
+}
+
+impl Following {
+    /// Nothing yet. It takes no memory.
+    pub fn new(alloc: Global) -> Self
+        ensures within { result.within.items ≡ [] }
+        ensures entered { result.entered.items ≡ [] }
+    {
+        Self {
+            within: Vec::new(alloc),
+            entered: Vec::new(alloc),
+        }
+    }
 }

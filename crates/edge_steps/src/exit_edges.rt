@@ -1,6 +1,6 @@
 //! What follows from an edge to a node and one to an exit of a method that the node enters.
 
-ghost use Rattle.std.specs.Prelude.{◌≡◌, ◌≤◌, ◌^◌, [], ◌∷◌, length, List, Some, Contains, IfOk};
+ghost use Rattle.std.specs.Prelude.{◌≡◌, ◌≤◌, ◌^◌, [], ◌∷◌, length, List, Some, Contains, OnOk};
 ghost use Rattle.op_model.specs.declared.lowered.LoweredMethod.{LoweredMethod as RuleMethod};
 ghost use Rattle.op_model.specs.declared.op.Call.{Call as RuleCall};
 ghost use Rattle.op_model.specs.declared.op.Op.TheVariants.{Call as IsCall};
@@ -21,26 +21,25 @@ use crate::method_exits::{add_from_call, add_from_methods};
 use crate::node_view::NodeView;
 use stage_facts::PlainFact;
 use stage_views::{Entering, NodeSlots};
-use std::alloc::{AllocError, Global};
+use std::alloc::AllocError;
 
-/// What follows, by one instance of a rule, from an edge with this fact to a node, and an edge to a spot of a method that the node enters: nothing, where
-/// the spot is no exit or the method is entered with another fact.
+/// Writes what follows, by one instance of a rule, from an edge with this fact to a node, and an edge to a spot of a method that the node enters: nothing,
+/// where the spot is no exit or the method is entered with another fact. What stood in `conclusions` before is gone.
 pub fn from_exit<V: NodeSlots>(
-    alloc: Global,
     view: &NodeView<'_, '_, V>,
     fact: &PlainFact,
     exit: Exit<'_>,
-) -> Result<Vec<Conclusion>, AllocError>
+    conclusions: &mut Vec<Conclusion>,
+) -> Result<(), AllocError>
     requires { (c : RuleCall) → view.now.node.now.op ≡ IsCall c → length c.arguments ≤ 2 ^ 32 }
-    ensures { IfOk result (λ conclusions. (x : Subject) (methods : List RuleMethod) (facts : List Fact) (w : Setting) → IsSettingBy view.now.setting.now w
+    ensures { OnOk result ((x : Subject) (methods : List RuleMethod) (facts : List Fact) (w : Setting) → IsSettingBy view.now.setting.now w
         → IsLookedAt x (gives_listed methods) (Contains facts) w view.now.setting.now (V.knows view.now.slots.now) view.now.method view.now.node.now view.now.ways.now
         → AreFollowing x (gives_listed methods) (Contains facts) (transfer_of w) view.now.method
         (λ (e : SiteFact). edge view.now.method e (before view.now.node.now) (fact_of fact.now)
-        ∷ edge (Some exit.entry.method) (fact_of exit.entry.entry.now) exit.entry.spot (fact_of exit.entry.fact.now) ∷ []) conclusions.items []) }
+        ∷ edge (Some exit.entry.method) (fact_of exit.entry.entry.now) exit.entry.spot (fact_of exit.entry.fact.now) ∷ []) conclusions.new.items []) }
 {
-    let mut within = Vec::new(alloc);
-    add_from_call(view, fact, exit, &mut within)?;
+    conclusions.clear();
+    add_from_call(view, fact, exit, conclusions)?;
     let started = view.ways.started.as_slice();
-    add_from_methods(view, Entering::Trigger, started, fact, exit, &mut within)?;
-    Ok(within)
+    add_from_methods(view, Entering::Trigger, started, fact, exit, conclusions)
 }

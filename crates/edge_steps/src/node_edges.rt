@@ -1,6 +1,6 @@
 //! What follows from an edge to a node.
 
-ghost use Rattle.std.specs.Prelude.{◌≡◌, ◌≤◌, ◌^◌, [], ◌∷◌, length, List, Contains, IfOk, OnOk};
+ghost use Rattle.std.specs.Prelude.{◌≡◌, ◌≤◌, ◌^◌, [], ◌∷◌, length, List, Contains, OnOk};
 ghost use Rattle.op_model.specs.declared.lowered.LoweredMethod.{LoweredMethod as RuleMethod};
 ghost use Rattle.op_model.specs.declared.op.Call.{Call as RuleCall};
 ghost use Rattle.op_model.specs.declared.op.Op.TheVariants.{Call as IsCall};
@@ -23,35 +23,33 @@ use crate::kinds::is_return;
 use crate::node_view::NodeView;
 use crate::spots::{add_at_each, add_begun, add_facts};
 use crate::thrown::add_raised;
+use crate::unchanged::{add_unchanged, stays};
 use node_ways::call_of;
 use op_model::{Call, Spot};
 use stage_calls::{call_facts, entered};
 use stage_facts::PlainFact;
 use stage_flow::after_node;
 use stage_views::{Entering, Facts, NodeSlots};
-use std::alloc::{AllocError, Global};
+use std::alloc::AllocError;
 
-/// What follows, by one instance of a rule, from an edge with this fact to a node.
+/// Writes what follows, by one instance of a rule, from an edge with this fact to a node. What stood in `following` before is gone.
 pub fn from_node<V: NodeSlots>(
-    alloc: Global,
     view: &NodeView<'_, '_, V>,
     fact: &PlainFact,
-) -> Result<Following, AllocError>
+    following: &mut Following,
+) -> Result<(), AllocError>
     requires { (c : RuleCall) → view.now.node.now.op ≡ IsCall c → length c.arguments ≤ 2 ^ 32 }
-    ensures { IfOk result (λ following. (x : Subject) (methods : List RuleMethod) (facts : List Fact) (w : Setting) → IsSettingBy view.now.setting.now w
+    ensures { OnOk result ((x : Subject) (methods : List RuleMethod) (facts : List Fact) (w : Setting) → IsSettingBy view.now.setting.now w
         → IsLookedAt x (gives_listed methods) (Contains facts) w view.now.setting.now (V.knows view.now.slots.now) view.now.method view.now.node.now view.now.ways.now
         → AreFollowing x (gives_listed methods) (Contains facts) (transfer_of w) view.now.method
-        (λ (e : SiteFact). edge view.now.method e (before view.now.node.now) (fact_of fact.now) ∷ []) following.within.items following.entered.items) }
+        (λ (e : SiteFact). edge view.now.method e (before view.now.node.now) (fact_of fact.now) ∷ []) following.new.within.items following.new.entered.items) }
 {
-    let mut within = Vec::new(alloc);
-    let mut methods = Vec::new(alloc);
-    add_done(view, fact, &mut within, &mut methods)?;
-    add_raised(view, view.ways.raised.as_slice(), fact, &mut within)?;
-    add_started(view, fact, &mut methods)?;
-    Ok(Following {
-        within,
-        entered: methods,
-    })
+    following.within.clear();
+    following.entered.clear();
+    add_done(view, fact, &mut following.within, &mut following.entered)?;
+    let raised = view.ways.raised.as_slice();
+    add_raised(view, raised, fact, &mut following.within)?;
+    add_started(view, fact, &mut following.entered)
 }
 
 /// Adds what follows where nothing is thrown, and the methods that are called.
@@ -96,6 +94,22 @@ fn add_call<V: NodeSlots>(
 
 /// Adds what follows of a node that is no call: the facts after it, at each successor, and at a return where the method returns.
 fn add_passed<V: NodeSlots>(
+    view: &NodeView<'_, '_, V>,
+    fact: &PlainFact,
+    within: &mut Vec<Conclusion>,
+) -> Result<(), AllocError>
+    requires { (c : RuleCall) → view.now.node.now.op ≡ IsCall c → ⊥ }
+    ensures { OnOk result ((w : Setting) (l : RuleMethod) → IsSettingBy view.now.setting.now w → V.knows view.now.slots.now w l view.now.node.now
+        → AreAdded (Done (transfer_of w) l view.now.method view.now.node.now view.now.ways.now (fact_of fact.now)) within.old.items within.new.items) }
+{
+    if stays(&view.node.op, fact) {
+        return add_unchanged(view, fact, within);
+    }
+    add_changed(view, fact, within)
+}
+
+/// The same, by what the node does to the fact.
+fn add_changed<V: NodeSlots>(
     view: &NodeView<'_, '_, V>,
     fact: &PlainFact,
     within: &mut Vec<Conclusion>,

@@ -1,6 +1,6 @@
 //! What programs share that find path edges. A `Question` says of which site they are asked, at which stage and below which limit. A `PathEdge` is an edge
 //! as a value. `EdgesFailure` says why not all edges are found. `GroundViews` has for each node the ways out of it: asked for a node, it gives a
-//! `ViewedNode`. `after_node` and `after_exit` tell what follows from an edge to that node.
+//! `ViewedNode`. `after_node` and `after_exit` write what follows from an edge to that node into what they are handed.
 //! Begin with src/question.rt, specs/Questions.antt and specs/Views.antt.
 #![tactic(auto)]
 

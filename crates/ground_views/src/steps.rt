@@ -1,6 +1,6 @@
 //! What follows from an edge to a node, as one looks at it.
 
-ghost use Rattle.std.specs.Prelude.{[], ◌∷◌, Some, IfOk};
+ghost use Rattle.std.specs.Prelude.{[], ◌∷◌, Some, OnOk};
 ghost use Rattle.op_model.specs.declared.node.NodeRef.{NodeRef as RuleNodeRef};
 ghost use Rattle.stage_facts.specs.Plain.{fact_of};
 ghost use Rattle.stage_edges.specs.Rules.{edge};
@@ -10,34 +10,34 @@ use crate::question::Question;
 use crate::viewed_node::ViewedNode;
 use edge_steps::{Conclusion, Exit, Following, from_exit, from_node};
 use stage_facts::PlainFact;
-use std::alloc::{AllocError, Global};
+use std::alloc::AllocError;
 
-/// What follows, by one instance, from an edge with this fact to the node.
+/// Writes what follows, by one instance, from an edge with this fact to the node. What stood in `following` before is gone.
 pub fn after_node(
-    alloc: Global,
     question: &Question<'_, '_>,
     seen: &ViewedNode<'_, '_, '_>,
     fact: &PlainFact,
-) -> Result<Following, AllocError>
+    following: &mut Following,
+) -> Result<(), AllocError>
     requires { (node : RuleNodeRef) × IsSeen question.now node seen.now }
-    ensures { IfOk result (λ following. FollowAt question.now seen.now (fact_of fact.now) [] following.within.items following.entered.items) }
+    ensures { OnOk result (FollowAt question.now seen.now (fact_of fact.now) [] following.new.within.items following.new.entered.items) }
 {
     let view = seen.view(&question.setting);
-    from_node(alloc, &view, fact)
+    from_node(&view, fact, following)
 }
 
-/// What follows from it and an edge to an exit.
+/// Writes what follows from it and an edge to an exit. What stood in `conclusions` before is gone.
 pub fn after_exit(
-    alloc: Global,
     question: &Question<'_, '_>,
     seen: &ViewedNode<'_, '_, '_>,
     fact: &PlainFact,
     exit: Exit<'_>,
-) -> Result<Vec<Conclusion>, AllocError>
+    conclusions: &mut Vec<Conclusion>,
+) -> Result<(), AllocError>
     requires { (node : RuleNodeRef) × IsSeen question.now node seen.now }
-    ensures { IfOk result (λ conclusions. FollowAt question.now seen.now (fact_of fact.now)
-        (edge (Some exit.entry.method) (fact_of exit.entry.entry.now) exit.entry.spot (fact_of exit.entry.fact.now) ∷ []) conclusions.items []) }
+    ensures { OnOk result (FollowAt question.now seen.now (fact_of fact.now)
+        (edge (Some exit.entry.method) (fact_of exit.entry.entry.now) exit.entry.spot (fact_of exit.entry.fact.now) ∷ []) conclusions.new.items []) }
 {
     let view = seen.view(&question.setting);
-    from_exit(alloc, &view, fact, exit)
+    from_exit(&view, fact, exit, conclusions)
 }

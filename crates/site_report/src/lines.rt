@@ -7,7 +7,7 @@ ghost use Rattle.site_report.specs.Lines.{verdict_line, summary_line, site_text,
 ghost use Rattle.site_report.specs.Sites.{IsKnownSite};
 ghost use Rattle.site_report.specs.Verdicts.{verdict_words};
 
-use crate::printed::push_name;
+use crate::printed::{push_name, push_number};
 use crate::tracked_site::TrackedSite;
 use crate::verdict::Verdict;
 use jvm_model::MethodNo;
@@ -26,8 +26,8 @@ pub fn verdict_line(
     ensures { IfOk result (λ line. line.items ≡ verdict_line program.now site verdict) }
 {
     let mut line = Vec::new(alloc);
-    push_verdict(alloc, &mut line, verdict)?;
-    push_site(alloc, &mut line, program, site)?;
+    push_verdict(&mut line, verdict)?;
+    push_site(&mut line, program, site)?;
     line.push(b'\n')?;
     Ok(line)
 }
@@ -44,51 +44,46 @@ pub fn summary_line(
 {
     let mut line = Vec::new(alloc);
     line.extend_from_slice(b"sites ")?;
-    push_number(alloc, &mut line, safe + unproved + limit)?;
+    push_number(&mut line, safe + unproved + limit)?;
     line.extend_from_slice(b" safe ")?;
-    push_number(alloc, &mut line, safe)?;
+    push_number(&mut line, safe)?;
     line.extend_from_slice(b" unproved ")?;
-    push_number(alloc, &mut line, unproved)?;
+    push_number(&mut line, unproved)?;
     line.extend_from_slice(b" limit ")?;
-    push_number(alloc, &mut line, limit)?;
+    push_number(&mut line, limit)?;
     line.push(b'\n')?;
     Ok(line)
 }
 
 /// Adds what is found of a site, and a space.
-fn push_verdict(alloc: Global, line: &mut Vec<u8>, verdict: Verdict) -> Result<(), AllocError>
+fn push_verdict(line: &mut Vec<u8>, verdict: Verdict) -> Result<(), AllocError>
     ensures { OnOk result (line.new.items ≡ line.old.items ++ verdict_words verdict) }
 {
     match verdict {
-        Verdict::Safe(stage) => push_stage(alloc, line, b"safe ", stage),
+        Verdict::Safe(stage) => push_stage(line, b"safe ", stage),
         Verdict::Unproved => line.extend_from_slice(b"unproved "),
-        Verdict::Limit(stage) => push_stage(alloc, line, b"limit ", stage),
+        Verdict::Limit(stage) => push_stage(line, b"limit ", stage),
     }
 }
 
 /// Adds a word, the number of a stage, and a space.
-fn push_stage(alloc: Global, line: &mut Vec<u8>, word: &[u8], stage: u8) -> Result<(), AllocError>
+fn push_stage(line: &mut Vec<u8>, word: &[u8], stage: u8) -> Result<(), AllocError>
     ensures { OnOk result (line.new.items ≡ line.old.items ++ (word.now ++ decimal stage ++ codes " ")) }
 {
     line.extend_from_slice(word)?;
-    push_number(alloc, line, u32::from(stage))?;
+    push_number(line, u32::from(stage))?;
     line.push(b' ')?;
     Ok(())
 }
 
 /// Adds a site: its method, its offset and the class of its objects.
-fn push_site(
-    alloc: Global,
-    line: &mut Vec<u8>,
-    program: &Program,
-    site: TrackedSite,
-) -> Result<(), AllocError>
+fn push_site(line: &mut Vec<u8>, program: &Program, site: TrackedSite) -> Result<(), AllocError>
     requires { IsKnownSite program.now site }
     ensures { OnOk result (line.new.items ≡ line.old.items ++ site_text program.now site) }
 {
     push_place(line, program, site)?;
     line.push(b' ')?;
-    push_number(alloc, line, site.offset)?;
+    push_number(line, site.offset)?;
     line.push(b' ')?;
     push_name(line, program.class_name(site.class))?;
     Ok(())
@@ -116,12 +111,4 @@ fn push_method(line: &mut Vec<u8>, program: &Program, number: MethodNo) -> Resul
     push_name(line, view.signature.name)?;
     push_name(line, view.signature.descriptor)?;
     Ok(())
-}
-
-/// Adds a number in decimal digits.
-fn push_number(alloc: Global, line: &mut Vec<u8>, number: u32) -> Result<(), AllocError>
-    ensures { OnOk result (line.new.items ≡ line.old.items ++ decimal number) }
-{
-    let digits = number.to_string(alloc)?;
-    line.extend_from_slice(digits.as_bytes())
 }

@@ -1,7 +1,8 @@
-//! Names in output: a byte that is no visible ASCII character, and the backslash, is written as `\x`
-//! and two hexadecimal digits.
+//! Names and numbers in output. Of a name a byte that is no visible ASCII character, and the backslash, is written as `\x` and two
+//! hexadecimal digits. A number is written in decimal digits.
 
 ghost use Rattle.std.specs.Prelude.{◌≡◌, ◌<◌, ◌++◌, OnOk};
+ghost use Rattle.std.specs.Fmt.{decimal};
 ghost use Rattle.site_report.specs.Printed.{printed, printed_byte, hex_digit};
 
 use std::alloc::AllocError;
@@ -37,4 +38,12 @@ pub fn push_name(line: &mut Vec<u8>, name: &[u8]) -> Result<(), AllocError>
         push_byte(line, *byte)?;
     }
     Ok(())
+}
+
+/// Adds a number at the end of a line.
+pub fn push_number(line: &mut Vec<u8>, number: u32) -> Result<(), AllocError>
+    ensures { OnOk result (line.new.items ≡ line.old.items ++ decimal number) }
+{
+    let digits = number.to_string(*line.allocator())?;
+    line.extend_from_slice(digits.as_bytes())
 }

@@ -66,10 +66,10 @@ pub(crate) fn finding_of(
 
 /// Whether the edges prove that no object is in the error state.
 fn found_among(automaton: &Automaton, edges: &Tabulation) -> Finding
-    ensures { IsFoundAmong automaton.now edges.now result }
+    ensures { IsFoundAmong automaton.now edges.now.edges result }
 {
     for place in 0..edges.len() {
-        if is_error(automaton, &edges.at(place).fact) {
+        if is_error(automaton, &edges.fact(place)) {
             return Finding::Unproved;
         }
     }

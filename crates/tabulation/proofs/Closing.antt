@@ -16,7 +16,7 @@ use Rattle.stage_edges.specs.Rules.{Edge, Instance, IsExit, before, edge, trigge
 use Rattle.edge_numbers.specs.declared.numbered.NumberedEdge.{NumberedEdge}
 use Rattle.end_numbers.specs.Ends.{End}
 use Rattle.ground_views.proofs.Shapes.{IsShape, first_leads, from_nothing, shape, start_edge, nothing, one, two}
-use Rattle.tabulation_tables.specs.Lists.{Calls, Exits, HasEdge, IsBegun, IsFollowed, IsLedTo, IsProcessed, IsShaped, IsSound, IsVisited, Leads, Lists, edge_of_numbers, edge_to, edges_of}
+use Rattle.tabulation_tables.specs.Lists.{Calls, Exits, HasEdge, IsBegun, IsEdgeAt, IsFollowed, IsLedTo, IsProcessed, IsShaped, IsSound, IsVisited, Leads, Lists, edge_of_numbers, edge_to, edges_of, numbered}
 use Rattle.tabulation.specs.Kept.{HasStart}
 use Rattle.tabulation_tables.proofs.Edges.{edge_is, edge_there}
 
@@ -95,9 +95,11 @@ module _ (x : Subject) (gives : GivenAs) (S : Fact → Type 0) (t : Transfer) (l
     pub first : begin.spot ≡ spots.Node 0
     pub same : begin.method ≡ end.method
     pub there : HasEdge l b n
+    pub number : ℕ
+    pub at : IsEdgeAt l number b n
     pub is : p ≡ edge_to end begin.fact
     pub visited : (offset : ℕ) → end.spot ≡ spots.Node offset → IsFollowed (Instance x gives S t) l n
-    pub left : IsExit end.spot → Exits l b n
+    pub left : IsExit end.spot → Exits l b number
     pub led : (y : ℕ) → Leads l n y → HasEdge l b y
 
   listed_at : (e : NumberedEdge) (k : ℕ) → slice_get l.edges k ≡ Some e → IsListed (edge_of_numbers l e)
@@ -116,11 +118,13 @@ module _ (x : Subject) (gives : GivenAs) (S : Fact → Type 0) (t : Transfer) (l
         first = between.first;
         same = between.same;
         there = contains_at l.edges k e at;
+        number = k;
+        at = at;
         is = edge_is l e.begin e.end between.begin between.end between.begin_at between.end_at;
         visited = λ offset spot.
             sound.followed e.end (subst (λ (a : NumberedEdge). IsVisited l a.end) own (done.visited offset (ap (λ (a : End). a.spot) end ∙ spot)));
         left = λ exit.
-            subst (λ (a : NumberedEdge). Exits l a.begin a.end) own (done.left (subst (λ (a : End). IsExit a.spot) (sym end) exit));
+            subst (λ (a : NumberedEdge). Exits l a.begin k) own (done.left (subst (λ (a : End). IsExit a.spot) (sym end) exit));
         led = λ y leads.
             subst (λ (a : NumberedEdge). HasEdge l a.begin y) own (done.led y (subst (λ (a : NumberedEdge). Leads l a.end y) (sym own) leads));
       }
@@ -186,15 +190,16 @@ module _ (x : Subject) (gives : GivenAs) (S : Fact → Type 0) (t : Transfer) (l
   from_two p q a c to i =
       let second = is_second x gives S t p q to i in
       let left = c.left (subst (λ (d : Edge). IsExit d.spot) c.is second.exit) in
-      let met = sound.met c.b a.n c.n (is_caller p q a c to i) left in
+      let met = sound.met c.b a.n c.number (is_caller p q a c to i) left in
       let caller : met.caller ≡ a.end = same_Some met.caller a.end (sym met.caller_at ∙ a.end_at) in
-      let exit : met.exit ≡ c.end = same_Some met.exit c.end (sym met.exit_at ∙ c.end_at) in
+      let last : met.last ≡ c.n = ap (λ (e : NumberedEdge). e.end) (same_Some (numbered c.b met.last) (numbered c.b c.n) (sym met.edge_at ∙ c.at)) in
+      let exit : met.exit ≡ c.end = same_Some met.exit c.end (sym met.exit_at ∙ ap (λ (n : ℕ). slice_get l.ends n) last ∙ c.end_at) in
       let begin : met.begin ≡ c.begin = same_Some met.begin c.begin (sym met.begin_at ∙ c.begin_at) in
       let first : p ≡ edge_to met.caller a.begin.fact = a.is ∙ ap (λ (d : End). edge_to d a.begin.fact) (sym caller) in
-      let last : q ≡ edge_to met.exit met.begin.fact =
+      let second_is : q ≡ edge_to met.exit met.begin.fact =
       c.is ∙ ap (λ (d : End). edge_to d c.begin.fact) (sym exit) ∙ ap (λ (d : End). edge_to met.exit d.fact) (sym begin) in
       by_lead p a to
-      (met.all a.begin.fact to (subst (λ (d : Edge). Instance x gives S t (d ∷ edge_to met.exit met.begin.fact ∷ []) to) first (subst (λ (d : Edge). Instance x gives S t (p ∷ d ∷ []) to) last i)))
+      (met.all a.begin.fact to (subst (λ (d : Edge). Instance x gives S t (d ∷ edge_to met.exit met.begin.fact ∷ []) to) first (subst (λ (d : Edge). Instance x gives S t (p ∷ d ∷ []) to) second_is i)))
 
   pub closed : IsClosed (Instance x gives S t) (edges_of l)
   closed premises to i hold = by premises i (shape x gives S t premises to i) hold

@@ -1,5 +1,5 @@
 -- What follows from edges to an end, by what was found to follow at its node.
-use Rattle.std.proofs.Common.{◌≡◌, ◌∙◌, ◌⊎◌, inl, inr, ℕ, List, [], ◌∷◌, Option, None, Some, refl, sym, ap, subst}
+use Rattle.std.proofs.Common.{◌≡◌, ◌∙◌, ◌⊎◌, inl, inr, ℕ, Bool, List, [], ◌∷◌, Option, None, Some, refl, sym, ap, subst}
 use Rattle.std.specs.List.{All, Contains, slice_get}
 use Rattle.std.proofs.lemmas.List.Elements.{All-contains}
 use Rattle.std.proofs.lemmas.Option.{none-some, same_Some}
@@ -10,7 +10,6 @@ use Rattle.op_model.specs.declared.node.Spot.{Spot}
 use Rattle.op_model.specs.declared.node.Spot.TheVariants as spots
 use Rattle.machine_bytecode.specs.Objects.{Subject}
 use Rattle.list_laws.proofs.Members.{contains_none}
-use Rattle.least_sets.specs.Rules.{Hold}
 use Rattle.ground.specs.Findings.{gives_listed}
 use Rattle.stage_facts.specs.Facts.{SiteFact}
 use Rattle.stage_transfer.specs.Settings.{Setting}
@@ -19,14 +18,18 @@ use Rattle.stage_edges.specs.Rules.{Edge, IsNode, before, edge}
 use Rattle.edge_steps.specs.declared.conclusions.Conclusion.{Conclusion}
 use Rattle.edge_steps.specs.declared.conclusions.EnteredWith.{EnteredWith}
 use Rattle.edge_steps.specs.Steps.{AreFollowing, IsOneOf, begins, begun, goes, within}
+use Rattle.edge_numbers.specs.declared.because.EdgeNo.{EdgeNo}
+use Rattle.edge_numbers.specs.Premises.{StandAt, others}
+use Rattle.edge_numbers.proofs.Reasons.{stand_more}
+use Rattle.list_laws.proofs.Places.{contains_at}
 use Rattle.end_numbers.specs.Ends.{End}
 use Rattle.ground_views.specs.declared.question.Question.{Question}
 use Rattle.ground_views.specs.declared.viewed_node.ViewedNode.{ViewedNode}
 use Rattle.ground_views.specs.Questions.{IsAskedOf}
 use Rattle.ground_views.specs.Views.{FollowAt, IsSeen}
 use Rattle.ground_views.proofs.Shapes.{LeadsToNode, first_leads, second_of_method}
-use Rattle.tabulation_tables.specs.Lists.{IsBegun, IsLedTo, IsShaped, Lists, edge_to, edges_of}
-use Rattle.tabulation_tables.proofs.Edges.{edge_there}
+use Rattle.tabulation_tables.specs.Lists.{IsBegun, IsEdgeAt, IsLedTo, IsShaped, Lists, edge_to, edges_of, numbered}
+use Rattle.tabulation_tables.proofs.Edges.{edge_stands}
 use Rattle.tabulation.specs.Kept.{Concludes, HasFollowedAll, HasMetAll, IsReached, LeadsToConclusion, MayBegin}
 
 -- Just these follow from an edge to the end, or from it with another edge.
@@ -53,26 +56,26 @@ module _ (q : Question) (t : Lists) (n : ℕ) (a : End) (at : slice_get t.ends n
   same_end b also = same_Some b a (sym also ∙ at)
 
   -- a conclusion follows
-  pub concludes : (others : List Edge) (conclusions : List Conclusion) (entered : List EnteredWith) → AreFound q a others conclusions entered
-      → Hold (Contains (edges_of t)) others → (c : Conclusion) → Contains conclusions c → Concludes q t n a.method c
-  concludes others conclusions entered found hold c there = record {
+  pub concludes : (rest : List Edge) (conclusions : List Conclusion) (entered : List EnteredWith) → AreFound q a rest conclusions entered → (exit : Option EdgeNo) (again : Bool)
+      → StandAt (edges_of t) (others exit) rest → (c : Conclusion) → Contains conclusions c → Concludes q t (record { end = n; method = a.method; exit = exit; again = again }) c
+  concludes rest conclusions entered found exit again stand c there = record {
     end = a;
     end_at = at;
-    others = others;
-    there = hold;
+    rest = rest;
+    stand = stand;
     follows = λ x w asked entry. (found.each x w asked).within_follow c entry there;
   }
 
   -- so is that a method begins, of an end that is reached
-  pub may_begin : (conclusions : List Conclusion) (entered : List EnteredWith) → AreFound q a [] conclusions entered → IsShaped t → IsReached t n → (b : EnteredWith) → Contains entered b
-      → MayBegin q t b
-  may_begin conclusions entered found shape reached b there =
-      let is = shape.edges reached.begin n reached.there in
+  pub may_begin : (conclusions : List Conclusion) (entered : List EnteredWith) → AreFound q a [] conclusions entered → IsShaped t → (k : ℕ) → IsReached t k n → (b : EnteredWith)
+      → Contains entered b → MayBegin q t k b
+  may_begin conclusions entered found shape k reached b there =
+      let is = shape.edges reached.begin n (contains_at t.edges k (numbered reached.begin n) reached.at) in
       record {
         follows = λ x w asked. record {
           premises = edge_to a is.begin.fact ∷ [];
           instance = (found.each x w asked).begun_follow b is.begin.fact there;
-          hold = (edge_there t reached.begin n reached.there is.begin a is.begin_at at, tt);
+          stand = stand_more (edges_of t) k (edge_to a is.begin.fact) (edge_stands t k reached.begin n reached.at is.begin a is.begin_at at) [] [] refl;
         };
       }
 
@@ -101,11 +104,13 @@ module _ (q : Question) (t : Lists) (n : ℕ) (a : End) (at : slice_get t.ends n
 
 -- ---- callers and exits
 
-module _ (q : Question) (t : Lists) (b c z : ℕ) (begin caller exit : End) (begin_at : slice_get t.ends b ≡ Some begin) (caller_at : slice_get t.ends c ≡ Some caller)
-    (exit_at : slice_get t.ends z ≡ Some exit) where
-  pub met : (conclusions : List Conclusion) → AreFound q caller (edge_to exit begin.fact ∷ []) conclusions [] → All (LeadsToConclusion t c caller.method) conclusions → HasMetAll q t b c z
+module _ (q : Question) (t : Lists) (b c k last : ℕ) (begin caller exit : End) (edge_at : IsEdgeAt t k b last) (begin_at : slice_get t.ends b ≡ Some begin)
+    (caller_at : slice_get t.ends c ≡ Some caller) (exit_at : slice_get t.ends last ≡ Some exit) where
+  pub met : (conclusions : List Conclusion) → AreFound q caller (edge_to exit begin.fact ∷ []) conclusions [] → All (LeadsToConclusion t c caller.method) conclusions → HasMetAll q t b c k
   met conclusions found led = record {
     met = λ x w asked. record {
+      last = last;
+      edge_at = edge_at;
       begin = begin;
       caller = caller;
       exit = exit;
@@ -120,9 +125,11 @@ module _ (q : Question) (t : Lists) (b c z : ℕ) (begin caller exit : End) (beg
       by entry to (goes d there) = led_to q t c caller caller_at caller.method d entry (All-contains (LeadsToConclusion t c caller.method) conclusions d led there)
       by entry to (begins d there) = absurd (contains_none d there)
 
-  pub met_none : ((x : Subject) (w : Setting) → IsAskedOf q x w → (entry : SiteFact) → LeadsToNode x (gives_listed q.ground.now.methods) (edge_to caller entry) → ⊥) → HasMetAll q t b c z
+  pub met_none : ((x : Subject) (w : Setting) → IsAskedOf q x w → (entry : SiteFact) → LeadsToNode x (gives_listed q.ground.now.methods) (edge_to caller entry) → ⊥) → HasMetAll q t b c k
   met_none never = record {
     met = λ x w asked. record {
+      last = last;
+      edge_at = edge_at;
       begin = begin;
       caller = caller;
       exit = exit;
@@ -136,9 +143,11 @@ module _ (q : Question) (t : Lists) (b c z : ℕ) (begin caller exit : End) (beg
   }
 
   -- the start of the program has no callers
-  pub met_start : exit.method ≡ None → HasMetAll q t b c z
+  pub met_start : exit.method ≡ None → HasMetAll q t b c k
   met_start none = record {
     met = λ x w asked. record {
+      last = last;
+      edge_at = edge_at;
       begin = begin;
       caller = caller;
       exit = exit;

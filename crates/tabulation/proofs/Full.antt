@@ -10,19 +10,20 @@ use Rattle.least_sets.specs.Rules.{IsDerivable, IsWithoutDoubles}
 use Rattle.least_sets.proofs.Derivations.{All-derivable}
 use Rattle.stage_transfer.specs.Settings.{Setting}
 use Rattle.stage_edges.specs.Rules.{Edge}
+use Rattle.edge_numbers.proofs.Reasons.{reasons_derive}
 use Rattle.edge_numbers.specs.declared.numbered.NumberedEdge.{NumberedEdge}
 use Rattle.end_numbers.specs.Ends.{End}
 use Rattle.ground_views.specs.declared.question.Question.{Question}
 use Rattle.ground_views.specs.Questions.{GroundInstance, IsAskedOf}
 use Rattle.ground_views.proofs.Ends.{at_least}
-use Rattle.tabulation_tables.specs.Lists.{IsEdgeBetween, IsShaped, IsSound, Lists, edge_of_numbers, edge_to, edges_of}
+use Rattle.tabulation_tables.specs.Lists.{IsEdgeBetween, IsShaped, IsSound, Lists, edge_of_numbers, edge_to, edges_of, reasons_of}
 use Rattle.tabulation_tables.proofs.Edges.{edge_is}
 use Rattle.tabulation.specs.Kept.{IsRight}
 
 -- ---- each is derivable
 
 pub all_derivable : (I : List Edge → Edge → Type 0) (t : Lists) → IsSound I t → All (IsDerivable I) (edges_of t)
-all_derivable I t sound = All-derivable I (edges_of t) sound.order
+all_derivable I t sound = All-derivable I (edges_of t) (reasons_derive I (edges_of t) (reasons_of t) sound.reasons)
 
 -- ---- each stands once
 

@@ -1,10 +1,9 @@
 -- This crate's own proofs alone rest on this module.
 -- What holds of the tables of tabulation all the time, and what each step keeps.
-use Rattle.std.specs.Prelude.{◌≡◌, ◌<◌, ℕ, List, ◌∷◌, length, Option, None, Some, slice_get, Contains}
+use Rattle.std.specs.Prelude.{◌≡◌, ◌<◌, ℕ, List, [], ◌∷◌, length, Option, None, Some, slice_get}
 use Rattle.op_model.specs.declared.node.Spot.TheVariants as spots
 use Rattle.jvm_model.specs.declared.number.MethodNo.{MethodNo}
 use Rattle.machine_bytecode.specs.Objects.{Subject}
-use Rattle.least_sets.specs.Rules.{Follows, Hold}
 use Rattle.stage_facts.specs.Facts.{SiteFact, none_yet}
 use Rattle.stage_facts.specs.Plain.{fact_of}
 use Rattle.stage_transfer.specs.Settings.{Setting}
@@ -12,11 +11,15 @@ use Rattle.stage_edges.specs.Rules.{Edge}
 use Rattle.edge_steps.specs.declared.conclusions.Conclusion.{Conclusion}
 use Rattle.edge_steps.specs.declared.conclusions.EnteredWith.{EnteredWith}
 use Rattle.edge_steps.specs.Steps.{begun, within}
+use Rattle.edge_numbers.specs.declared.because.Because.{Because}
+use Rattle.edge_numbers.specs.declared.because.EdgeNo.{EdgeNo}
+use Rattle.edge_numbers.specs.Premises.{FollowsFrom, StandAt, others, premises}
 use Rattle.end_numbers.specs.Ends.{End, end}
 use Rattle.ground_views.specs.declared.question.Question.{Question}
 use Rattle.ground_views.specs.Questions.{GroundInstance, IsAskedOf}
-use Rattle.tabulation_tables.specs.Lists.{HasEdge, IsEdgeBetween, IsFollowed, IsLeadBetween, IsMet, IsProcessed, IsShaped, IsSound, Leads, LeadsSoundly, Lists, edge_of_numbers, edge_to, edges_of, numbered}
+use Rattle.tabulation_tables.specs.Lists.{HasEdge, IsEdgeAt, IsEdgeBetween, IsFollowed, IsLeadBetween, IsMet, IsProcessed, IsShaped, IsSound, Leads, LeadsSoundly, Lists, edge_of_numbers, edge_to, edges_of, numbered}
 use Rattle.tabulation_tables.specs.Steps.{Grows}
+use Rattle.tabulation.specs.declared.work.Premise.{Premise}
 
 -- ---- all the time
 
@@ -30,15 +33,15 @@ pub record IsKept (q : Question) (t : Lists) : Type 0 where
   pub right : IsRight q t
   pub roomy : length t.edges < q.limit
 
--- The edge may be taken in: it follows from those that are there.
-pub record MayTake (q : Question) (t : Lists) (b x : ℕ) : Type 0 where
+-- The edge may be taken in: it follows from those that are named.
+pub record MayTake (q : Question) (t : Lists) (b x : ℕ) (because : Because) : Type 0 where
   pub between : IsEdgeBetween t b x
-  pub follows : (s : Subject) (w : Setting) → IsAskedOf q s w → Follows (GroundInstance q s w) (edges_of t) (edge_of_numbers t (numbered b x))
+  pub follows : (s : Subject) (w : Setting) → IsAskedOf q s w → FollowsFrom (GroundInstance q s w) (edges_of t) (premises because) (edge_of_numbers t (numbered b x))
 
--- The end may lead to the other one.
-pub record MayLead (q : Question) (t : Lists) (x y : ℕ) : Type 0 where
+-- The end may lead to the other one, by the exit or by none.
+pub record MayLead (q : Question) (t : Lists) (x y : ℕ) (exit : Option EdgeNo) : Type 0 where
   pub between : IsLeadBetween t x y
-  pub sound : (s : Subject) (w : Setting) → IsAskedOf q s w → LeadsSoundly (GroundInstance q s w) t x y
+  pub sound : (s : Subject) (w : Setting) → IsAskedOf q s w → LeadsSoundly (GroundInstance q s w) t x y exit
 
 -- ---- steps
 
@@ -60,13 +63,13 @@ pub record IsOfMethod (t : Lists) (n : ℕ) (m : Option MethodNo) : Type 0 where
   pub end_at : slice_get t.ends n ≡ Some end
   pub is : end.method ≡ m
 
--- With each entry the edge to the conclusion follows from that to the end, and from others that are there.
-pub record Concludes (q : Question) (t : Lists) (n : ℕ) (m : Option MethodNo) (c : Conclusion) : Type 0 where
+-- With each entry the edge to the conclusion follows from that to the end of the premise, alone or with its exit.
+pub record Concludes (q : Question) (t : Lists) (p : Premise) (c : Conclusion) : Type 0 where
   pub end : End
-  pub end_at : slice_get t.ends n ≡ Some end
-  pub others : List Edge
-  pub there : Hold (Contains (edges_of t)) others
-  pub follows : (x : Subject) (w : Setting) → IsAskedOf q x w → (entry : SiteFact) → GroundInstance q x w (edge_to end entry ∷ others) (within m entry c)
+  pub end_at : slice_get t.ends p.end ≡ Some end
+  pub rest : List Edge
+  pub stand : StandAt (edges_of t) (others p.exit) rest
+  pub follows : (x : Subject) (w : Setting) → IsAskedOf q x w → (entry : SiteFact) → GroundInstance q x w (edge_to end entry ∷ rest) (within p.method entry c)
 
 -- The end leads to the conclusion.
 pub record LeadsToConclusion (t : Lists) (x : ℕ) (m : Option MethodNo) (c : Conclusion) : Type 0 where
@@ -74,22 +77,22 @@ pub record LeadsToConclusion (t : Lists) (x : ℕ) (m : Option MethodNo) (c : Co
   pub at : slice_get t.ends number ≡ Some (end_within m c)
   pub leads : Leads t x number
 
--- The method may begin so: that it does follows from the edges that are there.
-pub record MayBegin (q : Question) (t : Lists) (b : EnteredWith) : Type 0 where
-  pub follows : (x : Subject) (w : Setting) → IsAskedOf q x w → Follows (GroundInstance q x w) (edges_of t) (begun b)
+-- The method may begin so: that it does follows from the edge of the number.
+pub record MayBegin (q : Question) (t : Lists) (number : ℕ) (b : EnteredWith) : Type 0 where
+  pub follows : (x : Subject) (w : Setting) → IsAskedOf q x w → FollowsFrom (GroundInstance q x w) (edges_of t) (number ∷ []) (begun b)
 
--- The exits that were noted of a method were met by the caller.
-pub record HasMetAll (q : Question) (t : Lists) (b c z : ℕ) : Type 0 where
-  pub met : (x : Subject) (w : Setting) → IsAskedOf q x w → IsMet (GroundInstance q x w) t b c z
+-- The edge to an exit was met by the caller.
+pub record HasMetAll (q : Question) (t : Lists) (b c k : ℕ) : Type 0 where
+  pub met : (x : Subject) (w : Setting) → IsAskedOf q x w → IsMet (GroundInstance q x w) t b c k
 
 -- What follows from edges to the end alone was found.
 pub record HasFollowedAll (q : Question) (t : Lists) (x : ℕ) : Type 0 where
   pub followed : (s : Subject) (w : Setting) → IsAskedOf q s w → IsFollowed (GroundInstance q s w) t x
 
--- An edge to the end is there.
-pub record IsReached (t : Lists) (x : ℕ) : Type 0 where
+-- The edge of the number leads to the end.
+pub record IsReached (t : Lists) (k x : ℕ) : Type 0 where
   pub begin : ℕ
-  pub there : HasEdge t begin x
+  pub at : IsEdgeAt t k begin x
 
 -- ---- the beginning and the end
 

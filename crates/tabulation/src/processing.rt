@@ -5,7 +5,7 @@ ghost use Rattle.op_model.specs.declared.node.Spot.TheVariants as spots;
 ghost use Rattle.end_numbers.specs.Ends.{End};
 ghost use Rattle.stage_edges.specs.Rules.{IsExit};
 ghost use Rattle.ground_views.specs.Questions.{IsEdgesEnd};
-ghost use Rattle.tabulation_tables.specs.Lists.{Exits, HasEdge, IsProcessed, IsVisited, Leads, lists_of};
+ghost use Rattle.tabulation_tables.specs.Lists.{Exits, HasEdge, IsBegunBy, IsEdgeAt, IsProcessed, IsVisited, Leads, lists_of};
 ghost use Rattle.tabulation.specs.Kept.{HasFollowedAll, IsKept, IsReached, IsStep};
 ghost use Rattle.tabulation.specs.Works.{IsWork};
 
@@ -13,96 +13,116 @@ use crate::beginning::begin_all;
 use crate::leading::lead_to_all;
 use crate::meeting::meet_callers;
 use crate::taking::take_edge;
-use crate::work::Work;
-use edge_numbers::NumberedEdge;
+use crate::work::{Buffers, Caller, Premise, Work};
+use edge_numbers::{EdgeNo, NumberedEdge, because_of};
+use edge_steps::Conclusion;
 use ground_views::{EdgesFailure, after_node};
 use op_model::{NodeRef, Spot};
 use tabulation_tables::Tables;
 
-/// Takes in what follows from the edge at a place, alone and with others.
+/// Takes in what follows from the edge of a number, alone and with others.
 pub(crate) fn process(
     work: Work<'_, '_, '_>,
     tables: &mut Tables,
-    place: usize,
+    buffers: &mut Buffers,
+    number: EdgeNo,
 ) -> Result<(), EdgesFailure>
     requires work { IsWork work }
     requires kept { IsKept work.question.now (lists_of tables.old) }
-    requires there { place < length tables.old.edges }
+    requires there { number.0 < length tables.old.edges }
     ensures step { OnOk result (IsStep work.entry.question.now (lists_of tables.old) (lists_of tables.new)) }
-    ensures processed { OnOk result (IsProcessed (lists_of tables.new) place) }
+    ensures processed { OnOk result (IsProcessed (lists_of tables.new) number.0) }
     ensures end { IfErr result (IsEdgesEnd work.entry.question.now) }
 {
-    let edge = tables.edges.at(place);
-    come_to(work, tables, edge)?;
-    extend(work, tables, edge)
+    let edge = tables.edges.at(number.0 as usize);
+    come_to(work, tables, buffers, number, edge)?;
+    extend(work, tables, number, edge)
 }
 
-/// Visits the end of an edge, if it is a node that was not visited; or has callers meet it, if it is an exit.
+/// Visits the end of an edge, if it is a node that was not visited; or has callers meet the edge, if it leads to an exit.
 fn come_to(
     work: Work<'_, '_, '_>,
     tables: &mut Tables,
+    buffers: &mut Buffers,
+    number: EdgeNo,
     edge: NumberedEdge,
 ) -> Result<(), EdgesFailure>
     requires work { IsWork work }
     requires kept { IsKept work.question.now (lists_of tables.old) }
-    requires there { HasEdge (lists_of tables.old) edge.begin edge.end }
+    requires there { IsEdgeAt (lists_of tables.old) number.0 edge.begin edge.end }
     ensures step { OnOk result (IsStep work.entry.question.now (lists_of tables.old) (lists_of tables.new)) }
     ensures visited { OnOk result ((e : End) (offset : ℕ) → slice_get tables.old.ends edge.end ≡ Some e → e.spot ≡ spots.Node offset → IsVisited (lists_of tables.new) edge.end) }
-    ensures left { OnOk result ((e : End) → slice_get tables.old.ends edge.end ≡ Some e → IsExit e.spot → Exits (lists_of tables.new) edge.begin edge.end) }
+    ensures left { OnOk result ((e : End) → slice_get tables.old.ends edge.end ≡ Some e → IsExit e.spot → Exits (lists_of tables.new) edge.begin number.0) }
     ensures end { IfErr result (IsEdgesEnd work.entry.question.now) }
 {
+    let caller = Caller {
+        end: edge.end,
+        by: number,
+    };
     match tables.ends.spot(edge.end) {
-        Spot::Node(_) => visit(work, tables, edge.end),
-        Spot::Returned => leave(work, tables, edge),
-        Spot::Thrown => leave(work, tables, edge),
+        Spot::Node(_) => visit(work, tables, buffers, caller),
+        Spot::Returned => leave(work, tables, &mut buffers.left, edge.begin, number),
+        Spot::Thrown => leave(work, tables, &mut buffers.left, edge.begin, number),
     }
 }
 
-/// Has the callers meet the exit to which an edge leads, and notes it.
+/// Has the callers of the method that begins with an end meet an edge to an exit, and notes the edge.
 fn leave(
     work: Work<'_, '_, '_>,
     tables: &mut Tables,
-    edge: NumberedEdge,
+    left: &mut Vec<Conclusion>,
+    begin: u32,
+    exit: EdgeNo,
 ) -> Result<(), EdgesFailure>
     requires work { IsWork work }
     requires kept { IsKept work.question.now (lists_of tables.old) }
-    requires there { HasEdge (lists_of tables.old) edge.begin edge.end }
+    requires there { IsBegunBy (lists_of tables.old) begin exit.0 }
     ensures step { OnOk result (IsStep work.entry.question.now (lists_of tables.old) (lists_of tables.new)) }
-    ensures left { OnOk result (Exits (lists_of tables.new) edge.begin edge.end) }
+    ensures left { OnOk result (Exits (lists_of tables.new) begin exit.0) }
     ensures end { IfErr result (IsEdgesEnd work.entry.question.now) }
 {
-    meet_callers(work, tables, edge.begin, edge.end)?;
-    tables.exit(edge.begin, edge.end)?;
+    meet_callers(work, tables, left, begin, exit)?;
+    tables.exit(begin, exit)?;
     Ok(())
 }
 
 /// Takes in what follows from edges to an end alone, unless that was done.
-fn visit(work: Work<'_, '_, '_>, tables: &mut Tables, end: u32) -> Result<(), EdgesFailure>
+fn visit(
+    work: Work<'_, '_, '_>,
+    tables: &mut Tables,
+    buffers: &mut Buffers,
+    caller: Caller,
+) -> Result<(), EdgesFailure>
     requires work { IsWork work }
     requires kept { IsKept work.question.now (lists_of tables.old) }
-    requires reached { IsReached (lists_of tables.old) end }
+    requires reached { IsReached (lists_of tables.old) caller.by.0 caller.end }
     ensures step { OnOk result (IsStep work.entry.question.now (lists_of tables.old) (lists_of tables.new)) }
-    ensures visited { OnOk result (IsVisited (lists_of tables.new) end) }
+    ensures visited { OnOk result (IsVisited (lists_of tables.new) caller.end) }
     ensures end { IfErr result (IsEdgesEnd work.entry.question.now) }
 {
-    if tables.is_visited(end) {
+    if tables.is_visited(caller.end) {
         return Ok(());
     }
-    follow(work, tables, end)?;
-    tables.visit(end)?;
+    follow(work, tables, buffers, caller)?;
+    tables.visit(caller.end)?;
     Ok(())
 }
 
 /// Does so.
-fn follow(work: Work<'_, '_, '_>, tables: &mut Tables, end: u32) -> Result<(), EdgesFailure>
+fn follow(
+    work: Work<'_, '_, '_>,
+    tables: &mut Tables,
+    buffers: &mut Buffers,
+    caller: Caller,
+) -> Result<(), EdgesFailure>
     requires work { IsWork work }
     requires kept { IsKept work.question.now (lists_of tables.old) }
-    requires reached { IsReached (lists_of tables.old) end }
+    requires reached { IsReached (lists_of tables.old) caller.by.0 caller.end }
     ensures step { OnOk result (IsStep work.entry.question.now (lists_of tables.old) (lists_of tables.new)) }
-    ensures followed { OnOk result (HasFollowedAll work.entry.question.now (lists_of tables.new) end) }
+    ensures followed { OnOk result (HasFollowedAll work.entry.question.now (lists_of tables.new) caller.end) }
     ensures end { IfErr result (IsEdgesEnd work.entry.question.now) }
 {
-    let reached = tables.ends.end(end);
+    let reached = tables.ends.end(caller.end);
     let Spot::Node(offset) = reached.spot else {
         return Ok(());
     };
@@ -113,25 +133,28 @@ fn follow(work: Work<'_, '_, '_>, tables: &mut Tables, end: u32) -> Result<(), E
     let Some(seen) = work.views.node(work.question, node) else {
         return Ok(());
     };
-    let following = after_node(work.alloc, work.question, &seen, &reached.fact)?;
-    lead_to_all(
-        work,
-        tables,
-        end,
-        reached.method,
-        following.within.as_slice(),
-    )?;
-    begin_all(work, tables, end, following.entered.as_slice())
+    let following = &mut buffers.following;
+    after_node(work.question, &seen, &reached.fact, following)?;
+    let premise = Premise {
+        end: caller.end,
+        method: reached.method,
+        exit: None,
+        again: !seen.ways.described.is_empty(),
+    };
+    lead_to_all(work, tables, premise, following.within.as_slice())?;
+    let entered = following.entered.as_slice();
+    begin_all(work, tables, &mut buffers.left, caller, entered)
 }
 
 /// Takes in the edges with the begin of an edge to the ends to which its end leads.
 fn extend(
     work: Work<'_, '_, '_>,
     tables: &mut Tables,
+    number: EdgeNo,
     edge: NumberedEdge,
 ) -> Result<(), EdgesFailure>
     requires kept { IsKept work.question.now (lists_of tables.old) }
-    requires there { HasEdge (lists_of tables.old) edge.begin edge.end }
+    requires there { IsEdgeAt (lists_of tables.old) number.0 edge.begin edge.end }
     ensures step { OnOk result (IsStep work.entry.question.now (lists_of tables.old) (lists_of tables.new)) }
     ensures led { OnOk result ((y : ℕ) → Leads (lists_of tables.new) edge.end y → HasEdge (lists_of tables.new) edge.begin y) }
     ensures end { IfErr result (IsEdgesEnd work.entry.question.now) }
@@ -140,7 +163,9 @@ fn extend(
     let mut last = None;
     while let Some(place) = tables.leads.after(edge.end, last) {
         let end = tables.leads.value(place);
-        take_edge(work, tables, NumberedEdge { begin, end })?;
+        let exit = tables.exit_at(place);
+        let because = because_of(number, exit);
+        take_edge(work, tables, NumberedEdge { begin, end }, because)?;
         last = Some(place);
     }
     Ok(())

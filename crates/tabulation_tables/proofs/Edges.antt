@@ -1,18 +1,21 @@
--- The edges of tables that grow stay at their places, and each follows from those before it.
-use Rattle.std.proofs.Common.{◌≡◌, ◌∙◌, ℕ, suc, Bool, List, [], ◌∷◌, ◌++◌, length, Some, take, refl, sym, ap, subst, arith}
+-- The edges of tables that grow stay at their places, and so do their reasons.
+use Rattle.std.proofs.Common.{◌≡◌, ◌∙◌, ℕ, suc, Bool, List, [], ◌∷◌, ◌++◌, length, map, Some, take, refl, sym, ap, subst, arith}
+use Rattle.std.specs.Prelude.{if◌then◌else◌}
 use Rattle.std.specs.List.{Contains, slice_get}
-use Rattle.std.proofs.lemmas.List.{length-map, take_all}
+use Rattle.std.proofs.lemmas.List.{length-map, map-append, take_all}
 use Rattle.std.proofs.lemmas.Option.{slice_get_within, slice_get-get_or, same_Some}
 use Rattle.list_laws.proofs.Members.{contains_map}
+use Rattle.chained_lists.specs.Entries.{Entry, entry}
 use Rattle.list_laws.proofs.Places.{at_map, contains_at, front_push, map_at, pushed_at}
-use Rattle.least_sets.specs.Rules.{Follows, Hold, IsDerivation}
-use Rattle.least_sets.proofs.Derivations.{Follows-more, Hold-larger, IsDerivation-push}
 use Rattle.least_sets.proofs.Growing.{Contains-extends, Extends, take_extends}
 use Rattle.stage_edges.specs.Rules.{Edge}
+use Rattle.edge_numbers.specs.declared.because.Because.{Because}
 use Rattle.edge_numbers.specs.declared.numbered.NumberedEdge.{NumberedEdge}
 use Rattle.edge_numbers.specs.Inserted.{IsInserted, is_added, was_held}
+use Rattle.edge_numbers.specs.Premises.{AreReasons, FollowsFrom, premises}
+use Rattle.edge_numbers.proofs.Reasons.{from_still, reasons_more}
 use Rattle.end_numbers.specs.Ends.{End}
-use Rattle.tabulation_tables.specs.Lists.{HasEdge, IsEdgeBetween, IsShaped, Lists, edge_of_numbers, edge_to, edges_of, end_or_any, numbered}
+use Rattle.tabulation_tables.specs.Lists.{HasEdge, IsEdgeAt, IsEdgeBetween, IsShaped, Lists, edge_of_numbers, edge_to, edges_of, end_or_any, found_by, numbered, reasons_of}
 use Rattle.tabulation_tables.specs.Steps.{Grows}
 
 -- ---- the edge of two numbers
@@ -29,6 +32,26 @@ edge_is t b x begin end begin_at end_at =
 pub edge_there : (t : Lists) (b x : ℕ) → HasEdge t b x → (begin end : End) → slice_get t.ends b ≡ Some begin → slice_get t.ends x ≡ Some end → Contains (edges_of t) (edge_to end begin.fact)
 edge_there t b x there begin end begin_at end_at =
     subst (Contains (edges_of t)) (edge_is t b x begin end begin_at end_at) (contains_map (edge_of_numbers t) t.edges (numbered b x) there)
+
+-- and at its number
+pub edge_stands : (t : Lists) (k b x : ℕ) → IsEdgeAt t k b x → (begin end : End) → slice_get t.ends b ≡ Some begin → slice_get t.ends x ≡ Some end → slice_get (edges_of t) k ≡ Some (edge_to end begin.fact)
+edge_stands t k b x at begin end begin_at end_at = at_map (edge_of_numbers t) t.edges k (numbered b x) at ∙ ap Some (edge_is t b x begin end begin_at end_at)
+
+-- ---- how edges are found
+
+module _ (t : Lists) (shape : IsShaped t) where
+  -- where a begin stands in the list of an end, an edge has its number
+  pub found_at : (k x b : ℕ) → slice_get t.begins k ≡ Some (entry x b) → IsEdgeAt t k b x
+  found_at k x b at =
+      let one = map_at found_by t.edges k (entry x b) (subst (λ (es : List Entry). slice_get es k ≡ Some (entry x b)) shape.found at) in
+      one.1 ∙ ap Some (λ i. record { begin = (one.2 i).value; end = (one.2 i).number })
+
+  -- and each edge is found so
+  pub found_there : (b x : ℕ) → HasEdge t b x → Contains t.begins (entry x b)
+  found_there b x there = subst (λ (es : List Entry). Contains es (entry x b)) (sym shape.found) (contains_map found_by t.edges (numbered b x) there)
+
+  pub found_count : length t.begins ≡ length t.edges
+  found_count = ap (λ (es : List Entry). length es) shape.found ∙ length-map t.edges found_by
 
 -- ---- longer tables
 
@@ -47,11 +70,8 @@ module _ (old new : Lists) (grows : Grows old new) where
     pub edges_still : (e : Edge) → Contains (edges_of old) e → Contains (edges_of new) e
     edges_still e there = Contains-extends (edges_of old) (edges_of new) edges_extend e there
 
-    pub hold_still : (es : List Edge) → Hold (Contains (edges_of old)) es → Hold (Contains (edges_of new)) es
-    hold_still es hold = Hold-larger (Contains (edges_of old)) (Contains (edges_of new)) edges_still es hold
-
-    pub follows_still : (I : List Edge → Edge → Type 0) (e : Edge) → Follows I (edges_of old) e → Follows I (edges_of new) e
-    follows_still I e follows = Follows-more I (edges_of old) (edges_of new) e edges_still follows
+    pub follows_still : (I : List Edge → Edge → Type 0) (places : List ℕ) (e : Edge) → FollowsFrom I (edges_of old) places e → FollowsFrom I (edges_of new) places e
+    follows_still I places e follows = from_still I (edges_of old) (edges_of new) edges_extend places e follows
 
     -- the front of the new edges is the old ones
     front_is : (n : ℕ) → n ≡ length old.edges → take n (edges_of new) ≡ edges_of old
@@ -60,10 +80,16 @@ module _ (old new : Lists) (grows : Grows old new) where
         take_extends (edges_of old) (edges_of new) edges_extend n (omega (arith, count)) ∙ take_all n (edges_of old) (omega (arith, count))
 
     -- where there are no more, they are the same
-    pub order_still : length new.edges ≡ length old.edges → (I : List Edge → Edge → Type 0) → IsDerivation I (edges_of old) → IsDerivation I (edges_of new)
-    order_still count I order =
+    edges_same : length new.edges ≡ length old.edges → edges_of new ≡ edges_of old
+    edges_same count =
         let long : length (edges_of new) ≡ length new.edges = length-map new.edges (edge_of_numbers new) in
-        subst (IsDerivation I) (sym (sym (take_all (length new.edges) (edges_of new) (omega (arith, long))) ∙ front_is (length new.edges) count)) order
+        sym (take_all (length new.edges) (edges_of new) (omega (arith, long))) ∙ front_is (length new.edges) count
+
+    pub reasons_still : length new.edges ≡ length old.edges → new.reasons ≡ old.reasons → (I : List Edge → Edge → Type 0) → AreReasons I (edges_of old) (reasons_of old)
+        → AreReasons I (edges_of new) (reasons_of new)
+    reasons_still count same I are =
+        subst (λ (es : List Edge). AreReasons I es (reasons_of new)) (sym (edges_same count))
+        (subst (λ (rs : List Because). AreReasons I (edges_of old) (map premises rs)) (sym same) are)
 
     -- one more goes last
     pub one_more : (e : NumberedEdge) → new.edges ≡ old.edges ++ e ∷ [] → edges_of new ≡ edges_of old ++ edge_of_numbers new e ∷ []
@@ -79,9 +105,12 @@ module _ (old new : Lists) (grows : Grows old new) where
         pushed_length (d ∷ es) e = ap suc (pushed_length es e)
 
     -- an edge is taken in that follows from those that there were
-    pub order_inserted : (I : List Edge → Edge → Type 0) (added : Bool) (b x : ℕ) → IsInserted added old.edges new.edges (numbered b x) → IsEdgeBetween old b x
-        → Follows I (edges_of old) (edge_of_numbers old (numbered b x)) → IsDerivation I (edges_of old) → IsDerivation I (edges_of new)
-    order_inserted I added b x (was_held _ _ _ there same) between follows order = order_still (ap (λ (es : List NumberedEdge). length es) same) I order
-    order_inserted I added b x (is_added _ _ _ fresh more) between follows order =
-        subst (IsDerivation I) (sym (one_more (numbered b x) more))
-        (IsDerivation-push I (edges_of old) (edge_of_numbers new (numbered b x)) order (subst (Follows I (edges_of old)) (sym (edge_of_still b x between)) follows))
+    pub reasons_inserted : (I : List Edge → Edge → Type 0) (added : Bool) (b x : ℕ) (because : Because) → IsInserted added old.edges new.edges (numbered b x)
+        → new.reasons ≡ (if added then old.reasons ++ because ∷ [] else old.reasons) → IsEdgeBetween old b x
+        → FollowsFrom I (edges_of old) (premises because) (edge_of_numbers old (numbered b x)) → AreReasons I (edges_of old) (reasons_of old) → AreReasons I (edges_of new) (reasons_of new)
+    reasons_inserted I added b x because (was_held _ _ _ there same) reasons between follows are = reasons_still (ap (λ (es : List NumberedEdge). length es) same) reasons I are
+    reasons_inserted I added b x because (is_added _ _ _ fresh more) reasons between follows are =
+        subst (λ (es : List Edge). AreReasons I es (reasons_of new)) (sym (one_more (numbered b x) more))
+        (subst (λ (rs : List (List ℕ)). AreReasons I (edges_of old ++ edge_of_numbers new (numbered b x) ∷ []) rs) (sym (ap (λ (rs : List Because). map premises rs) reasons ∙ map-append premises old.reasons (because ∷ [])))
+        (reasons_more I (edges_of old) (reasons_of old) (edge_of_numbers new (numbered b x)) (premises because)
+        (subst (FollowsFrom I (edges_of old) (premises because)) (sym (edge_of_still b x between)) follows) are))

@@ -1,15 +1,15 @@
 -- What the answers of the tables' functions rest on: an edge more.
-use Rattle.std.proofs.Common.{◌≡◌, ◌∙◌, ◌⊎◌, inl, inr, ℕ, ◌+◌, Bool, true, List, [], ◌∷◌, ◌++◌, length, sym, ap, subst, arith}
+use Rattle.std.proofs.Common.{◌≡◌, ◌∙◌, ◌⊎◌, inl, inr, ℕ, ◌+◌, Bool, true, List, [], ◌∷◌, ◌++◌, length, map, sym, ap, subst, arith}
 use Rattle.std.specs.List.{Contains}
 use Rattle.std.proofs.lemmas.Bool.{true≢false}
-use Rattle.std.proofs.lemmas.List.{length-append}
+use Rattle.std.proofs.lemmas.List.{length-append, map-append}
 use Rattle.std.proofs.lemmas.List.Elements.{Contains-push, Contains-push_cases}
 use Rattle.chained_lists.specs.Entries.{Entry, entry}
-use Rattle.chained_lists.proofs.Walks.{added_cases, added_there}
+use Rattle.edge_numbers.specs.declared.because.Because.{Because}
 use Rattle.edge_numbers.specs.declared.numbered.NumberedEdge.{NumberedEdge}
 use Rattle.edge_numbers.specs.Inserted.{IsInserted, is_added, was_held}
-use Rattle.tabulation_tables.specs.Lists.{Lists, numbered}
-use Rattle.tabulation_tables.specs.Steps.{Adds, IsPair, None1, None2}
+use Rattle.tabulation_tables.specs.Lists.{Lists, found_by, numbered}
+use Rattle.tabulation_tables.specs.Steps.{Adds, IsPair, NoLead, None1, None2}
 
 -- ---- an edge more
 
@@ -32,27 +32,30 @@ added_is : (added : Bool) (old new : List NumberedEdge) (e : NumberedEdge) → a
 added_is added old new e is (was_held _ _ _ there same) = absurd (true≢false (sym is))
 added_is added old new e is (is_added _ _ _ fresh more) = more
 
-abbrev with_edge : Lists → List NumberedEdge → List Entry → Lists
-with_edge t edges begins =
-    record { ends = t.ends; edges = edges; begins = begins; leads = t.leads; callers = t.callers; exits = t.exits; visits = t.visits }
+abbrev with_edge : Lists → List NumberedEdge → List Because → List Entry → Lists
+with_edge t edges reasons begins =
+    record { ends = t.ends; edges = edges; reasons = reasons; begins = begins; leads = t.leads; by = t.by; callers = t.callers; exits = t.exits; visits = t.visits }
 
-module _ (t : Lists) (added : Bool) (es : List NumberedEdge) (e : NumberedEdge) (bs : List Entry) (yes : added ≡ true) (is : IsInserted added t.edges es e)
-    (more : bs ≡ t.begins ++ entry e.end e.begin ∷ []) where
+-- a list with one more at its end
+one_longer : {X : Type 0} (xs ys : List X) (x : X) → ys ≡ xs ++ x ∷ [] → length ys ≡ length xs + 1
+one_longer {X} xs ys x is = ap (λ (zs : List X). length zs) is ∙ length-append xs (x ∷ [])
+
+module _ (t : Lists) (added : Bool) (es : List NumberedEdge) (e : NumberedEdge) (rs : List Because) (because : Because) (bs : List Entry) (yes : added ≡ true) (is : IsInserted added t.edges es e)
+    (reasoned : rs ≡ t.reasons ++ because ∷ []) (more : bs ≡ t.begins ++ entry e.end e.begin ∷ []) where
   -- the edge, which is found by its end
-  pub insertion_adds : Adds (IsPair e.begin e.end) None2 None2 None2 None1 t (with_edge t es bs)
+  pub insertion_adds : Adds (IsPair e.begin e.end) NoLead None2 None2 None1 t (with_edge t es rs bs)
   insertion_adds = record {
     edges = inserted_cases added t.edges es e is;
-    begins = λ x b there. elim (added_cases t.begins bs e.end e.begin more x b there) [ inl was ↦ inl was | inr same ↦ inr (same.1, same.0) ];
-    found = λ b x same. (
-      subst (λ (a : NumberedEdge). Contains es a) (λ i. record { begin = sym same.0 i; end = sym same.1 i }) (inserted_there added t.edges es e is),
-      subst (λ (y : ℕ). Contains bs (entry y b)) (sym same.1) (subst (λ (a : ℕ). Contains bs (entry e.end a)) (sym same.0) (added_there t.begins bs e.end e.begin more)),
-    );
-    count =
-        let longer : length bs ≡ length t.begins + 1 = ap (λ (xs : List Entry). length xs) more ∙ length-append t.begins (entry e.end e.begin ∷ []) in
-        let one : length es ≡ length t.edges + 1 = ap (λ (xs : List NumberedEdge). length xs) (added_is added t.edges es e yes is) ∙ length-append t.edges (e ∷ []) in
-        omega (arith, longer, one);
+    found = λ was.
+        more ∙ ap (λ (xs : List Entry). xs ++ entry e.end e.begin ∷ []) was ∙ sym (map-append found_by t.edges (e ∷ [])) ∙ sym (ap (λ (xs : List NumberedEdge). map found_by xs) (added_is added t.edges es e yes is));
+    reasoned = λ was.
+        let longer = one_longer t.reasons rs because reasoned in
+        let one = one_longer t.edges es e (added_is added t.edges es e yes is) in
+        omega (arith, was, longer, one);
     leads = λ x y there. inl there;
+    led = λ same x y exit there. inl (record { place = there.place; at = there.at; by = there.by });
+    noted = λ was. was;
     callers = λ b c there. inl there;
-    exits = λ b z there. inl there;
+    exits = λ b k there. inl there;
     visits = λ x there. inl there;
   }

@@ -5,11 +5,11 @@ ghost use Rattle.program_model.specs.Numbers.{IsMethodNumber};
 
 use crate::edges::facts::Words;
 use crate::edges::stages::{Asked, tell_site};
+use crate::ends::tell_end;
 use crate::entries::{Entry, entry_of, read_entry};
-use crate::names::Names;
-use crate::programs::{Linked, read_case, tell_end, tell_failure};
 use crate::request::LIMIT;
 use anyhow::{Result, bail};
+use cases_files::{Linked, Names, read_case, tell_failure};
 use ground::Ground;
 use jvm_model::{Automaton, MethodNo};
 use property_file::read_property;

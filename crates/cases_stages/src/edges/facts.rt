@@ -1,7 +1,7 @@
 //! Facts as texts.
 
-use crate::names::Names;
 use access_paths::{Fields, Path, PathSet, Root};
+use cases_files::Names;
 use jvm_model::{Automaton, FieldNo};
 use stage_facts::{PlainFact, PlainTuple};
 use std::alloc::AllocError;

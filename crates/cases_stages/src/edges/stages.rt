@@ -7,10 +7,8 @@ use crate::edges::facts::Words;
 use crate::edges::listing::tell_edges;
 use crate::edges::tabulated::{compare_edges, compare_limit, views_of};
 use crate::edges::verdict::{Found, found_in, with_stage};
-use crate::members::shown;
-use crate::names::Names;
-use crate::sites::write_site;
 use anyhow::{Result, bail};
+use cases_files::{Names, shown, write_site};
 use edge_closure::path_edges;
 use failure::Failure;
 use ground::Ground;
@@ -113,7 +111,7 @@ fn is_of(names: &Names, numbered: &Site, site: &TrackedSite) -> bool {
     numbered.kind == site.kind
         && numbered.method == site.method
         && numbered.offset == site.offset
-        && shown(Some(numbered.class.as_slice())) == names.class(site.class)
+        && shown(numbered.class.as_slice()) == names.class(site.class)
 }
 
 /// Prints the path edges at a stage, or that there are too many, and gives what they say. It stops where tabulation finds anything else.

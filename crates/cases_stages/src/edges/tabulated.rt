@@ -5,6 +5,8 @@ ghost use Rattle.program_model.specs.Numbers.{IsMethodNumber};
 ghost use Rattle.ground_views.specs.Views.{AreViewsOf};
 
 use anyhow::{Result, bail};
+use edge_derivations::derivation_of;
+use edge_numbers::Because;
 use failure::Failure;
 use ground::Ground;
 use ground_views::{EdgesFault, GroundViews, PathEdge, Question, is_among};
@@ -43,6 +45,12 @@ pub fn compare_edges(
         Some(found) => {
             if !are_same(&found, edges) {
                 bail!("tabulation finds other path edges");
+            }
+            if !are_behind(&found) {
+                bail!("an edge follows from one that does not stand before it");
+            }
+            if !is_derived(alloc, &found)? {
+                bail!("a derivation does not lead from the start to its edge");
             }
         }
         None => bail!("tabulation comes to its limit too early"),
@@ -95,6 +103,41 @@ fn tabulated(
         Err(Failure::Cause(EdgesFault::Limit)) => Ok(None),
         Err(Failure::Cause(EdgesFault::TooMany)) => bail!("there is too much to number"),
         Err(Failure::OutOfMemory) => Err(AllocError.into()),
+    }
+}
+
+/// Whether just the first edge follows from none, and each other one from edges that stand before it.
+fn are_behind(found: &Tabulation) -> bool {
+    for place in 0..found.len() {
+        let behind = match found.because(place) {
+            Because::Start => place == 0,
+            Because::One(edge) => (edge.0 as usize) < place,
+            Because::Two(caller, exit) => {
+                (caller.0 as usize) < place && (exit.0 as usize) < place
+            }
+        };
+        if !behind {
+            return false;
+        }
+    }
+    true
+}
+
+/// Whether the derivation of the last edge begins with the first one, and ends with that.
+fn is_derived(alloc: Global, found: &Tabulation) -> Result<bool, AllocError> {
+    let count = found.len();
+    if count == 0 {
+        return Ok(false);
+    }
+    let places = derivation_of(alloc, found, count - 1)?;
+    Ok(is_at(places.first(), 0) && is_at(places.last(), count - 1))
+}
+
+/// Whether there is a place, and it is this one.
+fn is_at(place: Option<&usize>, expected: usize) -> bool {
+    match place {
+        Some(place) => *place == expected,
+        None => false,
     }
 }
 

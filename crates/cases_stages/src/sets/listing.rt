@@ -3,10 +3,8 @@
 ghost use Rattle.std.specs.Prelude.{◌<◌, length, IfSome};
 
 use crate::lines::tell_lines;
-use crate::members::shown;
-use crate::names::Names;
-use crate::sites::write_site;
 use anyhow::Result;
+use cases_files::{Names, shown, write_site};
 use ground::Ground;
 use jvm_model::{MethodNo, SiteNo};
 use op_model::NodeRef;
@@ -249,7 +247,7 @@ fn site_text(
         return Ok(text);
     }
     let at = ground.site(site);
-    let class = shown(Some(at.class.as_slice()));
+    let class = shown(at.class.as_slice());
     write_site(&mut text, names, at.kind, at.method, at.offset, class)?;
     Ok(text)
 }

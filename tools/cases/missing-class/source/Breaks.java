@@ -1,3 +1,4 @@
+import java.io.Closeable;
 import java.io.FileReader;
 import java.io.IOException;
 import java.io.Reader;
@@ -24,5 +25,14 @@ public final class Breaks {
         } catch (IOException fault) {
             reader.read();
         }
+    }
+
+    /** The object is a Closeable: its method returns. */
+    public static void cast() throws IOException {
+        Reader reader = new FileReader("file");
+        reader.close();
+        Object thing = Device.thing();
+        ((Closeable) thing).close();
+        reader.read();
     }
 }

@@ -54,7 +54,7 @@ returns-clause-sound c =
     record {
       each = λ x w asked.
           sound_first q x w asked c.args.seen.now p (c.requires.seen.method p at) (c.requires.seen.spot p at) (fact_of premise.fact) refl (beside ∷ [])
-          c.in_ok-conclusions.conclusions.items [] c.in_ok-conclusions.ensures old new (contains_at old c.args.place p at)
+          c.after_exit.new.conclusions.items [] c.in_ok-after_exit.ensures old new (contains_at old c.args.place p at)
           (subst (Contains old) is_beside (contains_at old c.args.other (edge_of ended) stands), tt)
           (subst (λ (all : List Conclusion). Adds (λ (e : Edge). (d : Conclusion) × Contains all d × (e ≡ within p.method p.entry d)) old new) c.as_slice.ensures.value
           (c.take_conclusions.ensures.adds p at));
@@ -77,12 +77,12 @@ returns-clause-tried c =
       each = λ x w r s asked here there.
           let is_p : p ≡ r = same_Some p r (sym at ∙ here) in
           let is_s : beside ≡ s = sym is_beside ∙ same_Some (edge_of ended) s (sym stands ∙ there) in
-          let all : All (λ (d : Conclusion). Contains new (within p.method p.entry d)) c.in_ok-conclusions.conclusions.items =
+          let all : All (λ (d : Conclusion). Contains new (within p.method p.entry d)) c.after_exit.new.conclusions.items =
           subst (λ (xs : List Conclusion). All (λ (d : Conclusion). Contains new (within p.method p.entry d)) xs) c.as_slice.ensures.value held in
           subst (λ (e : Edge). IsTriedWith (GroundInstance q x w) e s new) is_p
           (subst (λ (e : Edge). IsTriedWith (GroundInstance q x w) p e new) is_s (record {
             each =
                 tried_all q x w asked c.args.seen.now p (c.requires.seen.method p at) (c.requires.seen.spot p at) (fact_of premise.fact) refl (beside ∷ [])
-                c.in_ok-conclusions.conclusions.items [] c.in_ok-conclusions.ensures new all (λ k d short. absurd (omega arith));
+                c.after_exit.new.conclusions.items [] c.in_ok-after_exit.ensures new all (λ k d short. absurd (omega arith));
           }));
     }) (c.take_conclusions.ensures.held p at)

@@ -31,8 +31,8 @@ returns-in_err-take_conclusions-clause-sound c =
     let at = read_at c.args.edges.now.items c.args.place premise c.requires.there c.index.ensures in
     record {
       each = λ x w asked.
-          sound_first q x w asked c.args.seen.now p (c.requires.seen.method p at) (c.requires.seen.spot p at) (fact_of premise.fact) refl [] c.in_ok-following.following.within.items
-          c.in_ok-following.following.entered.items c.in_ok-following.ensures old mid (contains_at old c.args.place p at) tt
+          sound_first q x w asked c.args.seen.now p (c.requires.seen.method p at) (c.requires.seen.spot p at) (fact_of premise.fact) refl [] c.after_node.new.following.within.items
+          c.after_node.new.following.entered.items c.in_ok-after_node.ensures old mid (contains_at old c.args.place p at) tt
           (subst (λ (all : List Conclusion). Adds (λ (e : Edge). (d : Conclusion) × Contains all d × (e ≡ within p.method p.entry d)) old mid) c.as_slice.ensures.value
           (c.take_conclusions.ensures.adds p at));
     }
@@ -54,12 +54,12 @@ returns-in_err-take_begun-clause-sound c =
     record {
       each = λ x w asked.
           sound_more (GroundInstance q x w) old mid far
-          (sound_first q x w asked c.args.seen.now p (c.requires.seen.method p at) (c.requires.seen.spot p at) (fact_of premise.fact) refl [] c.in_ok-following.following.within.items
-          c.in_ok-following.following.entered.items c.in_ok-following.ensures old mid (contains_at old c.args.place p at) tt
+          (sound_first q x w asked c.args.seen.now p (c.requires.seen.method p at) (c.requires.seen.spot p at) (fact_of premise.fact) refl [] c.after_node.new.following.within.items
+          c.after_node.new.following.entered.items c.in_ok-after_node.ensures old mid (contains_at old c.args.place p at) tt
           (subst (λ (all : List Conclusion). Adds (λ (e : Edge). (d : Conclusion) × Contains all d × (e ≡ within p.method p.entry d)) old mid) c.as_slice.ensures.value
           (c.take_conclusions.ensures.adds p at)))
-          (sound_second q x w asked c.args.seen.now p (c.requires.seen.method p at) (c.requires.seen.spot p at) (fact_of premise.fact) refl [] c.in_ok-following.following.within.items
-          c.in_ok-following.following.entered.items c.in_ok-following.ensures old mid far (contains_at old c.args.place p at) tt c.take_conclusions.ensures.grows
+          (sound_second q x w asked c.args.seen.now p (c.requires.seen.method p at) (c.requires.seen.spot p at) (fact_of premise.fact) refl [] c.after_node.new.following.within.items
+          c.after_node.new.following.entered.items c.in_ok-after_node.ensures old mid far (contains_at old c.args.place p at) tt c.take_conclusions.ensures.grows
           (subst (λ (all : List EnteredWith). Adds (λ (e : Edge). (b : EnteredWith) × Contains all b × (e ≡ begun b)) mid far) c.as_slice-2.ensures.value c.take_begun.ensures.adds));
     }
 
@@ -97,12 +97,12 @@ returns-clause-sound c =
       each = λ x w asked.
           sound_more (GroundInstance q x w) old far new
           (sound_more (GroundInstance q x w) old mid far
-          (sound_first q x w asked c.args.seen.now p (c.requires.seen.method p at) (c.requires.seen.spot p at) (fact_of premise.fact) refl [] c.in_ok-following.following.within.items
-          c.in_ok-following.following.entered.items c.in_ok-following.ensures old mid (contains_at old c.args.place p at) tt
+          (sound_first q x w asked c.args.seen.now p (c.requires.seen.method p at) (c.requires.seen.spot p at) (fact_of premise.fact) refl [] c.after_node.new.following.within.items
+          c.after_node.new.following.entered.items c.in_ok-after_node.ensures old mid (contains_at old c.args.place p at) tt
           (subst (λ (all : List Conclusion). Adds (λ (e : Edge). (d : Conclusion) × Contains all d × (e ≡ within p.method p.entry d)) old mid) c.as_slice.ensures.value
           (c.take_conclusions.ensures.adds p at)))
-          (sound_second q x w asked c.args.seen.now p (c.requires.seen.method p at) (c.requires.seen.spot p at) (fact_of premise.fact) refl [] c.in_ok-following.following.within.items
-          c.in_ok-following.following.entered.items c.in_ok-following.ensures old mid far (contains_at old c.args.place p at) tt c.take_conclusions.ensures.grows
+          (sound_second q x w asked c.args.seen.now p (c.requires.seen.method p at) (c.requires.seen.spot p at) (fact_of premise.fact) refl [] c.after_node.new.following.within.items
+          c.after_node.new.following.entered.items c.in_ok-after_node.ensures old mid far (contains_at old c.args.place p at) tt c.take_conclusions.ensures.grows
           (subst (λ (all : List EnteredWith). Adds (λ (e : Edge). (b : EnteredWith) × Contains all b × (e ≡ begun b)) mid far) c.as_slice-2.ensures.value c.take_begun.ensures.adds)))
           (c.try_exits.ensures.sound.each x w asked);
     }
@@ -118,8 +118,8 @@ returns-clause-tried c =
     let premise = c.index.result.now in
     let p : Edge = edge_of premise in
     let at = read_at c.args.edges.now.items c.args.place premise c.requires.there c.index.ensures in
-    let conclusions = c.in_ok-following.following.within.items in
-    let entered = c.in_ok-following.following.entered.items in
+    let conclusions = c.after_node.new.following.within.items in
+    let entered = c.after_node.new.following.entered.items in
     let held : All (λ (d : Conclusion). Contains mid (within p.method p.entry d)) conclusions =
     subst (λ (xs : List Conclusion). All (λ (d : Conclusion). Contains mid (within p.method p.entry d)) xs) c.as_slice.ensures.value (c.in_ok-take_conclusions.ensures.held p at) in
     let began : All (λ (b : EnteredWith). Contains far (begun b)) entered =
@@ -133,7 +133,7 @@ returns-clause-tried c =
             alone = λ to i.
                 still_there far new to c.try_exits.ensures.grows
                 (tried_all q x w asked c.args.seen.now p (c.requires.seen.method p at) (c.requires.seen.spot p at) (fact_of premise.fact) refl [] conclusions entered
-                c.in_ok-following.ensures far still began to i);
+                c.in_ok-after_node.ensures far still began to i);
             beside = λ s there. tried.each x w p s asked (still_at old far c.args.place p grows at) (still_there old far s grows there);
           });
     }) c.try_exits.ensures.tried

@@ -5,4 +5,4 @@ use Rattle.stage_edges.specs.Rules.{Edge}
 use Rattle.stage_verdicts.proofs.finding.found_among.Given as goal
 
 abbrev pub invariant-loop-place : goal.invariant-loop-place
-invariant-loop-place l = record { none : (k : ℕ) (e : Edge) → k < l.place → slice_get l.edges k ≡ Some e → IsError l.automaton e.fact → ⊥ }
+invariant-loop-place l = record { none : (k : ℕ) (e : Edge) → k < l.place → slice_get l.edges.edges k ≡ Some e → IsError l.automaton e.fact → ⊥ }

@@ -9,5 +9,5 @@ use Rattle.tabulation.proofs.beginning.begin_all.Given as goal
 abbrev pub invariant-loop-one : goal.invariant-loop-one
 invariant-loop-one l = record {
   step : IsStep l.work.question.now (lists_of l.initial.tables) (lists_of l.tables);
-  begun : All (λ (b : EnteredWith). IsBegun (lists_of l.tables) l.caller (begun b)) (take l.one-index l.entered);
+  begun : All (λ (b : EnteredWith). IsBegun (lists_of l.tables) l.caller.end (begun b)) (take l.one-index l.entered);
 }

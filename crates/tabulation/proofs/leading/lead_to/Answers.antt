@@ -1,13 +1,12 @@
-use Rattle.std.proofs.Common.{ℕ, List, length, sym, ap, subst, arith}
+use Rattle.std.proofs.Common.{ℕ, sym, subst, arith}
 use Rattle.std.proofs.lemmas.Option.{slice_get_within}
-use Rattle.list_laws.proofs.Places.{contains_at}
 use Rattle.chained_lists.specs.Entries.{entry}
-use Rattle.chained_lists.proofs.Walks.{walk_begins, walk_ends, walk_goes}
-use Rattle.edge_numbers.specs.declared.numbered.NumberedEdge.{NumberedEdge}
+use Rattle.chained_lists.proofs.Walks.{contained_still, walk_begins, walk_ends, walk_goes}
 use Rattle.tabulation_tables.specs.Lists.{HasEdge, lists_of}
-use Rattle.tabulation_tables.proofs.Still.{begins_still, edge_still}
+use Rattle.tabulation_tables.proofs.Still.{edge_still}
+use Rattle.tabulation_tables.proofs.Edges.{found_at, found_count, found_there}
 use Rattle.tabulation.specs.Kept.{MayTake}
-use Rattle.tabulation.proofs.Steps.{lead_step, may_lead_still, notes_more, notes_none, stay_more, step_more, step_none, take_by_lead}
+use Rattle.tabulation.proofs.Steps.{lead_step, may_lead_still, notes_more, notes_none, same_edges, stay_more, step_more, step_none, take_by_lead}
 use Rattle.tabulation.proofs.leading.lead_to.Goals as goal
 
 pub loop-place-init : goal.loop-place-init
@@ -35,9 +34,11 @@ take_edge-requires-clause-may c =
     let before = c.loop-place.invariant in
     let there = c.in-Some.ensures.there in
     let right = before.step.kept.right in
-    let edge = right.shape.begun c.args.from there.value (contains_at old.begins c.in-Some.place.0 (entry c.args.from there.value) there.at) in
-    subst (λ (b : ℕ). MayTake q old b c.args.to) (sym (c.value-begin.ensures c.args.from there.value there.at))
-    (take_by_lead q old there.value c.args.from c.args.to right edge (may_lead_still q first old before.step.grows c.requires.kept.right.shape c.args.from c.args.to c.requires.may))
+    let edge = found_at old right.shape c.in-Some.place.0 c.args.from there.value there.at in
+    let because = c.because_of-because.result in
+    subst (λ (b : ℕ). MayTake q old b c.args.to because) (sym (c.value-begin.ensures c.args.from there.value there.at))
+    (take_by_lead q old c.in-Some.place.0 there.value c.args.from c.args.to c.args.exit because c.because_of-because.ensures right edge
+    (may_lead_still q first old before.step.grows c.requires.kept.right.shape c.args.from c.args.to c.args.exit c.requires.may))
 
 pub loop-place-preserved : goal.loop-place-preserved
 loop-place-preserved c =
@@ -61,7 +62,7 @@ loop-place-smaller c =
     let kept = c.loop-place.invariant.step.kept in
     let there = c.in-Some.ensures.there in
     let within = slice_get_within (lists_of c.loop-place.tables).begins c.in-Some.place.0 (entry c.args.from there.value) there.at in
-    let count = kept.right.shape.count in
+    let count = found_count (lists_of c.loop-place.tables) kept.right.shape in
     let roomy = kept.roomy in
     let from = c.in-Some.ensures.from in
     omega (arith, within, count, roomy, from)
@@ -74,10 +75,10 @@ returns-clause-step c =
     let new = lists_of c.lead.new.self in
     let before = c.loop-place.invariant in
     let noted = c.in_ok-lead.ensures in
-    lead_step q first old new c.args.from c.args.to noted.grows noted.adds c.requires.kept.right.shape (ap (λ (es : List NumberedEdge). length es) c.lead.ensures.edges) before.step c.requires.may (λ b there.
+    lead_step q first old new c.args.from c.args.to c.args.exit noted.grows noted.adds c.requires.kept.right.shape (same_edges old new c.lead.ensures.edges c.lead.ensures.reasons) before.step c.requires.may (λ b there.
     edge_still old new noted.grows b c.args.to
     (walk_ends (λ (n : ℕ). HasEdge old n c.args.to) old.begins c.args.from c.loop-place.last before.walked c.in_default.ensures b
-    (begins_still first old before.step.grows c.args.from b (c.requires.kept.right.shape.begins b c.args.from there))))
+    (contained_still first.begins old.begins before.step.grows.begins c.args.from b (found_there first c.requires.kept.right.shape b c.args.from there))))
 
 pub returns-clause-stay : goal.returns-clause-stay
 returns-clause-stay c =

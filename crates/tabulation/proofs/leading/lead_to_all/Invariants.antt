@@ -9,5 +9,5 @@ abbrev pub invariant-loop-conclusion : goal.invariant-loop-conclusion
 invariant-loop-conclusion l = record {
   step : IsStep l.work.question.now (lists_of l.initial.tables) (lists_of l.tables);
   stay : CallsStay (lists_of l.initial.tables) (lists_of l.tables);
-  lead : All (LeadsToConclusion (lists_of l.tables) l.from l.method) (take l.conclusion-index l.conclusions);
+  lead : All (LeadsToConclusion (lists_of l.tables) l.premise.end l.premise.method) (take l.conclusion-index l.conclusions);
 }

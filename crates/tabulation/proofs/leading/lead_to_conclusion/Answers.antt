@@ -1,21 +1,26 @@
-use Rattle.std.proofs.Common.{length, ap}
 use Rattle.std.proofs.lemmas.Result.{on_ok_weaker}
-use Rattle.edge_numbers.specs.declared.numbered.NumberedEdge.{NumberedEdge}
-use Rattle.std.proofs.Common.{List}
 use Rattle.tabulation_tables.specs.Lists.{lists_of}
 use Rattle.tabulation.proofs.Led.{may_lead_there}
-use Rattle.tabulation.proofs.Steps.{numbered_step, on_ok_both, stay_more, step_more}
+use Rattle.tabulation.proofs.Steps.{numbered_step, on_ok_both, same_edges, stay_more, step_more}
 use Rattle.tabulation.proofs.leading.lead_to_conclusion.Goals as goal
 
 pub lead_to-requires-clause-kept : goal.lead_to-requires-clause-kept
 lead_to-requires-clause-kept c =
     (numbered_step c.args.work.question.now (lists_of c.args.tables.now) (lists_of c.number.new.self) c.number.ensures.grows c.number.ensures.adds
-    (ap (λ (es : List NumberedEdge). length es) c.number.ensures.edges) c.requires.kept).kept
+    (same_edges (lists_of c.args.tables.now) (lists_of c.number.new.self) c.number.ensures.edges c.number.ensures.reasons) c.requires.kept).kept
 
 pub lead_to-requires-clause-may : goal.lead_to-requires-clause-may
 lead_to-requires-clause-may c =
-    may_lead_there c.args.work.question.now (lists_of c.args.tables.now) (lists_of c.number.new.self) c.number.ensures.grows c.requires.kept.right.shape c.args.from c.args.method c.args.conclusion.now c.requires.of_method
+    may_lead_there c.args.work.question.now (lists_of c.args.tables.now) (lists_of c.number.new.self) c.number.ensures.grows c.requires.kept.right.shape c.args.premise c.args.conclusion.now c.requires.of_method
     c.requires.concludes c.in_ok-to.to c.in_ok-to.ensures.number
+
+pub returns-then-is_noted-clause-step : goal.returns-then-is_noted-clause-step
+returns-then-is_noted-clause-step c =
+    numbered_step c.args.work.question.now (lists_of c.args.tables.now) (lists_of c.number.new.self) c.number.ensures.grows c.number.ensures.adds
+    (same_edges (lists_of c.args.tables.now) (lists_of c.number.new.self) c.number.ensures.edges c.number.ensures.reasons) c.requires.kept
+
+pub returns-then-is_noted-clause-leads : goal.returns-then-is_noted-clause-leads
+returns-then-is_noted-clause-leads c = record { number = c.in_ok-to.to; at = c.in_ok-to.ensures.number; leads = c.is_noted.ensures c.if-is_noted.true }
 
 pub returns-clause-step : goal.returns-clause-step
 returns-clause-step c =
@@ -24,7 +29,7 @@ returns-clause-step c =
     let mid = lists_of c.number.new.self in
     on_ok_weaker c.lead_to.result (λ step.
     step_more q first mid (lists_of c.lead_to.new.tables)
-    (numbered_step q first mid c.number.ensures.grows c.number.ensures.adds (ap (λ (es : List NumberedEdge). length es) c.number.ensures.edges) c.requires.kept) step) c.lead_to.ensures.step
+    (numbered_step q first mid c.number.ensures.grows c.number.ensures.adds (same_edges (lists_of c.args.tables.now) (lists_of c.number.new.self) c.number.ensures.edges c.number.ensures.reasons) c.requires.kept) step) c.lead_to.ensures.step
 
 pub returns-clause-stay : goal.returns-clause-stay
 returns-clause-stay c =

@@ -4,7 +4,7 @@ use Rattle.list_laws.proofs.Places.{contains_at}
 use Rattle.chained_lists.specs.Entries.{Entry, entry}
 use Rattle.chained_lists.proofs.Walks.{walk_begins, walk_ends, walk_goes}
 use Rattle.tabulation_tables.specs.Lists.{IsNumber, lists_of}
-use Rattle.tabulation_tables.proofs.Still.{edge_still}
+use Rattle.tabulation_tables.proofs.Still.{begun_by_still}
 use Rattle.tabulation.specs.Kept.{HasMetAll}
 use Rattle.tabulation.proofs.Steps.{met_all_still, stay_more, stay_none, step_more, step_none}
 use Rattle.tabulation.proofs.meeting.meet_callers.Goals as goal
@@ -16,7 +16,7 @@ loop-place-init c =
     record {
       step = step_none q first c.requires.kept;
       stay = stay_none first;
-      walked = walk_begins (λ (n : ℕ). HasMetAll q first c.args.begin n c.args.exit) first.callers c.args.begin;
+      walked = walk_begins (λ (n : ℕ). HasMetAll q first c.args.begin n c.args.exit.0) first.callers c.args.begin;
     }
 
 pub value-caller-requires : goal.value-caller-requires
@@ -36,7 +36,7 @@ meet-requires-clause-caller c =
 
 pub meet-requires-clause-exit : goal.meet-requires-clause-exit
 meet-requires-clause-exit c =
-    edge_still (lists_of c.args.tables.now) (lists_of c.loop-place.tables) c.loop-place.invariant.step.grows c.args.begin c.args.exit c.requires.exit
+    begun_by_still (lists_of c.args.tables.now) (lists_of c.loop-place.tables) c.loop-place.invariant.step.grows c.args.begin c.args.exit.0 c.requires.exit
 
 pub loop-place-preserved : goal.loop-place-preserved
 loop-place-preserved c =
@@ -50,9 +50,9 @@ loop-place-preserved c =
       step = step_more q first old new before.step done.step;
       stay = stay_more first old new before.stay done.stay;
       walked =
-          walk_goes (λ (n : ℕ). HasMetAll q old c.args.begin n c.args.exit) (λ (n : ℕ). HasMetAll q new c.args.begin n c.args.exit) old.callers new.callers done.step.grows.callers
-          (λ n was. met_all_still q old new done.step.grows c.args.begin n c.args.exit was) c.args.begin c.loop-place.last before.walked c.in-Some.place c.in-Some.ensures
-          (λ m at. subst (λ (n : ℕ). HasMetAll q new c.args.begin n c.args.exit) (c.value-caller.ensures c.args.begin m at) done.met);
+          walk_goes (λ (n : ℕ). HasMetAll q old c.args.begin n c.args.exit.0) (λ (n : ℕ). HasMetAll q new c.args.begin n c.args.exit.0) old.callers new.callers done.step.grows.callers
+          (λ n was. met_all_still q old new done.step.grows c.args.begin n c.args.exit.0 was) c.args.begin c.loop-place.last before.walked c.in-Some.place c.in-Some.ensures
+          (λ m at. subst (λ (n : ℕ). HasMetAll q new c.args.begin n c.args.exit.0) (c.value-caller.ensures c.args.begin m at) done.met);
     }
 
 pub loop-place-smaller : goal.loop-place-smaller
@@ -66,4 +66,4 @@ loop-place-smaller c =
 pub returns-clause-met : goal.returns-clause-met
 returns-clause-met c =
     let new = lists_of c.loop-place.tables in
-    walk_ends (λ (n : ℕ). HasMetAll c.args.work.question.now new c.args.begin n c.args.exit) new.callers c.args.begin c.loop-place.last c.loop-place.invariant.walked c.in_default.ensures
+    walk_ends (λ (n : ℕ). HasMetAll c.args.work.question.now new c.args.begin n c.args.exit.0) new.callers c.args.begin c.loop-place.last c.loop-place.invariant.walked c.in_default.ensures

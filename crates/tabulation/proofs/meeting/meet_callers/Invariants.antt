@@ -9,7 +9,7 @@ abbrev pub invariant-loop-place : goal.invariant-loop-place
 invariant-loop-place l = record {
   step : IsStep l.work.question.now (lists_of l.initial.tables) (lists_of l.tables);
   stay : CallsStay (lists_of l.initial.tables) (lists_of l.tables);
-  walked : IsWalked (λ (n : ℕ). HasMetAll l.work.question.now (lists_of l.tables) l.begin n l.exit) l.tables.callers l.begin l.last;
+  walked : IsWalked (λ (n : ℕ). HasMetAll l.work.question.now (lists_of l.tables) l.begin n l.exit.0) l.tables.callers l.begin l.last;
 }
 
 abbrev pub decreases-loop-place : goal.decreases-loop-place

@@ -3,7 +3,7 @@ use Rattle.std.proofs.lemmas.Option.{slice_get_within}
 use Rattle.list_laws.proofs.Places.{contains_at}
 use Rattle.chained_lists.specs.Entries.{Entry, entry}
 use Rattle.chained_lists.proofs.Walks.{walk_begins, walk_ends, walk_goes}
-use Rattle.tabulation_tables.specs.Lists.{HasEdge, lists_of}
+use Rattle.tabulation_tables.specs.Lists.{IsBegunBy, lists_of}
 use Rattle.tabulation_tables.proofs.Still.{number_still}
 use Rattle.tabulation.specs.Kept.{HasMetAll}
 use Rattle.tabulation.proofs.Steps.{met_all_still, stay_more, stay_none, step_more, step_none}
@@ -19,8 +19,8 @@ loop-place-init c =
       walked = walk_begins (λ (n : ℕ). HasMetAll q first c.args.begin c.args.caller n) first.exits c.args.begin;
     }
 
-pub value-exit-requires : goal.value-exit-requires
-value-exit-requires c =
+pub value-requires : goal.value-requires
+value-requires c =
     let there = c.in-Some.ensures.there in
     slice_get_within (lists_of c.loop-place.tables).exits c.in-Some.place.0 (entry c.args.begin there.value) there.at
 
@@ -35,7 +35,7 @@ pub meet-requires-clause-exit : goal.meet-requires-clause-exit
 meet-requires-clause-exit c =
     let old = lists_of c.loop-place.tables in
     let there = c.in-Some.ensures.there in
-    subst (λ (z : ℕ). HasEdge old c.args.begin z) (sym (c.value-exit.ensures c.args.begin there.value there.at))
+    subst (λ (k : ℕ). IsBegunBy old c.args.begin k) (sym (c.value.ensures c.args.begin there.value there.at))
     (c.loop-place.invariant.step.kept.right.shape.exits c.args.begin there.value (contains_at old.exits c.in-Some.place.0 (entry c.args.begin there.value) there.at))
 
 pub loop-place-preserved : goal.loop-place-preserved
@@ -52,7 +52,7 @@ loop-place-preserved c =
       walked =
           walk_goes (λ (n : ℕ). HasMetAll q old c.args.begin c.args.caller n) (λ (n : ℕ). HasMetAll q new c.args.begin c.args.caller n) old.exits new.exits done.step.grows.exits
           (λ n was. met_all_still q old new done.step.grows c.args.begin c.args.caller n was) c.args.begin c.loop-place.last before.walked c.in-Some.place c.in-Some.ensures
-          (λ m at. subst (λ (n : ℕ). HasMetAll q new c.args.begin c.args.caller n) (c.value-exit.ensures c.args.begin m at) done.met);
+          (λ m at. subst (λ (n : ℕ). HasMetAll q new c.args.begin c.args.caller n) (c.value.ensures c.args.begin m at) done.met);
     }
 
 pub loop-place-smaller : goal.loop-place-smaller

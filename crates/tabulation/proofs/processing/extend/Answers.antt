@@ -1,9 +1,8 @@
 use Rattle.std.proofs.Common.{ℕ, List, length, sym, ap, subst, arith}
 use Rattle.std.proofs.lemmas.Option.{slice_get_within}
-use Rattle.list_laws.proofs.Places.{contains_at}
 use Rattle.chained_lists.specs.Entries.{Entry, entry}
 use Rattle.chained_lists.proofs.Walks.{walk_begins, walk_ends, walk_goes}
-use Rattle.tabulation_tables.specs.Lists.{HasEdge, lists_of}
+use Rattle.tabulation_tables.specs.Lists.{HasEdge, lists_of, numbered}
 use Rattle.tabulation_tables.proofs.Still.{edge_still}
 use Rattle.tabulation.specs.Kept.{MayTake}
 use Rattle.tabulation.proofs.Steps.{lead_may, notes_more, notes_none, step_more, step_none, take_by_lead}
@@ -23,6 +22,14 @@ value-end-requires c =
     let there = c.in-Some.ensures.there in
     slice_get_within (lists_of c.loop-place.tables).leads c.in-Some.place.0 (entry c.args.edge.end there.value) there.at
 
+pub exit_at-exit-requires : goal.exit_at-exit-requires
+exit_at-exit-requires c =
+    let there = c.in-Some.ensures.there in
+    let old = lists_of c.loop-place.tables in
+    let within = slice_get_within old.leads c.in-Some.place.0 (entry c.args.edge.end there.value) there.at in
+    let noted = c.loop-place.invariant.step.kept.right.shape.noted in
+    omega (arith, within, noted)
+
 pub take_edge-requires-clause-kept : goal.take_edge-requires-clause-kept
 take_edge-requires-clause-kept c = c.loop-place.invariant.step.kept
 
@@ -36,9 +43,11 @@ take_edge-requires-clause-may c =
     let b = c.args.edge.begin in
     let x = c.args.edge.end in
     let there = c.in-Some.ensures.there in
-    let leads = contains_at old.leads c.in-Some.place.0 (entry x there.value) there.at in
-    subst (MayTake q old b) (sym (c.value-end.ensures x there.value there.at))
-    (take_by_lead q old b x there.value right (edge_still first old before.step.grows b x c.requires.there) (lead_may q old x there.value right leads))
+    let exit = c.exit_at-exit.result in
+    let because = c.because_of-because.result in
+    subst (λ (y : ℕ). MayTake q old b y because) (sym (c.value-end.ensures x there.value there.at))
+    (take_by_lead q old c.args.number.0 b x there.value exit because c.because_of-because.ensures right (before.step.grows.edges c.args.number.0 (numbered b x) c.requires.there)
+    (lead_may q old x there.value exit right (record { place = c.in-Some.place.0; at = there.at; by = c.exit_at-exit.ensures })))
 
 pub loop-place-preserved : goal.loop-place-preserved
 loop-place-preserved c =

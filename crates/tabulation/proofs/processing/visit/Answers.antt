@@ -1,7 +1,5 @@
-use Rattle.std.proofs.Common.{List, length, ap}
-use Rattle.edge_numbers.specs.declared.numbered.NumberedEdge.{NumberedEdge}
 use Rattle.tabulation_tables.specs.Lists.{lists_of}
-use Rattle.tabulation.proofs.Steps.{followed_all_still, step_more, visit_step}
+use Rattle.tabulation.proofs.Steps.{followed_all_still, same_edges, step_more, visit_step}
 use Rattle.tabulation.proofs.processing.visit.Goals as goal
 
 pub returns-clause-step : goal.returns-clause-step
@@ -13,5 +11,5 @@ returns-clause-step c =
     let followed = c.in_ok-follow.ensures in
     let noted = c.in_ok-visit.ensures in
     step_more q first one two followed.step
-    (visit_step q one two noted.grows (ap (λ (es : List NumberedEdge). length es) c.visit.ensures.edges) followed.step.kept c.args.end noted.adds
-    (followed_all_still q one two noted.grows c.args.end followed.followed))
+    (visit_step q one two noted.grows (same_edges one two c.visit.ensures.edges c.visit.ensures.reasons) followed.step.kept c.args.caller.end noted.adds
+    (followed_all_still q one two noted.grows c.args.caller.end followed.followed))

@@ -11,8 +11,9 @@ returns-then-len-work-clause-end c =
     let new = lists_of c.insert.new.self in
     let count = c.in_ok-insert.ensures.count in
     limit_reached q new
-    (taken_right q old new c.in_ok-insert.ensures.grows c.args.edge.begin c.args.edge.end c.in_ok-insert.field-0 c.in_ok-insert.ensures.adds c.in_ok-insert.ensures.inserted c.requires.may c.requires.kept.right)
-    c.well_formed-2.ensures.apart c.apart.ensures
+    (taken_right q old new c.in_ok-insert.ensures.grows c.args.edge.begin c.args.edge.end c.in_ok-insert.field-0 c.in_ok-insert.ensures.adds c.args.because
+    c.in_ok-insert.ensures.inserted c.in_ok-insert.ensures.reasons c.requires.may c.requires.kept.right)
+    c.well_formed-2.ensures.apart c.well_formed-3.ensures.apart
     (added_to_limit c.in_ok-insert.field-0 old new q.limit count c.requires.kept.roomy
     (let long = c.if-len-work.true in let len = c.len.ensures in omega (arith, long, len)))
 
@@ -25,7 +26,8 @@ returns-clause-step c =
     let adds = c.in_ok-insert.ensures.adds in
     record {
       kept = record {
-        right = taken_right q old new grows c.args.edge.begin c.args.edge.end c.in_ok-insert.field-0 adds c.in_ok-insert.ensures.inserted c.requires.may c.requires.kept.right;
+        right = taken_right q old new grows c.args.edge.begin c.args.edge.end c.in_ok-insert.field-0 adds c.args.because c.in_ok-insert.ensures.inserted c.in_ok-insert.ensures.reasons c.requires.may
+            c.requires.kept.right;
         roomy = let short = c.if-len-work.false in let len = c.len.ensures in omega (arith, short, len);
       };
       grows = grows;

@@ -1,16 +1,14 @@
-use Rattle.std.proofs.Common.{List, length, ap}
 use Rattle.std.proofs.lemmas.Result.{on_ok_weaker}
-use Rattle.edge_numbers.specs.declared.numbered.NumberedEdge.{NumberedEdge}
 use Rattle.tabulation_tables.specs.Lists.{lists_of}
 use Rattle.tabulation.proofs.Started.{empty_kept, may_take_start}
-use Rattle.tabulation.proofs.Steps.{numbered_step, on_ok_both}
+use Rattle.tabulation.proofs.Steps.{numbered_step, on_ok_both, same_edges}
 use Rattle.tabulation.proofs.work_list.start.Goals as goal
 
 pub take_edge-requires-clause-kept : goal.take_edge-requires-clause-kept
 take_edge-requires-clause-kept c =
     let q = c.args.work.question.now in
     let old = lists_of c.args.tables.now in
-    (numbered_step q old (lists_of c.number.new.self) c.number.ensures.grows c.number.ensures.adds (ap (λ (es : List NumberedEdge). length es) c.number.ensures.edges)
+    (numbered_step q old (lists_of c.number.new.self) c.number.ensures.grows c.number.ensures.adds (same_edges old (lists_of c.number.new.self) c.number.ensures.edges c.number.ensures.reasons)
     (empty_kept q old c.requires.limit c.requires.empty)).kept
 
 pub take_edge-requires-clause-may : goal.take_edge-requires-clause-may

@@ -20,8 +20,8 @@ returns-clause-edges c = λ x w asked.
         closed = closed x (gives_listed g.methods) (Contains g.facts) (transfer_of w) t right.shape c.well_formed-2.ensures.apart sound done.start done.processed;
         derivable = all_derivable (GroundInstance q x w) t sound;
       };
-      apart = edges_apart t right.shape c.well_formed-2.ensures.apart c.apart.ensures;
+      apart = edges_apart t right.shape c.well_formed-2.ensures.apart c.well_formed-3.ensures.apart;
     }
 
-pub returns-clause-order : goal.returns-clause-order
-returns-clause-order c = λ x w asked. (c.in_ok-process_all.ensures.finished.kept.right.sound x w asked).order
+pub returns-clause-reasons : goal.returns-clause-reasons
+returns-clause-reasons c = λ x w asked. (c.in_ok-process_all.ensures.finished.kept.right.sound x w asked).reasons
