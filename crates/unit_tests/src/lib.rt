@@ -20,4 +20,6 @@ mod outside;
 #[cfg(test)]
 mod readers;
 #[cfg(test)]
+mod seen;
+#[cfg(test)]
 mod words;

@@ -1,5 +1,8 @@
 //! Trees and sinks in memory, the real folder, and standard output.
 
+ghost use Rattle.std.specs.Prelude.{◌<◌, length};
+
+use crate::seen::see;
 use failure::Failure;
 use std::alloc::{AllocError, Global};
 use std::process::Abort;
@@ -11,12 +14,17 @@ use ts_outside::{
     TreeFailure, TreeFault, names_differ,
 };
 
-/// Four files, of which three are class files; each holds its own name.
+/// A file of this name, which holds its own name.
+fn file(alloc: Global, name: &str) -> Result<(String, Vec<u8>), AllocError> {
+    let bytes = Vec::from_slice(alloc, name.as_bytes())?;
+    Ok((String::from_str(alloc, name)?, bytes))
+}
+
+/// Four files, of which three are class files.
 fn four_files(alloc: Global) -> Result<Vec<(String, Vec<u8>)>, AllocError> {
     let mut files = Vec::new(alloc);
     for name in ["b.class", "a.class", "a/c.class", "x.txt"] {
-        let bytes = Vec::from_slice(alloc, name.as_bytes())?;
-        files.push((String::from_str(alloc, name)?, bytes))?;
+        files.push(file(alloc, name)?)?;
     }
     Ok(files)
 }
@@ -39,15 +47,14 @@ fn see_listing<T: Tree>(
     want: &str,
 ) -> Result<(), TreeFailure> {
     let names = tree.list(alloc)?;
-    let line = line_of(alloc, &names)?;
-    assert_eq!(rt; line.as_str(), want);
+    see(rt, line_of(alloc, &names)?.as_str(), want);
     Ok(())
 }
 
 /// Sees that a tree cannot be listed.
 fn see_no_listing<T: Tree>(rt: &impl Abort, alloc: Global, tree: &mut T) {
     let fault = tree.list(alloc).err();
-    assert_eq!(rt; fault, Some(Failure::Cause(TreeFault::Failed)));
+    see(rt, fault, Some(Failure::Cause(TreeFault::Failed)));
 }
 
 /// Sees what the first bytes of a file are, at most so many.
@@ -59,14 +66,14 @@ fn see_bytes<T: Tree>(
     want: &str,
 ) -> Result<(), TreeFailure> {
     let bytes = tree.read(alloc, name, limit)?;
-    assert_eq!(rt; bytes.as_slice(), want.as_bytes());
+    see(rt, bytes.as_slice(), want.as_bytes());
     Ok(())
 }
 
 /// Sees why a file cannot be read.
 fn see_fault<T: Tree>(rt: &impl Abort, alloc: Global, tree: &mut T, name: &str, want: TreeFault) {
     let fault = tree.read(alloc, name, 3).err();
-    assert_eq!(rt; fault, Some(Failure::Cause(want)), "{name}");
+    see(rt, (name, fault), (name, Some(Failure::Cause(want))));
 }
 
 /// A tree of four files, of which the calls of these numbers fail.
@@ -76,17 +83,25 @@ fn memory_tree(rt: &impl Abort, alloc: Global, failing: &[u32]) -> Result<Memory
     Ok(MemoryTree::new(files, Vec::from_slice(alloc, failing)?))
 }
 
-#[test]
-fn memory_tree_lists_reads_and_fails(rt: HostRuntime) -> Result<(), Fail> {
-    let alloc = rt.alloc();
-    let mut tree = memory_tree(&rt, alloc, &[2, 4])?;
-    see_listing(&rt, alloc, &mut tree, "a.class a/c.class b.class ")?;
-    see_bytes(&rt, alloc, &mut tree, ("x.txt", 100), "x.txt")?;
-    see_no_listing(&rt, alloc, &mut tree);
-    see_bytes(&rt, alloc, &mut tree, ("a/c.class", 3), "a/c")?;
-    see_fault(&rt, alloc, &mut tree, "a.class", TreeFault::Failed);
-    see_fault(&rt, alloc, &mut tree, "c.class", TreeFault::Missing);
+/// Sees what the tree lists, reads and does not read. Its second and its fourth call fail.
+fn see_memory_tree(
+    rt: &impl Abort,
+    alloc: Global,
+    tree: &mut MemoryTree,
+) -> Result<(), TreeFailure> {
+    see_listing(rt, alloc, tree, "a.class a/c.class b.class ")?;
+    see_bytes(rt, alloc, tree, ("x.txt", 100), "x.txt")?;
+    see_no_listing(rt, alloc, tree);
+    see_bytes(rt, alloc, tree, ("a/c.class", 3), "a/c")?;
+    see_fault(rt, alloc, tree, "a.class", TreeFault::Failed);
+    see_fault(rt, alloc, tree, "c.class", TreeFault::Missing);
     Ok(())
+}
+
+#[test]
+fn memory_tree_lists_reads_and_fails(rt: HostRuntime) -> Result<(), TreeFailure> {
+    let mut tree = memory_tree(&rt, rt.alloc(), &[2, 4])?;
+    see_memory_tree(&rt, rt.alloc(), &mut tree)
 }
 
 /// A tree of four files.
@@ -96,43 +111,62 @@ fn steady_tree(rt: &impl Abort, alloc: Global) -> Result<SteadyTree, AllocError>
     Ok(SteadyTree::new(files))
 }
 
-#[test]
-fn steady_tree_lists_and_reads(rt: HostRuntime) -> Result<(), Fail> {
-    let alloc = rt.alloc();
-    let mut tree = steady_tree(&rt, alloc)?;
-    see_listing(&rt, alloc, &mut tree, "a.class a/c.class b.class ")?;
-    see_bytes(&rt, alloc, &mut tree, ("b.class", 1), "b")?;
-    see_fault(&rt, alloc, &mut tree, "", TreeFault::Missing);
+/// Sees what the tree lists, reads and does not read.
+fn see_steady_tree(
+    rt: &impl Abort,
+    alloc: Global,
+    tree: &mut SteadyTree,
+) -> Result<(), TreeFailure> {
+    see_listing(rt, alloc, tree, "a.class a/c.class b.class ")?;
+    see_bytes(rt, alloc, tree, ("b.class", 1), "b")?;
+    see_fault(rt, alloc, tree, "", TreeFault::Missing);
     Ok(())
 }
 
 #[test]
-fn same_names_are_found(rt: HostRuntime) -> Result<(), Fail> {
-    let mut files = four_files(rt.alloc())?;
-    files.push((
-        String::from_str(rt.alloc(), "a.class")?,
-        Vec::new(rt.alloc()),
-    ))?;
-    assert!(rt; !names_differ(files.as_slice()));
+fn steady_tree_lists_and_reads(rt: HostRuntime) -> Result<(), TreeFailure> {
+    let mut tree = steady_tree(&rt, rt.alloc())?;
+    see_steady_tree(&rt, rt.alloc(), &mut tree)
+}
+
+/// Four files, and one more that has the name of one of them.
+fn five_files(alloc: Global) -> Result<Vec<(String, Vec<u8>)>, AllocError> {
+    let mut files = four_files(alloc)?;
+    files.push((String::from_str(alloc, "a.class")?, Vec::new(alloc)))?;
+    Ok(files)
+}
+
+#[test]
+fn same_names_are_found(rt: HostRuntime) -> Result<(), AllocError> {
+    let files = five_files(rt.alloc())?;
+    see(&rt, names_differ(&files), false);
     Ok(())
 }
 
-/// Writes pieces until nothing fits.
+/// Writes a piece, and sees what is taken then.
+fn see_write(
+    rt: &impl Abort,
+    sink: &mut MemorySink,
+    piece: &[u8],
+    answer: Result<usize, SinkFailure>,
+    taken: &[u8],
+)
+    requires { 0 < length piece.now }
+{
+    let told = sink.write(piece);
+    see(rt, (told, sink.taken()), (answer, taken));
+}
+
+/// Writes pieces until nothing fits. The second write fails.
 fn see_writes(rt: &impl Abort, sink: &mut MemorySink) {
-    let writes = [
-        (b"abc".as_slice(), Ok(3), b"abc".as_slice()),
-        (b"de", Err(SinkFailure), b"abc"),
-        (b"defg", Ok(2), b"abcde"),
-        (b"h", Err(SinkFailure), b"abcde"),
-    ];
-    for (piece, answer, taken) in writes {
-        assert_eq!(rt; sink.write(piece), answer);
-        assert_eq!(rt; sink.taken(), taken);
-    }
+    see_write(rt, sink, b"abc", Ok(3), b"abc");
+    see_write(rt, sink, b"de", Err(SinkFailure), b"abc");
+    see_write(rt, sink, b"defg", Ok(2), b"abcde");
+    see_write(rt, sink, b"h", Err(SinkFailure), b"abcde");
 }
 
 #[test]
-fn memory_sink_takes_what_fits(rt: HostRuntime) -> Result<(), Fail> {
+fn memory_sink_takes_what_fits(rt: HostRuntime) -> Result<(), AllocError> {
     let failing = Vec::from_slice(rt.alloc(), &[1])?;
     see_writes(&rt, &mut MemorySink::new(rt.alloc(), 5, failing)?);
     Ok(())
@@ -141,9 +175,8 @@ fn memory_sink_takes_what_fits(rt: HostRuntime) -> Result<(), Fail> {
 #[test]
 fn steady_sink_counts(rt: HostRuntime) {
     let mut sink = SteadySink::new();
-    assert_eq!(rt; sink.write(b"abc"), Ok(3));
-    assert_eq!(rt; sink.write(b"de"), Ok(2));
-    assert_eq!(rt; sink.count(), 5);
+    let told = [sink.write(b"abc"), sink.write(b"de")];
+    see(&rt, (told, sink.count()), ([Ok(3), Ok(2)], 5));
 }
 
 /// The path, then `/` and the name.
@@ -151,17 +184,29 @@ fn under(alloc: Global, path: &str, name: &str) -> Result<String, AllocError> {
     format!(in alloc; "{path}/{name}")
 }
 
+/// Writes a file below the path, which holds its own name.
+fn write_file(rt: &impl Files, alloc: Global, path: &str, name: &str) -> io::Result<()> {
+    let file = under(alloc, path, name)?;
+    fs::write(rt, file.as_str(), name)
+}
+
 /// Makes a folder of this path with two folders, three class files and another file.
 fn make_folder(rt: &impl Files, alloc: Global, path: &str) -> io::Result<()> {
-    fs::create_dir_all(rt, under(alloc, path, "p/q")?)?;
+    make_folders(rt, alloc, path)?;
     for name in ["b.class", "p/a.class", "p/q/c.class", "x.txt"] {
-        fs::write(rt, under(alloc, path, name)?, name)?;
+        write_file(rt, alloc, path, name)?;
     }
     Ok(())
 }
 
+/// Makes the folder and those in it.
+fn make_folders(rt: &impl Files, alloc: Global, path: &str) -> io::Result<()> {
+    let folder = under(alloc, path, "p/q")?;
+    fs::create_dir_all(rt, folder.as_str())
+}
+
 /// A path that no other process takes.
-fn own_path(rt: &HostRuntime, alloc: Global) -> Result<String, Fail> {
+fn own_path(rt: &HostRuntime, alloc: Global) -> io::Result<String> {
     let parent = env::temp_dir(rt)?;
     let id = process::id(rt.process());
     Ok(format!(in alloc; "{}/ts_outside-{id}", parent.display())?)
@@ -179,9 +224,16 @@ fn see_folder<T: Tree>(rt: &impl Abort, alloc: Global, tree: &mut T) -> Result<(
     Ok(())
 }
 
-/// Sees the folder of a path, removes it, and sees that it is not there.
+/// The tree of the folder of a path.
+fn real_tree(rt: &HostRuntime, alloc: Global, path: &str) -> io::Result<RealTree<HostRuntime>> {
+    let dir = String::from_str(alloc, path)?;
+    Ok(RealTree::new(rt.clone()?, dir))
+}
+
+/// Makes a folder of this path, and sees it.
 fn see_path(rt: &HostRuntime, abort: &impl Abort, alloc: Global, path: &str) -> Result<(), Fail> {
-    let mut tree = RealTree::new(rt.clone()?, String::from_str(alloc, path)?);
+    make_folder(rt, alloc, path)?;
+    let mut tree = real_tree(rt, alloc, path)?;
     see_folder(abort, alloc, &mut tree)?;
     fs::remove_dir_all(rt, path)?;
     see_no_listing(abort, alloc, &mut tree);
@@ -191,13 +243,12 @@ fn see_path(rt: &HostRuntime, abort: &impl Abort, alloc: Global, path: &str) -> 
 #[test]
 fn real_tree_walks_a_folder(rt: HostRuntime) -> Result<(), Fail> {
     let path = own_path(&rt, rt.alloc())?;
-    make_folder(&rt, rt.alloc(), path.as_str())?;
     see_path(&rt, &rt, rt.alloc(), path.as_str())
 }
 
 #[test]
-fn real_sink_writes(rt: HostRuntime) -> Result<(), Fail> {
+fn real_sink_writes(rt: HostRuntime) -> io::Result<()> {
     let mut sink = RealSink::new(rt.clone()?);
-    assert_eq!(rt; sink.write(b"a line\n"), Ok(7));
+    see(&rt, sink.write(b"a line\n"), Ok(7));
     Ok(())
 }

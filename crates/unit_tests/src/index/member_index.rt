@@ -1,5 +1,6 @@
 //! Members that are added, and the numbers at which they are found.
 
+use crate::seen::see;
 use jvm_model::ClassNo;
 use jvm_model::lookup::Signature;
 use program_index::index_failure::IndexFailure;
@@ -8,11 +9,12 @@ use program_index::member_key::MemberKey;
 use std::process::Abort;
 use std::test::Fail;
 
-fn key<'a>(class: u32, name: &'a [u8]) -> MemberKey<'a> {
+/// The key of a method `run` of a class.
+fn run_of(class: u32) -> MemberKey<'static> {
     MemberKey {
         class: ClassNo(class),
         signature: Signature {
-            name,
+            name: b"run",
             descriptor: b"()V",
         },
     }
@@ -20,17 +22,17 @@ fn key<'a>(class: u32, name: &'a [u8]) -> MemberKey<'a> {
 
 /// Adds the members of two classes, of which one has a member twice.
 fn add_members(index: &mut MemberIndex) -> Result<(), IndexFailure> {
-    index.push(key(0, b"run"))?;
-    index.push(key(1, b"run"))?;
-    index.push(key(1, b"run"))
+    for class in [0, 1, 1] {
+        index.push(run_of(class))?;
+    }
+    Ok(())
 }
 
 /// Looks for members by their keys.
 fn look_at_members(rt: &impl Abort, index: &MemberIndex) {
-    assert!(rt; !index.is_empty());
-    assert_eq!(rt; index.len(), 3);
-    let found = [index.first(key(1, b"run")), index.first(key(2, b"run"))];
-    assert_eq!(rt; found, [Some(1), None]);
+    see(rt, (index.is_empty(), index.len()), (false, 3));
+    let found = [index.first(run_of(1)), index.first(run_of(2))];
+    see(rt, found, [Some(1), None]);
 }
 
 #[test]

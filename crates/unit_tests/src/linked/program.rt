@@ -4,9 +4,11 @@ ghost use Rattle.std.specs.Prelude.{codes, ◌≡◌, ◌∷◌, [], None, true,
 ghost use Rattle.jvm_model.specs.StubRules.{IsSoundStub};
 ghost use Rattle.jvm_model.specs.declared.program.Origin.TheVariants as origins;
 ghost use Rattle.jvm_model.specs.declared.stub.StubResult.TheVariants.{Void};
+ghost use Rattle.program_model.specs.Numbers.{IsClassNumber};
 ghost use Rattle.program_model.specs.Origins.{IsSoundOrigin};
 ghost use Rattle.program_model.specs.Whole.{IsLinkable};
 
+use crate::seen::see;
 use jvm_model::lookup::Signature;
 use jvm_model::{
     Bytes, ClassNo, MethodNo, Name, Origin, Sequence, StubClass, StubField, StubMethod, StubResult,
@@ -87,58 +89,75 @@ fn object_alone(alloc: Global) -> Result<Vec<Origin>, AllocError>
 }
 
 /// What the program says of its class.
-fn look_at_class(rt: &impl Abort, program: &Program) {
-    program.well_formed();
-    assert_eq!(rt; program.class_count(), 1);
-    let object = ClassNo(0);
-    assert_eq!(rt; program.class_name(object), b"java/lang/Object".as_slice());
-    assert_eq!(rt; program.file_name(object).as_str(), "base.toml");
-    assert!(rt; !program.is_interface(object));
-    assert!(rt; !program.is_folder(object));
-    assert!(rt; program.super_class(object).is_none());
-    assert!(rt; program.through_interfaces(object).is_empty());
-    assert_eq!(rt; program.find(b"java/lang/Object"), Some(object));
-    assert_eq!(rt; program.find(b"java/lang/String"), None);
-    assert!(rt; program.is_at_or_above(object, object));
+fn look_at_class(rt: &impl Abort, program: &Program, object: ClassNo)
+    requires { IsClassNumber program.now object.0 }
+{
+    let names = (
+        program.class_name(object),
+        program.file_name(object).as_str(),
+    );
+    see(rt, names, (b"java/lang/Object", "base.toml"));
+    let kinds = [program.is_interface(object), program.is_folder(object)];
+    see(rt, kinds, [false, false]);
+    see(rt, program.super_class(object), None);
+    see(rt, program.through_interfaces(object), &[]);
+    see(rt, program.is_at_or_above(object, object), true);
 }
+
+/// The name and the descriptor of the constructor.
+const CONSTRUCTOR: Signature<'static> = Signature {
+    name: b"<init>",
+    descriptor: b"()V",
+};
 
 /// What the program says of the constructor.
-fn look_at_method(rt: &impl Abort, program: &Program) {
-    program.well_formed();
-    assert_eq!(rt; program.class_count(), 1);
-    let constructor = Signature {
-        name: b"<init>",
-        descriptor: b"()V",
-    };
-    let Some(number) = program.declared_method(ClassNo(0), constructor) else {
+fn look_at_method(rt: &impl Abort, program: &Program, object: ClassNo)
+    requires { IsClassNumber program.now object.0 }
+{
+    let Some(number) = program.declared_method(object, CONSTRUCTOR) else {
         panic!(rt; "there is no constructor");
     };
-    assert_eq!(rt; number, MethodNo(0));
-    assert_eq!(rt; program.method(number).flags, 0x0001);
-    assert!(rt; matches!(program.method_body(number), MethodBody::Described(_)));
+    let told = (number, program.method(number).flags);
+    see(rt, told, (MethodNo(0), 0x0001));
+    let body = program.method_body(number);
+    see(rt, matches!(body, MethodBody::Described(_)), true);
 }
 
+/// The name and the descriptor of the field.
+const FIELD: Signature<'static> = Signature {
+    name: b"held",
+    descriptor: b"I",
+};
+
 /// What the program says of the field.
-fn look_at_field(rt: &impl Abort, program: &Program) {
-    program.well_formed();
-    assert_eq!(rt; program.class_count(), 1);
-    let field = Signature {
-        name: b"held",
-        descriptor: b"I",
-    };
-    let Some(number) = program.declared_field(ClassNo(0), field) else {
+fn look_at_field(rt: &impl Abort, program: &Program, object: ClassNo)
+    requires { IsClassNumber program.now object.0 }
+{
+    see(rt, program.declared_method(object, FIELD), None);
+    let Some(number) = program.declared_field(object, FIELD) else {
         panic!(rt; "there is no field");
     };
-    assert_eq!(rt; program.field(number).signature.name, b"held".as_slice());
-    assert_eq!(rt; program.field(number).flags, 0x0009);
-    assert!(rt; program.declared_method(ClassNo(0), field).is_none());
+    let field = program.field(number);
+    see(rt, (field.signature.name, field.flags), (b"held", 0x0009));
+}
+
+/// What the program says of its class, the constructor and the field.
+fn look_at_program(rt: &impl Abort, program: &Program) {
+    program.well_formed();
+    see(rt, program.class_count(), 1);
+    see(rt, program.find(b"java/lang/String"), None);
+    let Some(object) = program.find(b"java/lang/Object") else {
+        panic!(rt; "there is no class");
+    };
+    see(rt, object, ClassNo(0));
+    look_at_class(rt, program, object);
+    look_at_method(rt, program, object);
+    look_at_field(rt, program, object);
 }
 
 #[test]
 fn a_program_says_what_it_has(rt: HostRuntime) -> Result<(), Fail> {
     let program = Program::assemble(rt.alloc(), object_alone(rt.alloc())?)?;
-    look_at_class(&rt, &program);
-    look_at_method(&rt, &program);
-    look_at_field(&rt, &program);
+    look_at_program(&rt, &program);
     Ok(())
 }

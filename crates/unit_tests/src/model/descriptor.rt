@@ -1,8 +1,9 @@
 //! What `descriptor_of` makes of descriptors.
 
+use crate::seen::see;
 use jvm_model::{Descriptor, Kind, descriptor_of};
 use std::alloc::{AllocError, Global};
-use std::test::Fail;
+use std::process::Abort;
 
 /// Adds a kind to a text, and a space. The dimensions of an array are a byte.
 fn push_kind(text: &mut Vec<u8>, kind: &Kind) -> Result<(), AllocError> {
@@ -60,8 +61,20 @@ fn in_words(alloc: Global, bytes: &[u8]) -> Result<Vec<u8>, AllocError> {
     Ok(text)
 }
 
-#[test]
-fn descriptors_have_values(rt: HostRuntime) -> Result<(), Fail> {
+/// Looks at a descriptor in words.
+fn look_at_words(
+    rt: &impl Abort,
+    alloc: Global,
+    bytes: &[u8],
+    want: &[u8],
+) -> Result<(), AllocError> {
+    let told = in_words(alloc, bytes)?;
+    see(rt, told.as_slice(), want);
+    Ok(())
+}
+
+/// Looks at descriptors in words.
+fn look_at_all(rt: &impl Abort, alloc: Global) -> Result<(), AllocError> {
     let cases = [
         ("I", "prim "),
         ("J", "wide "),
@@ -81,24 +94,30 @@ fn descriptors_have_values(rt: HostRuntime) -> Result<(), Fail> {
         ("", "none"),
     ];
     for (text, want) in cases {
-        let told = in_words(rt.alloc(), text.as_bytes())?;
-        assert_eq!(rt; told.as_slice(), want.as_bytes(), "{text}");
+        look_at_words(rt, alloc, text.as_bytes(), want.as_bytes())?;
     }
     Ok(())
 }
 
-/// An array of booleans with so many dimensions, in words.
-fn array_in_words(alloc: Global, dimensions: usize) -> Result<Vec<u8>, AllocError> {
+#[test]
+fn descriptors_have_values(rt: HostRuntime) -> Result<(), AllocError> {
+    look_at_all(&rt, rt.alloc())
+}
+
+/// Looks at an array of booleans with so many dimensions, in words.
+fn look_at_array(
+    rt: &impl Abort,
+    alloc: Global,
+    dimensions: usize,
+    want: &[u8],
+) -> Result<(), AllocError> {
     let mut text = vec![in alloc; b'['; dimensions]?;
     text.push(b'Z')?;
-    in_words(alloc, &text)
+    look_at_words(rt, alloc, &text, want)
 }
 
 #[test]
-fn arrays_have_dimensions(rt: HostRuntime) -> Result<(), Fail> {
-    let most = array_in_words(rt.alloc(), 255)?;
-    assert_eq!(rt; most.as_slice(), b"\xff of Z ".as_slice());
-    let more = array_in_words(rt.alloc(), 256)?;
-    assert_eq!(rt; more.as_slice(), b"none".as_slice());
-    Ok(())
+fn arrays_have_dimensions(rt: HostRuntime) -> Result<(), AllocError> {
+    look_at_array(&rt, rt.alloc(), 255, b"\xff of Z ")?;
+    look_at_array(&rt, rt.alloc(), 256, b"none")
 }

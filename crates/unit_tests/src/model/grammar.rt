@@ -1,12 +1,39 @@
 //! Names and descriptors that are in their grammars, and others that are not.
 
+use crate::seen::see;
 use jvm_model::grammar::{is_class_name, is_method_descriptor, is_method_name, is_state_name};
 use std::alloc::{AllocError, Global};
-use std::test::Fail;
+use std::process::Abort;
+
+/// A grammar.
+#[derive(Clone, Copy)]
+enum Grammar {
+    ClassName,
+    MethodName,
+    StateName,
+    MethodDescriptor,
+}
+
+/// Whether a text is in a grammar.
+fn is_in(grammar: Grammar, text: &[u8]) -> bool {
+    match grammar {
+        Grammar::ClassName => is_class_name(text),
+        Grammar::MethodName => is_method_name(text),
+        Grammar::StateName => is_state_name(text),
+        Grammar::MethodDescriptor => is_method_descriptor(text),
+    }
+}
+
+/// Looks which texts are in a grammar.
+fn look_at_texts(rt: &impl Abort, grammar: Grammar, texts: &[(&str, bool)]) {
+    for (text, want) in texts {
+        see(rt, (*text, is_in(grammar, text.as_bytes())), (*text, *want));
+    }
+}
 
 #[test]
 fn class_names(rt: HostRuntime) {
-    let names = [
+    let texts = [
         ("java/lang/Object", true),
         ("A", true),
         ("", false),
@@ -17,14 +44,12 @@ fn class_names(rt: HostRuntime) {
         ("[A", false),
         ("A;", false),
     ];
-    for (text, want) in names {
-        assert_eq!(rt; is_class_name(text.as_bytes()), want, "class name {text}");
-    }
+    look_at_texts(&rt, Grammar::ClassName, &texts);
 }
 
 #[test]
 fn method_names(rt: HostRuntime) {
-    let names = [
+    let texts = [
         ("<init>", true),
         ("<clinit>", true),
         ("<x>", false),
@@ -32,14 +57,12 @@ fn method_names(rt: HostRuntime) {
         ("read", true),
         ("", false),
     ];
-    for (text, want) in names {
-        assert_eq!(rt; is_method_name(text.as_bytes()), want, "method name {text}");
-    }
+    look_at_texts(&rt, Grammar::MethodName, &texts);
 }
 
 #[test]
 fn state_names(rt: HostRuntime) {
-    let names = [
+    let texts = [
         ("open_1-A", true),
         ("", false),
         ("a b", false),
@@ -52,14 +75,12 @@ fn state_names(rt: HostRuntime) {
             false,
         ),
     ];
-    for (text, want) in names {
-        assert_eq!(rt; is_state_name(text.as_bytes()), want, "state name {text}");
-    }
+    look_at_texts(&rt, Grammar::StateName, &texts);
 }
 
 #[test]
 fn descriptors(rt: HostRuntime) {
-    let descriptors = [
+    let texts = [
         ("()V", true),
         ("(I)V", true),
         ("(IJ[[Ljava/lang/String;)Z", true),
@@ -71,13 +92,7 @@ fn descriptors(rt: HostRuntime) {
         ("([)V", false),
         ("()[V", false),
     ];
-    for (text, want) in descriptors {
-        assert_eq!(rt;
-            is_method_descriptor(text.as_bytes()),
-            want,
-            "descriptor {text}"
-        );
-    }
+    look_at_texts(&rt, Grammar::MethodDescriptor, &texts);
 }
 
 /// Whether `(`, so many of a byte, and an end are a descriptor of a method.
@@ -88,9 +103,9 @@ fn is_descriptor_of(alloc: Global, byte: u8, count: usize, end: &[u8]) -> Result
     Ok(is_method_descriptor(&text))
 }
 
-#[test]
-fn long_descriptors(rt: HostRuntime) -> Result<(), Fail> {
-    let descriptors = [
+/// Looks which long texts are descriptors of methods.
+fn look_at_long_texts(rt: &impl Abort, alloc: Global) -> Result<(), AllocError> {
+    let texts = [
         (b'I', 255, ")V", true),
         (b'I', 256, ")V", false),
         (b'J', 127, ")V", true),
@@ -98,9 +113,14 @@ fn long_descriptors(rt: HostRuntime) -> Result<(), Fail> {
         (b'[', 255, "I)V", true),
         (b'[', 256, "I)V", false),
     ];
-    for (byte, count, end, want) in descriptors {
-        let told = is_descriptor_of(rt.alloc(), byte, count, end.as_bytes())?;
-        assert_eq!(rt; told, want, "{count} times {byte}");
+    for (byte, count, end, want) in texts {
+        let told = is_descriptor_of(alloc, byte, count, end.as_bytes())?;
+        see(rt, (byte, count, told), (byte, count, want));
     }
     Ok(())
+}
+
+#[test]
+fn long_descriptors(rt: HostRuntime) -> Result<(), AllocError> {
+    look_at_long_texts(&rt, rt.alloc())
 }

@@ -4,13 +4,13 @@ ghost use Rattle.std.specs.Prelude.{◌≡◌, ◌<◌, ◌^◌, IfOk, length};
 ghost use Rattle.jvm_model.specs.Layout.{HasCodeAttribute};
 ghost use Rattle.jvm_model.specs.Spelling.{spell};
 
+use crate::seen::see;
 use jvm_model::layout::{
     attributes_offset, code_place, fields_offset, flags_offset, interfaces_offset, methods_offset,
 };
 use jvm_model::{Attribute, ClassFile, Member, PoolEntry, Sequence};
 use std::alloc::{AllocError, Global};
 use std::process::Abort;
-use std::test::Fail;
 
 fn attribute(alloc: Global, name: u16, body: &[u8]) -> Result<Attribute, AllocError>
     ensures name { IfOk result (λ a. a.name ≡ name) }
@@ -76,11 +76,11 @@ fn look_at_places(rt: &impl Abort, class: &ClassFile)
         attributes_offset(class),
         code_place(class, 1),
     ];
-    assert_eq!(rt; places, [33, 41, 45, 64, 100, 93]);
+    see(rt, places, [33, 41, 45, 64, 100, 93]);
 }
 
 #[test]
-fn places_of_a_class(rt: HostRuntime) -> Result<(), Fail> {
+fn places_of_a_class(rt: HostRuntime) -> Result<(), AllocError> {
     look_at_places(&rt, &class_of_two_methods(rt.alloc())?);
     Ok(())
 }
