@@ -121,19 +121,31 @@ class Body:
         rows = struct.iter_unpack(">4H", self.data[self.after_code + 2:self.after_code + 2 + 8 * count])
         return [Handler(start, end, target, self.pool.class_name(kind) if kind else "any") for start, end, target, kind in rows]
 
-    def line(self, offset: int) -> int:
-        """The line of an offset by the table of line numbers, or 0."""
+    def rows(self, table: str, row: str) -> Iterator[tuple]:
+        """The rows of the tables of a name among the attributes of the code, as many numbers each as the format of a row has."""
         (count,) = struct.unpack_from(">H", self.data, self.after_code)
         at = self.after_code + 2 + 8 * count
         (attributes,) = struct.unpack_from(">H", self.data, at)
-        at, best = at + 2, (-1, 0)
+        at += 2
         for _ in range(attributes):
             name, length = struct.unpack_from(">HI", self.data, at)
-            if self.pool.text(name) == "LineNumberTable":
-                rows = struct.iter_unpack(">2H", self.data[at + 8:at + 6 + length])
-                best = max([best, *((start, line) for start, line in rows if start <= offset)])
+            if self.pool.text(name) == table:
+                yield from struct.iter_unpack(row, self.data[at + 8:at + 6 + length])
             at += 6 + length
-        return best[1]
+
+    def line(self, offset: int) -> int:
+        """The line of an offset by the table of line numbers, or 0."""
+        rows = self.rows("LineNumberTable", ">2H")
+        return max([(-1, 0), *((start, line) for start, line in rows if start <= offset)])[1]
+
+    def variable(self, slot: int, offset: int) -> str:
+        """The name of the local variable in a slot at an offset, by the table of local variables; empty where it has none."""
+        rows = self.rows("LocalVariableTable", ">5H")
+        return next((self.pool.text(name) for start, length, name, _, index in rows if index == slot and start <= offset < start + length), "")
+
+    def slots(self) -> int:
+        """How many local variables there are; units of the operand stack are numbered on from these."""
+        return struct.unpack_from(">H", self.data, self.after_code - len(self.code) - 6)[0]
 
     def uses(self) -> list[Use]:
         """The instructions that name a class or a member, or move an object into an array, a throw or a result."""

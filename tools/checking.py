@@ -43,6 +43,7 @@ class Asked:
     jdk: str | None = None
     drop: bool = False
     keep: str | None = None
+    trace: bool = False
     assumptions: bool = False
     assume: str | None = None
     stages: str | None = None
@@ -143,6 +144,7 @@ def run(place: str, asked: Asked) -> int:
     """Runs the verifier, keeps its report, and explains it. The status."""
     say("running the verifier")
     words = ["--classes", os.path.join(place, "folder"), "--property", "property.toml", "--stubs", "stubs.toml", "--entry", asked.entry]
+    words += ["--trace"] if asked.trace else []
     ran = subprocess.run([PROGRAM, *words, *numbers(asked)], capture_output=True, stdin=subprocess.DEVNULL, check=False)
     with open(os.path.join(place, "report.txt"), "wb") as file:
         file.write(ran.stdout)
@@ -156,7 +158,8 @@ def run(place: str, asked: Asked) -> int:
 def explain_it(place: str, report: str, asked: Asked) -> int:
     """Explains a report. The status."""
     words = RunWords("property.toml", "stubs.toml", asked.entry, asked.jdk, providers(asked.jars))
-    wanted = Explaining(os.path.join(place, "folder"), words, asked.assume, "", os.path.join(place, "report.sarif"), asked.assumptions)
+    wanted = Explaining(os.path.join(place, "folder"), words, asked.assume, "", os.path.join(place, "report.sarif"), asked.assumptions,
+                        asked.trace)
     try:
         return explain(report, wanted)
     except NoReport as fault:

@@ -4,7 +4,7 @@ import struct
 from dataclasses import dataclass, field
 
 STATIC, PRIVATE, FINAL, NATIVE = 0x0008, 0x0002, 0x0010, 0x0100
-INTERFACE, ABSTRACT, PUBLIC = 0x0200, 0x0400, 0x0001
+INTERFACE, ABSTRACT, PUBLIC, BRIDGE = 0x0200, 0x0400, 0x0001, 0x0040
 OBJECT = "java/lang/Object"
 
 # The sizes of the entries of a constant pool behind their tags (JVMS 4.4); that of a text follows its length.

@@ -28,9 +28,13 @@ CONTAINERS = ("java/lang/Iterable", "java/util/Map", "java/util/Iterator", "java
 
 @dataclass
 class Protocol:
-    """A property: its class, and the names and descriptors of its events."""
+    """A property: its class, the names and descriptors of its events, its states by number, the error state, and the states to which an event
+    leads, one for each state."""
     class_name: str
     events: set[Key]
+    states: list[str]
+    error: str
+    next: dict[Key, list[str]]
 
 
 def read_protocol(path: str) -> Protocol:
@@ -38,7 +42,8 @@ def read_protocol(path: str) -> Protocol:
     try:
         with open(path, "rb") as file:
             table = tomllib.load(file)
-        return Protocol(table["class"], {(each["name"], each["descriptor"]) for each in table["event"]})
+        leads = {(each["name"], each["descriptor"]): each["next"] for each in table["event"]}
+        return Protocol(table["class"], set(leads), table["states"], table["error"], leads)
     except (OSError, tomllib.TOMLDecodeError, KeyError, TypeError) as fault:
         raise Unusable(f"{path} is no property file ({fault}): name the one of the run") from fault
 

@@ -12,8 +12,9 @@ from library import Unusable
 from model_places import stay_inside
 from program import Program
 from report import Ending, Place, read_report, status_of
-from sarif import Finding, document
+from sarif import Finding, Moment, document
 from source_lines import Sources
+from tracing import Tracing
 from words import java_method, java_name, qualified
 
 # The status where all places are safe, some of them if assumptions hold.
@@ -160,23 +161,38 @@ def write_words(findings: list[Finding], places: list[Place], resting: Resting, 
             print("\n" + textwrap.fill(meaning, 120))
 
 
-def write_findings(findings: list[Finding]) -> None:
-    """Prints the findings, a line each."""
+def where_of(place: Finding | Moment) -> str:
+    """The source file and line of a finding or of a step, as its line begins."""
+    return f"{place.file}:{place.line or '?'}: " if place.file else ""
+
+
+def write_findings(findings: list[Finding], with_stories: bool = False) -> None:
+    """Prints the findings, a line each, and below those that are unproved their stories, if these are asked for."""
     for finding in findings:
-        where = f"{finding.file}:{finding.line or '?'}: " if finding.file else ""
-        print(f"{where}{finding.text}")
+        print(f"{where_of(finding)}{finding.text}")
+        if with_stories and finding.rule == "unproved":
+            write_story(finding.story)
+
+
+def write_story(story: list[Moment]) -> None:
+    """Prints the steps of a story, with a number each, further to the right the more calls they are below the first one."""
+    if not story:
+        print("    The report does not say how: run the verifier with --trace, and with more stages than the first.")
+    for number, each in enumerate(story, 1):
+        print(f"    {number:>{len(str(len(story)))}}. {'  ' * each.depth}{where_of(each)}{each.text}")
 
 
 @dataclass
 class Explaining:
     """What an explanation is made of: the folder, the words of the run, or None where they are not known, the file of assumptions that are taken
-    over, the path before source files, the file for SARIF, and whether each assumption is listed."""
+    over, the path before source files, the file for SARIF, whether each assumption is listed, and whether unproved places get their stories."""
     folder: str
     run: RunWords | None
     assume: str | None = None
     sources: str = ""
     sarif: str | None = None
     in_full: bool = False
+    trace: bool = False
 
 
 def look_for_assumptions(asked: Explaining, program: Program | None, places: list[Place]) -> Resting:
@@ -202,12 +218,21 @@ def explain(report: str, asked: Explaining) -> int:
     resting = look_for_assumptions(asked, program, shown)
     telling = Telling(Sources(asked.folder), asked.sources, resting)
     findings = [telling.place(place) for place in shown]
+    if asked.trace and asked.run is not None and program is not None:
+        add_stories(findings, shown, Tracing(program, asked.folder, asked.run, telling.source))
     write_sarif(asked.sarif, findings, None)
-    write_findings(findings)
+    write_findings(findings, asked.trace)
     write_words(findings, shown, resting, asked.in_full)
     if len(shown) < len(places):
         print(f"\nLeft out: {len(places) - len(shown)} more in models of library classes, whose objects never leave the models.")
     return status_with(resting, findings, status_of(shown, None))
+
+
+def add_stories(findings: list[Finding], places: list[Place], tracing: Tracing) -> None:
+    """Gives the findings of unproved places their stories."""
+    for finding, place in zip(findings, places):
+        if place.verdict == "unproved":
+            finding.story = tracing.story(place)
 
 
 def status_with(resting: Resting, findings: list[Finding], status: int) -> int:

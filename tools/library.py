@@ -140,16 +140,18 @@ def read_folder(folder):
 
 
 class BaseClass:
-    """A class that the base stubs describe: its supertypes, its methods, each with whether it is abstract, which are static, and the new
-    objects that they give."""
+    """A class that the base stubs describe: its supertypes, its methods, each with whether it is abstract, which are static, the new objects that
+    they give, the exceptions that they throw and the arguments that they keep. Methods and fields stand in the order of the document."""
 
     def __init__(self, supers, is_interface):
         self.supers = supers
         self.is_interface = is_interface
         self.methods = {}
         self.returns = {}
+        self.throws = {}
+        self.keeps = {}
         self.statics = set()
-        self.fields = set()
+        self.fields = {}
 
 
 MESSAGE, CAUSE = "(Ljava/lang/String;)V", "(Ljava/lang/String;Ljava/lang/Throwable;)V"
@@ -187,11 +189,13 @@ def base_line(base, current, line):
     elif current and line.startswith("Implements "):
         current.supers = current.supers + quoted
     elif current and line.startswith("Static fields"):
-        current.fields.update(tuple(each.split(" ")) for each in quoted)
+        current.fields.update(dict.fromkeys(tuple(each.split(" ")) for each in quoted))
     elif current and METHOD.match(line):
         is_static, name, descriptor, says = METHOD.match(line).groups()
         current.methods[name, descriptor] = says.startswith("abstract")
         current.returns[name, descriptor] = re.findall(r"new:[^ ,]+", says)
+        current.keeps[name, descriptor] = re.findall(r"this|arg[0-9]+", says.partition("keeps ")[2])
+        current.throws[name, descriptor] = re.findall(r"java/[^ ,]+", says.partition("throws ")[2])
         current.statics.update([(name, descriptor)] if is_static else [])
     return current
 

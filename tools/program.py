@@ -18,23 +18,26 @@ MODELS = "models"
 @dataclass
 class Stub:
     """A method that stubs describe: whether it is static or abstract, and what it returns, throws and keeps; `is_base` where the base stubs
-    describe it."""
+    describe it, and then `base_throws` is what it throws."""
     is_static: bool = False
     is_abstract: bool = False
     returns: list[str] = field(default_factory=list)
     throws: list[str] = field(default_factory=list)
     keeps: list[str] = field(default_factory=list)
     is_base: bool = False
+    base_throws: list[str] = field(default_factory=list)
 
 
 @dataclass
 class StubClass:
-    """A class that stubs describe: its direct supertypes, the superclass first, its methods, and the classes that its static fields hold."""
+    """A class that stubs describe: its direct supertypes, the superclass first, its methods and fields in their order, and the classes that its
+    static fields hold."""
     name: str
     supers: list[str]
     is_interface: bool = False
     methods: dict[Key, Stub] = field(default_factory=dict)
     holds: list[str] = field(default_factory=list)
+    fields: list[Key] = field(default_factory=list)
 
 
 class Program:
@@ -76,20 +79,21 @@ class Program:
             self.models.add(found.name)
 
     def read_stubs(self, path: str) -> None:
-        """Takes what a stub file describes."""
+        """Takes what a stub file describes, classes before patches."""
         try:
             with open(path, "rb") as file:
                 tables = tomllib.load(file).get("class", [])
         except (OSError, tomllib.TOMLDecodeError) as fault:
             raise Unusable(f"{path} cannot be read ({fault}): name the stub file of the run") from fault
-        for table in tables:
+        for table in sorted(tables, key=lambda each: bool(each.get("patch"))):
             methods = {(each["name"], each["descriptor"]): stub_of(each) for each in table.get("method", [])}
             if table.get("patch"):
                 self.stubs.setdefault(table["name"], StubClass(table["name"], [])).methods.update(methods)
                 continue
             supers = [table.get("super", OBJECT), *table.get("interfaces", [])]
             holds = [each["holds"] for each in table.get("field", []) if "holds" in each]
-            self.stubs[table["name"]] = StubClass(table["name"], supers, table.get("interface", False), methods, holds)
+            fields = [(each["name"], each["descriptor"]) for each in table.get("field", [])]
+            self.stubs[table["name"]] = StubClass(table["name"], supers, table.get("interface", False), methods, holds, fields)
 
     # ---- classes
 
@@ -215,7 +219,8 @@ def base_stubs() -> dict[str, StubClass]:
     """The classes that the base stubs describe."""
     found = {}
     for name, each in read_base(BASE_DOCUMENT).items():
-        methods = {key: Stub(key in each.statics, is_abstract, each.returns.get(key, []), is_base=True) for key, is_abstract in each.methods.items()}
+        methods = {key: Stub(key in each.statics, is_abstract, each.returns.get(key, []), keeps=each.keeps.get(key, []), is_base=True,
+                             base_throws=each.throws.get(key, [])) for key, is_abstract in each.methods.items()}
         holds = [result[1:-1] for _, result in each.fields if result.startswith("L")]
-        found[name] = StubClass(name, each.supers, each.is_interface, methods, holds)
+        found[name] = StubClass(name, each.supers, each.is_interface, methods, holds, list(each.fields))
     return found

@@ -1,7 +1,10 @@
-"""Reads what the verifier prints: a line for each place, or the one line that says why there is no report."""
+"""Reads what the verifier prints: a line for each place, with --trace the path edges of a derivation below an unproved one, or the one line
+that says why there is no report."""
 
 import re
-from dataclasses import dataclass
+from dataclasses import dataclass, field
+
+from edges import Edge, edge_of
 
 # How many words the line of each verdict has.
 VERDICTS = {"safe": 5, "unproved": 4, "limit": 5}
@@ -15,7 +18,7 @@ class NoReport(Exception):
 
 @dataclass
 class Place:
-    """A place that makes objects, and what was found of it; the stage is 0 where the line has none."""
+    """A place that makes objects, and what was found of it; the stage is 0 where the line has none. The edges are those below its line."""
     verdict: str
     stage: int
     class_name: str
@@ -23,6 +26,7 @@ class Place:
     descriptor: str
     offset: int
     made: str
+    edges: list[Edge] = field(default_factory=list)
 
 
 @dataclass
@@ -51,6 +55,13 @@ def place_of(words: list[str]) -> Place:
     return Place(words[0], stage, owner, rest[:at], rest[at:], int(words[-2]), plain(words[-1]))
 
 
+def add_edge(places: list[Place], words: list[str]) -> None:
+    """Takes a line of a derivation to the place above it."""
+    if not places or places[-1].verdict != "unproved" or plain(words[5]) != places[-1].made:
+        raise ValueError
+    places[-1].edges.append(edge_of(words, places[-1].made))
+
+
 def ending_of(words: list[str]) -> Ending:
     """The line that stands alone."""
     if words[0] == "refused" and len(words) == 4:
@@ -69,7 +80,9 @@ def read_report(text: str) -> tuple[list[Place], Ending | None]:
     for line in lines:
         words = line.split(" ")
         try:
-            if VERDICTS.get(words[0]) == len(words):
+            if words[:2] == ["", ""]:
+                add_edge(places, words[2:])
+            elif VERDICTS.get(words[0]) == len(words):
                 places.append(place_of(words))
             elif words[0] == "sites" and len(words) == 8:
                 check_count(int(words[1]), places)

@@ -1,7 +1,7 @@
 """Writes what was found as a document of the Static Analysis Results Interchange Format (SARIF), version 2.1.0."""
 
 import json
-from dataclasses import dataclass
+from dataclasses import dataclass, field
 from urllib.parse import quote
 
 SCHEMA = "https://docs.oasis-open.org/sarif/sarif/v2.1.0/errata01/os/schemas/sarif-schema-2.1.0.json"
@@ -16,26 +16,43 @@ RULES: dict[str, str] = {
 
 
 @dataclass
+class Moment:
+    """A step of a story: its text, its method, its source file and line, where they are known, and how many calls it is below the first one."""
+    text: str
+    method: str
+    file: str
+    line: int
+    depth: int
+
+
+@dataclass
 class Finding:
-    """A finding: its rule, or none, its text, its method, and its source file and line, where they are known."""
+    """A finding: its rule, or none, its text, its method, and its source file and line, where they are known; and the story of an unproved place."""
     rule: str
     text: str
     method: str
     file: str
     line: int
+    story: list[Moment] = field(default_factory=list)
 
 
-def location(finding: Finding) -> dict:
-    """The place of a finding: the method, and the line if it is known."""
+def location(place: Finding | Moment) -> dict:
+    """The place of a finding or of a step: the method, and the line if it is known."""
     found: dict = {}
-    if finding.method:
-        found["logicalLocations"] = [{"fullyQualifiedName": finding.method, "kind": "function"}]
-    if finding.file:
-        physical: dict = {"artifactLocation": {"uri": quote(finding.file, errors="surrogateescape")}}
-        if finding.line:
-            physical["region"] = {"startLine": finding.line}
+    if place.method:
+        found["logicalLocations"] = [{"fullyQualifiedName": place.method, "kind": "function"}]
+    if place.file:
+        physical: dict = {"artifactLocation": {"uri": quote(place.file, errors="surrogateescape")}}
+        if place.line:
+            physical["region"] = {"startLine": place.line}
         found["physicalLocation"] = physical
     return found
+
+
+def code_flow(story: list[Moment]) -> dict:
+    """A story as one thread of a run."""
+    locations = [{"location": location(each) | {"message": {"text": each.text}}, "nestingLevel": each.depth} for each in story]
+    return {"threadFlows": [{"locations": locations}]}
 
 
 def result(finding: Finding) -> dict:
@@ -50,7 +67,8 @@ def result(finding: Finding) -> dict:
         "message": {"text": finding.text},
     }
     place = location(finding)
-    return found | ({"locations": [place]} if place else {})
+    found |= {"locations": [place]} if place else {}
+    return found | ({"codeFlows": [code_flow(finding.story)]} if finding.story else {})
 
 
 def document(findings: list[Finding], trouble: str) -> str:

@@ -6,7 +6,8 @@
 A case is a folder as cases/run reads it; NAME is its path from the top of the repository, and without names it is each
 case of the verifier whose file `stdout` is a report. Of those that differ, the lines are printed, `-` before those that
 the case has alone, and the status is 1. With `--write` the files `stdout` and `status` get what the second writing
-says. Nothing here comes from the program."""
+says, but in cases with --trace. Which derivation stands there is free, so the lines of edges are left out. Nothing
+here comes from the program."""
 
 import difflib
 import sys
@@ -23,6 +24,8 @@ from plain_program import ROOT  # noqa: E402
 from plain_report import (DEFAULT_DEPTH, DEFAULT_FACT_LIMIT, LAST_STAGE, Asked, Report, Verdicts,  # noqa: E402
                           read_subject, report_of)
 
+# The option without a value: derivations stand below the lines of unproved sites, each line of an edge behind two spaces.
+TRACE = "--trace"
 # Too large for the plain rules. It asks for the first stage alone.
 LARGE = ["cases/a-hundred-thousand-pairs"]
 
@@ -40,7 +43,7 @@ RUN = load_run()
 
 def options_of(words: list[str]) -> dict[str, str]:
     """The options of a run with their values, which stand behind a sign of equality or in the next word."""
-    joined = "\n".join(words).replace("=", "\n").split("\n")
+    joined = "\n".join(word for word in words if word != TRACE).replace("=", "\n").split("\n")
     return {name.removeprefix("--"): value for name, value in zip(joined[::2], joined[1::2])}
 
 
@@ -62,8 +65,9 @@ def has_report(case: Path) -> bool:
 
 
 def written(case: Path) -> Report:
-    """What a case says."""
-    return Report(RUN.lines_of(case / "stdout"), int((case / "status").read_text(encoding="utf-8")))
+    """What a case says, without derivations."""
+    lines = [line for line in RUN.lines_of(case / "stdout") if not line.startswith("  ")]
+    return Report(lines, int((case / "status").read_text(encoding="utf-8")))
 
 
 def write(case: Path, report: Report) -> None:
@@ -86,7 +90,7 @@ def main(words: list[str]) -> None:
     for case in chosen:
         wants = report_of_case(case)
         lines += differences(str(case.relative_to(ROOT)), written(case), wants)
-        if "--write" in words:
+        if "--write" in words and TRACE not in RUN.lines_of(case / "words"):
             write(case, wants)
     print(*lines, f"{len(chosen)} cases", sep="\n")
     sys.exit(1 if lines else 0)

@@ -7,7 +7,7 @@ use Rattle.std.proofs.lemmas.Option.{get_or_from_slice_get}
 use Rattle.chained_lists.specs.declared.links.Head.{Head}
 use Rattle.chained_lists.specs.declared.links.Link.{Link}
 use Rattle.chained_lists.specs.Entries.{Entry, entry}
-use Rattle.chained_lists.specs.Chained.{AreChained, IsLinked, ended_by, entries_from, entries_of, head_at, number_of}
+use Rattle.chained_lists.specs.Chained.{AreChained, IsLinked, ended_by, entries_from, entries_of, head_at, later_name, number_of}
 use Rattle.chained_lists.proofs.Growing.{is_place, named_last, one_number}
 
 -- a list that alone ends with a link is found by it
@@ -28,10 +28,10 @@ ended_is (head ∷ heads) number place is only = by (head.last == suc place) ref
 module _ (es : List Entry) (heads : List Head) (all : List Link) (chained : AreChained es heads all) where
   -- the number of the list of a link
   number_is : (k : ℕ) (link : Link) (e : Entry) (later : List Entry) → slice_get es k ≡ Some e → IsLinked es k link e → ((j : ℕ) → slice_get later j ≡ slice_get es (suc k + j))
-      → number_of heads k link.next later ≡ e.number
-  number_is k link e later at linked same = by link.next refl
+      → number_of heads k (later_name k link.next) later ≡ e.number
+  number_is k link e later at linked same = by (later_name k link.next) refl
     where
-      by : (next : ℕ) → link.next ≡ next → number_of heads k next later ≡ e.number
+      by : (next : ℕ) → later_name k link.next ≡ next → number_of heads k next later ≡ e.number
       by zero is =
           ended_is heads e.number k (named_last es e.number (head_at heads e.number).last k (chained.lasts e.number) (is_place es k e at) (linked.next.end is))
           (λ q named. sym (one_number es k e q at ((chained.lasts q).there k named)))
@@ -54,9 +54,9 @@ module _ (es : List Entry) (heads : List Head) (all : List Link) (chained : AreC
       let at : slice_get es k ≡ Some e = ap (λ (i : ℕ). slice_get es i) (sym here) ∙ sym (same 0) in
       let link_at : slice_get all k ≡ Some link = ap (λ (i : ℕ). slice_get all i) (sym here) ∙ sym (links_are 0) in
       let linked = chained.linked k link e link_at at in
-      let number : number_of heads k link.next (entries_from heads (suc k) links) ≡ e.number =
-      ap (λ (xs : List Entry). number_of heads k link.next xs) rest ∙ number_is k link e later at linked (λ j. same (suc j) ∙ ap (λ (i : ℕ). slice_get es i) (omega arith)) in
-      let first : entry (number_of heads k link.next (entries_from heads (suc k) links)) link.value ≡ e = λ i. record { number = number i; value = linked.value i } in
+      let number : number_of heads k (later_name k link.next) (entries_from heads (suc k) links) ≡ e.number =
+      ap (λ (xs : List Entry). number_of heads k (later_name k link.next) xs) rest ∙ number_is k link e later at linked (λ j. same (suc j) ∙ ap (λ (i : ℕ). slice_get es i) (omega arith)) in
+      let first : entry (number_of heads k (later_name k link.next) (entries_from heads (suc k) links)) link.value ≡ e = λ i. record { number = number i; value = linked.value i } in
       ap (λ (a : Entry). a ∷ entries_from heads (suc k) links) first ∙ ap (λ (xs : List Entry). e ∷ xs) rest
 
   pub entries_are : entries_of heads all ≡ es

@@ -4,7 +4,7 @@ ghost use Rattle.std.specs.Prelude.{◌≡◌, ◌↔◌, ℕ, ◌<◌, [], ◌�
 ghost use Rattle.chained_lists.specs.Entries.{HasNoneFrom, IsNext, IsOn, entry, passed};
 ghost use Rattle.chained_lists.specs.Chained.{IsNamed};
 
-use crate::links::{Head, Link, grow, head_of, join, place_named};
+use crate::links::{Head, Link, first_of, first_with_one, grow, join, later_name, place_named};
 use crate::place::Place;
 use std::alloc::{AllocError, Global};
 use std::marker::Model;
@@ -50,7 +50,8 @@ impl Chains {
             return Err(AllocError);
         }
         grow(&mut self.heads, number as usize)?;
-        self.links.push(Link { value, next: 0 })?;
+        let next = first_with_one(&self.heads, &self.links, number as usize);
+        self.links.push(Link { value, next })?;
         join(&mut self.heads, &mut self.links, number as usize);
         Ok(())
     }
@@ -69,8 +70,8 @@ impl Chains {
         ensures { IsNamed self.now number (passed last) result }
     {
         match last {
-            None => head_of(&self.heads, number as usize).first,
-            Some(place) => self.links[place.0 as usize].next,
+            None => first_of(&self.heads, &self.links, number as usize),
+            Some(place) => later_name(place, self.links[place.0 as usize].next),
         }
     }
 

@@ -6,7 +6,7 @@ use Rattle.failure.specs.declared.Failure.TheVariants.{Cause, OutOfMemory}
 use Rattle.command_words.specs.declared.fault.NumberOption.TheVariants.{Stages, Depth, FactLimit, PairLimit}
 use Rattle.command_words.specs.declared.fault.UsageFault.{UsageFault}
 use Rattle.command_words.specs.declared.fault.UsageFault.TheVariants.{Words, Range}
-use Rattle.command_words.specs.Command.{option_in}
+use Rattle.command_words.specs.Command.{is_set, option_in}
 use Rattle.command_words.specs.GivenValues.{Given, Gives, HasBy, LacksBy, NamesSome, Ask, IsWrongWith}
 use Rattle.command_words.specs.Options.{IsFormFailure}
 use Rattle.command_words.specs.Requests.{NamesMethod, IsCommand, NumberRule, IsNumberBy, IsNumberIn, HasNumber, LacksNumber, NamesEntry, AsksFor, Wanted, IsUsageFault, IsUsageFailure, stages_rule, depth_rule, fact_limit_rule, pair_limit_rule}
@@ -43,6 +43,7 @@ module _ (words : List (List ℕ)) (g : Given) (gives : Gives words g) where
     depth = number_in words depth_rule g.depth gives.depth w.depth a.depth;
     fact_limit = number_in words fact_limit_rule g.fact_limit gives.fact_limit w.fact_limit a.fact_limit;
     pair_limit = number_in words pair_limit_rule g.pair_limit gives.pair_limit w.pair_limit a.pair_limit;
+    trace = a.trace ∙ ap is_set (sym gives.trace);
   }
 
   pub wrong_with : (fault : UsageFault) → IsWrongWith g fault → IsUsageFault words fault

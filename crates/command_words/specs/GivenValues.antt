@@ -7,7 +7,7 @@ use Rattle.command_words.specs.declared.fault.NumberOption.TheVariants.{Stages, 
 use Rattle.command_words.specs.declared.fault.UsageFault.{UsageFault}
 use Rattle.command_words.specs.declared.fault.UsageFault.TheVariants.{Words, Range}
 use Rattle.command_words.specs.declared.request.Numbers.{Numbers}
-use Rattle.command_words.specs.Command.{HasForm, option_in}
+use Rattle.command_words.specs.Command.{HasForm, is_set, option_in}
 use Rattle.command_words.specs.Requests.{NamesMethod, NumberRule, IsNumberBy, Wanted, stages_rule, depth_rule, fact_limit_rule, pair_limit_rule}
 
 -- The values: those of the property file and of the entry, and the others where they are given.
@@ -19,6 +19,7 @@ pub record Given : Type 0 where
   pub depth : Option (List ℕ)
   pub fact_limit : Option (List ℕ)
   pub pair_limit : Option (List ℕ)
+  pub trace : Option (List ℕ)
 
 -- The values that the options have.
 abbrev pub given_of : OptionValues → Given
@@ -30,6 +31,7 @@ given_of v = record {
   depth = option_map (λ s. s.now) v.depth;
   fact_limit = option_map (λ s. s.now) v.fact_limit;
   pair_limit = option_map (λ s. s.now) v.pair_limit;
+  trace = option_map (λ s. s.now) v.trace;
 }
 
 -- The words are of the command's form, and give these values.
@@ -42,6 +44,7 @@ pub record Gives (words : List (List ℕ)) (g : Given) : Type 0 where
   pub depth : option_in words (codes "depth") ≡ g.depth
   pub fact_limit : option_in words (codes "fact-limit") ≡ g.fact_limit
   pub pair_limit : option_in words (codes "pair-limit") ≡ g.pair_limit
+  pub trace : option_in words (codes "trace") ≡ g.trace
 
 -- ---- numbers
 
@@ -86,6 +89,7 @@ pub record Ask (g : Given) (w : Wanted) : Type 0 where
   pub depth : IsNumberBy depth_rule g.depth w.depth
   pub fact_limit : IsNumberBy fact_limit_rule g.fact_limit w.fact_limit
   pub pair_limit : IsNumberBy pair_limit_rule g.pair_limit w.pair_limit
+  pub trace : w.trace ≡ is_set g.trace
 
 -- The word names a method of a class.
 abbrev pub NamesSome : List ℕ → Type 0

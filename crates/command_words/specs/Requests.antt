@@ -8,9 +8,10 @@ use Rattle.command_words.specs.declared.fault.NumberOption.TheVariants.{Stages, 
 use Rattle.command_words.specs.declared.fault.UsageFault.{UsageFault}
 use Rattle.command_words.specs.declared.fault.UsageFault.TheVariants.{Words, Range}
 use Rattle.command_words.specs.declared.request.Request.{Request}
-use Rattle.command_words.specs.Command.{HasForm, option_in}
+use Rattle.command_words.specs.Command.{HasForm, is_set, option_in}
 
--- What a run is asked for: a property file and a stub file, an entry by its class and its name, the last stage, and the limits.
+-- What a run is asked for: a property file and a stub file, an entry by its class and its name, the last stage, and the limits; and whether it is to tell
+-- why sites are unproved.
 pub record Wanted : Type 0 where
   pub property : List ℕ
   pub stubs : Option (List ℕ)
@@ -20,6 +21,7 @@ pub record Wanted : Type 0 where
   pub depth : ℕ
   pub fact_limit : ℕ
   pub pair_limit : ℕ
+  pub trace : Bool
 
 abbrev pub wanted_of : Request → Wanted
 wanted_of r = record {
@@ -31,6 +33,7 @@ wanted_of r = record {
   depth = r.depth;
   fact_limit = r.fact_limit;
   pair_limit = r.pair_limit;
+  trace = r.trace;
 }
 
 -- ---- the entry
@@ -107,6 +110,7 @@ pub record AsksFor (words : List (List ℕ)) (w : Wanted) : Type 0 where
   pub depth : IsNumberIn words depth_rule w.depth
   pub fact_limit : IsNumberIn words fact_limit_rule w.fact_limit
   pub pair_limit : IsNumberIn words pair_limit_rule w.pair_limit
+  pub trace : w.trace ≡ is_set (option_in words (codes "trace"))
 
 -- The option has a number; it has none.
 abbrev pub HasNumber : List (List ℕ) → NumberRule → Type 0

@@ -6,7 +6,7 @@ ghost use Rattle.clap.specs.Simple.{app_of};
 ghost use Rattle.clap.specs.Values.{kind_of};
 ghost use Rattle.clap.specs.Walk.{rule_of};
 ghost use Rattle.clap.specs.declared.builder.command.Command.TheViews.{out-Command as fields_of};
-ghost use Rattle.command_words.specs.Command.{option_named, required_option, options, run_command};
+ghost use Rattle.command_words.specs.Command.{flag_named, option_named, required_option, options, run_command};
 ghost use Rattle.command_words.specs.GivenValues.{Gives, given_of};
 ghost use Rattle.command_words.specs.Options.{bare_command, AreMatches, IsFailureBy, IsFormFailure, IsRunCommand};
 
@@ -16,7 +16,7 @@ use clap::{Arg, ArgAction, ArgMatches, Command, Error};
 use failure::Failure;
 use std::alloc::{AllocError, Global};
 
-/// The values of the options of a run. `start` is that of `--entry`.
+/// The values of the options of a run. `start` is that of `--entry`; that of a flag is `true` or `false`.
 #[derive(Clone, Copy)]
 pub(crate) struct OptionValues<'a> {
     pub property: &'a str,
@@ -26,6 +26,7 @@ pub(crate) struct OptionValues<'a> {
     pub depth: Option<&'a str>,
     pub fact_limit: Option<&'a str>,
     pub pair_limit: Option<&'a str>,
+    pub trace: Option<&'a str>,
 }
 
 /// The values that the words give to the options; or `Words` where they are not of the command's form.
@@ -47,6 +48,7 @@ pub(crate) fn values_of<'a>(
         depth: matches.get_str("depth"),
         fact_limit: matches.get_str("fact-limit"),
         pair_limit: matches.get_str("pair-limit"),
+        trace: matches.get_str("trace"),
     })
 }
 
@@ -109,6 +111,7 @@ fn run_options<'a>(alloc: Global) -> Result<Vec<Arg<'a>>, AllocError>
         option_named(alloc, "depth"),
         option_named(alloc, "fact-limit"),
         option_named(alloc, "pair-limit"),
+        flag_named(alloc, "trace"),
     ]?;
     Ok(options)
 }
@@ -125,4 +128,11 @@ fn option_named<'a>(alloc: Global, name: &'a str) -> Arg<'a>
     ensures { rule_of result ≡ option_named name.entry.now }
 {
     Arg::new(alloc, name).long(name).action(ArgAction::Set)
+}
+
+/// An option of this long name, without a value.
+fn flag_named<'a>(alloc: Global, name: &'a str) -> Arg<'a>
+    ensures { rule_of result ≡ flag_named name.entry.now }
+{
+    Arg::new(alloc, name).long(name).action(ArgAction::SetTrue)
 }

@@ -1,6 +1,7 @@
 //! What a run is asked for, from its words.
 
-ghost use Rattle.std.specs.Prelude.{◌≡◌, ℕ, List, map, string_bytes, IfOk, IfErr, IfSome, IfNone};
+ghost use Rattle.std.specs.Prelude.{◌≡◌, ℕ, List, map, option_map, string_bytes, IfOk, IfErr, IfSome, IfNone};
+ghost use Rattle.command_words.specs.Command.{is_set};
 ghost use Rattle.command_words.specs.GivenValues.{given_of, Ask, AreNumbers, IsFirstWithout, IsWrongWith};
 ghost use Rattle.command_words.specs.Requests.{AsksFor, IsUsageFailure, NamesMethod, wanted_of};
 
@@ -25,6 +26,8 @@ pub struct Request<'a> {
     pub fact_limit: u32,
     /// How many pairs of a place and a site end the points-to analysis.
     pub pair_limit: u32,
+    /// Whether a derivation is told of each unproved site.
+    pub trace: bool,
 }
 
 /// The numbers of a request.
@@ -37,7 +40,7 @@ struct Numbers {
 }
 
 /// Reads the words after the program's name: `--classes DIR`, `--property FILE` and `--entry CLASS.NAME`, and with them, where they are given,
-/// `--stubs FILE`, `--stages N`, `--depth N`, `--fact-limit N` and `--pair-limit N`.
+/// `--stubs FILE`, `--stages N`, `--depth N`, `--fact-limit N`, `--pair-limit N` and `--trace`.
 pub fn read_words<'a>(alloc: Global, words: &'a [String]) -> Result<Request<'a>, UsageFailure>
     ensures asks { IfOk result (λ r. AsksFor (map string_bytes words.now) (wanted_of r)) }
     ensures fault { IfErr result (IsUsageFailure (map string_bytes words.now)) }
@@ -70,7 +73,18 @@ fn request_of<'a>(values: OptionValues<'a>) -> Result<Request<'a>, UsageFault>
         depth: numbers.depth,
         fact_limit: numbers.fact_limit,
         pair_limit: numbers.pair_limit,
+        trace: is_set(values.trace),
     })
+}
+
+/// Whether the words have a flag, by its value.
+fn is_set(value: Option<&str>) -> bool
+    ensures { result ≡ is_set (option_map (λ text. text.now) value.entry) }
+{
+    match value {
+        None => false,
+        Some(text) => text == "true",
+    }
 }
 
 /// The numbers that the values of the options ask for, or the first option that has none.

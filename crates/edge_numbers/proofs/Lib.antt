@@ -1,2 +1,2 @@
 pub mod Reasons
-mod Inserting
+mod EdgeRows

@@ -1,3 +1,4 @@
 pub mod Inserted
-pub mod Numbered
+pub mod EdgeRows
+pub mod Named
 pub mod Premises

@@ -4,7 +4,7 @@ ghost use Rattle.std.specs.Prelude.{◌≡◌, ◌↔◌, ◌<◌, ◌≤◌, []
 ghost use Rattle.least_sets.specs.Rules.{IsWithoutDoubles};
 ghost use Rattle.edge_numbers.specs.Inserted.{IsInserted};
 
-use indexmap::IndexSet;
+use fact_pool::{FactPool, Row};
 use std::alloc::{AllocError, Global};
 use std::marker::Model;
 
@@ -18,19 +18,20 @@ pub struct NumberedEdge {
 /// Path edges, each once, in the order in which they came. Contracts see them as a list.
 #[derive(Drop)]
 pub struct EdgeNumbers {
-    edges: IndexSet<NumberedEdge>,
+    /// A row for each edge: the numbers of its ends.
+    pool: FactPool,
 }
 
 impl Model for EdgeNumbers {
     ghost use Rattle.std.specs.Prelude.{List};
-    ghost use Rattle.edge_numbers.specs.Numbered.{AreNumbered};
+    ghost use Rattle.edge_numbers.specs.EdgeRows.{AreEdgeRows, row_edges};
     ghost use Rattle.edge_numbers.specs.declared.numbered.NumberedEdge.{NumberedEdge};
 
     ghost Value = { List NumberedEdge };
 
-    ghost view = { λ e. e.edges.keys };
+    ghost view = { λ e. row_edges e.pool.rows };
 
-    ghost invariant = { λ e. AreNumbered e.edges.keys };
+    ghost invariant = { λ e. AreEdgeRows e.pool.rows };
 }
 
 impl EdgeNumbers {
@@ -39,7 +40,7 @@ impl EdgeNumbers {
         ensures { result ≡ [] }
     {
         EdgeNumbers {
-            edges: IndexSet::new(alloc),
+            pool: FactPool::new(alloc),
         }
     }
 
@@ -48,21 +49,21 @@ impl EdgeNumbers {
         ensures apart { IsWithoutDoubles self.now }
         ensures few { length self.now ≤ u32.MAX }
     {
-        let _ = &self.edges;
+        self.pool.well_formed();
     }
 
     /// How many there are.
     pub fn len(&self) -> usize
         ensures { result ≡ length self.now }
     {
-        self.edges.len()
+        self.pool.len() as usize
     }
 
     /// Whether there is none.
     pub fn is_empty(&self) -> bool
         ensures { IsTrue result ↔ (self.now ≡ []) }
     {
-        self.edges.is_empty()
+        self.pool.is_empty()
     }
 
     /// The edge at a place.
@@ -70,19 +71,25 @@ impl EdgeNumbers {
         requires { place < length self.now }
         ensures { slice_get self.now place ≡ Some result }
     {
-        self.edges.as_slice()[place]
+        self.pool.well_formed();
+        let words = self.pool.words(Row(place as u32));
+        NumberedEdge {
+            begin: words[0],
+            end: words[1],
+        }
     }
 
     /// Adds an edge behind the others, unless it is among them, and tells whether it was added. It answers an error where memory runs out, and
-    /// where there are 2^32 - 1 edges; they are then those that there were.
+    /// where there are 2^31 - 1 edges; they are then those that there were.
     pub fn insert(&mut self, edge: NumberedEdge) -> Result<bool, AllocError>
         ensures inserted { IfOk result (λ added. IsInserted added self.old self.new edge) }
         ensures err { OnErr result (self.new ≡ self.old) }
     {
-        if self.edges.len() >= u32::MAX as usize {
+        let held = self.pool.len();
+        if held == u32::MAX {
             return Err(AllocError);
         }
-        let (_, added) = self.edges.insert_full(edge)?;
-        Ok(added)
+        self.pool.intern(&[edge.begin, edge.end])?;
+        Ok(held < self.pool.len())
     }
 }

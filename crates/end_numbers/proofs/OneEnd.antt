@@ -9,14 +9,13 @@ use Rattle.fact_rows.specs.PathRows.{KeepsRows}
 use Rattle.fact_rows.proofs.OneRow.{fact_stays, row_of_fact}
 use Rattle.end_numbers.specs.declared.key.EndKey.{EndKey}
 use Rattle.end_numbers.specs.Ends.{end, End}
-use Rattle.end_numbers.specs.Keys.{ends_from, HasFact, HaveFacts, key_end, spot_of}
-use Rattle.end_numbers.proofs.KeyTests.{one_spot}
+use Rattle.end_numbers.specs.Keys.{ends_from, HasFact, HaveFacts, key_end}
 use Rattle.end_numbers.proofs.ReadRows.{row_fact_is}
 
 -- the end of a key has the fact of its row
 pub end_is : (rows : List (List ℕ)) (key : EndKey) (fact : SiteFact) → IsFactRow rows key.fact fact
-    → key_end rows key ≡ end key.method (spot_of key.spot) fact
-end_is rows key fact is = ap (λ (f : SiteFact). end key.method (spot_of key.spot) f) (row_fact_is rows key.fact fact is)
+    → key_end rows key ≡ end key.method key.spot fact
+end_is rows key fact is = ap (λ (f : SiteFact). end key.method key.spot f) (row_fact_is rows key.fact fact is)
 
 -- ---- an end has one key
 
@@ -24,7 +23,7 @@ pub one_key : (rows : List (List ℕ)) → AreDistinct rows → (a b : EndKey) �
     → key_end rows a ≡ key_end rows b → a ≡ b
 one_key rows distinct a b (some, first) (other, second) same =
     let method = ap (λ (e : End). e.method) same in
-    let spot = one_spot a.spot b.spot (ap (λ (e : End). e.spot) same) in
+    let spot = ap (λ (e : End). e.spot) same in
     let facts : some ≡ other = sym (row_fact_is rows a.fact some first) ∙ ap (λ (e : End). e.fact) same ∙ row_fact_is rows b.fact other second in
     let row = row_of_fact rows distinct a.fact b.fact other (subst (IsFactRow rows a.fact) facts first) second in
     (λ i. record { method = method i; spot = spot i; fact = row i })

@@ -1,3 +1,4 @@
 pub mod Ends
 pub mod RowFacts
+pub mod KeyRows
 pub mod Keys

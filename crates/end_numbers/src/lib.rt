@@ -1,5 +1,5 @@
 //! The ends of path edges, each once, by number: `EndNumbers`. An end is a spot of a method, or of the start of the program, and a fact that
-//! holds there. Two ends are equal where their numbers are. Their facts are rows of a pool, which takes little memory.
+//! holds there. Two ends are equal where their numbers are. They are rows of a pool, and so are their facts, which takes little memory.
 //! Tabulation keeps path edges by the numbers of their ends (`number`, `end`).
 //! Begin with specs/Ends.antt, which says what callers see, and then read src/numbers.rt.
 #![tactic(auto)]

@@ -5,26 +5,26 @@ ghost use Rattle.least_sets.specs.Rules.{IsWithoutDoubles};
 ghost use Rattle.stage_facts.specs.Plain.{fact_of};
 ghost use Rattle.end_numbers.specs.Ends.{end, end_of, End, IsNumbered};
 
-use crate::key::{EndKey, key_at, spot_key, spot_of};
+use crate::key::{EndKey, intern_key, key_at};
 use crate::path_end::PathEnd;
 use fact_pool::{FactPool, Row};
 use fact_rows::{pack_fact, unpack_fact};
-use indexmap::IndexSet;
 use jvm_model::MethodNo;
 use op_model::Spot;
 use stage_facts::PlainFact;
 use std::alloc::{AllocError, Global};
 use std::marker::Model;
 
-/// The most rows that the pool may have before a fact is added, which may take thirteen.
+/// The most rows of facts and paths that there may be before a fact is added, which may take thirteen.
 const MOST_ROWS: u32 = u32::MAX - 15;
 
 /// Ends, each once. Contracts see them as a list, in which each stands at its number.
 #[derive(Drop)]
 pub struct EndNumbers {
-    keys: IndexSet<EndKey>,
+    /// A row for each end: its key.
+    rows: FactPool,
     /// The facts of the ends, and the paths of these.
-    pool: FactPool,
+    facts: FactPool,
 }
 
 impl Model for EndNumbers {
@@ -33,11 +33,12 @@ impl Model for EndNumbers {
 
     ghost Value = { List End };
 
-    ghost use Rattle.end_numbers.specs.Keys.{ends_from, AreKeys};
+    ghost use Rattle.end_numbers.specs.KeyRows.{keys_from};
+    ghost use Rattle.end_numbers.specs.Keys.{ends_from, AreEndRows};
 
-    ghost view = { λ e. ends_from e.pool.rows e.keys.keys };
+    ghost view = { λ e. ends_from e.facts.rows (keys_from e.rows.rows) };
 
-    ghost invariant = { λ e. AreKeys e.pool.rows e.keys.keys };
+    ghost invariant = { λ e. AreEndRows e.facts.rows e.rows.rows };
 }
 
 impl EndNumbers {
@@ -46,8 +47,8 @@ impl EndNumbers {
         ensures { result ≡ [] }
     {
         EndNumbers {
-            keys: IndexSet::new(alloc),
-            pool: FactPool::new(alloc),
+            rows: FactPool::new(alloc),
+            facts: FactPool::new(alloc),
         }
     }
 
@@ -56,20 +57,21 @@ impl EndNumbers {
         ensures apart { IsWithoutDoubles self.now }
         ensures few { length self.now ≤ u32.MAX }
     {
-        self.pool.well_formed();
+        self.rows.well_formed();
+        self.facts.well_formed();
     }
 
     /// How many ends there are.
     pub fn len(&self) -> u32
         ensures { result ≡ length self.now }
     {
-        self.keys.len() as u32
+        self.rows.len()
     }
 
     /// The number of an end, which goes last where it has none yet.
     ///
-    /// It answers an error where memory runs out, and where there are 2^32 - 1 ends, or more than 2^32 - 16 rows of facts and paths. The
-    /// ends are then those that there were.
+    /// It answers an error where memory runs out, and where there are 2^30 - 1 ends, or more than 2^32 - 16 rows of facts and paths, or more than
+    /// 2^32 - 1 words of these. The ends are then those that there were.
     pub fn number(
         &mut self,
         method: Option<MethodNo>,
@@ -80,20 +82,21 @@ impl EndNumbers {
         ensures numbered { OnOk result (IsNumbered self.old self.new (end method spot (fact_of fact.now))) }
         ensures err { OnErr result (self.new ≡ self.old) }
     {
-        if self.keys.len() >= u32::MAX as usize {
+        if self.rows.len() == u32::MAX {
             return Err(AllocError);
         }
-        if self.pool.len() > MOST_ROWS {
+        if self.facts.len() > MOST_ROWS {
             return Err(AllocError);
         }
-        let row = pack_fact(fact, &mut self.pool)?;
-        self.pool.well_formed();
-        let (number, _) = self.keys.insert_full(EndKey {
+        let row = pack_fact(fact, &mut self.facts)?;
+        self.facts.well_formed();
+        let key = EndKey {
             method,
-            spot: spot_key(spot),
+            spot,
             fact: row.0,
-        })?;
-        Ok(number as u32)
+        };
+        let number = intern_key(&mut self.rows, key)?;
+        Ok(number.0)
     }
 
     /// The end of a number.
@@ -101,11 +104,11 @@ impl EndNumbers {
         requires { number < length self.now }
         ensures { slice_get self.now number ≡ Some (end_of result) }
     {
-        let key = key_at(&self.keys, number);
+        let key = key_at(&self.rows, number);
         PathEnd {
             method: key.method,
-            spot: spot_of(key.spot),
-            fact: unpack_fact(&self.pool, Row(key.fact)),
+            spot: key.spot,
+            fact: unpack_fact(&self.facts, Row(key.fact)),
         }
     }
 
@@ -114,7 +117,7 @@ impl EndNumbers {
         requires { number < length self.now }
         ensures { (e : End) → slice_get self.now number ≡ Some e → result ≡ e.spot }
     {
-        spot_of(key_at(&self.keys, number).spot)
+        key_at(&self.rows, number).spot
     }
 
     /// The method of the end of a number, and none where the end is one of the start of the program.
@@ -122,6 +125,6 @@ impl EndNumbers {
         requires { number < length self.now }
         ensures { (e : End) → slice_get self.now number ≡ Some e → result ≡ e.method }
     {
-        key_at(&self.keys, number).method
+        key_at(&self.rows, number).method
     }
 }

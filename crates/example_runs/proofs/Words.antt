@@ -1,5 +1,5 @@
 -- What the words of the examples ask for, by computing.
-use Rattle.std.proofs.Common.{codes, ◌≡◌, ℕ, None, Some, refl, arith}
+use Rattle.std.proofs.Common.{codes, ◌≡◌, ℕ, false, None, Some, refl, arith}
 use Rattle.clap.proofs.OnLiterals.{clap_on_literals}
 use Rattle.command_words.specs.Command.{HasForm, option_in}
 use Rattle.command_words.specs.Requests.{AsksFor, Wanted}
@@ -16,6 +16,7 @@ wanted_with stages = record {
   depth = 2;
   fact_limit = 50000;
   pair_limit = 20000000;
+  trace = false;
 }
 
 -- ---- with the last stage
@@ -38,6 +39,7 @@ asks = record {
   depth = refl;
   fact_limit = refl;
   pair_limit = refl;
+  trace = refl;
 }
 
 -- ---- without it
@@ -60,4 +62,5 @@ asks_by_default = record {
   depth = refl;
   fact_limit = refl;
   pair_limit = refl;
+  trace = refl;
 }

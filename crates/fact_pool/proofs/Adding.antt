@@ -1,5 +1,5 @@
 -- One more row stands last: what it makes of the rows, and of the table that finds them.
-use Rattle.std.proofs.Common.{◌≡◌, ℕ, ◌+◌, ◌<◌, List, [], ◌∷◌, ◌++◌, length, map, set, take, get_or, Some, sym, ◌∙◌, ap, subst, arith, inl, inr}
+use Rattle.std.proofs.Common.{◌≡◌, ◌⊎◌, ℕ, ◌+◌, ◌<◌, List, [], ◌∷◌, ◌++◌, length, set, take, get_or, Some, sym, ◌∙◌, ap, subst, arith, inl, inr}
 use Rattle.std.specs.List.{slice_get, Contains}
 use Rattle.std.proofs.lemmas.List.{length-append, length-map, length-set, length_push, map_push, take-append-le}
 use Rattle.std.proofs.lemmas.Option.{slice_get_within}
@@ -10,13 +10,13 @@ use Rattle.fact_pool.specs.Hashes.{bucket_of, hash_of}
 use Rattle.fact_pool.specs.Layout.{Ascend, buckets_of, ends_of, rows_from, rows_of}
 use Rattle.fact_pool.specs.Rows.{AreDistinct}
 use Rattle.fact_pool.proofs.ChainSteps.{heads_linked, last_in_longer}
+use Rattle.fact_pool.proofs.Finding.{length-rows_of}
 use Rattle.fact_pool.proofs.RowLists.{ascend_push, rows_push, same_rows}
 
 -- what an entry is for a row that stands last
 pub record IsNext (words : List ℕ) (heads : List ℕ) (row : List ℕ) (bucket : ℕ) (e : Entry) : Type 0 where
   pub end_is : e.end ≡ length words + length row
-  pub hash_is : e.hash ≡ hash_of row
-  pub bucket_is : bucket ≡ bucket_of e.hash (length heads)
+  pub bucket_is : bucket ≡ bucket_of (hash_of row) (length heads)
   pub next_is : e.next ≡ get_or heads bucket 0
   pub within : bucket < length heads
 
@@ -47,55 +47,74 @@ distinct_added rows row distinct absent = record {
 
 -- ---- the chains
 
-buckets_added : (entries : List Entry) (e : Entry) (count : ℕ) → buckets_of (entries ++ e ∷ []) count ≡ buckets_of entries count ++ bucket_of e.hash count ∷ []
-buckets_added entries e count = map_push (λ (x : Entry). bucket_of x.hash count) entries e
+buckets_added : (rows : List (List ℕ)) (row : List ℕ) (count : ℕ) → buckets_of (rows ++ row ∷ []) count ≡ buckets_of rows count ++ bucket_of (hash_of row) count ∷ []
+buckets_added rows row count = map_push (λ (words : List ℕ). bucket_of (hash_of words) count) rows row
 
-length-buckets : (entries : List Entry) (count : ℕ) → length (buckets_of entries count) ≡ length entries
-length-buckets entries count = length-map entries (λ (x : Entry). bucket_of x.hash count)
+length-buckets : (rows : List (List ℕ)) (count : ℕ) → length (buckets_of rows count) ≡ length rows
+length-buckets rows count = length-map rows (λ (words : List ℕ). bucket_of (hash_of words) count)
 
-heads_added : (entries : List Entry) (e : Entry) (heads : List ℕ) (bucket : ℕ) → bucket ≡ bucket_of e.hash (length heads) → bucket < length heads
-    → AreHeads (buckets_of entries (length heads)) (length entries) heads
-    → AreHeads (buckets_of (entries ++ e ∷ []) (length heads)) (length entries + 1) (set heads bucket (length entries + 1))
-heads_added entries e heads bucket is within before =
-    let count = length heads in
-    let buckets = buckets_of entries count in
-    let longer = buckets ++ bucket_of e.hash count ∷ [] in
-    let all : length buckets ≡ length entries = length-buckets entries count in
-    let weaker : AreHeads longer (length entries) heads =
-    record { at_bucket = λ b. last_in_longer buckets (bucket_of e.hash count) (length entries) b (get_or heads b 0) (before.at_bucket b) (omega arith) } in
-    let at : slice_get longer (length entries) ≡ Some bucket =
-    ap (λ (k : ℕ). slice_get longer k) (sym all) ∙ pushed_at buckets (bucket_of e.hash count) ∙ ap (λ (b : ℕ). Some b) (sym is) in
-    subst (λ (bs : List ℕ). AreHeads bs (length entries + 1) (set heads bucket (length entries + 1))) (sym (buckets_added entries e count))
-    (heads_linked longer heads (length entries) bucket at within weaker)
+heads_added : (rows : List (List ℕ)) (row : List ℕ) (heads : List ℕ) (bucket n : ℕ) → length rows ≡ n → bucket ≡ bucket_of (hash_of row) (length heads) → bucket < length heads
+    → AreHeads (buckets_of rows (length heads)) n heads
+    → AreHeads (buckets_of (rows ++ row ∷ []) (length heads)) (n + 1) (set heads bucket (n + 1))
+heads_added rows row heads bucket n count is within before =
+    let buckets = buckets_of rows (length heads) in
+    let own = bucket_of (hash_of row) (length heads) in
+    let longer = buckets ++ own ∷ [] in
+    let all : length buckets ≡ n = length-buckets rows (length heads) ∙ count in
+    let weaker : AreHeads longer n heads =
+    record { at_bucket = λ b. last_in_longer buckets own n b (get_or heads b 0) (before.at_bucket b) (omega arith) } in
+    let at : slice_get longer n ≡ Some bucket =
+    ap (λ (k : ℕ). slice_get longer k) (sym all) ∙ pushed_at buckets own ∙ ap (λ (b : ℕ). Some b) (sym is) in
+    subst (λ (bs : List ℕ). AreHeads bs (n + 1) (set heads bucket (n + 1))) (sym (buckets_added rows row (length heads)))
+    (heads_linked longer heads n bucket at within weaker)
 
-last_of_added : (entries : List Entry) (e : Entry) (heads : List ℕ) (bucket : ℕ) → bucket ≡ bucket_of e.hash (length heads) → e.next ≡ get_or heads bucket 0
-    → AreHeads (buckets_of entries (length heads)) (length entries) heads
-    → IsLast (buckets_of entries (length heads) ++ bucket_of e.hash (length heads) ∷ []) (length entries) (bucket_of e.hash (length heads)) e.next
-last_of_added entries e heads bucket is next before =
-    let count = length heads in
-    let buckets = buckets_of entries count in
-    let own = bucket_of e.hash count in
+last_of_added : (rows : List (List ℕ)) (row : List ℕ) (e : Entry) (heads : List ℕ) (bucket n : ℕ) → length rows ≡ n → bucket ≡ bucket_of (hash_of row) (length heads)
+    → e.next ≡ get_or heads bucket 0 → AreHeads (buckets_of rows (length heads)) n heads
+    → IsLast (buckets_of rows (length heads) ++ bucket_of (hash_of row) (length heads) ∷ []) n (bucket_of (hash_of row) (length heads)) e.next
+last_of_added rows row e heads bucket n count is next before =
+    let buckets = buckets_of rows (length heads) in
+    let own = bucket_of (hash_of row) (length heads) in
     let named : get_or heads own 0 ≡ e.next = ap (λ (b : ℕ). get_or heads b 0) (sym is) ∙ sym next in
-    subst (λ (k : ℕ). IsLast (buckets ++ own ∷ []) (length entries) own k) named
-    (last_in_longer buckets own (length entries) own (get_or heads own 0) (before.at_bucket own) (omega (arith, length-buckets entries count)))
+    subst (λ (k : ℕ). IsLast (buckets ++ own ∷ []) n own k) named
+    (last_in_longer buckets own n own (get_or heads own 0) (before.at_bucket own) (omega (arith, length-buckets rows (length heads), count)))
 
-links_added : (entries : List Entry) (e : Entry) (heads : List ℕ) (bucket : ℕ) → bucket ≡ bucket_of e.hash (length heads) → e.next ≡ get_or heads bucket 0
-    → AreChained entries heads → AreLinked (entries ++ e ∷ []) (length heads) (length entries + 1)
-links_added entries e heads bucket is next before = record {
-  at_row = λ r x below at.
-      subst (λ (bs : List ℕ). IsLast bs r (bucket_of x.hash (length heads)) x.next) (sym (buckets_added entries e (length heads)))
-      (elim (push_cases entries e r x at) [
-        | inl old ↦
-            last_in_longer (buckets_of entries (length heads)) (bucket_of e.hash (length heads)) r (bucket_of x.hash (length heads)) x.next
-            (before.links_last.at_row r x (slice_get_within entries r x old) old)
-            (omega (arith, slice_get_within entries r x old, length-buckets entries (length heads)))
-        | inr new ↦
-            subst (λ (y : Entry). IsLast (buckets_of entries (length heads) ++ bucket_of e.hash (length heads) ∷ []) r (bucket_of y.hash (length heads)) y.next)
-            (sym new.1)
-            (subst (λ (k : ℕ). IsLast (buckets_of entries (length heads) ++ bucket_of e.hash (length heads) ∷ []) k (bucket_of e.hash (length heads)) e.next)
-            (sym new.0) (last_of_added entries e heads bucket is next before.heads_last))
-      ]);
-}
+module _ (rows : List (List ℕ)) (row : List ℕ) (entries : List Entry) (e : Entry) (heads : List ℕ) (bucket : ℕ) (count : length rows ≡ length entries)
+    (is : bucket ≡ bucket_of (hash_of row) (length heads)) (next : e.next ≡ get_or heads bucket 0) (before : AreChained rows entries heads) where
+  abbrev longer : List ℕ
+  longer = buckets_of rows (length heads) ++ bucket_of (hash_of row) (length heads) ∷ []
+
+  link_added : (r : ℕ) (x : Entry) (own : List ℕ) → (slice_get entries r ≡ Some x) ⊎ ((r ≡ length entries) × (x ≡ e))
+      → (slice_get rows r ≡ Some own) ⊎ ((r ≡ length rows) × (own ≡ row)) → IsLast longer r (bucket_of (hash_of own) (length heads)) x.next
+  link_added r x own (inl old) (inl stood) =
+      let within = slice_get_within entries r x old in
+      last_in_longer (buckets_of rows (length heads)) (bucket_of (hash_of row) (length heads)) r (bucket_of (hash_of own) (length heads)) x.next
+      (before.links_last.at_row r x own within old stood) (omega (arith, within, count, length-buckets rows (length heads)))
+  link_added r x own (inl old) (inr fresh) = absurd (omega (arith, slice_get_within entries r x old, fresh.0, count))
+  link_added r x own (inr fresh) (inl stood) = absurd (omega (arith, slice_get_within rows r own stood, fresh.0, count))
+  link_added r x own (inr fresh) (inr also) =
+      subst (λ (y : Entry). IsLast longer r (bucket_of (hash_of own) (length heads)) y.next) (sym fresh.1)
+      (subst (λ (ws : List ℕ). IsLast longer r (bucket_of (hash_of ws) (length heads)) e.next) (sym also.1)
+      (subst (λ (k : ℕ). IsLast longer k (bucket_of (hash_of row) (length heads)) e.next) (sym fresh.0)
+      (last_of_added rows row e heads bucket (length entries) count is next before.heads_last)))
+
+  links_added : AreLinked (rows ++ row ∷ []) (entries ++ e ∷ []) (length heads) (length entries + 1)
+  links_added = record {
+    at_row = λ r x own below at at_own.
+        subst (λ (bs : List ℕ). IsLast bs r (bucket_of (hash_of own) (length heads)) x.next) (sym (buckets_added rows row (length heads)))
+        (link_added r x own (push_cases entries e r x at) (push_cases rows row r own at_own));
+  }
+
+  pub chained_added : bucket < length heads → AreChained (rows ++ row ∷ []) (entries ++ e ∷ []) (set heads bucket (length entries + 1))
+  chained_added within =
+      let same : length (set heads bucket (length entries + 1)) ≡ length heads = length-set heads bucket (length entries + 1) in
+      let held : length (entries ++ e ∷ []) ≡ length entries + 1 = length_push entries e in
+      record {
+        heads_last = subst (λ (n : ℕ). AreHeads (buckets_of (rows ++ row ∷ []) n) (length (entries ++ e ∷ [])) (set heads bucket (length entries + 1))) (sym same)
+            (subst (λ (n : ℕ). AreHeads (buckets_of (rows ++ row ∷ []) (length heads)) n (set heads bucket (length entries + 1))) (sym held)
+            (heads_added rows row heads bucket (length entries) count is within before.heads_last));
+        links_last = subst (λ (n : ℕ). AreLinked (rows ++ row ∷ []) (entries ++ e ∷ []) n (length (entries ++ e ∷ []))) (sym same)
+            (subst (λ (n : ℕ). AreLinked (rows ++ row ∷ []) (entries ++ e ∷ []) (length heads) n) (sym held) links_added);
+      }
 
 -- ---- the table
 
@@ -105,24 +124,12 @@ pub table_added : (words row : List ℕ) (entries : List Entry) (heads : List �
 table_added words row entries heads bucket e table is =
     let all : length (words ++ row) ≡ length words + length row = length-append words row in
     let ends : ends_of (entries ++ e ∷ []) ≡ ends_of entries ++ e.end ∷ [] = map_push (λ (x : Entry). x.end) entries e in
-    let count : length (set heads bucket (length entries + 1)) ≡ length heads = length-set heads bucket (length entries + 1) in
-    let held : length (entries ++ e ∷ []) ≡ length entries + 1 = length_push entries e in
     record {
       ends_ascend = subst (λ (es : List ℕ). Ascend 0 es (length (words ++ row))) (sym ends)
           (subst (λ (n : ℕ). Ascend 0 (ends_of entries ++ n ∷ []) (length (words ++ row))) (all ∙ sym is.end_is)
           (ascend_push 0 (ends_of entries) (length words) (length (words ++ row)) table.ends_ascend (omega arith)));
-      hashes_are = map_push (λ (x : Entry). x.hash) entries e
-          ∙ ap (λ (hs : List ℕ). hs ++ e.hash ∷ []) table.hashes_are
-          ∙ ap (λ (h : ℕ). map hash_of (rows_of words entries) ++ h ∷ []) is.hash_is
-          ∙ sym (map_push hash_of (rows_of words entries) row)
-          ∙ ap (map hash_of) (sym (rows_added words row entries e table.ends_ascend is.end_is));
-      chained = record {
-        heads_last = subst (λ (n : ℕ). AreHeads (buckets_of (entries ++ e ∷ []) n) (length (entries ++ e ∷ [])) (set heads bucket (length entries + 1)))
-            (sym count)
-            (subst (λ (n : ℕ). AreHeads (buckets_of (entries ++ e ∷ []) (length heads)) n (set heads bucket (length entries + 1))) (sym held)
-            (heads_added entries e heads bucket is.bucket_is is.within table.chained.heads_last));
-        links_last = subst (λ (n : ℕ). AreLinked (entries ++ e ∷ []) n (length (entries ++ e ∷ []))) (sym count)
-            (subst (λ (n : ℕ). AreLinked (entries ++ e ∷ []) (length heads) n) (sym held)
-            (links_added entries e heads bucket is.bucket_is is.next_is table.chained));
-      };
+      row_each = length-rows_of (words ++ row) (entries ++ e ∷ []);
+      chained = subst (λ (rows : List (List ℕ)). AreChained rows (entries ++ e ∷ []) (set heads bucket (length entries + 1)))
+          (sym (rows_added words row entries e table.ends_ascend is.end_is))
+          (chained_added (rows_of words entries) row entries e heads bucket (length-rows_of words entries) is.bucket_is is.next_is table.chained is.within);
     }

@@ -19,6 +19,18 @@ last_passes buckets n bucket other named last at apart = record {
   ];
 }
 
+-- and so it is without that row
+pub last_before : (buckets : List ℕ) (n bucket other named : ℕ) → IsLast buckets (n + 1) bucket named → slice_get buckets n ≡ Some other → (bucket ≡ other → ⊥)
+    → IsLast buckets n bucket named
+last_before buckets n bucket other named last at apart = record {
+  below = elim (cases_eq named (n + 1)) [
+    | inl same ↦ absurd (apart (same_Some _ _ (sym (last.there n (same ∙ omega arith)) ∙ at)))
+    | inr less ↦ omega (arith, last.below)
+  ];
+  there = last.there;
+  none_later = λ r l m e. last.none_later r l (omega (arith, m)) e;
+}
+
 -- the row that is looked at is the last one of its own bucket
 pub last_is : (buckets : List ℕ) (n bucket : ℕ) → slice_get buckets n ≡ Some bucket → IsLast buckets (n + 1) bucket (n + 1)
 last_is buckets n bucket at = record {

@@ -2,7 +2,6 @@
 pub mod Adding
 pub mod ChainSteps
 pub mod Finding
-pub mod HashesOfRows
 pub mod Interned
 pub mod Linking
 pub mod Releasing

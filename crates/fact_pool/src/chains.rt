@@ -3,13 +3,13 @@
 
 ghost use Rattle.std.specs.Prelude.{◌≡◌, ℕ, ◌<◌, ◌≤◌, ◌^◌, Some, Contains, IfOk, MatchOption, length, slice_get, vec_len};
 ghost use Rattle.std.specs.List.{slice_index};
-ghost use Rattle.fact_pool.specs.Chains.{AreChained, AreHeads, AreLinked, IsTable};
+ghost use Rattle.fact_pool.specs.Chains.{AreChained, AreHeads, IsTable};
 ghost use Rattle.fact_pool.specs.Hashes.{bucket_of, hash_of};
-ghost use Rattle.fact_pool.specs.Layout.{buckets_of, ends_of, hashes_of, rows_of};
+ghost use Rattle.fact_pool.specs.Layout.{Ascend, buckets_of, ends_of, rows_of};
 
 use crate::entry::Entry;
 use crate::hash::bucket_of;
-use crate::layout::has_words;
+use crate::layout::{has_words, hash_at};
 use crate::row::Row;
 use std::alloc::{AllocError, Global};
 
@@ -64,7 +64,7 @@ pub fn find(
     let mut named = head_of(heads, hash);
     while named > 0 {
         let row = named - 1;
-        if has_words(words, entries, row as usize, wanted, hash) {
+        if has_words(words, entries, row as usize, wanted) {
             return Some(Row(row));
         }
         named = entries[row as usize].next;
@@ -73,36 +73,36 @@ pub fn find(
 }
 
 /// Links all rows, where each bucket is empty.
-pub fn link_all(entries: &mut [Entry], heads: &mut [u32])
+pub fn link_all(words: &[u32], entries: &mut [Entry], heads: &mut [u32])
+    requires ascend { Ascend 0 (ends_of entries.old) (length words.now) }
     requires covered { length entries.old ≤ length heads.old }
     requires few { length heads.old < 2 ^ 32 }
     requires empty { (bucket : ℕ) → slice_index heads.old bucket ≡ 0 }
     ensures ends { ends_of entries.new ≡ ends_of entries.old }
-    ensures hashes { hashes_of entries.new ≡ hashes_of entries.old }
-    ensures chained { AreChained entries.new heads.new }
+    ensures chained { AreChained (rows_of words.now entries.new) entries.new heads.new }
 {
     let count = heads.len();
     for row in 0..entries.len() {
-        let entry = &mut entries[row];
-        let bucket = bucket_of(entry.hash, count);
-        entry.next = heads[bucket];
+        let bucket = bucket_of(hash_at(words, entries, row), count);
+        entries[row].next = heads[bucket];
         heads[bucket] = row as u32 + 1;
     }
 }
 
 /// Takes rows off their chains, from the last one down to the row `kept`. Each of them is then the first of its chain.
-pub fn unlink(entries: &[Entry], heads: &mut [u32], kept: usize)
+pub fn unlink(words: &[u32], entries: &[Entry], heads: &mut [u32], kept: usize)
+    requires ascend { Ascend 0 (ends_of entries.now) (length words.now) }
     requires kept { kept ≤ length entries.now }
     requires covered { length entries.now ≤ length heads.old }
     requires few { length heads.old < 2 ^ 32 }
-    requires chained { AreChained entries.now heads.old }
-    ensures { AreHeads (buckets_of entries.now (length heads.old)) kept heads.new }
+    requires chained { AreChained (rows_of words.now entries.now) entries.now heads.old }
+    ensures { AreHeads (buckets_of (rows_of words.now entries.now) (length heads.old)) kept heads.new }
 {
     let count = heads.len();
     let mut held = entries.len();
     while held > kept {
         held -= 1;
-        let entry = entries[held];
-        heads[bucket_of(entry.hash, count)] = entry.next;
+        let bucket = bucket_of(hash_at(words, entries, held), count);
+        heads[bucket] = entries[held].next;
     }
 }

@@ -13,6 +13,9 @@ use crate::row::{Mark, Row};
 use std::alloc::{AllocError, Global};
 use std::marker::Model;
 
+/// How many words all rows have together at most: each place where a row ends is a number of 32 bits.
+const MOST_WORDS: usize = u32::MAX as usize;
+
 /// Lists of words, each of which stands once. They go by the number of their row, and keep it until they are released.
 #[derive(Drop)]
 pub struct FactPool {
@@ -72,7 +75,7 @@ impl FactPool {
     }
 
     /// Makes room for so many more rows and words, and for some beyond them, as a vector does. It answers an error where memory runs out,
-    /// or where there would be room for more than 2^32 - 1 rows. Nothing has changed then.
+    /// or where there would be room for more than 2^32 - 1 rows, or as many words. Nothing has changed then.
     pub fn reserve(&mut self, rows: u32, words: u32) -> Result<(), AllocError>
         ensures rows { self.new.rows ≡ self.old.rows }
         ensures spare { OnOk result (HasSpare self.new rows words) }
@@ -93,6 +96,9 @@ impl FactPool {
         ensures room { KeepsRoom self.old self.new }
         ensures sure { HasSpare self.old rows words → IsOk result }
     {
+        if words > MOST_WORDS - self.words.len() {
+            return Err(AllocError);
+        }
         let held = self.entries.len();
         let wanted = held + rows as usize;
         if wanted <= self.heads.len() {
@@ -101,13 +107,13 @@ impl FactPool {
         let mut heads = empty_heads(self.alloc, wanted, self.heads.len())?;
         self.entries.reserve_exact(heads.len() - held)?;
         self.words.reserve(words)?;
-        link_all(&mut self.entries, &mut heads);
+        link_all(&self.words, &mut self.entries, &mut heads);
         self.heads = heads;
         Ok(())
     }
 
     /// The number of the row with these words, which becomes the last row where there is none yet. It answers an error where memory runs
-    /// out. Nothing has changed then.
+    /// out, or where all rows would have more than 2^32 - 1 words together. Nothing has changed then.
     pub fn intern(&mut self, words: &[u32]) -> Result<Row, AllocError>
         requires { length self.old.rows < u32.MAX }
         ensures row { IfOk result (λ row. slice_get self.new.rows row.0 ≡ Some words.now) }
@@ -150,8 +156,8 @@ impl FactPool {
         let Ok(()) = self.words.extend_from_slice(words) else {
             unreachable!()
         };
-        let end = self.words.len();
-        let Ok(()) = self.entries.push(Entry { end, hash, next }) else {
+        let end = self.words.len() as u32;
+        let Ok(()) = self.entries.push(Entry { end, next }) else {
             unreachable!()
         };
         let bucket = bucket_of(hash, self.heads.len());
@@ -186,7 +192,7 @@ impl FactPool {
         ensures word_room { word_room self.new ≡ word_room self.old }
     {
         let kept = mark.rows as usize;
-        unlink(&self.entries, &mut self.heads, kept);
+        unlink(&self.words, &self.entries, &mut self.heads, kept);
         self.entries.truncate(kept);
         self.words.truncate(mark.words as usize);
     }

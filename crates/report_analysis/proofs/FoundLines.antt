@@ -1,8 +1,9 @@
--- The sites with their verdicts, one after another: their lines, how many of them have a verdict, and whether all are safe.
+-- The sites with their verdicts, one after another: their lines with what is told below them, how many of them have a verdict, and whether all are safe.
 use Rattle.std.proofs.Common.{◌≡◌, ◌↔◌, ℕ, zero, suc, ◌+◌, ◌≤◌, Bool, cond, List, [], ◌∷◌, ◌++◌, length, drop, map, Some, slice_get, IsTrue, refl, sym, ap, ◌∙◌, arith, add-one, append_assoc, append-nil}
 use Rattle.std.specs.Prelude.{zip}
-use Rattle.std.specs.List.{All, AllByRecursion, count_by}
-use Rattle.std.proofs.lemmas.Grind.{flat_map-append}
+use Rattle.std.specs.List.{All, AllByRecursion, count_by, flat_map}
+use Rattle.std.specs.declared.vec.Vec.{Vec}
+use Rattle.std.specs.declared.alloc.Global.{Global}
 use Rattle.std.proofs.lemmas.List.{drop_all}
 use Rattle.std.proofs.lemmas.List.Elements.{All-from_recursion, recursion_from_All}
 use Rattle.std.proofs.lemmas.List.Sums.{sum_by-cons}
@@ -12,42 +13,45 @@ use Rattle.site_report.specs.declared.tracked_site.TrackedSite.{TrackedSite}
 use Rattle.site_report.specs.declared.verdict.Verdict.{Verdict}
 use Rattle.site_report.specs.declared.verdict.Verdict.TheVariants.{Safe, Unproved, Limit}
 use Rattle.site_report.specs.Lines.{summary_line, verdict_line}
-use Rattle.report_spec.specs.Reports.{is_safe, is_unproved, is_limit, line_of, report_lines}
+use Rattle.report_spec.specs.Reports.{is_safe, is_unproved, is_limit, summary_of}
 use Rattle.report_analysis.specs.declared.writing.Counts.{Counts}
-use Rattle.report_analysis.specs.Texts.{text_of}
-use Rattle.report_analysis.specs.Written.{AreCounts, lines_of}
+use Rattle.report_analysis.specs.Written.{AreCounts, site_text, text_of_sites}
 
 -- ---- one more line
 
--- what is found of the next site
-next_found : (sites : List TrackedSite) (verdicts : List Verdict) (i : ℕ) (t : TrackedSite) (v : Verdict) → slice_get sites i ≡ Some t
-    → slice_get verdicts i ≡ Some v
-    → zip (drop i sites) (drop i verdicts) ≡ (t, v) ∷ zip (drop (suc i) sites) (drop (suc i) verdicts)
-next_found [] verdicts i t v at given = absurd (none-some t at)
-next_found (x ∷ sites) [] i t v at given = absurd (none-some v given)
-next_found (x ∷ sites) (u ∷ verdicts) zero t v at given =
+-- what is told of the next site
+next_found : (sites : List TrackedSite) (verdicts : List Verdict) (traces : List (Vec ℕ Global)) (i : ℕ) (t : TrackedSite) (v : Verdict) (r : Vec ℕ Global) → slice_get sites i ≡ Some t
+    → slice_get verdicts i ≡ Some v → slice_get traces i ≡ Some r
+    → zip (zip (drop i sites) (drop i verdicts)) (drop i traces) ≡ ((t, v), r) ∷ zip (zip (drop (suc i) sites) (drop (suc i) verdicts)) (drop (suc i) traces)
+next_found [] verdicts traces i t v r at given told = absurd (none-some t at)
+next_found (x ∷ sites) [] traces i t v r at given told = absurd (none-some v given)
+next_found (x ∷ sites) (u ∷ verdicts) [] i t v r at given told = absurd (none-some r told)
+next_found (x ∷ sites) (u ∷ verdicts) (s ∷ traces) zero t v r at given told =
     let same_site = same_Some x t at in
     let same_verdict = same_Some u v given in
-    (λ i. (same_site i, same_verdict i) ∷ zip sites verdicts)
-next_found (x ∷ sites) (u ∷ verdicts) (suc i) t v at given = next_found sites verdicts i t v at given
+    let same_text = same_Some s r told in
+    (λ i. ((same_site i, same_verdict i), same_text i) ∷ zip (zip sites verdicts) traces)
+next_found (x ∷ sites) (u ∷ verdicts) (s ∷ traces) (suc i) t v r at given told = next_found sites verdicts traces i t v r at given told
 
-module _ (p : Program) (sites : List TrackedSite) (verdicts : List Verdict) where
-  -- the text that was written, and that of the lines of what is left, are that of all of them
+module _ (p : Program) (sites : List TrackedSite) (verdicts : List Verdict) (traces : List (Vec ℕ Global)) where
+  -- the text that was written, and that of what is left, are that of all of them
   abbrev pub LeavesLines : List ℕ → ℕ → Type 0
-  LeavesLines text i = text ++ text_of (lines_of p (drop i sites) (drop i verdicts)) ≡ text_of (lines_of p sites verdicts)
+  LeavesLines text i = text ++ text_of_sites p (drop i sites) (drop i verdicts) (drop i traces) ≡ text_of_sites p sites verdicts traces
 
-  pub next_line : (text line : List ℕ) (i : ℕ) (t : TrackedSite) (v : Verdict) → slice_get sites i ≡ Some t
-      → slice_get verdicts i ≡ Some v → line ≡ verdict_line p t v → LeavesLines text i → LeavesLines (text ++ line) (i + 1)
-  next_line text line i t v at given is before =
-      let rest = text_of (lines_of p (drop (suc i) sites) (drop (suc i) verdicts)) in
-      let one = ap (λ (xs : List ℕ). text ++ (xs ++ rest)) is in
-      let next = next_found sites verdicts i t v at given in
-      let here = ap (λ (found : List (TrackedSite × Verdict)). text ++ text_of (map (line_of p) found)) next in
-      rw add-one (append_assoc text line rest ∙ one ∙ sym here ∙ before)
+  pub next_line : (text line below : List ℕ) (i : ℕ) (t : TrackedSite) (v : Verdict) (r : Vec ℕ Global) → slice_get sites i ≡ Some t → slice_get verdicts i ≡ Some v
+      → slice_get traces i ≡ Some r → line ≡ verdict_line p t v → below ≡ r.items → LeavesLines text i → LeavesLines ((text ++ line) ++ below) (i + 1)
+  next_line text line below i t v r at given told is below_is before =
+      let rest = text_of_sites p (drop (suc i) sites) (drop (suc i) verdicts) (drop (suc i) traces) in
+      let apart : ((text ++ line) ++ below) ++ rest ≡ text ++ ((line ++ below) ++ rest) =
+      append_assoc (text ++ line) below rest ∙ append_assoc text line (below ++ rest) ∙ ap (λ (xs : List ℕ). text ++ xs) (sym (append_assoc line below rest)) in
+      let one : text ++ ((line ++ below) ++ rest) ≡ text ++ ((verdict_line p t v ++ r.items) ++ rest) = (λ j. text ++ ((is j ++ below_is j) ++ rest)) in
+      let next = next_found sites verdicts traces i t v r at given told in
+      let here = ap (λ (found : List ((TrackedSite × Verdict) × Vec ℕ Global)). text ++ flat_map (site_text p) found) next in
+      rw add-one (apart ∙ one ∙ sym here ∙ before)
 
-  pub no_line_left : (text : List ℕ) (i : ℕ) → length sites ≤ i → LeavesLines text i → text ≡ text_of (lines_of p sites verdicts)
+  pub no_line_left : (text : List ℕ) (i : ℕ) → length sites ≤ i → LeavesLines text i → text ≡ text_of_sites p sites verdicts traces
   no_line_left text i past left =
-      let none = ap (λ (ts : List TrackedSite). text ++ text_of (lines_of p ts (drop i verdicts))) (drop_all i sites past) in
+      let none = ap (λ (ts : List TrackedSite). text ++ text_of_sites p ts (drop i verdicts) (drop i traces)) (drop_all i sites past) in
       sym (append-nil text) ∙ sym none ∙ left
 
 -- ---- counts
@@ -80,18 +84,14 @@ all_counted (v ∷ verdicts) =
     one_kind (Limit stage) = refl
 
 -- the text of the report
-pub written_text : (p : Program) (sites : List TrackedSite) (verdicts : List Verdict) → length verdicts ≡ length sites → (text summary : List ℕ)
-    (c : Counts) → text ≡ text_of (lines_of p sites verdicts) → AreCounts verdicts c → summary ≡ summary_line c.safe c.unproved c.limit
-    → text ++ summary ≡ text_of (report_lines p (zip sites verdicts))
-written_text p sites verdicts long text summary c text_is counts is =
+pub written_text : (p : Program) (sites : List TrackedSite) (verdicts : List Verdict) (traces : List (Vec ℕ Global)) → length verdicts ≡ length sites → (text summary : List ℕ)
+    (c : Counts) → text ≡ text_of_sites p sites verdicts traces → AreCounts verdicts c → summary ≡ summary_line c.safe c.unproved c.limit
+    → text ++ summary ≡ text_of_sites p sites verdicts traces ++ summary_of (zip sites verdicts)
+written_text p sites verdicts traces long text summary c text_is counts is =
     let safe = counts.safe ∙ sym (counted is_safe sites verdicts long) in
     let unproved = counts.unproved ∙ sym (counted is_unproved sites verdicts long) in
     let limit = counts.limit ∙ sym (counted is_limit sites verdicts long) in
-    let lines = lines_of p sites verdicts in
-    let last = summary_line (count_by (λ (f : TrackedSite × Verdict). is_safe f.1) (zip sites verdicts))
-    (count_by (λ (f : TrackedSite × Verdict). is_unproved f.1) (zip sites verdicts)) (count_by (λ (f : TrackedSite × Verdict). is_limit f.1) (zip sites verdicts)) in
-    (λ i. text_is i ++ is i) ∙ ((λ i. text_of lines ++ summary_line (safe i) (unproved i) (limit i))
-    ∙ (ap (λ (xs : List ℕ). text_of lines ++ xs) (sym (append-nil last)) ∙ sym (flat_map-append (λ (line : List ℕ). line) lines (last ∷ []))))
+    (λ i. text_is i ++ is i) ∙ (λ i. text_of_sites p sites verdicts traces ++ summary_line (safe i) (unproved i) (limit i))
 
 -- ---- all of them
 

@@ -11,3 +11,4 @@ mod Agreeing
 mod ListedVerdicts
 mod TurnedRound
 mod Reported
+mod Tracing

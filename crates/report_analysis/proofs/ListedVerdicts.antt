@@ -1,5 +1,5 @@
 -- By the facts of an analysis, a site has one verdict by the listed methods and by those of the folder.
-use Rattle.std.proofs.Common.{◌≤◌, ℕ, Contains, Ok}
+use Rattle.std.proofs.Common.{◌≤◌, ℕ, Bool, true, false, List, Contains, Ok}
 use Rattle.jvm_model.specs.declared.site.Site.{Site}
 use Rattle.machine_bytecode.specs.Objects.{Subject}
 use Rattle.op_model.specs.declared.lowered.LoweredMethod.{LoweredMethod}
@@ -12,7 +12,9 @@ use Rattle.site_report.specs.declared.verdict.Verdict.{Verdict}
 use Rattle.site_report.specs.Sites.{site_in}
 use Rattle.report_spec.specs.Verdicts.{Asked, AtLimitBy, IsVerdict, SafeBy, by_events, by_edges, of_edges}
 use Rattle.report_spec.proofs.FirstStages.{verdict_over}
-use Rattle.stage_answers.proofs.Listed.{listed_limit, listed_safe}
+use Rattle.stage_edges.specs.Rules.{Edge}
+use Rattle.report_spec.specs.Traces.{IsTrace, IsTraceIf, has_trace}
+use Rattle.stage_answers.proofs.Listed.{listed_error, listed_limit, listed_safe}
 use Rattle.report_analysis.specs.Analyses.{IsAnalysis}
 use Rattle.report_analysis.proofs.Agreeing.{GivesNodes, given_is_listed, listed_is_given, pruned_over}
 
@@ -63,3 +65,17 @@ module _ (x : Subject) (limit : ℕ) (g : Findings) (analysis : IsAnalysis x.pro
       let s = site_in x.program t in
       verdict_over (SafeAs w s Listed) (SafeAs w s (IsSupplied x.program)) (LimitAs w s Listed) (LimitAs w s (IsSupplied x.program)) w.stages
       (safe_there w s) (safe_back w s) (limit_there w s) (limit_back w s) v is
+
+  -- what is told of a site by the listed methods is told by those of the folder
+  pub trace_of_folder : (w : Asked) (trace : Bool) (f : TrackedSite × Verdict) (edges : List Edge) → IsTrace x Listed (Contains g.facts) w trace f edges
+      → IsTrace x (IsSupplied x.program) (Contains g.facts) w trace f edges
+  trace_of_folder w trace f edges is = by (has_trace trace w.stages f.1) is
+    where
+      by : (told : Bool) → IsTraceIf x Listed (Contains g.facts) w (site_in x.program f.0) told edges
+          → IsTraceIf x (IsSupplied x.program) (Contains g.facts) w (site_in x.program f.0) told edges
+      by true d = record {
+        setting = d.setting;
+        of_stage = d.of_stage;
+        of_error = listed_error x g.facts g.methods d.setting w.fact_limit analysis.least.closed only analysis.listed.all edges d.of_error;
+      }
+      by false none = none

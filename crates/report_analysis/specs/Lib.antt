@@ -4,3 +4,4 @@ pub mod Texts
 pub mod Written
 pub mod Numbers
 pub mod Later
+pub mod Judging

@@ -11,24 +11,30 @@ ghost use Rattle.ground_views.specs.Views.{AreViewsOf};
 ghost use Rattle.prune_stage.specs.Pruning.{IsPruned, IsPruningOf};
 ghost use Rattle.site_report.specs.Sites.{AreInOrder};
 ghost use Rattle.stage_verdicts.specs.LaterVerdicts.{IsAsked};
+ghost use Rattle.report_analysis.specs.Judging.{AreJudgedBy};
 ghost use Rattle.report_analysis.specs.Later.{IsVerdictOf, IsVerdictAt};
 ghost use Rattle.report_analysis.specs.Numbers.{AreNumbers, IsNumberOf};
 
 use crate::numbers::numbers_of;
+use crate::traces::{are_told, each_trace};
+use crate::verdicts::Judged;
 use ground::Ground;
 use ground_views::GroundViews;
 use jvm_model::{MethodNo, SiteNo};
+use program_index::order::empty_lists;
 use site_report::{TrackedSite, Verdict};
 use stage_verdicts::{LaterStages, later_verdict};
 use std::alloc::{AllocError, Global};
 
-/// The verdict of each site, in their order. `answers` says of each whether the first stage proves it safe.
-pub(crate) fn later_verdicts(
+/// What is found of each site, in their order. `answers` says of each whether the first stage proves it safe, and `trace` whether it is told why a site is
+/// unproved.
+pub(crate) fn judge_later(
     alloc: Global,
     asked: LaterStages<'_, '_>,
+    trace: bool,
     sites: &[TrackedSite],
     answers: &[bool],
-) -> Result<Vec<Verdict>, AllocError>
+) -> Result<Judged, AllocError>
     requires asked { IsAsked asked }
     requires automaton { IsAutomaton asked.automaton.now }
     requires entry { IsMethodNumber asked.ground.now.program asked.entry.0 }
@@ -36,11 +42,24 @@ pub(crate) fn later_verdicts(
     requires known { (t : TrackedSite) → Contains sites.now t → IsClassNumber asked.ground.now.program t.class.0 }
     requires pruned { AllZip (IsPruningOf asked.ground.now.program (gives_listed asked.ground.now.methods) (Contains asked.ground.now.facts) asked.automaton.now)
         sites.now answers.now }
-    ensures { IfOk result (λ verdicts. AllZip (IsVerdictOf asked.entry) sites.now verdicts.items) }
+    ensures { IfOk result (AreJudgedBy asked.entry trace sites.now) }
 {
     let numbers = numbers_of(alloc, asked.ground, sites)?;
     let views = views_of(alloc, asked.ground, asked.entry)?;
-    each_verdict(alloc, &views, asked, sites, answers, numbers.as_slice())
+    let verdicts = each_verdict(alloc, &views, asked, sites, answers, numbers.as_slice())?;
+    let traces = if are_told(trace, asked.stages) {
+        each_trace(
+            alloc,
+            &views,
+            asked,
+            sites,
+            verdicts.as_slice(),
+            numbers.as_slice(),
+        )?
+    } else {
+        empty_lists(alloc, sites.len())?
+    };
+    Ok(Judged { verdicts, traces })
 }
 
 /// What is needed to look at the nodes of the ground. It is as if memory ran out where 32 bits do not count something.

@@ -11,6 +11,7 @@ pub mod covered;
 mod later;
 mod numbers;
 mod report;
+mod traces;
 mod verdicts;
 mod writing;
 

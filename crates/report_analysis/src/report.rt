@@ -9,7 +9,7 @@ ghost use Rattle.lowering_supply.specs.Supplied.{IsSupplied};
 ghost use Rattle.program_model.specs.Numbers.{name_at, IsClassNumber, IsMethodNumber};
 
 use crate::asked::ReportStages;
-use crate::verdicts::verdicts_of;
+use crate::verdicts::judge_sites;
 use crate::writing::written;
 use ground::Ground;
 use jvm_model::{Automaton, ClassNo};
@@ -25,7 +25,7 @@ pub struct Report {
 }
 
 /// The report on an analysis of the program from an entry, by the stages that are asked for: a line for each tracked site with its verdict, and the summary.
-/// `upper` is the property's class.
+/// Below the line of an unproved site stands a derivation, if that is asked for. `upper` is the property's class.
 pub fn report_of(
     alloc: Global,
     ground: &Ground<'_>,
@@ -40,15 +40,10 @@ pub fn report_of(
     requires entry { IsMethodNumber ground.now.program asked.entry.0 }
     requires analysis { (limit : ℕ) × IsAnalysis ground.now.program (IsSupplied ground.now.program) asked.entry limit ground.now }
     ensures { IfOk result (λ r. IsReportText (subject_of ground.now.program automaton.now asked) (IsSupplied ground.now.program)
-        (Contains ground.now.facts) (asked_of asked) r.text.items r.all_safe) }
+        (Contains ground.now.facts) (asked_of asked) asked.trace r.text.items r.all_safe) }
 {
     supplied_methods_are_whole();
     let sites = tracked(alloc, ground, upper)?;
-    let verdicts = verdicts_of(alloc, ground, automaton, sites.as_slice(), asked)?;
-    written(
-        alloc,
-        ground.program(),
-        sites.as_slice(),
-        verdicts.as_slice(),
-    )
+    let judged = judge_sites(alloc, ground, automaton, sites.as_slice(), asked)?;
+    written(alloc, ground.program(), sites.as_slice(), &judged)
 }

@@ -4,10 +4,10 @@ ghost use Rattle.std.specs.Prelude.{◌≡◌, ◌↔◌, All, Contains, IfOk, I
 ghost use Rattle.site_report.specs.declared.tracked_site.TrackedSite.{TrackedSite as RuleSite};
 ghost use Rattle.site_report.specs.Sites.{IsKnownSite};
 ghost use Rattle.report_spec.specs.Reports.{is_limit, is_safe};
-ghost use Rattle.report_analysis.specs.Texts.{text_of};
-ghost use Rattle.report_analysis.specs.Written.{AreCounts, IsWritten, lines_of};
+ghost use Rattle.report_analysis.specs.Written.{AreCounts, IsWritten, text_of_sites};
 
 use crate::report::Report;
+use crate::verdicts::Judged;
 use program_model::program::Program;
 use site_report::{TrackedSite, Verdict, summary_line, verdict_line};
 use std::alloc::{AllocError, Global};
@@ -25,13 +25,15 @@ pub(crate) fn written(
     alloc: Global,
     program: &Program,
     sites: &[TrackedSite],
-    verdicts: &[Verdict],
+    judged: &Judged,
 ) -> Result<Report, AllocError>
-    requires pairs { length verdicts.now ≡ length sites.now }
+    requires pairs { length judged.now.verdicts.items ≡ length sites.now }
+    requires traces { length judged.now.traces.items ≡ length sites.now }
     requires known { (t : RuleSite) → Contains sites.now t → IsKnownSite program.now t }
-    ensures { IfOk result (λ r. IsWritten program.now sites.now verdicts.now r.text.items r.all_safe) }
+    ensures { IfOk result (λ r. IsWritten program.now sites.now judged.now.verdicts.items judged.now.traces.items r.text.items r.all_safe) }
 {
-    let mut text = site_lines(alloc, program, sites, verdicts)?;
+    let verdicts = judged.verdicts.as_slice();
+    let mut text = site_lines(alloc, program, sites, judged)?;
     let counts = counts_of(verdicts)?;
     let summary = summary_line(alloc, counts.safe, counts.unproved, counts.limit)?;
     text.extend_from_slice(&summary)?;
@@ -41,21 +43,23 @@ pub(crate) fn written(
     })
 }
 
-/// The lines of the sites, one after another.
+/// The lines of the sites, one after another, each with what is told below it.
 fn site_lines(
     alloc: Global,
     program: &Program,
     sites: &[TrackedSite],
-    verdicts: &[Verdict],
+    judged: &Judged,
 ) -> Result<Vec<u8>, AllocError>
-    requires pairs { length verdicts.now ≡ length sites.now }
+    requires pairs { length judged.now.verdicts.items ≡ length sites.now }
+    requires traces { length judged.now.traces.items ≡ length sites.now }
     requires known { (t : RuleSite) → Contains sites.now t → IsKnownSite program.now t }
-    ensures { IfOk result (λ text. text.items ≡ text_of (lines_of program.now sites.now verdicts.now)) }
+    ensures { IfOk result (λ text. text.items ≡ text_of_sites program.now sites.now judged.now.verdicts.items judged.now.traces.items) }
 {
     let mut text = Vec::new(alloc);
     for (place, site) in sites.iter().enumerate() {
-        let line = verdict_line(alloc, program, *site, verdicts[place])?;
+        let line = verdict_line(alloc, program, *site, judged.verdicts[place])?;
         text.extend_from_slice(&line)?;
+        text.extend_from_slice(&judged.traces[place])?;
     }
     Ok(text)
 }

@@ -6,3 +6,4 @@ pub mod ReportOrder
 pub mod SameEdges
 pub mod SameFacts
 pub mod OneReport
+pub mod Traced

@@ -1,5 +1,5 @@
 -- The path edges of a site are the same by facts that are the same.
-use Rattle.std.proofs.Common.{◌≡◌, ℕ, List, Some, slice_get}
+use Rattle.std.proofs.Common.{◌≡◌, ℕ, List, [], ◌∷◌, ◌++◌, Some, slice_get, take}
 use Rattle.std.proofs.lemmas.List.Elements.{All-weaker}
 use Rattle.jvm_model.specs.declared.site.Site.{Site}
 use Rattle.jvm_model.specs.declared.number.MethodNo.{MethodNo}
@@ -13,6 +13,7 @@ use Rattle.stage_facts.specs.Facts.{SiteFact}
 use Rattle.stage_transfer.specs.Calls.{Entering}
 use Rattle.stage_transfer.specs.Settings.{Answers, AreAnswersOf, Setting}
 use Rattle.stage_transfer.specs.Stages.{Transfer, transfer_of}
+use Rattle.report_spec.specs.Traces.{IsErrorDerivation}
 use Rattle.stage_edges.specs.Edges.{ArePathEdges, IsAtLimit, IsSafeBelow, IsSettingOf, StageInstance}
 use Rattle.stage_edges.specs.Rules.{Edge, Enters, Instance, MayThrow, ThrowsClass, answers, call_returns, called, described_raises, enters, goes_on, held, listed, node_at, raises, resumes, returns, start, triggered, unwinds}
 
@@ -22,8 +23,11 @@ module _ {F : Type 0} (I J : List F → F → Type 0) (over : (premises : List F
   follows_over : (earlier : List F) (fact : F) → Follows I earlier fact → Follows J earlier fact
   follows_over earlier fact f = record { premises = f.premises; instance = over f.premises fact f.instance; hold = f.hold }
 
+  pub derivation_over : (facts : List F) → IsDerivation I facts → IsDerivation J facts
+  derivation_over facts d k fact stands = follows_over (take k facts) fact (d k fact stands)
+
   pub derivable_over : (fact : F) → IsDerivable I fact → IsDerivable J fact
-  derivable_over fact d = (d.0, (λ k other stands. follows_over _ other (d.1 k other stands)))
+  derivable_over fact d = (d.0, derivation_over (d.0 ++ fact ∷ []) d.1)
 
 -- ---- rules by more facts
 
@@ -72,7 +76,7 @@ module _ (x : Subject) (gives : GivenAs) (S T : Fact → Type 0) (to : (fact : F
     writes = λ m f. ((λ yes. to (may_write m f) ((are.writes m f).0 yes)), (λ writes. (are.writes m f).1 (back (may_write m f) writes)));
   }
 
-  module _ (w : Setting) (limit : ℕ) where
+  module _ (w : Setting) where
     setting_over : IsSettingOf x S w → IsSettingOf x T w
     setting_over is = record { property = is.property; answers = answers_over w.answers is.answers }
 
@@ -82,8 +86,18 @@ module _ (x : Subject) (gives : GivenAs) (S T : Fact → Type 0) (to : (fact : F
     rule_back : (premises : List Edge) (edge : Edge) → StageInstance x gives T w premises edge → StageInstance x gives S w premises edge
     rule_back = instance_over x gives T S back (transfer_of w)
 
-    pub safe_below_over : IsSafeBelow x gives S w limit → IsSafeBelow x gives T w limit
-    safe_below_over is = record {
+    pub error_over : (edges : List Edge) → IsErrorDerivation x gives S w edges → IsErrorDerivation x gives T w edges
+    error_over edges is = record {
+      setting = setting_over is.setting;
+      starts = is.starts;
+      derivation = derivation_over (StageInstance x gives S w) (StageInstance x gives T w) rule_over edges is.derivation;
+      error = is.error;
+      ends = is.ends;
+      is_error = is.is_error;
+    }
+
+    pub safe_below_over : (limit : ℕ) → IsSafeBelow x gives S w limit → IsSafeBelow x gives T w limit
+    safe_below_over limit is = record {
       setting = setting_over is.setting;
       edges = is.edges;
       are = record {
@@ -98,8 +112,8 @@ module _ (x : Subject) (gives : GivenAs) (S T : Fact → Type 0) (to : (fact : F
       no_error = is.no_error;
     }
 
-    pub limit_over : IsAtLimit x gives S w limit → IsAtLimit x gives T w limit
-    limit_over is = record {
+    pub limit_over : (limit : ℕ) → IsAtLimit x gives S w limit → IsAtLimit x gives T w limit
+    limit_over limit is = record {
       setting = setting_over is.setting;
       many = record {
         facts = is.many.facts;

@@ -1,5 +1,5 @@
 -- A report speaks of the methods that may run, of their calls and of what places may hold: by facts that are the same in these it is the same report.
-use Rattle.std.proofs.Common.{ℕ, Bool, List}
+use Rattle.std.proofs.Common.{ℕ, Bool, List, All, map}
 use Rattle.std.proofs.lemmas.List.Elements.{All-weaker}
 use Rattle.jvm_model.specs.declared.automaton.Automaton.{Automaton}
 use Rattle.jvm_model.specs.declared.automaton.Event.{Event}
@@ -14,7 +14,7 @@ use Rattle.site_report.specs.declared.verdict.Verdict.{Verdict}
 use Rattle.site_report.specs.Sites.{site_in}
 use Rattle.prune_stage.specs.Pruning.{IsPruned, MayOccur}
 use Rattle.report_spec.specs.Reports.{IsReport}
-use Rattle.report_spec.specs.Tracked.{Allocates, IsTracked, makes, is_given}
+use Rattle.report_spec.specs.Tracked.{Allocates, AreTracked, IsTracked, makes, is_given}
 use Rattle.report_spec.specs.Verdicts.{Asked, AtLimitBy, IsVerdict, SafeBy, by_events, by_edges, of_edges}
 use Rattle.report_spec.proofs.FirstStages.{verdict_over}
 use Rattle.report_spec.proofs.SameEdges.{limit_over, safe_below_over}
@@ -74,18 +74,26 @@ module _ (x : Subject) (gives : GivenAs) (S T : Fact → Type 0) (to : (fact : F
       (λ stage within. safe_into x gives S T to back d n s stage) (λ stage within. safe_into x gives T S back to d n s stage)
       (λ stage within. limit_into x gives S T to back d n s stage) (λ stage within. limit_into x gives T S back to d n s stage) v is
 
+  pub sites_into : (upper : List ℕ) (sites : List TrackedSite) → AreTracked x.program gives S upper sites → AreTracked x.program gives T upper sites
+  sites_into upper sites are = record {
+    those = λ t. (
+      (λ there. tracked_into gives S T to x.program upper t ((are.those t).0 there)),
+      (λ is. (are.those t).1 (tracked_into gives T S back x.program upper t is)),
+    );
+    order = are.order;
+  }
+
+  pub verdicts_into : (w : Asked) (found : List (TrackedSite × Verdict)) → All (λ (f : TrackedSite × Verdict). IsVerdict x gives S w f.0 f.1) found
+      → All (λ (f : TrackedSite × Verdict). IsVerdict x gives T w f.0 f.1) found
+  verdicts_into w found all =
+      All-weaker (λ (f : TrackedSite × Verdict). IsVerdict x gives S w f.0 f.1) (λ (f : TrackedSite × Verdict). IsVerdict x gives T w f.0 f.1)
+      (λ f is. verdict_into w f.0 f.1 is) found all
+
   pub report_into : (w : Asked) (lines : List (List ℕ)) (all_safe : Bool) → IsReport x gives S w lines all_safe → IsReport x gives T w lines all_safe
   report_into w lines all_safe r = record {
     found = r.found;
-    tracked = record {
-      those = λ t. (
-        (λ there. tracked_into gives S T to x.program x.property.class_name t ((r.tracked.those t).0 there)),
-        (λ is. (r.tracked.those t).1 (tracked_into gives T S back x.program x.property.class_name t is)),
-      );
-      order = r.tracked.order;
-    };
-    verdicts = All-weaker (λ (f : TrackedSite × Verdict). IsVerdict x gives S w f.0 f.1) (λ (f : TrackedSite × Verdict). IsVerdict x gives T w f.0 f.1)
-        (λ f is. verdict_into w f.0 f.1 is) r.found r.verdicts;
+    tracked = sites_into x.property.class_name (map (λ (f : TrackedSite × Verdict). f.0) r.found) r.tracked;
+    verdicts = verdicts_into w r.found r.verdicts;
     lines_are = r.lines_are;
     safe = r.safe;
   }

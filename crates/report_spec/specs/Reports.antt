@@ -32,13 +32,15 @@ is_limit (Limit stage) = true
 abbrev pub line_of : Program → TrackedSite × Verdict → List ℕ
 line_of p found = verdict_line p found.0 found.1
 
+-- The summary of what is found.
+abbrev pub summary_of : List (TrackedSite × Verdict) → List ℕ
+summary_of found =
+    summary_line (count_by (λ (f : TrackedSite × Verdict). is_safe f.1) found) (count_by (λ (f : TrackedSite × Verdict). is_unproved f.1) found)
+    (count_by (λ (f : TrackedSite × Verdict). is_limit f.1) found)
+
 -- The lines of a report: those of the sites, and the summary.
 abbrev pub report_lines : Program → List (TrackedSite × Verdict) → List (List ℕ)
-report_lines p found =
-    map (line_of p) found
-    ++ summary_line (count_by (λ (f : TrackedSite × Verdict). is_safe f.1) found) (count_by (λ (f : TrackedSite × Verdict). is_unproved f.1) found)
-    (count_by (λ (f : TrackedSite × Verdict). is_limit f.1) found)
-    ∷ []
+report_lines p found = map (line_of p) found ++ summary_of found ∷ []
 
 -- The report on what is asked has one line for each tracked site, in the order of a report, with its verdict, and then the summary; and says whether all
 -- are safe.

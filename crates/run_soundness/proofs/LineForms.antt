@@ -1,5 +1,5 @@
 -- Each line of an outcome is a line, and only that of a report says that a site is safe.
-use Rattle.std.proofs.Common.{codes, ◌≡◌, ◌⊎◌, inl, inr, ℕ, Bool, true, false, not, eqb, nat_eq, List, [], ◌∷◌, ◌++◌, map, count_by, refl, ap}
+use Rattle.std.proofs.Common.{codes, ◌≡◌, ◌⊎◌, inl, inr, ℕ, Bool, true, false, not, eqb, nat_eq, List, [], ◌∷◌, refl, ap}
 use Rattle.std.specs.List.{AllByRecursion, list_all}
 use Rattle.std.specs.Prelude.{slice_index_or}
 use Rattle.ts_outside.specs.Files.{File}
@@ -15,17 +15,14 @@ use Rattle.command_words.specs.declared.fault.NumberOption.TheVariants as option
 use Rattle.command_words.specs.declared.fault.UsageFault.{UsageFault}
 use Rattle.command_words.specs.declared.fault.UsageFault.TheVariants.{Words, Range}
 use Rattle.command_words.specs.Requests.{Wanted}
-use Rattle.site_report.specs.declared.tracked_site.TrackedSite.{TrackedSite}
-use Rattle.site_report.specs.declared.verdict.Verdict.{Verdict}
-use Rattle.site_report.specs.Lines.{summary_line}
-use Rattle.report_spec.specs.Reports.{is_limit, is_safe, is_unproved, line_of, report_lines}
+use Rattle.report_spec.specs.Traces.{traced_lines}
+use Rattle.report_spec.proofs.Traced.{traced_are_lines}
 use Rattle.run_spec.specs.declared.status.Status.{Status}
 use Rattle.run_spec.specs.declared.status.Status.TheVariants.{AllSafe, SomeUnproved, Refused, Usage}
 use Rattle.run_spec.specs.Inputs.{Input}
 use Rattle.run_spec.specs.Lines.{missing_line, no_file, option_word, refused_line, usage_line}
 use Rattle.run_spec.specs.Outcomes.{AnalysisOutcome, ClassOutcome, EndsWith, EntryOutcome, FolderOutcome, LinkOutcome, Misses, Outcome, PropertyOutcome, Refuses, StubOutcome, pair_limit, refused_method, reported, report_status, no_class, has_class, no_entry, other_shape, has_entry, unlinked, linked, refused_folder, has_classes, no_stub_file, stubs_no_document, broken_stubs, no_stubs, has_stubs, no_property, property_no_document, broken_property, has_property, unusable, usable}
 use Rattle.run_soundness.specs.Truth.{SaysSafe}
-use Rattle.site_report.proofs.ReportLines.{verdict_is_line, summary_is_line}
 use Rattle.site_report.proofs.PlainLines.{IsLine, Among, IsPlain-test, word, number, name, ended}
 
 -- ---- single lines
@@ -92,13 +89,6 @@ pub usage_is_line : (fault : UsageFault) → IsLine (usage_line fault)
 usage_is_line Words = ended (IsPlain-test (codes "usage words") refl)
 usage_is_line (Range option) = ended (word (option_word option) (option_plain option) (IsPlain-test (codes "usage range ") refl))
 
--- ---- the lines of a report
-
-pub report_are_lines : (p : Program) (found : List (TrackedSite × Verdict)) (safe unproved limit : ℕ)
-    → AllByRecursion IsLine (map (line_of p) found ++ summary_line safe unproved limit ∷ [])
-report_are_lines p [] safe unproved limit = (summary_is_line safe unproved limit, tt)
-report_are_lines p (f ∷ found) safe unproved limit = (verdict_is_line p f.0 f.1, report_are_lines p found safe unproved limit)
-
 -- ---- what is known of an outcome
 
 abbrev pub IsReport : Status → Type 0
@@ -150,11 +140,9 @@ analysis_formed : (i : Input) (p : Program) (entry : MethodNo) (s : Status) (lin
 analysis_formed i p entry s lines (pair_limit end ends) = refuses_formed s lines no_file 0 PairLimit ends
 analysis_formed i p entry s lines (refused_method r end ends) = refuses_formed s lines r.file r.offset r.reason ends
 analysis_formed i p entry s lines (reported found facts all_safe solution of_all report is) = record {
-  others = report_lines p report.found;
+  others = traced_lines p i.wanted.stages report.report.found report.traces;
   same = report.lines_are;
-  are = report_are_lines p report.found
-      (count_by (λ (f : TrackedSite × Verdict). is_safe f.1) report.found) (count_by (λ (f : TrackedSite × Verdict). is_unproved f.1) report.found)
-      (count_by (λ (f : TrackedSite × Verdict). is_limit f.1) report.found);
+  are = traced_are_lines p i.wanted.stages report.report.found report.traces;
   reports = λ line among says. status_reports all_safe s is;
 }
 

@@ -1,7 +1,6 @@
 -- More stages take nothing back: a site that is safe by fewer is safe by more, by the same one, so its line is the same.
 use Rattle.std.proofs.Common.{◌≡◌, ◌≤◌, ℕ, Bool, List, [], ◌∷◌, All, Contains, map, sym, ap, ◌∙◌, subst}
-use Rattle.std.specs.List.{count_by}
-use Rattle.std.proofs.lemmas.List.Elements.{All-append, All-cons, All-head, All-nil, All-tail, All-weaker, Contains-append_left}
+use Rattle.std.proofs.lemmas.List.Elements.{All-cons, All-head, All-nil, All-tail, All-weaker}
 use Rattle.machine_bytecode.specs.Objects.{Subject}
 use Rattle.least_sets.proofs.Places.{first, later}
 use Rattle.op_model.specs.Supplies.{GivenAs}
@@ -9,9 +8,11 @@ use Rattle.points_to_rules.specs.Facts.{Fact}
 use Rattle.site_report.specs.declared.tracked_site.TrackedSite.{TrackedSite}
 use Rattle.site_report.specs.declared.verdict.Verdict.{Verdict}
 use Rattle.site_report.specs.declared.verdict.Verdict.TheVariants.{Safe, Unproved, Limit}
-use Rattle.site_report.specs.Lines.{summary_line, verdict_line}
+use Rattle.site_report.specs.Lines.{verdict_line}
 use Rattle.site_report.specs.Sites.{site_in}
-use Rattle.report_spec.specs.Reports.{IsReport, is_limit, is_safe, is_unproved, line_of, report_lines}
+use Rattle.report_spec.specs.Reports.{line_of, summary_of}
+use Rattle.report_spec.specs.Traces.{IsTrace, IsTracedReport, trace_line, traced_lines}
+use Rattle.report_spec.proofs.Traced.{all_traced, in_traced}
 use Rattle.report_spec.specs.Verdicts.{Asked, AtLimitBy, IsVerdict, SafeBy, with_stages}
 use Rattle.report_spec.proofs.FirstStages.{safe_stays}
 use Rattle.report_spec.proofs.OneReport.{sites_same}
@@ -65,27 +66,18 @@ module _ (run : Subject) (gives : GivenAs) (S : Fact → Type 0) (w : Asked) (mo
       (kept_in_more lines (line_of run.program y ∷ lines) (map (line_of run.program) xs) (λ line there. later (line_of run.program y) lines line there)
       (lines_kept xs ys sites (All-tail IsFirst x xs h) (All-tail IsSecond y ys k)))
 
-  -- the summary says of no site that it is safe
-  summary_kept : (others : List (List ℕ)) (safe unproved limit : ℕ) → AreKeptIn others (summary_line safe unproved limit ∷ [])
-  summary_kept others safe unproved limit =
-      kept_with others [] (summary_line safe unproved limit) (λ says. absurd (cc (says_a (summary_line safe unproved limit) says)))
-      (All-nil (λ (line : List ℕ). SaysSafe line → Contains others line))
-
-  pub safe_lines_kept : (lines others : List (List ℕ)) (all_safe all_of_others : Bool) → IsReport run gives S w lines all_safe
-      → IsReport run gives S (with_stages w more) others all_of_others → AreKeptIn others lines
-  safe_lines_kept lines others all_safe all_of_others r q =
+  pub safe_lines_kept : (trace other : Bool) (lines others : List (List ℕ)) (all_safe all_of_others : Bool) → IsTracedReport run gives S w trace lines all_safe
+      → IsTracedReport run gives S (with_stages w more) other others all_of_others → AreKeptIn others lines
+  safe_lines_kept trace other lines others all_safe all_of_others r q =
       let site = λ (f : TrackedSite × Verdict). f.0 in
-      let sites = sites_same run gives S run.property.class_name (map site r.found) (map site q.found) r.tracked q.tracked in
-      let of_sites = map (line_of run.program) q.found in
-      let whole = report_lines run.program q.found in
-      let front = kept_in_more of_sites whole (map (line_of run.program) r.found)
-      (λ line there. Contains-append_left of_sites
-      (summary_line (count_by (λ (f : TrackedSite × Verdict). is_safe f.1) q.found) (count_by (λ (f : TrackedSite × Verdict). is_unproved f.1) q.found)
-      (count_by (λ (f : TrackedSite × Verdict). is_limit f.1) q.found) ∷ []) line there)
-      (lines_kept r.found q.found sites r.verdicts q.verdicts) in
-      let safe = count_by (λ (f : TrackedSite × Verdict). is_safe f.1) r.found in
-      let unproved = count_by (λ (f : TrackedSite × Verdict). is_unproved f.1) r.found in
-      let limit = count_by (λ (f : TrackedSite × Verdict). is_limit f.1) r.found in
-      let all = All-append (λ (line : List ℕ). SaysSafe line → Contains whole line) (map (line_of run.program) r.found) (summary_line safe unproved limit ∷ []) front
-      (summary_kept whole safe unproved limit) in
+      let one = r.report in
+      let two = q.report in
+      let sites = sites_same run gives S run.property.class_name (map site one.found) (map site two.found) one.tracked two.tracked in
+      let whole = traced_lines run.program more two.found q.traces in
+      let front = kept_in_more (map (line_of run.program) two.found) whole (map (line_of run.program) one.found)
+      (λ line there. in_traced (IsTrace run gives S (with_stages w more) other) run.program more two.found q.traces q.told line there)
+      (lines_kept one.found two.found sites one.verdicts two.verdicts) in
+      let all = all_traced (λ (line : List ℕ). SaysSafe line → Contains whole line) run.program w.stages
+      (λ s e says. absurd (cc (says_a (trace_line w.stages s e) says))) one.found r.traces front
+      (λ says. absurd (cc (says_a (summary_of one.found) says))) in
       subst (λ (ls : List (List ℕ)). AreKeptIn ls lines) (sym q.lines_are) (subst (AreKeptIn whole) (sym r.lines_are) all)

@@ -90,7 +90,7 @@ module _ (x : Subject) (facts : List Fact) (program : IsProgram x.program) (exce
   }
 
 -- Where a report says that all is safe, no site of the program's own ever errs.
-pub own_never_err : EdgesNeverErr → (x : Subject) (w : Asked) (facts : List Fact) (lines : List (List ℕ)) (all_safe : Bool) → IsProgram x.program → HasExceptions x.program
-    → HasEntry x → AreClosedFacts x facts → IsReportBy x w facts lines all_safe → all_safe ≡ true → (t : TrackedSite) → IsOwnSite x t → Errs x (site_in x.program t) → ⊥
-own_never_err never_by_edges x w facts lines all_safe program exceptions entry are report safe t own errs =
-    sites_true never_by_edges x w facts lines all_safe program exceptions entry are report safe t (own_is_tracked x facts program exceptions entry are t own errs) errs
+pub own_never_err : EdgesNeverErr → (x : Subject) (w : Asked) (trace : Bool) (facts : List Fact) (lines : List (List ℕ)) (all_safe : Bool) → IsProgram x.program → HasExceptions x.program
+    → HasEntry x → AreClosedFacts x facts → IsReportBy x w trace facts lines all_safe → all_safe ≡ true → (t : TrackedSite) → IsOwnSite x t → Errs x (site_in x.program t) → ⊥
+own_never_err never_by_edges x w trace facts lines all_safe program exceptions entry are report safe t own errs =
+    sites_true never_by_edges x w trace facts lines all_safe program exceptions entry are report safe t (own_is_tracked x facts program exceptions entry are t own errs) errs

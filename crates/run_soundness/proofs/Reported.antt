@@ -41,8 +41,8 @@ abbrev subject : Program → Automaton → MethodNo → Subject
 subject p a entry = record { program = p; property = a; entry = entry.0 }
 
 -- the lines are the report on it by the least facts, and the status is that of the report
-abbrev HasReport : Subject → Asked → Status → List (List ℕ) → Type 0
-HasReport x w status lines = (facts : List Fact) × (all_safe : Bool) × IsReportOf x w facts lines all_safe × (status ≡ report_status all_safe)
+abbrev HasReport : Subject → Asked → (trace : Bool) → Status → List (List ℕ) → Type 0
+HasReport x w trace status lines = (facts : List Fact) × (all_safe : Bool) × IsReportOf x w trace facts lines all_safe × (status ≡ report_status all_safe)
 
 -- the property's class is there, and there are least sets, with nothing refused and within the limit
 abbrev IsAnalysed : Subject → ℕ → Type 0
@@ -53,7 +53,7 @@ IsAnalysed x limit =
 -- what the run is of, with its report
 abbrev IsReported : List (List ℕ) → List File → Status → List (List ℕ) → Type 0
 IsReported words files status lines =
-    (x : Subject) × (run : IsRunOf words files x) × IsProgram x.program × HasExceptions x.program × HasEntry x × HasReport x (asked_of run.input) status lines
+    (x : Subject) × (run : IsRunOf words files x) × IsProgram x.program × HasExceptions x.program × HasEntry x × HasReport x (asked_of run.input) run.input.wanted.trace status lines
     × IsAnalysed x run.input.wanted.pair_limit
 
 -- ---- the levels, from the last to the first
@@ -66,7 +66,7 @@ module _ (status : Status) (lines : List (List ℕ)) (ends : (status ≡ AllSafe
   never_usage is = elim ends [ inl safe ↦ cc | inr unproved ↦ cc ]
 
   of_analysis : (i : Input) (p : Program) (entry : MethodNo) → AnalysisOutcome i p entry status lines
-      → HasReport (subject p i.property entry) (asked_of i) status lines
+      → HasReport (subject p i.property entry) (asked_of i) i.wanted.trace status lines
       × ((facts : List Fact) × IsSolution p (IsSupplied p) entry i.wanted.pair_limit facts)
   of_analysis i p entry (pair_limit many e) = absurd (never_refused e.status_is)
   of_analysis i p entry (refused_method r is e) = absurd (never_refused e.status_is)
@@ -76,7 +76,7 @@ module _ (status : Status) (lines : List (List ℕ)) (ends : (status ≡ AllSafe
   )
 
   of_class : (i : Input) (p : Program) (entry : MethodNo) → ClassOutcome i p entry status lines
-      → HasReport (subject p i.property entry) (asked_of i) status lines × IsAnalysed (subject p i.property entry) i.wanted.pair_limit
+      → HasReport (subject p i.property entry) (asked_of i) i.wanted.trace status lines × IsAnalysed (subject p i.property entry) i.wanted.pair_limit
   of_class i p entry (no_class none e) = absurd (never_refused e.status_is)
   of_class i p entry (has_class class is next) = let told = of_analysis i p entry next in (told.0, ((class, is), told.1))
 
@@ -131,7 +131,7 @@ module _ (status : Status) (lines : List (List ℕ)) (ends : (status ≡ AllSafe
 module _ (words : List (List ℕ)) (files : List File) (status : Status) (lines : List (List ℕ)) (outcome : Outcome words files status lines)
     (ends : (status ≡ AllSafe) ⊎ (status ≡ SomeUnproved)) where
   pub is_reported : (x : Subject) × (run : IsRunOf words files x) × IsProgram x.program × HasExceptions x.program × HasEntry x
-      × HasReport x (asked_of run.input) status lines
+      × HasReport x (asked_of run.input) run.input.wanted.trace status lines
   is_reported = let (x, run, program, exceptions, entry, report, analysed) = of_words status lines ends words files outcome in (x, run, program, exceptions, entry, report)
 
   -- nothing was missing, and nothing was refused

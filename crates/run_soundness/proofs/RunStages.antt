@@ -16,7 +16,7 @@ use Rattle.lowering_supply.specs.OneAnswer.{one_answer}
 use Rattle.lowering_supply.specs.Supplied.{IsSupplied}
 use Rattle.least_sets.proofs.Least.{least_is_one}
 use Rattle.points_to_rules.specs.Writes.{AnyInstance}
-use Rattle.report_spec.proofs.SameFacts.{report_into}
+use Rattle.report_spec.proofs.Traced.{traced_into}
 use Rattle.run_spec.specs.declared.status.Status.{Status}
 use Rattle.run_spec.specs.declared.status.Status.TheVariants.{Refused, Usage}
 use Rattle.run_spec.specs.Inputs.{HaveDifferentNames, Input}
@@ -62,8 +62,8 @@ module _ (files : List File) (differ : HaveDifferentNames files) (s t : Status) 
     of_analysis p entry (reported facts all b is of_all report si) (reported others other c is2 of_other report2 ti) =
         let to = least_is_one (AnyInstance p (IsSupplied p) entry) all other of_all.least of_other.least in
         let back = least_is_one (AnyInstance p (IsSupplied p) entry) other all of_other.least of_all.least in
-        let here = report_into (run_of i p entry) (IsSupplied p) (Contains other) (Contains all) back to (asked_of asked_for_more) m c report2 in
-        safe_lines_kept (run_of i p entry) (IsSupplied p) (Contains all) (asked_of i) more le l m b c report here
+        let here = traced_into (run_of i p entry) (IsSupplied p) (Contains other) (Contains all) back to (asked_of asked_for_more) i.wanted.trace m c report2 in
+        safe_lines_kept (run_of i p entry) (IsSupplied p) (Contains all) (asked_of i) more le i.wanted.trace i.wanted.trace l m b c report here
 
     of_class : (p : Program) (entry : MethodNo) → ClassOutcome i p entry s l → ClassOutcome asked_for_more p entry t m → Kept
     of_class p entry (no_class none ends) other = none_safe Refused (refused_line i.wanted.property 0 MissingClass) refl ends

@@ -1,6 +1,7 @@
 -- The lines of a report that say that a site is safe are true, and of sites that the report is about, where each verdict of that is.
-use Rattle.std.proofs.Common.{◌≡◌, ℕ, Bool, true, List, [], ◌∷◌, ◌++◌, map, All, IsTrue, refl, ap, nat_eq}
-use Rattle.std.proofs.lemmas.List.Elements.{All-append, All-cons, All-head, All-nil, All-tail}
+use Rattle.std.proofs.Common.{◌≡◌, ℕ, Bool, true, List, [], ◌∷◌, map, All, IsTrue, refl, ap, nat_eq}
+use Rattle.std.proofs.lemmas.List.Elements.{All-cons, All-head, All-nil, All-tail}
+use Rattle.jvm_model.specs.declared.site.Site.{Site}
 use Rattle.std.specs.Prelude.{slice_index_or}
 use Rattle.machine_bytecode.specs.Executions.{Errs}
 use Rattle.machine_bytecode.specs.Objects.{Subject}
@@ -10,6 +11,9 @@ use Rattle.site_report.specs.declared.verdict.Verdict.TheVariants.{Safe, Unprove
 use Rattle.site_report.specs.Lines.{summary_line, verdict_line}
 use Rattle.site_report.specs.Sites.{site_in}
 use Rattle.report_spec.specs.Reports.{is_safe, line_of}
+use Rattle.report_spec.specs.Traces.{trace_line, traced_lines}
+use Rattle.report_spec.proofs.Traced.{all_traced}
+use Rattle.stage_edges.specs.Rules.{Edge}
 use Rattle.run_soundness.specs.Truth.{IsTrueLine, SaysSafe}
 
 -- the second letter of the word that says that a site is safe
@@ -44,12 +48,12 @@ module _ (x : Subject) (V : TrackedSite → Verdict → Type 0) (never : (t : Tr
   of_summary : (safe unproved limit : ℕ) → SaysSafe (summary_line safe unproved limit) → IsTold (summary_line safe unproved limit)
   of_summary safe unproved limit says = absurd (cc (says_a (summary_line safe unproved limit) says))
 
-  -- of a whole report
-  pub of_report : (found : List (TrackedSite × Verdict)) (safe unproved limit : ℕ) → All W found
-      → All Q (map (line_of x.program) found ++ summary_line safe unproved limit ∷ [])
-  of_report found safe unproved limit all =
-      All-append Q (map (line_of x.program) found) (summary_line safe unproved limit ∷ []) (of_sites found all)
-      (All-cons Q (summary_line safe unproved limit) [] (of_summary safe unproved limit) (All-nil Q))
+  of_edge : (n : ℕ) (s : Site) (e : Edge) → SaysSafe (trace_line n s e) → IsTold (trace_line n s e)
+  of_edge n s e says = absurd (cc (says_a (trace_line n s e) says))
+
+  -- of a whole report, with derivations
+  pub of_report : (n : ℕ) (found : List (TrackedSite × Verdict)) (traces : List (List Edge)) → All W found → All Q (traced_lines x.program n found traces)
+  of_report n found traces all = all_traced Q x.program n (of_edge n) found traces (of_sites found all) (of_summary _ _ _)
 
   -- a site that is found safe never errs
   one_safe : (t : TrackedSite) (v : Verdict) → V t v → IsTrue (is_safe v) → Errs x (site_in x.program t) → ⊥

@@ -16,8 +16,7 @@ use Rattle.site_report.specs.declared.tracked_site.TrackedSite.{TrackedSite}
 use Rattle.site_report.specs.declared.verdict.Verdict.{Verdict}
 use Rattle.site_report.specs.declared.verdict.Verdict.TheVariants.{Safe}
 use Rattle.site_report.specs.Sites.{site_in}
-use Rattle.report_spec.specs.Reports.{IsReport, is_safe, is_unproved, is_limit}
-use Rattle.std.specs.List.{count_by}
+use Rattle.report_spec.specs.Traces.{IsTracedReport}
 use Rattle.report_spec.specs.Tracked.{IsTracked}
 use Rattle.report_spec.specs.Verdicts.{Asked, IsVerdict, SafeBy, by_events, by_edges}
 use Rattle.stage_transfer.specs.Settings.{Setting}
@@ -55,11 +54,11 @@ module _ (never_by_edges : EdgesNeverErr) (x : Subject) (facts : List Fact) (pro
       (subst (Errs x) (sym of.site) e)
 
 -- the report on a program by some facts
-abbrev pub IsReportBy : Subject → Asked → List Fact → List (List ℕ) → Bool → Type 0
-IsReportBy x w facts lines all_safe = IsReport x (IsSupplied x.program) (Contains facts) w lines all_safe
+abbrev pub IsReportBy : Subject → Asked → (trace : Bool) → List Fact → List (List ℕ) → Bool → Type 0
+IsReportBy x w trace facts lines all_safe = IsTracedReport x (IsSupplied x.program) (Contains facts) w trace lines all_safe
 
-module _ (never_by_edges : EdgesNeverErr) (x : Subject) (w : Asked) (facts : List Fact) (lines : List (List ℕ)) (all_safe : Bool) (program : IsProgram x.program)
-    (exceptions : HasExceptions x.program) (entry : HasEntry x) (are : AreClosedFacts x facts) (report : IsReportBy x w facts lines all_safe) where
+module _ (never_by_edges : EdgesNeverErr) (x : Subject) (w : Asked) (trace : Bool) (facts : List Fact) (lines : List (List ℕ)) (all_safe : Bool) (program : IsProgram x.program)
+    (exceptions : HasExceptions x.program) (entry : HasEntry x) (are : AreClosedFacts x facts) (report : IsReportBy x w trace facts lines all_safe) where
   abbrev pub IsFoundVerdict : TrackedSite → Verdict → Type 0
   IsFoundVerdict t v = IsVerdict x (IsSupplied x.program) (Contains facts) w t v
 
@@ -82,21 +81,20 @@ module _ (never_by_edges : EdgesNeverErr) (x : Subject) (w : Asked) (facts : Lis
     pub known : (t : TrackedSite) (v : Verdict) → V t v → About t
     known t v is = is.1.1
 
-    verdicts : All (λ (f : TrackedSite × Verdict). V f.0 f.1) report.found
+    verdicts : All (λ (f : TrackedSite × Verdict). V f.0 f.1) report.report.found
     verdicts =
-        with_sites IsFoundVerdict Known report.found report.verdicts
-        (λ t there. let tracked = (report.tracked.those t).0 there in (tracked, each t tracked))
+        with_sites IsFoundVerdict Known report.report.found report.report.verdicts
+        (λ t there. let tracked = (report.report.tracked.those t).0 there in (tracked, each t tracked))
 
     pub lines_told : All (λ (line : List ℕ). SaysSafe line → IsTold x V never About known line) lines
     lines_told =
         subst (λ (ls : List (List ℕ)). All (λ (line : List ℕ). SaysSafe line → IsTold x V never About known line) ls) (sym report.lines_are)
-        (of_report x V never About known report.found (count_by (λ (f : TrackedSite × Verdict). is_safe f.1) report.found)
-        (count_by (λ (f : TrackedSite × Verdict). is_unproved f.1) report.found) (count_by (λ (f : TrackedSite × Verdict). is_limit f.1) report.found) verdicts)
+        (of_report x V never About known w.stages report.report.found report.traces verdicts)
 
     pub sites_never : all_safe ≡ true → (t : TrackedSite) → IsFoundSite t → Errs x (site_in x.program t) → ⊥
     sites_never safe t tracked =
-        All-contains (NeverErrs x V never About known) (map (λ (f : TrackedSite × Verdict). f.0) report.found) t
-        (each_safe x V never About known report.found verdicts (report.safe.0 safe)) ((report.tracked.those t).1 tracked)
+        All-contains (NeverErrs x V never About known) (map (λ (f : TrackedSite × Verdict). f.0) report.report.found) t
+        (each_safe x V never About known report.report.found verdicts (report.report.safe.0 safe)) ((report.report.tracked.those t).1 tracked)
 
   -- nothing more is known of a site
   abbrev Nothing : TrackedSite → Type 0
@@ -110,11 +108,11 @@ module _ (never_by_edges : EdgesNeverErr) (x : Subject) (w : Asked) (facts : Lis
   pub sites_true : all_safe ≡ true → (t : TrackedSite) → IsFoundSite t → Errs x (site_in x.program t) → ⊥
   sites_true = sites_never Nothing (λ t tracked. tt)
 
-module _ (never_by_edges : EdgesNeverErr) (x : Subject) (w : Asked) (facts : List Fact) (lines : List (List ℕ)) (all_safe : Bool) (program : IsProgram x.program)
-    (exceptions : HasExceptions x.program) (entry : HasEntry x) (told : IsReportOf x w facts lines all_safe) where
+module _ (never_by_edges : EdgesNeverErr) (x : Subject) (w : Asked) (trace : Bool) (facts : List Fact) (lines : List (List ℕ)) (all_safe : Bool) (program : IsProgram x.program)
+    (exceptions : HasExceptions x.program) (entry : HasEntry x) (told : IsReportOf x w trace facts lines all_safe) where
   pub lines_reported : All (λ (line : List ℕ). SaysSafe line → IsReportedLine x line) lines
   lines_reported =
       All-weaker (λ (line : List ℕ). SaysSafe line → (true_ : IsTrueLine x line) × IsReportedSite x true_.site) (λ (line : List ℕ). SaysSafe line → IsReportedLine x line)
       (λ line is says. record { told = (is says).0; about = (is says).1 }) lines
-      (lines_told never_by_edges x w facts lines all_safe program exceptions entry (least_are_closed x facts told.of_all) told.report (IsReportedSite x)
+      (lines_told never_by_edges x w trace facts lines all_safe program exceptions entry (least_are_closed x facts told.of_all) told.report (IsReportedSite x)
       (λ t tracked. record { found = told.found; limit = told.limit; solution = told.solution; facts = facts; of_all = told.of_all; tracked = tracked }))

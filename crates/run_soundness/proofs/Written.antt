@@ -30,12 +30,12 @@ reports_are_told : EdgesNeverErr → (words : List (List ℕ)) (files : List Fil
     → AreReported words files lines
 reports_are_told never_by_edges words files s lines outcome reports =
     let r = is_reported words files s lines outcome reports in
-    (r.0, r.1, lines_reported never_by_edges r.0 (asked_of r.1.input) r.5.0 lines r.5.1 r.2 r.3 r.4 r.5.2)
+    (r.0, r.1, lines_reported never_by_edges r.0 (asked_of r.1.input) r.1.input.wanted.trace r.5.0 lines r.5.1 r.2 r.3 r.4 r.5.2)
 
 pub reports_are_true : EdgesNeverErr → (words : List (List ℕ)) (files : List File) (s : Status) (lines : List (List ℕ)) → Outcome words files s lines → IsReport s → AreTrue words files lines
 reports_are_true never_by_edges words files s lines outcome reports =
     let r = is_reported words files s lines outcome reports in
-    (r.0, r.1, lines_true never_by_edges r.0 (asked_of r.1.input) r.5.0 lines r.5.1 r.2 r.3 r.4 (least_are_closed r.0 r.5.0 r.5.2.of_all) r.5.2.report)
+    (r.0, r.1, lines_true never_by_edges r.0 (asked_of r.1.input) r.1.input.wanted.trace r.5.0 lines r.5.1 r.2 r.3 r.4 (least_are_closed r.0 r.5.0 r.5.2.of_all) r.5.2.report)
 
 module _ (x : Subject) where
   abbrev IsReportedIfSafe : List ℕ → Type 0
@@ -75,4 +75,4 @@ pub safe_runs_keep : EdgesNeverErr → (words : List (List ℕ)) (files : List F
 safe_runs_keep never_by_edges words files lines outcome =
     let r = is_reported words files AllSafe lines outcome (inl refl) in
     let are = least_are_closed r.0 r.5.0 r.5.2.of_all in
-    record { x = r.0; run = r.1; never = own_never_err never_by_edges r.0 (asked_of r.1.input) r.5.0 lines r.5.1 r.2 r.3 r.4 are r.5.2.report (all_are r.5.1 r.5.3) }
+    record { x = r.0; run = r.1; never = own_never_err never_by_edges r.0 (asked_of r.1.input) r.1.input.wanted.trace r.5.0 lines r.5.1 r.2 r.3 r.4 are r.5.2.report (all_are r.5.1 r.5.3) }

@@ -7,20 +7,20 @@ use Rattle.lowering_supply.specs.Supplied.{IsSupplied}
 use Rattle.points_to_rules.specs.Solutions.{IsSolution}
 use Rattle.points_to_rules.specs.Facts.{Fact}
 use Rattle.report_spec.specs.AllFacts.{AreAllFacts}
-use Rattle.report_spec.specs.Reports.{IsReport}
+use Rattle.report_spec.specs.Traces.{IsTracedReport}
 use Rattle.report_spec.specs.Tracked.{IsTracked}
 use Rattle.report_spec.specs.Verdicts.{Asked}
 use Rattle.run_spec.specs.RunSubjects.{IsRunOf}
 use Rattle.site_report.specs.declared.tracked_site.TrackedSite.{TrackedSite}
 use Rattle.run_soundness.specs.Truth.{IsTrueLine}
 
--- The lines are the report on the program, on what is asked and by the least facts of its analysis, which has a solution.
-pub record IsReportOf (x : Subject) (w : Asked) (facts : List Fact) (lines : List (List ℕ)) (all_safe : Bool) : Type 0 where
+-- The lines are the report on the program, on what is asked and by the least facts of its analysis, which has a solution; with derivations if they are asked for.
+pub record IsReportOf (x : Subject) (w : Asked) (trace : Bool) (facts : List Fact) (lines : List (List ℕ)) (all_safe : Bool) : Type 0 where
   pub found : List Fact
   pub limit : ℕ
   pub solution : IsSolution x.program (IsSupplied x.program) (record { 0 = x.entry }) limit found
   pub of_all : AreAllFacts x.program (IsSupplied x.program) (record { 0 = x.entry }) facts
-  pub report : IsReport x (IsSupplied x.program) (Contains facts) w lines all_safe
+  pub report : IsTracedReport x (IsSupplied x.program) (Contains facts) w trace lines all_safe
 
 -- The report is about the site: methods that may run, by the least facts of the analysis, make objects of the property's class or of one below it there.
 pub record IsReportedSite (x : Subject) (t : TrackedSite) : Type 0 where

@@ -23,7 +23,7 @@ pub fn reports_are_of_runs()
     ensures { (words : List (List ℕ)) (files : List File) (status : Status) (lines : List (List ℕ)) → Outcome words files status lines
         → (status ≡ AllSafe) ⊎ (status ≡ SomeUnproved)
         → (x : Subject) × (run : IsRunOf words files x) × IsProgram x.program × HasExceptions x.program × HasEntry x
-        × ((facts : List Fact) × (all_safe : Bool) × IsReportOf x (asked_of run.input) facts lines all_safe × (status ≡ report_status all_safe)) }
+        × ((facts : List Fact) × (all_safe : Bool) × IsReportOf x (asked_of run.input) run.input.wanted.trace facts lines all_safe × (status ≡ report_status all_safe)) }
 {}
 
 /// So it is of an input in which nothing is missing and nothing is refused, as that of which `complete` says that there is a report.

@@ -12,7 +12,7 @@ ghost use Rattle.prune_stage.specs.Pruning.{IsPruned};
 ghost use Rattle.site_report.specs.declared.tracked_site.TrackedSite.{TrackedSite};
 ghost use Rattle.site_report.specs.Sites.{site_in};
 ghost use Rattle.report_spec.specs.AllFacts.{AreAllFacts};
-ghost use Rattle.report_spec.specs.Reports.{IsReport};
+ghost use Rattle.report_spec.specs.Traces.{IsTracedReport};
 ghost use Rattle.report_spec.specs.Tracked.{IsTracked};
 ghost use Rattle.report_spec.specs.Verdicts.{Asked, SafeBy, with_stages};
 ghost use Rattle.run_soundness.specs.Claims.{IsOwnSite};
@@ -45,8 +45,8 @@ pub fn safe_sites_never_err()
 
 /// So each line of a report that says that a site is safe, by whichever stage, is true.
 pub fn safe_lines_are_true()
-    ensures { (x : Subject) (w : Asked) (facts : List Fact) (lines : List (List ℕ)) (all_safe : Bool) → IsProgram x.program → HasExceptions x.program → HasEntry x
-        → AreClosedFacts x facts → IsReport x (IsSupplied x.program) (Contains facts) w lines all_safe
+    ensures { (x : Subject) (w : Asked) (trace : Bool) (facts : List Fact) (lines : List (List ℕ)) (all_safe : Bool) → IsProgram x.program → HasExceptions x.program → HasEntry x
+        → AreClosedFacts x facts → IsTracedReport x (IsSupplied x.program) (Contains facts) w trace lines all_safe
         → All (λ (line : List ℕ). SaysSafe line → IsTrueLine x line) lines }
 {
     safe_stages_never_err();
@@ -54,16 +54,16 @@ pub fn safe_lines_are_true()
 
 /// By the least facts it is of a site that the report is about.
 pub fn safe_lines_are_reported()
-    ensures { (x : Subject) (w : Asked) (facts : List Fact) (lines : List (List ℕ)) (all_safe : Bool) → IsProgram x.program → HasExceptions x.program → HasEntry x
-        → IsReportOf x w facts lines all_safe → All (λ (line : List ℕ). SaysSafe line → IsReportedLine x line) lines }
+    ensures { (x : Subject) (w : Asked) (trace : Bool) (facts : List Fact) (lines : List (List ℕ)) (all_safe : Bool) → IsProgram x.program → HasExceptions x.program → HasEntry x
+        → IsReportOf x w trace facts lines all_safe → All (λ (line : List ℕ). SaysSafe line → IsReportedLine x line) lines }
 {
     safe_stages_never_err();
 }
 
 /// And where a report by closed facts says that all is safe, no site that it is about ever errs,
 pub fn safe_reports_are_true()
-    ensures { (x : Subject) (w : Asked) (facts : List Fact) (lines : List (List ℕ)) (all_safe : Bool) → IsProgram x.program → HasExceptions x.program → HasEntry x
-        → AreClosedFacts x facts → IsReport x (IsSupplied x.program) (Contains facts) w lines all_safe
+    ensures { (x : Subject) (w : Asked) (trace : Bool) (facts : List Fact) (lines : List (List ℕ)) (all_safe : Bool) → IsProgram x.program → HasExceptions x.program → HasEntry x
+        → AreClosedFacts x facts → IsTracedReport x (IsSupplied x.program) (Contains facts) w trace lines all_safe
         → all_safe ≡ true → (t : TrackedSite) → IsTracked x.program (IsSupplied x.program) (Contains facts) x.property.class_name t → Errs x (site_in x.program t) → ⊥ }
 {
     safe_stages_never_err();
@@ -71,18 +71,18 @@ pub fn safe_reports_are_true()
 
 /// nor any site at which the program or a stub makes objects of the property's class or of one below it.
 pub fn safe_reports_keep_the_protocol()
-    ensures { (x : Subject) (w : Asked) (facts : List Fact) (lines : List (List ℕ)) (all_safe : Bool) → IsProgram x.program → HasExceptions x.program → HasEntry x
-        → AreClosedFacts x facts → IsReport x (IsSupplied x.program) (Contains facts) w lines all_safe
+    ensures { (x : Subject) (w : Asked) (trace : Bool) (facts : List Fact) (lines : List (List ℕ)) (all_safe : Bool) → IsProgram x.program → HasExceptions x.program → HasEntry x
+        → AreClosedFacts x facts → IsTracedReport x (IsSupplied x.program) (Contains facts) w trace lines all_safe
         → all_safe ≡ true → (t : TrackedSite) → IsOwnSite x t → Errs x (site_in x.program t) → ⊥ }
 {
     safe_stages_never_err();
 }
 
 /// More stages take nothing back: of two reports on a program by the same facts, the second by more stages, each line of the first that says that a site is
-/// safe is a line of the second, which names the same stage.
+/// safe is a line of the second, which names the same stage; whether derivations are told in either or not.
 pub fn more_stages_keep_safe_lines()
-    ensures { (x : Subject) (facts : List Fact) (w : Asked) (more : ℕ) (lines others : List (List ℕ)) (all_safe all_of_others : Bool) → w.stages ≤ more
-        → IsReport x (IsSupplied x.program) (Contains facts) w lines all_safe
-        → IsReport x (IsSupplied x.program) (Contains facts) (with_stages w more) others all_of_others
+    ensures { (x : Subject) (facts : List Fact) (w : Asked) (trace other : Bool) (more : ℕ) (lines others : List (List ℕ)) (all_safe all_of_others : Bool) → w.stages ≤ more
+        → IsTracedReport x (IsSupplied x.program) (Contains facts) w trace lines all_safe
+        → IsTracedReport x (IsSupplied x.program) (Contains facts) (with_stages w more) other others all_of_others
         → All (λ (line : List ℕ). SaysSafe line → Contains others line) lines }
 {}

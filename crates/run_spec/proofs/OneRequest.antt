@@ -64,6 +64,7 @@ module _ (words : List (List ℕ)) where
       let depth = in_words depth_rule v.depth w.depth x.depth y.depth in
       let facts = in_words fact_limit_rule v.fact_limit w.fact_limit x.fact_limit y.fact_limit in
       let pairs = in_words pair_limit_rule v.pair_limit w.pair_limit x.pair_limit y.pair_limit in
+      let told : v.trace ≡ w.trace = x.trace ∙ sym y.trace in
       (λ i. record {
         property = property i;
         stubs = stubs i;
@@ -73,6 +74,7 @@ module _ (words : List (List ℕ)) where
         depth = depth i;
         fact_limit = facts i;
         pair_limit = pairs i;
+        trace = told i;
       })
 
   -- words that ask for something are not wrong

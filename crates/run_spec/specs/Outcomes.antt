@@ -27,7 +27,7 @@ use Rattle.points_to_rules.specs.Facts.{Fact}
 use Rattle.property_file.specs.PropertyFile.{IsPropertyFile}
 use Rattle.property_file.specs.Refusals.{IsBrokenFile}
 use Rattle.report_spec.specs.AllFacts.{AreAllFacts}
-use Rattle.report_spec.specs.Reports.{IsReport}
+use Rattle.report_spec.specs.Traces.{IsTracedReport}
 use Rattle.report_spec.specs.Verdicts.{Asked}
 use Rattle.stub_file.specs.declared.stub_failure.StubFault.TheVariants as stub_faults
 use Rattle.stub_file.specs.StubFile.{IsStubFile, IsStubRefusal}
@@ -73,7 +73,8 @@ pub data AnalysisOutcome (i : Input) (p : Program) (entry : MethodNo) (status : 
   refused_method : (r : Refusal) → IsSolveEnd p (IsSupplied p) entry i.wanted.pair_limit (Cause (solve_faults.Refused r))
       → Refuses status lines r.file r.offset r.reason → AnalysisOutcome i p entry status lines
   reported : (found facts : List Fact) (all_safe : Bool) → IsSolution p (IsSupplied p) entry i.wanted.pair_limit found
-      → AreAllFacts p (IsSupplied p) entry facts → IsReport (run_of i p entry) (IsSupplied p) (Contains facts) (asked_of i) lines all_safe
+      → AreAllFacts p (IsSupplied p) entry facts
+      → IsTracedReport (run_of i p entry) (IsSupplied p) (Contains facts) (asked_of i) i.wanted.trace lines all_safe
       → status ≡ report_status all_safe → AnalysisOutcome i p entry status lines
 
 -- ---- the program

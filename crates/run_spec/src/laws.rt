@@ -1,6 +1,7 @@
 //! The laws of the outcome that the contracts of a run name. Each law calls nothing, and stands on the definitions alone.
 
-ghost use Rattle.std.specs.Prelude.{◌≡◌, ◌⊎◌, ℕ, List};
+ghost use Rattle.std.specs.Prelude.{codes, ◌≡◌, ◌⊎◌, ℕ, List};
+ghost use Rattle.command_words.specs.Command.{HasFlag};
 ghost use Rattle.ts_outside.specs.Files.{File};
 ghost use Rattle.run_spec.specs.declared.status.Status.{Status as RunStatus};
 ghost use Rattle.run_spec.specs.declared.status.Status.TheVariants.{AllSafe, SomeUnproved};
@@ -17,9 +18,9 @@ pub fn one_status()
         → Outcome words files s l → Outcome words files t m → s ≡ t }
 {}
 
-/// And it writes the same lines.
+/// And where it is not asked to tell why sites are unproved, it writes the same lines.
 pub fn one_report()
-    ensures { (words : List (List ℕ)) (files : List File) (s t : RunStatus) (l m : List (List ℕ)) → HaveDifferentNames files
+    ensures { (words : List (List ℕ)) (files : List File) (s t : RunStatus) (l m : List (List ℕ)) → HaveDifferentNames files → (HasFlag words (codes "trace") → ⊥)
         → Outcome words files s l → Outcome words files t m → l ≡ m }
 {}
 

@@ -13,7 +13,9 @@ use Rattle.ground.specs.Findings.{gives_listed}
 use Rattle.simulation.proofs.Whole.{supplied_whole}
 use Rattle.stage_transfer.specs.Settings.{Setting}
 use Rattle.stage_edges.specs.Edges.{IsAtLimit, IsSafeBelow}
-use Rattle.stage_answers.proofs.Running.{GivesNodes, limit_in_base, limit_in_listed, safe_in_base, safe_in_listed}
+use Rattle.stage_edges.specs.Rules.{Edge}
+use Rattle.report_spec.specs.Traces.{IsErrorDerivation}
+use Rattle.stage_answers.proofs.Running.{GivesNodes, error_in_base, limit_in_base, limit_in_listed, safe_in_base, safe_in_listed}
 
 module _ (gives : GivenAs) (S : Fact → Type 0) (methods : List LoweredMethod) where
   -- a listed method is given
@@ -53,3 +55,7 @@ module _ (x : Subject) (facts : List Fact) (methods : List LoweredMethod) (w : S
     (λ is. limit_in_base x (Contains facts) (IsSupplied x.program) (gives_listed methods) closed forth back w limit is),
     (λ is. limit_in_listed x (Contains facts) (IsSupplied x.program) (gives_listed methods) closed forth back w limit is),
   )
+
+  -- a derivation by the list is one by the folder's supplier
+  pub listed_error : (edges : List Edge) → IsErrorDerivation x (gives_listed methods) (Contains facts) w edges → IsErrorDerivation x (IsSupplied x.program) (Contains facts) w edges
+  listed_error edges is = error_in_base x (Contains facts) (IsSupplied x.program) (gives_listed methods) closed forth back w edges is

@@ -23,6 +23,7 @@ use Rattle.stage_facts.specs.Facts.{SiteFact}
 use Rattle.stage_transfer.specs.Calls.{Entering}
 use Rattle.stage_transfer.specs.Settings.{Setting}
 use Rattle.stage_transfer.specs.Stages.{Transfer, transfer_of}
+use Rattle.report_spec.specs.Traces.{IsErrorDerivation}
 use Rattle.stage_edges.specs.Edges.{IsAtLimit, IsSafeBelow, StageInstance}
 use Rattle.stage_edges.specs.Rules.{Edge, Enters, Instance, IsMethod, IsNode, answers, call_returns, called, described_raises, enters, goes_on, node_at, of_file, of_start, raises, resumes, returns, start, triggered, unwinds}
 
@@ -136,7 +137,7 @@ module _ {F : Type 0} (I J : List F → F → Type 0) (P : F → Type 0) (keeps 
     hold = f.hold;
   }
 
-  derivation_kept : (facts : List F) → IsDerivation I facts → IsDerivation J facts
+  pub derivation_kept : (facts : List F) → IsDerivation I facts → IsDerivation J facts
   derivation_kept facts d k fact stands =
       follows_kept (take k facts) fact (derivation_in_closed I P (take k facts) (IsDerivation-front I facts k d) keeps) (d k fact stands)
 
@@ -215,3 +216,13 @@ module _ (x : Subject) (S : Fact → Type 0) (base listed : GivenAs) (closed : I
 
   pub limit_in_listed : (limit : ℕ) → IsAtLimit x base S w limit → IsAtLimit x listed S w limit
   limit_in_listed limit = limit_over x S w limit base listed base_runs into_listed
+
+  pub error_in_base : (edges : List Edge) → IsErrorDerivation x listed S w edges → IsErrorDerivation x base S w edges
+  error_in_base edges is = record {
+    setting = is.setting;
+    starts = is.starts;
+    derivation = derivation_kept Listed Base (Runs S) listed_runs into_base edges is.derivation;
+    error = is.error;
+    ends = is.ends;
+    is_error = is.is_error;
+  }

@@ -1,6 +1,10 @@
 -- What the path edges of a stage say of a site.
-use Rattle.std.proofs.Common.{◌≡◌, ◌∙◌, ◌<◌, ◌≤◌, ℕ, List, length, Some, refl, sym, ap, subst, arith}
-use Rattle.std.specs.List.{Contains}
+use Rattle.std.proofs.Common.{◌≡◌, ◌∙◌, ◌<◌, ◌≤◌, ℕ, List, length, Option, None, Some, refl, sym, ap, subst, arith}
+use Rattle.std.specs.List.{Contains, slice_get}
+use Rattle.std.specs.Prelude.{MatchOption}
+use Rattle.std.proofs.lemmas.Option.{same_Some}
+use Rattle.list_laws.proofs.Places.{contains_at}
+use Rattle.jvm_model.specs.declared.number.SiteNo.{SiteNo}
 use Rattle.std.proofs.lemmas.List.Elements.{All-contains}
 use Rattle.jvm_model.specs.declared.automaton.Automaton.{Automaton}
 use Rattle.jvm_model.specs.declared.site.Site.{Site}
@@ -18,10 +22,11 @@ use Rattle.listed_answers.specs.ListedAnswers.{answers_by}
 use Rattle.listed_answers.proofs.Answering.{are_answers}
 use Rattle.ground_views.specs.declared.question.Question.{Question}
 use Rattle.ground_views.specs.Questions.{IsAskedOf}
+use Rattle.tabulation.specs.Found.{Found}
 use Rattle.stage_verdicts.specs.declared.asked.LaterStages.{LaterStages}
 use Rattle.stage_verdicts.specs.declared.finding.Finding.{Finding}
 use Rattle.stage_verdicts.specs.declared.finding.Finding.TheVariants as findings
-use Rattle.stage_verdicts.specs.LaterVerdicts.{IsAsked, IsAtLimitBy, IsFinding, IsFoundAmong, IsSafeBy, IsSubjectOf}
+use Rattle.stage_verdicts.specs.LaterVerdicts.{HasAsMany, HasErrorAt, HasFound, HasNoError, IsAsked, IsAtLimitBy, IsFinding, IsFoundBy, IsQuestionOf, IsSafeBy, IsSubjectOf}
 
 module _ (a : LaterStages) (x : Subject) (s : Site) (stage : ℕ) where
   -- A setting of the stage at the site.
@@ -93,11 +98,38 @@ setting_asked a q x s stage asked subject ground entry automaton site number dep
 
 -- ---- what is found
 
-pub finding_of_edges : (a : LaterStages) (x : Subject) (s : Site) (stage : ℕ) → IsSubjectOf a x → 2 ≤ stage → stage ≤ 4 → (edges : List Edge)
-    → ((w : Setting) → IsSetting a x s stage w → ArePathEdges x (gives_listed a.ground.now.methods) (Contains a.ground.now.facts) w edges) → length edges < a.limit → (f : Finding)
-    → IsFoundAmong a.automaton.now edges f → IsFinding a x s stage f
-finding_of_edges a x s stage subject from up_to edges are few findings.Safe none =
-    safe_so a x s stage edges are few (setting_is a x s stage from up_to) (λ e there error. none e there (subst (λ (p : Automaton). IsError p e.fact) subject.property error))
-finding_of_edges a x s stage subject from up_to edges are few findings.AtLimit never = absurd never
-finding_of_edges a x s stage subject from up_to edges are few findings.Unproved found =
-    (not_safe a x s stage edges are few from found.0 found.1 (subst (λ (p : Automaton). IsError p found.0.fact) (sym subject.property) found.2), not_at_limit a x s stage edges are few)
+module _ (a : LaterStages) (x : Subject) (s : Site) (stage : ℕ) (asked : IsAsked a) (subject : IsSubjectOf a x) (from : 2 ≤ stage) (up_to : stage ≤ 4) (site : SiteNo) (q : Question)
+    (is : IsQuestionOf a site stage q) (at : slice_get a.ground.now.sites site.0 ≡ Some s) where
+  -- it is asked of each setting of the stage
+  pub asked_of_question : (w : Setting) → IsSetting a x s stage w → IsAskedOf q x w
+  asked_of_question w setting =
+      setting_asked a q x s stage asked subject is.ground is.entry is.automaton (same_Some q.setting.site.now s (sym is.stands ∙ at)) is.at_stage is.depth w setting
+
+  module _ (found : Found) (has : HasFound q found) where
+    abbrev edges : List Edge
+    edges = found.edges
+
+    are_here : (w : Setting) → IsSetting a x s stage w → ArePathEdges x (gives_listed a.ground.now.methods) (Contains a.ground.now.facts) w edges
+    are_here w setting =
+        subst (λ (g : _). ArePathEdges x (gives_listed g.now.methods) (Contains g.now.facts) w edges) is.ground (has.edges x w (asked_of_question w setting))
+
+    few_here : length edges < a.limit
+    few_here = subst (λ (n : ℕ). length edges < n) is.limit has.few
+
+    pub finding_of_place : (place : Option ℕ) → MatchOption place (HasNoError a.automaton.now edges) (HasErrorAt a.automaton.now edges) → (f : Finding) → IsFoundBy place f → IsFinding a x s stage f
+    finding_of_place None none f is_by =
+        subst (IsFinding a x s stage) (sym is_by)
+        (safe_so a x s stage edges are_here few_here (setting_is a x s stage from up_to) (λ e there error. none e there (subst (λ (p : Automaton). IsError p e.fact) subject.property error)))
+    finding_of_place (Some place) (e, stands, error) f is_by =
+        subst (IsFinding a x s stage) (sym is_by) (
+          not_safe a x s stage edges are_here few_here from e (contains_at edges place e stands) (subst (λ (p : Automaton). IsError p e.fact) (sym subject.property) error),
+          not_at_limit a x s stage edges are_here few_here,
+        )
+
+  pub limit_is_found : HasAsMany q → IsFinding a x s stage findings.AtLimit
+  limit_is_found many = (not_safe_at_limit a x s stage here from, at_limit a x s stage here (setting_is a x s stage from up_to))
+    where
+      here : (w : Setting) → IsSetting a x s stage w → HasAtLeast (StageInstance x (gives_listed a.ground.now.methods) (Contains a.ground.now.facts) w) (λ (e : Edge). Some e) a.limit
+      here w setting =
+          subst (λ (n : ℕ). HasAtLeast (StageInstance x (gives_listed a.ground.now.methods) (Contains a.ground.now.facts) w) (λ (e : Edge). Some e) n) is.limit
+          (subst (λ (g : _). HasAtLeast (StageInstance x (gives_listed g.now.methods) (Contains g.now.facts) w) (λ (e : Edge). Some e) q.limit) is.ground (many x w (asked_of_question w setting)))

@@ -1,1 +1,2 @@
 pub mod LaterVerdicts
+pub mod TraceTexts

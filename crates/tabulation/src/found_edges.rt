@@ -67,6 +67,6 @@ impl Tabulation {
         requires { place < length self.now.edges }
         ensures { slice_get self.now.reasons place ≡ Some (premises result) }
     {
-        self.tables.reasons[place]
+        self.tables.reasons.at(place)
     }
 }

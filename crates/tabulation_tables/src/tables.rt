@@ -9,7 +9,7 @@ ghost use Rattle.tabulation_tables.specs.Steps.{Adds, AreEmpty, CallsStay, Grows
 
 use crate::visits::{is_marked, mark};
 use chained_lists::{Chains, Place};
-use edge_numbers::{Because, EdgeNo, EdgeNumbers, NumberedEdge};
+use edge_numbers::{Because, EdgeNo, EdgeNumbers, NumberedEdge, OptionalEdges, ReasonList};
 use end_numbers::EndNumbers;
 use jvm_model::MethodNo;
 use op_model::Spot;
@@ -23,11 +23,11 @@ use std::alloc::{AllocError, Global};
 pub struct Tables {
     pub ends: EndNumbers,
     pub edges: EdgeNumbers,
-    pub reasons: Vec<Because>,
+    pub reasons: ReasonList,
     pub begins: Chains,
     pub leads: Chains,
     /// By which exit, if by one, each end leads to another one, in the order of `leads`.
-    pub by: Vec<Option<EdgeNo>>,
+    pub by: OptionalEdges,
     pub callers: Chains,
     pub exits: Chains,
     pub visits: Vec<bool>,
@@ -41,10 +41,10 @@ impl Tables {
         Tables {
             ends: EndNumbers::new(alloc),
             edges: EdgeNumbers::new(alloc),
-            reasons: Vec::new(alloc),
+            reasons: ReasonList::new(alloc),
             begins: Chains::new(alloc),
             leads: Chains::new(alloc),
-            by: Vec::new(alloc),
+            by: OptionalEdges::new(alloc),
             callers: Chains::new(alloc),
             exits: Chains::new(alloc),
             visits: Vec::new(alloc),
@@ -106,7 +106,7 @@ impl Tables {
         requires { place.0 < length self.now.by.items }
         ensures { slice_get self.now.by.items place.0 ≡ Some result }
     {
-        self.by[place.0 as usize]
+        self.by.at(place.0 as usize)
     }
 
     /// Notes that an end enters the method that begins with another one. It answers an error where memory runs out.

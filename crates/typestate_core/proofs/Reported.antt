@@ -8,7 +8,7 @@ use Rattle.ground.specs.Findings.{Findings}
 use Rattle.command_words.specs.Requests.{Wanted}
 use Rattle.report_analysis.specs.Analyses.{IsAnalysis}
 use Rattle.lowering_supply.specs.Supplied.{IsSupplied}
-use Rattle.report_spec.specs.Reports.{IsReport}
+use Rattle.report_spec.specs.Traces.{IsTracedReport}
 use Rattle.run_spec.specs.Inputs.{Input}
 use Rattle.run_spec.specs.Outcomes.{AnalysisOutcome, asked_of, report_status, reported}
 use Rattle.typestate_core.specs.declared.answer.Answer.{Answer}
@@ -21,7 +21,7 @@ run p a entry = record { program = p; property = a; entry = entry }
 
 pub reported_told : {E : Type 0} (r : Result Answer E) (w : Wanted) (a : Automaton) (p : Program) (entry : MethodNo) (limit : ℕ) (g : Findings)
     → limit ≡ w.pair_limit → IsAnalysis p (IsSupplied p) entry limit g
-    → IfOk r (λ x. (all_safe : Bool) × IsReport (run g.program a entry.0) (IsSupplied g.program) (Contains g.facts) (asked_by w) (lines_of x) all_safe
+    → IfOk r (λ x. (all_safe : Bool) × IsTracedReport (run g.program a entry.0) (IsSupplied g.program) (Contains g.facts) (asked_by w) w.trace (lines_of x) all_safe
     × (x.status ≡ report_status all_safe))
     → IfOk r (λ x. OfInputs w a (λ i. AnalysisOutcome i p entry x.status (lines_of x)))
 reported_told (Err e) w a p entry limit g limit_is at_limit says = tt
@@ -29,5 +29,5 @@ reported_told (Ok x) w a p entry limit g limit_is at_limit says = λ stubs class
     let i : Input = record { wanted = w; property = a; stubs = stubs; classes = classes } in
     let analysis : IsAnalysis p (IsSupplied p) entry w.pair_limit g = subst (λ (n : ℕ). IsAnalysis p (IsSupplied p) entry n g) limit_is at_limit in
     let (all_safe, of_ground, status_is) = says in
-    let report = subst (λ (q : Program). IsReport (run q a entry.0) (IsSupplied q) (Contains g.facts) (asked_of i) (lines_of x) all_safe) analysis.program of_ground in
+    let report = subst (λ (q : Program). IsTracedReport (run q a entry.0) (IsSupplied q) (Contains g.facts) (asked_of i) w.trace (lines_of x) all_safe) analysis.program of_ground in
     reported analysis.found g.facts all_safe analysis.solution (record { least = analysis.least; unrefused = analysis.unrefused }) report status_is

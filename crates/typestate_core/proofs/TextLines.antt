@@ -1,17 +1,15 @@
 -- What a run says is a text of lines: so it is cut into these again.
 use Rattle.std.proofs.Common.{◌≡◌, ◌≢◌, ◌∙◌, ℕ, Bool, List, [], ◌∷◌, All, sym, ap, append-nil, subst}
-use Rattle.std.specs.List.{AllByRecursion, count_by}
+use Rattle.std.specs.List.{AllByRecursion}
 use Rattle.std.proofs.lemmas.List.Elements.{All-cons, All-nil, All-from_recursion}
 use Rattle.machine_bytecode.specs.Objects.{Subject}
 use Rattle.op_model.specs.Supplies.{GivenAs}
 use Rattle.points_to_rules.specs.Facts.{Fact}
-use Rattle.site_report.specs.declared.tracked_site.TrackedSite.{TrackedSite}
-use Rattle.site_report.specs.declared.verdict.Verdict.{Verdict}
 use Rattle.site_report.proofs.PlainLines.{IsLine as IsTold}
-use Rattle.report_spec.specs.Reports.{IsReport, is_limit, is_safe, is_unproved, report_lines}
+use Rattle.report_spec.specs.Traces.{IsTracedReport, traced_lines}
+use Rattle.report_spec.proofs.Traced.{traced_are_lines}
 use Rattle.report_spec.specs.Verdicts.{Asked}
 use Rattle.report_analysis.specs.Texts.{IsReportText}
-use Rattle.run_soundness.proofs.LineForms.{report_are_lines}
 use Rattle.report_analysis.specs.Texts.{text_of}
 use Rattle.typestate_core.specs.Output.{IsLine, lines_in}
 use Rattle.typestate_core.proofs.Cutting.{lines_of_text}
@@ -33,14 +31,12 @@ one_line text line told is =
     ap lines_in (is ∙ sym (append-nil line)) ∙ lines_of_text (line ∷ []) (are_lines (line ∷ []) (told, tt))
 
 -- the text of a report
-pub report_cut : (x : Subject) (gives : GivenAs) (S : Fact → Type 0) (w : Asked) (text : List ℕ) (all_safe : Bool) → IsReportText x gives S w text all_safe
-    → IsReport x gives S w (lines_in text) all_safe
-report_cut x gives S w text all_safe told =
-    let p = x.program in
-    let found = told.report.found in
-    let formed = report_are_lines p found (count_by (λ (f : TrackedSite × Verdict). is_safe f.1) found)
-    (count_by (λ (f : TrackedSite × Verdict). is_unproved f.1) found) (count_by (λ (f : TrackedSite × Verdict). is_limit f.1) found) in
-    let cut : lines_in (text_of (report_lines p found)) ≡ report_lines p found =
-    lines_of_text (report_lines p found) (are_lines (report_lines p found) formed) in
-    let same : lines_in text ≡ told.lines = ap lines_in (told.text_is ∙ ap text_of told.report.lines_are) ∙ (cut ∙ sym told.report.lines_are) in
-    subst (λ (lines : List (List ℕ)). IsReport x gives S w lines all_safe) (sym same) told.report
+pub report_cut : (x : Subject) (gives : GivenAs) (S : Fact → Type 0) (w : Asked) (trace : Bool) (text : List ℕ) (all_safe : Bool) → IsReportText x gives S w trace text all_safe
+    → IsTracedReport x gives S w trace (lines_in text) all_safe
+report_cut x gives S w trace text all_safe told =
+    let r = told.report in
+    let lines = traced_lines x.program w.stages r.report.found r.traces in
+    let formed = traced_are_lines x.program w.stages r.report.found r.traces in
+    let cut : lines_in (text_of lines) ≡ lines = lines_of_text lines (are_lines lines formed) in
+    let same : lines_in text ≡ told.lines = ap lines_in (told.text_is ∙ ap text_of r.lines_are) ∙ (cut ∙ sym r.lines_are) in
+    subst (λ (ls : List (List ℕ)). IsTracedReport x gives S w trace ls all_safe) (sym same) r

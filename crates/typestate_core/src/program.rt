@@ -11,7 +11,7 @@ ghost use Rattle.command_words.specs.Requests.{wanted_of};
 ghost use Rattle.report_analysis.specs.Analyses.{IsAnalysis};
 ghost use Rattle.report_analysis.specs.Stages.{AreInRange, asked_of, subject_of};
 ghost use Rattle.lowering_supply.specs.Supplied.{IsSupplied};
-ghost use Rattle.report_spec.specs.Reports.{IsReport};
+ghost use Rattle.report_spec.specs.Traces.{IsTracedReport};
 ghost use Rattle.entry_points.specs.Entries.{NamesMethod};
 ghost use Rattle.typestate_core.specs.Answers.{IsReported, OfInputs, lines_of};
 ghost use Rattle.typestate_core.specs.Ends.{SaysEnd};
@@ -144,6 +144,7 @@ fn judge_analysis(
                 stages: request.stages,
                 depth: request.depth,
                 fact_limit: request.fact_limit,
+                trace: request.trace,
             },
         ),
         Err(failure) => refuse_end(alloc, &failure),
@@ -183,8 +184,8 @@ fn report_on(
     requires asked { AreInRange (asked_of asked) }
     requires entry { IsMethodNumber ground.now.program asked.entry.0 }
     requires analysis { (limit : ℕ) × IsAnalysis ground.now.program (IsSupplied ground.now.program) asked.entry limit ground.now }
-    ensures told { IfOk result (λ a. (all_safe : Bool) × IsReport (subject_of ground.now.program automaton.now asked) (IsSupplied ground.now.program)
-        (Contains ground.now.facts) (asked_of asked) (lines_of a) all_safe × (a.status ≡ report_status all_safe)) }
+    ensures told { IfOk result (λ a. (all_safe : Bool) × IsTracedReport (subject_of ground.now.program automaton.now asked) (IsSupplied ground.now.program)
+        (Contains ground.now.facts) (asked_of asked) asked.trace (lines_of a) all_safe × (a.status ≡ report_status all_safe)) }
     ensures reported { IfOk result (λ a. IsReported a.status) }
     ensures memory { IfErr result (λ e. e ≡ OutOfMemory) }
 {

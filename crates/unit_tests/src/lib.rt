@@ -12,6 +12,8 @@ mod index;
 #[cfg(test)]
 mod linked;
 #[cfg(test)]
+mod made_classes;
+#[cfg(test)]
 mod model;
 #[cfg(test)]
 mod one_method;

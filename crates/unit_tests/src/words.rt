@@ -27,10 +27,11 @@ fn look_at_request(rt: &impl Abort, request: &Request<'_>) {
     see(rt, [request.stages, request.depth], [3, 3]);
     let limits = [request.fact_limit, request.pair_limit];
     see(rt, limits, [1_000_000, 1]);
+    see(rt, request.trace, true);
 }
 
 /// Words with each option.
-static EACH_OPTION: [&str; 14] = [
+static EACH_OPTION: [&str; 15] = [
     "--entry=a/b.C.main",
     "--classes",
     "folder",
@@ -45,6 +46,7 @@ static EACH_OPTION: [&str; 14] = [
     "1000000",
     "--pair-limit",
     "1",
+    "--trace",
 ];
 
 #[test]

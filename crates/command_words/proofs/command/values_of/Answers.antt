@@ -23,4 +23,5 @@ returns-clause-values c =
       depth = option_read words m are (codes "depth") c.get_str-3.result c.get_str-3.ensures;
       fact_limit = option_read words m are (codes "fact-limit") c.get_str-4.result c.get_str-4.ensures;
       pair_limit = option_read words m are (codes "pair-limit") c.get_str-5.result c.get_str-5.ensures;
+      trace = option_read words m are (codes "trace") c.get_str-6.result c.get_str-6.ensures;
     }

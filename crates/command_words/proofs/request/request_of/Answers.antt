@@ -23,4 +23,5 @@ returns-clause-asks c =
       depth = are.depth;
       fact_limit = are.fact_limit;
       pair_limit = are.pair_limit;
+      trace = c.is_set.ensures;
     }

@@ -4,7 +4,7 @@ use Rattle.fact_pool.specs.declared.entry.Entry.{Entry}
 use Rattle.fact_pool.specs.Chains.{IsLast}
 use Rattle.fact_pool.specs.Hashes.{bucket_of}
 use Rattle.fact_pool.specs.Layout.{buckets_of, rows_of}
-use Rattle.fact_pool.proofs.Finding.{next_last, none_after, none_after_next}
+use Rattle.fact_pool.proofs.Finding.{length-rows_of, next_last, none_after, none_after_next}
 use Rattle.list_laws.proofs.Places.{place_of}
 use Rattle.fact_pool.proofs.chains.find.Goals as goal
 
@@ -13,24 +13,26 @@ loop-named-init c =
     let entries = c.args.entries.now in
     let count = length c.args.heads.now in
     let bucket = bucket_of c.args.hash count in
-    let last : IsLast (buckets_of entries count) (length entries) bucket c.head_of-named.result =
-    subst (λ (k : ℕ). IsLast (buckets_of entries count) (length entries) bucket k) (sym c.head_of-named.ensures)
+    let rows = rows_of c.args.words.now entries in
+    let last : IsLast (buckets_of rows count) (length entries) bucket c.head_of-named.result =
+    subst (λ (k : ℕ). IsLast (buckets_of rows count) (length entries) bucket k) (sym c.head_of-named.ensures)
     (c.requires.table.chained.heads_last.at_bucket bucket) in
     record {
       within = last.below;
       there = last.there;
-      none = none_after c.args.words.now entries count c.head_of-named.result c.args.wanted.now c.requires.table.hashes_are
-          (subst (λ (h : ℕ). IsLast (buckets_of entries count) (length entries) (bucket_of h count) c.head_of-named.result) c.requires.hash last);
+      none = none_after c.args.words.now entries count c.head_of-named.result c.args.wanted.now
+          (subst (λ (h : ℕ). IsLast (buckets_of rows count) (length entries) (bucket_of h count) c.head_of-named.result) c.requires.hash last);
     }
 
 pub loop-named-smaller : goal.loop-named-smaller
 loop-named-smaller c =
     let entries = c.args.entries.now in
     let count = length c.args.heads.now in
+    let rows = rows_of c.args.words.now entries in
     let row = c.loop-named.named - 1 in
-    let none : Entry = record { end = 0; hash = 0; next = 0 } in
+    let none : Entry = record { end = 0; next = 0 } in
     let at = c.loop-named.invariant.there row (omega arith) in
-    let last = next_last entries count (bucket_of c.args.hash count) row none c.requires.table.chained.links_last at in
+    let last = next_last rows entries count (bucket_of c.args.hash count) row none (length-rows_of c.args.words.now entries) c.requires.table.chained.links_last at in
     omega (arith, last.below)
 
 pub loop-named-preserved : goal.loop-named-preserved
@@ -39,14 +41,14 @@ loop-named-preserved c =
     let count = length c.args.heads.now in
     let row = c.loop-named.named - 1 in
     let rows = rows_of c.args.words.now entries in
-    let none : Entry = record { end = 0; hash = 0; next = 0 } in
+    let none : Entry = record { end = 0; next = 0 } in
     let at = c.loop-named.invariant.there row (omega arith) in
-    let last = next_last entries count (bucket_of c.args.hash count) row none c.requires.table.chained.links_last at in
+    let last = next_last rows entries count (bucket_of c.args.hash count) row none (length-rows_of c.args.words.now entries) c.requires.table.chained.links_last at in
     record {
       within = omega (arith, last.below);
       there = last.there;
-      none = none_after_next entries rows count c.loop-named.named _ c.args.wanted.now c.requires.table.hashes_are c.loop-named-test.true
-          (subst (λ (h : ℕ). IsLast (buckets_of entries count) row (bucket_of h count) (get_or entries row none).next) c.requires.hash last)
+      none = none_after_next rows count c.loop-named.named _ c.args.wanted.now c.loop-named-test.true
+          (subst (λ (h : ℕ). IsLast (buckets_of rows count) row (bucket_of h count) (get_or entries row none).next) c.requires.hash last)
           (λ at. false≢true (c.if-has_words.ensures.1 at))
           c.loop-named.invariant.none;
     }

@@ -8,7 +8,7 @@ use Rattle.fact_pool.proofs.chains.find.Given as goal
 abbrev pub invariant-loop-named : goal.invariant-loop-named
 invariant-loop-named l = record {
   within : l.named ≤ length l.entries;
-  there : (r : ℕ) → l.named ≡ suc r → slice_get (buckets_of l.entries (length l.heads)) r ≡ Some (bucket_of l.hash (length l.heads));
+  there : (r : ℕ) → l.named ≡ suc r → slice_get (buckets_of (rows_of l.words l.entries) (length l.heads)) r ≡ Some (bucket_of l.hash (length l.heads));
   none : (r : ℕ) → l.named ≤ r → slice_get (rows_of l.words l.entries) r ≡ Some l.wanted → ⊥;
 }
 

@@ -1,5 +1,5 @@
-use Rattle.run_spec.proofs.OneOutcome.{lines_same}
+use Rattle.run_spec.proofs.OneOutcome.{report_same}
 use Rattle.run_spec.proofs.laws.one_report.Goals as goal
 
 pub returns : goal.returns
-returns c = lines_same
+returns c = report_same

@@ -1,4 +1,4 @@
-use Rattle.std.proofs.Common.{◌≡◌, ℕ, ◌+◌, ◌-◌, ◌<◌, List, [], ◌∷◌, ◌++◌, length, get_or, ◌∙◌, sym, ap, subst, arith}
+use Rattle.std.proofs.Common.{◌≡◌, ℕ, ◌+◌, ◌-◌, ◌<◌, List, [], ◌∷◌, ◌++◌, length, min, get_or, ◌∙◌, sym, ap, subst, arith}
 use Rattle.std.specs.List.{Contains}
 use Rattle.fact_pool.specs.declared.entry.Entry.{Entry}
 use Rattle.fact_pool.specs.Hashes.{bucket_of}
@@ -16,7 +16,7 @@ invariant_of-self c =
     let words = c.args.words.now in
     let rows = rows_of inside.words.items entries in
     let bucket = c.bucket_of-bucket.result in
-    let e : Entry = record { end = c.len-end.result; hash = c.args.hash; next = c.head_of-next.result } in
+    let e : Entry = record { end = c.len-end.result; next = c.head_of-next.result } in
     let spare : inside.heads.len - inside.entries.len ≡ c.args.self.now.spare_rows = ap (λ (p : PoolRows). p.spare_rows) c.self.view_is in
     let count : c.len.result ≡ length heads = c.len.ensures ∙ inside.heads.ok.0 in
     let bucket_is : bucket ≡ bucket_of c.args.hash (length heads) = c.bucket_of-bucket.ensures.bucket ∙ ap (bucket_of c.args.hash) count in
@@ -24,8 +24,7 @@ invariant_of-self c =
     let within : bucket < length heads = omega (arith, c.bucket_of-bucket.ensures.within some) in
     let is : IsNext inside.words.items heads words bucket e = record {
       end_is = c.len-end.ensures ∙ c.in-Ok.ensures.len ∙ ap (λ (n : ℕ). n + length words) inside.words.ok.0;
-      hash_is = c.requires.hash;
-      bucket_is = bucket_is;
+      bucket_is = bucket_is ∙ ap (λ (h : ℕ). bucket_of h (length heads)) c.requires.hash;
       next_is = c.head_of-next.ensures
           ∙ ap (λ (hs : List ℕ). get_or hs (bucket_of c.args.hash (length hs)) 0) c.deref.ensures.value
           ∙ ap (λ (b : ℕ). get_or heads b 0) (sym bucket_is);
@@ -41,13 +40,14 @@ invariant_of-self c =
       bucket_each = omega (arith, c.in-Ok-push.ensures.len);
       entry_each = omega (arith, c.in-Ok-push.ensures.capacity, c.self.invariant.entry_each);
       few = c.self.invariant.few;
+      few_words = omega (arith, c.in-Ok.ensures.len, inside.words.ok.0, c.requires.room.words_fit, ap (λ (p : PoolRows). p.spare_words) c.self.view_is);
     }
 
 pub returns-clause-rows : goal.returns-clause-rows
 returns-clause-rows c =
     let inside = c.self.inside in
     let words = c.args.words.now in
-    let e : Entry = record { end = c.len-end.result; hash = c.args.hash; next = c.head_of-next.result } in
+    let e : Entry = record { end = c.len-end.result; next = c.head_of-next.result } in
     let end_is : e.end ≡ length inside.words.items + length words =
     c.len-end.ensures ∙ c.in-Ok.ensures.len ∙ ap (λ (n : ℕ). n + length words) inside.words.ok.0 in
     rw (c.in-Ok.ensures.items, c.in-Ok-push.ensures.items)
@@ -64,8 +64,8 @@ returns-clause-room_kept c =
     let rows_before = row_room_is inside.words.items inside.entries.items inside.entries.len inside.heads.len inside.entries.ok.0 before.bucket_each in
     let rows_after = row_room_is words.items entries.items entries.len inside.heads.len entries.ok.0 after.bucket_each in
     let held = inside.words in
-    let words_before = word_room_is held.items inside.entries.items held.len held.cap before.table.ends_ascend held.ok.0 held.ok.1 in
-    let words_after = word_room_is words.items entries.items words.len words.cap after.table.ends_ascend words.ok.0 words.ok.1 in
+    let words_before = word_room_is held.items inside.entries.items held.len (min held.cap 4294967295) before.table.ends_ascend held.ok.0 (omega (arith, held.ok.1, before.few_words)) in
+    let words_after = word_room_is words.items entries.items words.len (min words.cap 4294967295) after.table.ends_ascend words.ok.0 (omega (arith, words.ok.1, after.few_words)) in
     record {
       rows_stay = omega (arith, rows_before, rows_after, ap row_room c.self.view_is);
       words_stay = omega (arith, words_before, words_after, ap word_room c.self.view_is, c.in-Ok.ensures.capacity);

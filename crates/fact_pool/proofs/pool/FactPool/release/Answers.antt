@@ -1,4 +1,4 @@
-use Rattle.std.proofs.Common.{◌≡◌, ℕ, ◌≤◌, List, length, take, ◌∙◌, sym, ap, subst, arith}
+use Rattle.std.proofs.Common.{◌≡◌, ℕ, ◌≤◌, List, length, min, take, ◌∙◌, sym, ap, subst, arith}
 use Rattle.std.specs.Vec.{with_items}
 use Rattle.std.proofs.lemmas.List.{with_items_is}
 use Rattle.fact_pool.specs.Rows.{PoolRows, row_room, word_count, word_room}
@@ -24,8 +24,8 @@ invariant_of-self c =
     let within : kept ≤ length entries = omega (arith, c.requires.within, length-rows_of words entries) in
     let same : length heads ≡ length inside.heads.items = c.unlink.auto.heads ∙ ap length c.deref_mut.ensures.value in
     let written : (with_items inside.heads heads).items ≡ heads = with_items_is inside.heads heads (same ∙ sym inside.heads.ok.0) in
-    let heads_last : AreHeads (buckets_of entries (length inside.heads.items)) kept heads =
-    rw (c.deref.ensures.value, c.deref_mut.ensures.value) at c.unlink.ensures in
+    let heads_last : AreHeads (buckets_of rows (length inside.heads.items)) kept heads =
+    rw (c.deref.ensures.value, c.deref-2.ensures.value, c.deref_mut.ensures.value) at c.unlink.ensures in
     let table = table_front words entries inside.heads.items heads kept c.args.mark.words before.table within marked same heads_last in
     record {
       table = subst (λ (hs : List ℕ). IsTable c.truncate-2.new.self.items c.truncate.new.self.items hs) (sym written)
@@ -35,6 +35,7 @@ invariant_of-self c =
       bucket_each = omega (arith, c.truncate.ensures.len, before.bucket_each);
       entry_each = omega (arith, c.truncate.ensures.capacity, before.entry_each);
       few = before.few;
+      few_words = omega (arith, c.truncate-2.ensures.len, before.few_words);
     }
 
 pub returns-clause-rows : goal.returns-clause-rows
@@ -59,7 +60,7 @@ returns-clause-word_room c =
     let inside = c.self.inside in
     let held = inside.words in
     let words = c.truncate-2.new.self in
-    word_room_is words.items c.truncate.new.self.items words.len words.cap (invariant_of-self c).table.ends_ascend words.ok.0 words.ok.1
-    ∙ c.truncate-2.ensures.capacity
-    ∙ sym (word_room_is held.items inside.entries.items held.len held.cap c.self.invariant.table.ends_ascend held.ok.0 held.ok.1)
+    word_room_is words.items c.truncate.new.self.items words.len (min words.cap 4294967295) (invariant_of-self c).table.ends_ascend words.ok.0 (omega (arith, words.ok.1, (invariant_of-self c).few_words))
+    ∙ ap (λ (n : ℕ). min n 4294967295) c.truncate-2.ensures.capacity
+    ∙ sym (word_room_is held.items inside.entries.items held.len (min held.cap 4294967295) c.self.invariant.table.ends_ascend held.ok.0 (omega (arith, held.ok.1, c.self.invariant.few_words)))
     ∙ ap word_room c.self.view_is
