@@ -10,6 +10,7 @@ from dataclasses import dataclass
 
 from advice import ADVICE
 from assumptions import RunWords
+from desugaring import SOME_NOT_DONE
 from explaining import Explaining, explain
 from library import Unusable
 from report import NoReport
@@ -42,6 +43,7 @@ class Asked:
     stubs: str | None = None
     jdk: str | None = None
     drop: bool = False
+    desugar: bool = False
     keep: str | None = None
     trace: bool = False
     assumptions: bool = False
@@ -85,17 +87,20 @@ def working_folder(kept: str | None) -> str:
     return kept
 
 
-def unpack(place: str, jars: list[str]) -> None:
-    """Puts the class files of the jars into the folder."""
+def unpack(place: str, asked: Asked) -> None:
+    """Puts the class files of the jars into the folder, rewritten where that is asked for."""
+    tool = "desugar" if asked.desugar else "unpack"
     output = os.path.join(place, "unpacked.txt")
     with open(output, "wb") as file:
-        ran = subprocess.run([os.path.join(HERE, "unpack"), *jars, os.path.join(place, "folder")], stdout=file, check=False)
+        ran = subprocess.run([os.path.join(HERE, tool), *asked.jars, os.path.join(place, "folder")], stdout=file, check=False)
     with open(output, encoding="utf-8", errors="replace") as file:
         lines = file.readlines()
-    if ran.returncode:
+    if ran.returncode and not (asked.desugar and ran.returncode == SOME_NOT_DONE):
         sys.stderr.write("".join(lines[-5:]))
-        raise Failed(66, "unpack failed, and says above why")
+        raise Failed(66, f"{tool} failed, and says above why")
     say(lines[-1].strip())
+    if asked.desugar:
+        say("what is told is told of the class files as tools/desugar wrote them, which is tested and not proved")
 
 
 def providers(jars: list[str]) -> list[str]:
@@ -171,8 +176,8 @@ def explain_it(place: str, report: str, asked: Asked) -> int:
 def steps(place: str, asked: Asked) -> int:
     """Makes the folder, and runs the verifier on it. The status."""
     property_named = property_file(asked.property)
-    say("unpacking the jars")
-    unpack(place, asked.jars)
+    say("rewriting the class files of the jars" if asked.desugar else "unpacking the jars")
+    unpack(place, asked)
     shutil.copyfile(property_named, os.path.join(place, "folder", "property.toml"))
     make_stubs(place, asked)
     return run(place, asked)

@@ -147,12 +147,8 @@ moved_items {X} places size pool other start there xs ys answer e f g first =
 pub repeat_at : (pool : List PoolEntry) (members : List Member) (answers : List Bool) (k : ℕ) (m : Member) (answer : Bool) → k < length members → m ≡ get_or members k m → answer ≡ get_or answers k answer → AreRepeats pool members answers
     → IsRepeat pool (take k members) m answer
 repeat_at pool members answers k m answer lt is said are =
-    let here : slice_get members k ≡ Some m = slice_get-get_or members k m lt ∙ ap (λ (x : Member). Some x) (sym is) in
-    let there : slice_get answers k ≡ Some answer = slice_get-get_or answers k answer (omega (arith, lt, are.long)) ∙ ap (λ (b : Bool). Some b) (sym said) in
-    record {
-      fresh = λ e. are.fresh k m here (there ∙ ap (λ (b : Bool). Some b) e);
-      repeated = λ e. are.repeated k m here (there ∙ ap (λ (b : Bool). Some b) e);
-    }
+    are.each k m answer (slice_get-get_or members k m lt ∙ ap (λ (x : Member). Some x) (sym is))
+    (slice_get-get_or answers k answer (omega (arith, lt, are.long)) ∙ ap (λ (b : Bool). Some b) (sym said))
 
 -- ---- all places
 

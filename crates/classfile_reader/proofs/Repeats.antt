@@ -1,62 +1,142 @@
--- The answers of a loop over members, of which it keeps the numbers of names and descriptors.
-use Rattle.std.proofs.Common.{◌≡◌, ℕ, ◌+◌, ◌<◌, ◌≤◌, Bool, true, false, ◌||◌, List, [], ◌∷◌, ◌++◌, length, take, get_or, Option, Some, None, slice_get, option_and_then, option_map, ⊎_elim, refl, sym, ap, ◌∙◌, arith, length-append}
-use Rattle.std.specs.BTreeSet.{BTreeSet, contains}
-use Rattle.std.specs.List.{list_any}
+-- Whether a member repeats an earlier one, by the numbers of its name and its descriptor; and the answers of a loop.
+use Rattle.std.proofs.Common.{◌≡◌, ℕ, ◌+◌, ◌<◌, ◌≤◌, Bool, true, false, ◌||◌, List, [], ◌∷◌, ◌++◌, length, take, get_or, Option, Some, None, slice_get, ⊎_elim, ◌⊎◌, inl, inr, refl, sym, ap, ◌∙◌, subst, arith, length-append}
+use Rattle.std.specs.HashSet.{HashSet, contains}
 use Rattle.std.specs.Option.{option_map_or}
-use Rattle.std.specs.Ordering.{is_eq, nat_cmp}
-use Rattle.std.specs.Cmp.{tied_then}
-use Rattle.std.proofs.lemmas.Bool.{and_from, and_parts, cases_lt, false≢true}
-use Rattle.std.proofs.lemmas.Bool.Decides.{nat_tests}
+use Rattle.std.proofs.lemmas.Bool.{and_parts, cases_lt, false≢true}
+use Rattle.std.proofs.lemmas.Cmp.{nat_eq_equiv}
 use Rattle.std.proofs.lemmas.Grind.{common_steps}
-use Rattle.std.proofs.lemmas.List.Folds.{list_any_at, list_any_more, Any-from_list_any}
-use Rattle.std.proofs.lemmas.Option.{gets, none-some, same_Some, slice_get_read, slice_get_within}
+use Rattle.std.proofs.lemmas.List.Elements.{Contains-append_left, Contains-push, Contains-push_cases}
+use Rattle.std.proofs.lemmas.Map.Views.{exact_unsigned_eq}
+use Rattle.std.proofs.lemmas.Option.{gets, same_Some, slice_get_read, slice_get_within}
 use Rattle.jvm_model.specs.declared.class_file.Member.{Member}
 use Rattle.jvm_model.specs.declared.pool.PoolEntry.{PoolEntry}
 use Rattle.jvm_model.specs.Lookups.{text_at}
 use Rattle.jvm_model.specs.Soundness.{UseHolds}
 use Rattle.jvm_model.specs.Soundness.Use.{differs}
 use Rattle.classfile_reader.specs.declared.soundness.repeats.NumberedSignature.{NumberedSignature}
-use Rattle.classfile_reader.specs.Repeats.{signature_cmp, signature_of, has_signature, is_repeat, AreRepeats}
-use Rattle.classfile_reader.specs.TextNumbers.{number_at, number_of, text_numbers}
-use Rattle.classfile_reader.proofs.TextNumbers.{has_number, number_at_text, same_text}
-
-abbrev numbered : ℕ → ℕ → NumberedSignature
-numbered n d = record { name = n; descriptor = d }
-
-same_number : (x y : ℕ) → is_eq (nat_cmp x y) ≡ true → x ≡ y
-same_number x y e = grind (arith, nat_tests)
-
-number_itself : (x : ℕ) → is_eq (nat_cmp x x) ≡ true
-number_itself x = grind (arith, nat_tests)
-
--- The members at the front are those that are seen, and are answered.
-pub record HaveAnswers (numbers : List (Option ℕ)) (members : List Member) (i : ℕ) (seen : BTreeSet NumberedSignature) (answers : List Bool) : Type 0 where
-  pub seen_are : (s : NumberedSignature) → contains signature_cmp seen s ≡ list_any (has_signature numbers s) (take i members)
-  pub long : length answers ≡ i
-  pub each : (k : ℕ) (m : Member) → k < i → slice_get members k ≡ Some m → slice_get answers k ≡ Some (is_repeat numbers (take k members) m)
-
--- ---- options
+use Rattle.classfile_reader.specs.declared.soundness.text_numbers.TextNumbers.{TextNumbers}
+use Rattle.classfile_reader.specs.Repeats.{signature_eq, AreEarlier, HasNumbers, IsListed, IsRepeat, IsSignature}
+use Rattle.classfile_reader.specs.TextNumbers.{AreNumbers, StayNumbered}
+use Rattle.classfile_reader.proofs.TextNumbers.{one_number, one_text, still_numbered}
 
 abbrev some : {X : Type 0} → X → Option X
 some x = Some x
 
-bind_parts : {A B : Type 0} (f : A → Option B) (o : Option A) (y : B) → option_and_then f o ≡ Some y → (x : A) × (o ≡ Some x) × (f x ≡ Some y)
-bind_parts f None y e = absurd (none-some y e)
-bind_parts f (Some x) y e = (x, refl, e)
+-- ---- pairs of numbers
 
-map_parts : {A B : Type 0} (f : A → B) (o : Option A) (y : B) → option_map f o ≡ Some y → (x : A) × (o ≡ Some x) × (f x ≡ y)
-map_parts f None y e = absurd (none-some y e)
-map_parts f (Some x) y e = (x, refl, same_Some (f x) y e)
+same_signature : (s t : NumberedSignature) → signature_eq s t ≡ true → s ≡ t
+same_signature s t e =
+    let both = and_parts _ _ e in
+    let name = exact_unsigned_eq s.name t.name both.0 in
+    let descriptor = exact_unsigned_eq s.descriptor t.descriptor both.1 in
+    (λ i. record { name = name i; descriptor = descriptor i })
 
-passing : {A : Type 0} (f : A → Bool) (o : Option A) → option_map_or f o false ≡ true → (x : A) × (o ≡ Some x) × (f x ≡ true)
-passing f None e = absurd (false≢true e)
-passing f (Some x) e = (x, refl, e)
+equal_itself : (s : NumberedSignature) → signature_eq s s ≡ true
+equal_itself s = rw (nat_eq_equiv.refl s.name) (nat_eq_equiv.refl s.descriptor)
 
-same_tests : {A : Type 0} (f g : A → Bool) (o : Option A) → ((x : A) → f x ≡ g x) → option_map_or f o false ≡ option_map_or g o false
-same_tests f g None each = refl
-same_tests f g (Some x) each = each x
+-- ---- the members so far
 
--- ---- one more member
+or_true : (b : Bool) → (b || true) ≡ true
+or_true true = refl
+or_true false = refl
+
+or_cases : (b c : Bool) → (b || c) ≡ true → (b ≡ true) ⊎ (c ≡ true)
+or_cases true c e = inl refl
+or_cases false c e = inr e
+
+still_signature : (pool : List PoolEntry) (old new : TextNumbers) (m : Member) (signature : Option NumberedSignature) → StayNumbered old new → IsSignature pool old m signature → IsSignature pool new m signature
+still_signature pool old new m None stays is = is
+still_signature pool old new m (Some s) stays is = record {
+  name = still_numbered pool old new m.name s.name stays is.name;
+  descriptor = still_numbered pool old new m.descriptor s.descriptor stays is.descriptor;
+}
+
+pub still_earlier : {S : Type 0} (pool : List PoolEntry) (earlier : List Member) (old new : TextNumbers) (signatures : HashSet NumberedSignature S) → StayNumbered old new
+    → AreEarlier pool earlier old signatures → AreEarlier pool earlier new signatures
+still_earlier pool earlier old new signatures stays have = record {
+  among = λ s e.
+      let found = have.among s e in
+      (found.0, found.1, still_signature pool old new found.0 (Some s) stays found.2);
+  each = λ m among.
+      let one = have.each m among in
+      record { signature = one.signature; is = still_signature pool old new m one.signature stays one.is; listed = one.listed };
+}
+
+-- one more member, whose numbers are added
+module _ {S : Type 0} (pool : List PoolEntry) (numbers : TextNumbers) (m : Member) (signature : Option NumberedSignature) (is : IsSignature pool numbers m signature) (old new : HashSet NumberedSignature S)
+    (after : (other : NumberedSignature) → contains signature_eq new other ≡ (contains signature_eq old other || option_map_or (λ (s : NumberedSignature). signature_eq s other) signature false)) where
+  listed_still : (o : Option NumberedSignature) → option_map_or (contains signature_eq old) o true ≡ true → option_map_or (contains signature_eq new) o true ≡ true
+  listed_still None e = refl
+  listed_still (Some s) e = after s ∙ ap (λ b. b || option_map_or (λ (t : NumberedSignature). signature_eq t s) signature false) e
+
+  listed_itself : (o : Option NumberedSignature) → signature ≡ o → option_map_or (contains signature_eq new) o true ≡ true
+  listed_itself None e = refl
+  listed_itself (Some s) e =
+      after s ∙ ap (λ (o : Option NumberedSignature). contains signature_eq old s || option_map_or (λ (t : NumberedSignature). signature_eq t s) o false) e
+      ∙ ap (λ b. contains signature_eq old s || b) (equal_itself s) ∙ or_true (contains signature_eq old s)
+
+  its_numbers : (s : NumberedSignature) (o : Option NumberedSignature) → IsSignature pool numbers m o → option_map_or (λ (t : NumberedSignature). signature_eq t s) o false ≡ true → HasNumbers pool numbers m s
+  its_numbers s None has e = absurd (false≢true e)
+  its_numbers s (Some t) has e = subst (HasNumbers pool numbers m) (same_signature t s e) has
+
+  pub earlier_more : (earlier : List Member) → AreEarlier pool earlier numbers old → AreEarlier pool (earlier ++ m ∷ []) numbers new
+  earlier_more earlier have = record {
+    among = λ s e. elim (or_cases _ _ (sym (after s) ∙ e)) [
+      | inl before ↦
+          let found = have.among s before in
+          (found.0, Contains-append_left earlier (m ∷ []) found.0 found.1, found.2)
+      | inr here ↦ (m, Contains-push earlier m, its_numbers s signature is here)
+    ];
+    each = λ e among. elim (Contains-push_cases earlier m e among) [
+      | inl before ↦
+          let one = have.each e before in
+          record { signature = one.signature; is = one.is; listed = listed_still one.signature one.listed }
+      | inr same ↦ subst (IsListed pool numbers new) same (record { signature = signature; is = is; listed = listed_itself signature refl })
+    ];
+  }
+
+-- ---- the answer
+
+module _ {S : Type 0} (pool : List PoolEntry) (earlier : List Member) (m : Member) (numbers : TextNumbers) (signatures : HashSet NumberedSignature S) where
+  -- where an earlier member has the same texts, its numbers are the same
+  same_listed : (signature other : Option NumberedSignature) (e : Member) (name descriptor : List ℕ) → IsSignature pool numbers m signature → IsSignature pool numbers e other
+      → option_map_or (contains signature_eq signatures) signature false ≡ false → option_map_or (contains signature_eq signatures) other true ≡ true
+      → text_at pool m.name ≡ Some name → text_at pool m.descriptor ≡ Some descriptor → text_at pool e.name ≡ Some name → text_at pool e.descriptor ≡ Some descriptor → ⊥
+  same_listed None other e name descriptor mine theirs absent present m_name m_descriptor e_name e_descriptor = mine name descriptor m_name m_descriptor
+  same_listed (Some s) None e name descriptor mine theirs absent present m_name m_descriptor e_name e_descriptor = theirs name descriptor e_name e_descriptor
+  same_listed (Some s) (Some t) e name descriptor mine theirs absent present m_name m_descriptor e_name e_descriptor =
+      let names : s.name ≡ t.name = one_number pool numbers m.name e.name s.name t.name name mine.name theirs.name m_name e_name in
+      let descriptors : s.descriptor ≡ t.descriptor = one_number pool numbers m.descriptor e.descriptor s.descriptor t.descriptor descriptor mine.descriptor theirs.descriptor m_descriptor e_descriptor in
+      let same : s ≡ t = (λ i. record { name = names i; descriptor = descriptors i }) in
+      false≢true (sym absent ∙ ap (contains signature_eq signatures) same ∙ present)
+
+  -- a member whose numbers are among those of the earlier ones repeats one of them
+  old_fails : (signature : Option NumberedSignature) → AreNumbers pool numbers → IsSignature pool numbers m signature → AreEarlier pool earlier numbers signatures
+      → option_map_or (contains signature_eq signatures) signature false ≡ true → UseHolds pool (differs earlier m) → ⊥
+  old_fails None are mine have present holds = false≢true present
+  old_fails (Some s) are mine have present holds =
+      let found = have.among s present in
+      let e = found.0 in
+      let theirs = found.2 in
+      let names = one_text pool numbers e.name m.name s.name are theirs.name mine.name in
+      let descriptors = one_text pool numbers e.descriptor m.descriptor s.descriptor are theirs.descriptor mine.descriptor in
+      holds mine.name.text mine.descriptor.text mine.name.stands mine.descriptor.stands e found.1 (theirs.name.stands ∙ ap some names) (theirs.descriptor.stands ∙ ap some descriptors)
+
+  pub answer_is : (signature : Option NumberedSignature) (answer : Bool) → AreNumbers pool numbers → IsSignature pool numbers m signature → AreEarlier pool earlier numbers signatures
+      → answer ≡ option_map_or (contains signature_eq signatures) signature false → IsRepeat pool earlier m answer
+  answer_is signature answer are mine have told = record {
+    fresh = λ absent name descriptor m_name m_descriptor e among e_name e_descriptor.
+        let one = have.each e among in
+        same_listed signature one.signature e name descriptor mine one.is (sym told ∙ absent) one.listed m_name m_descriptor e_name e_descriptor;
+    repeated = λ present. old_fails signature are mine have (sym told ∙ present);
+  }
+
+-- ---- the answers of a loop
+
+-- The members at the front are answered.
+pub record HaveAnswers (pool : List PoolEntry) (members : List Member) (i : ℕ) (answers : List Bool) : Type 0 where
+  pub long : length answers ≡ i
+  pub each : (k : ℕ) (m : Member) (answer : Bool) → slice_get members k ≡ Some m → slice_get answers k ≡ Some answer → IsRepeat pool (take k members) m answer
 
 get_earlier : (answers : List Bool) (answer : Bool) (k : ℕ) → k < length answers → slice_get (answers ++ answer ∷ []) k ≡ slice_get answers k
 get_earlier answers answer k lt = grind (arith, common_steps, gets)
@@ -64,114 +144,20 @@ get_earlier answers answer k lt = grind (arith, common_steps, gets)
 get_last : (answers : List Bool) (answer : Bool) (k : ℕ) → k ≡ length answers → slice_get (answers ++ answer ∷ []) k ≡ Some answer
 get_last answers answer k e = grind (arith, common_steps, gets)
 
-pub answers_more : (numbers : List (Option ℕ)) (members : List Member) (i : ℕ) (m : Member) (signature : Option NumberedSignature) (seen new : BTreeSet NumberedSignature) (answers : List Bool) (answer : Bool) → i < length members → m ≡ get_or members i m
-    → signature ≡ signature_of numbers m
-    → HaveAnswers numbers members i seen answers
-    → answer ≡ option_map_or (contains signature_cmp seen) signature false
-    → ((other : NumberedSignature) → contains signature_cmp new other ≡ (contains signature_cmp seen other || option_map_or (λ (s : NumberedSignature). is_eq (signature_cmp s other)) signature false))
-    → HaveAnswers numbers members (i + 1) new (answers ++ answer ∷ [])
-answers_more numbers members i m signature seen new answers answer lt is named have before after = record {
-  seen_are = λ s.
-      let p : Member → Bool = has_signature numbers s in
-      let here : option_map_or (λ (t : NumberedSignature). is_eq (signature_cmp t s)) signature false ≡ p (get_or members i m) =
-      ap (λ o. option_map_or (λ (t : NumberedSignature). is_eq (signature_cmp t s)) o false) named ∙ ap p is in
-      after s ∙ ap (λ b. contains signature_cmp seen s || b) here ∙ ap (λ b. b || p (get_or members i m)) (have.seen_are s) ∙ sym (list_any_more p members i m lt);
+pub answers_more : (pool : List PoolEntry) (members : List Member) (i : ℕ) (m : Member) (answers : List Bool) (answer : Bool) → i < length members → m ≡ get_or members i m
+    → HaveAnswers pool members i answers → IsRepeat pool (take i members) m answer → HaveAnswers pool members (i + 1) (answers ++ answer ∷ [])
+answers_more pool members i m answers answer lt is have told = record {
   long = omega (arith, length-append answers (answer ∷ []), have.long);
-  each = λ k n below here.
-      let earlier : k < i → slice_get (answers ++ answer ∷ []) k ≡ Some (is_repeat numbers (take k members) n) =
-      λ early. get_earlier answers answer k (omega (arith, have.long)) ∙ have.each k n early here in
-      let last : i ≤ k → slice_get (answers ++ answer ∷ []) k ≡ Some (is_repeat numbers (take k members) n) =
+  each = λ k n said here answered.
+      let within = slice_get_within (answers ++ answer ∷ []) k said answered in
+      let before : k < i → IsRepeat pool (take k members) n said =
+      λ early. have.each k n said here (sym (get_earlier answers answer k (omega (arith, have.long))) ∙ answered) in
+      let last : i ≤ k → IsRepeat pool (take k members) n said =
       λ past.
-      let late : k ≡ i = omega arith in
-      let one : n ≡ m = same_Some n m (sym here ∙ ap (slice_get members) late ∙ slice_get_read members (length members) i m refl lt is) in
-      let told : answer ≡ is_repeat numbers (take i members) m =
-      before ∙ ap (λ o. option_map_or (contains signature_cmp seen) o false) named ∙ same_tests (contains signature_cmp seen) (λ (s : NumberedSignature). list_any (has_signature numbers s) (take i members)) (signature_of numbers m) have.seen_are in
-      get_last answers answer k (late ∙ sym have.long) ∙ ap some (told ∙ ap (λ (j : ℕ). is_repeat numbers (take j members) m) (sym late) ∙ ap (is_repeat numbers (take k members)) (sym one)) in
-      ⊎_elim earlier last (cases_lt k i);
+      let late : k ≡ i = omega (arith, length-append answers (answer ∷ []), have.long) in
+      let one : m ≡ n = same_Some m n (sym (slice_get_read members (length members) i m refl lt is) ∙ ap (slice_get members) (sym late) ∙ here) in
+      let same : answer ≡ said = same_Some answer said (sym (get_last answers answer k (late ∙ sym have.long)) ∙ answered) in
+      let at_k = subst (λ (j : ℕ). IsRepeat pool (take j members) m answer) (sym late) told in
+      subst (IsRepeat pool (take k members) n) same (subst (λ (x : Member). IsRepeat pool (take k members) x answer) one at_k) in
+      ⊎_elim before last (cases_lt k i);
 }
-
--- ---- signatures
-
--- A member with a name and a descriptor, and their numbers.
-pub record IsSigned (pool : List PoolEntry) (m : Member) (s : NumberedSignature) : Type 0 where
-  pub name : List ℕ
-  pub descriptor : List ℕ
-  pub name_at : text_at pool m.name ≡ Some name
-  pub descriptor_at : text_at pool m.descriptor ≡ Some descriptor
-  pub name_is : number_of pool name ≡ Some s.name
-  pub descriptor_is : number_of pool descriptor ≡ Some s.descriptor
-
-signed : (pool : List PoolEntry) (m : Member) (s : NumberedSignature) → signature_of (text_numbers pool) m ≡ Some s → IsSigned pool m s
-signed pool m s e =
-    let numbers = text_numbers pool in
-    let names = bind_parts (λ (n : ℕ). option_map (λ (d : ℕ). numbered n d) (number_at numbers m.descriptor)) (number_at numbers m.name) s e in
-    let descriptors = map_parts (λ (d : ℕ). numbered names.0 d) (number_at numbers m.descriptor) s names.2 in
-    let name = bind_parts (number_of pool) (text_at pool m.name) names.0 (sym (number_at_text pool m.name) ∙ names.1) in
-    let descriptor = bind_parts (number_of pool) (text_at pool m.descriptor) descriptors.0 (sym (number_at_text pool m.descriptor) ∙ descriptors.1) in
-    record {
-      name = name.0;
-      descriptor = descriptor.0;
-      name_at = name.1;
-      descriptor_at = descriptor.1;
-      name_is = name.2 ∙ ap (λ (t : NumberedSignature). some t.name) descriptors.2;
-      descriptor_is = descriptor.2 ∙ ap (λ (t : NumberedSignature). some t.descriptor) descriptors.2;
-    }
-
-signature_is : (pool : List PoolEntry) (m : Member) (name descriptor : List ℕ) (n d : ℕ) → text_at pool m.name ≡ Some name → text_at pool m.descriptor ≡ Some descriptor → number_of pool name ≡ Some n → number_of pool descriptor ≡ Some d → signature_of (text_numbers pool) m ≡ Some (numbered n d)
-signature_is pool m name descriptor n d name_at descriptor_at name_is descriptor_is =
-    let numbers = text_numbers pool in
-    let first : number_at numbers m.name ≡ Some n = number_at_text pool m.name ∙ ap (option_and_then (number_of pool)) name_at ∙ name_is in
-    let second : number_at numbers m.descriptor ≡ Some d = number_at_text pool m.descriptor ∙ ap (option_and_then (number_of pool)) descriptor_at ∙ descriptor_is in
-    ap (option_and_then (λ (n : ℕ). option_map (λ (d : ℕ). numbered n d) (number_at numbers m.descriptor))) first ∙ ap (option_map (λ (d : ℕ). numbered n d)) second
-
-same_signature : (t s : NumberedSignature) → is_eq (signature_cmp t s) ≡ true → t ≡ s
-same_signature t s e =
-    let both = and_parts (is_eq (nat_cmp t.name s.name)) (is_eq (nat_cmp t.descriptor s.descriptor)) (tied_then (nat_cmp t.name s.name) (nat_cmp t.descriptor s.descriptor) ∙ e) in
-    ap (λ n. numbered n t.descriptor) (same_number t.name s.name both.0) ∙ ap (numbered s.name) (same_number t.descriptor s.descriptor both.1)
-
-equal_itself : (s : NumberedSignature) → is_eq (signature_cmp s s) ≡ true
-equal_itself s = sym (tied_then (nat_cmp s.name s.name) (nat_cmp s.descriptor s.descriptor)) ∙ and_from _ _ (number_itself s.name) (number_itself s.descriptor)
-
--- ---- at the end
-
--- a member that is told to repeat none
-new_holds : (pool : List PoolEntry) (earlier : List Member) (m : Member) → is_repeat (text_numbers pool) earlier m ≡ false → UseHolds pool (differs earlier m)
-new_holds pool earlier m told = λ name descriptor name_at descriptor_at e among e_name e_descriptor.
-    let numbers = text_numbers pool in
-    let n = has_number pool m.name name name_at in
-    let d = has_number pool m.descriptor descriptor descriptor_at in
-    let s = numbered n.0 d.0 in
-    let p : Member → Bool = has_signature numbers s in
-    let mine : is_repeat numbers earlier m ≡ list_any p earlier =
-    ap (λ o. option_map_or (λ (t : NumberedSignature). list_any (has_signature numbers t) earlier) o false) (signature_is pool m name descriptor n.0 d.0 name_at descriptor_at n.1 d.1) in
-    let theirs : p e ≡ true =
-    ap (λ o. option_map_or (λ (t : NumberedSignature). is_eq (signature_cmp t s)) o false) (signature_is pool e name descriptor n.0 d.0 e_name e_descriptor n.1 d.1) ∙ equal_itself s in
-    false≢true (sym told ∙ mine ∙ list_any_at p earlier among.0 e among.1 (ap p among.2 ∙ theirs))
-
--- a member that is told to repeat an earlier one
-old_fails : (pool : List PoolEntry) (earlier : List Member) (m : Member) → is_repeat (text_numbers pool) earlier m ≡ true → ¬ UseHolds pool (differs earlier m)
-old_fails pool earlier m told = λ holds.
-    let numbers = text_numbers pool in
-    let mine = passing (λ (t : NumberedSignature). list_any (has_signature numbers t) earlier) (signature_of numbers m) told in
-    let s = mine.0 in
-    let found = Any-from_list_any (has_signature numbers s) earlier mine.2 in
-    let e = found.1 in
-    let theirs = passing (λ (t : NumberedSignature). is_eq (signature_cmp t s)) (signature_of numbers e) found.4 in
-    let one : theirs.0 ≡ s = same_signature theirs.0 s theirs.2 in
-    let here = signed pool m s mine.1 in
-    let there = signed pool e s (theirs.1 ∙ ap some one) in
-    let name_same = same_text pool there.name here.name s.name there.name_is here.name_is in
-    let descriptor_same = same_text pool there.descriptor here.descriptor s.descriptor there.descriptor_is here.descriptor_is in
-    holds here.name here.descriptor here.name_at here.descriptor_at e (found.0, found.2, found.3) (there.name_at ∙ ap some name_same) (there.descriptor_at ∙ ap some descriptor_same)
-
-pub answers_are : (pool : List PoolEntry) (members : List Member) (i : ℕ) (seen : BTreeSet NumberedSignature) (answers : List Bool) → length members ≤ i → i ≤ length members → HaveAnswers (text_numbers pool) members i seen answers → AreRepeats pool members answers
-answers_are pool members i seen answers end within have =
-    let told : (k : ℕ) (m : Member) (answer : Bool) → slice_get members k ≡ Some m → slice_get answers k ≡ Some answer → is_repeat (text_numbers pool) (take k members) m ≡ answer =
-    λ k m answer here answered.
-    let inside = slice_get_within members k m here in
-    same_Some (is_repeat (text_numbers pool) (take k members) m) answer (sym (have.each k m (omega arith) here) ∙ answered) in
-    record {
-      long = omega (arith, have.long);
-      fresh = λ k m here answered. new_holds pool (take k members) m (told k m false here answered);
-      repeated = λ k m here answered. old_fails pool (take k members) m (told k m true here answered);
-    }

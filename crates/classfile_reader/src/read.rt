@@ -38,8 +38,8 @@ use std::alloc::Global;
 /// - `CodeMissing` and `CodeUnexpected` for the code of a method (4.7.3).
 ///
 /// A fault of an entry stands at its tag, one of a member's or a class's index at that index, `CodeMissing` at the flags
-/// of the method, and a fault of an attribute at its first byte. The time taken is linear in the number of bytes, but
-/// for sorting the texts of the constant pool, and a count that promises more than the file holds reserves nothing for it.
+/// of the method, and a fault of an attribute at its first byte. The time taken is linear in the number of bytes, as long
+/// as hashes tell texts apart, and a count that promises more than the file holds reserves nothing for it.
 pub fn read_class(alloc: Global, bytes: &[u8]) -> Result<ClassFile, ReadFailure>
     // What is read is spelled so, in a version and a size that are read.
     ensures found { IfOk result (SpellsReadable bytes.now) }

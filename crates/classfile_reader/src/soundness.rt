@@ -13,6 +13,7 @@ mod header;
 mod known;
 mod member;
 mod repeats;
+mod text_numbers;
 mod uses;
 
 use crate::soundness::attribute::attributes_fault;
@@ -50,7 +51,7 @@ fn body_fault(
 }
 
 /// The offset and the reason of the first place of a class file of which the use does not hold; none if it is sound.
-/// The time taken is linear in the size of the file, but for sorting.
+/// The time taken is linear in the size of the file, as long as hashes tell texts apart.
 pub(crate) fn first_fault(
     alloc: Global,
     class: &ClassFile,

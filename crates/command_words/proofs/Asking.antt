@@ -1,15 +1,16 @@
 -- What the values of options ask for is what the words ask for, and what is wrong with the values is wrong with the words.
-use Rattle.std.proofs.Common.{◌≡◌, ◌∙◌, ℕ, List, Option, Some, sym, ap, subst}
+use Rattle.std.proofs.Common.{codes, ◌≡◌, ◌∙◌, ℕ, Bool, true, false, List, Option, Some, sym, ap, ap₂, subst}
 use Rattle.std.proofs.lemmas.Option.{same_Some}
 use Rattle.failure.specs.declared.Failure.{Failure}
 use Rattle.failure.specs.declared.Failure.TheVariants.{Cause, OutOfMemory}
-use Rattle.command_words.specs.declared.fault.NumberOption.TheVariants.{Stages, Depth, FactLimit, PairLimit}
+use Rattle.command_words.specs.declared.fault.NumberOption.{NumberOption}
+use Rattle.command_words.specs.declared.fault.NumberOption.TheVariants.{Stages, Depth, FactLimit, PairLimit, Sample}
 use Rattle.command_words.specs.declared.fault.UsageFault.{UsageFault}
-use Rattle.command_words.specs.declared.fault.UsageFault.TheVariants.{Words, Range}
-use Rattle.command_words.specs.Command.{is_set, option_in}
-use Rattle.command_words.specs.GivenValues.{Given, Gives, HasBy, LacksBy, NamesSome, Ask, IsWrongWith}
+use Rattle.command_words.specs.declared.fault.UsageFault.TheVariants.{Words, Modes, Range}
+use Rattle.command_words.specs.Command.{option_in}
+use Rattle.command_words.specs.GivenValues.{Given, Gives, HasBy, LacksBy, NamesSome, Ask, IsFirstWithout, IsWrongWith}
 use Rattle.command_words.specs.Options.{IsFormFailure}
-use Rattle.command_words.specs.Requests.{NamesMethod, IsCommand, NumberRule, IsNumberBy, IsNumberIn, HasNumber, LacksNumber, NamesEntry, AsksFor, Wanted, IsUsageFault, IsUsageFailure, stages_rule, depth_rule, fact_limit_rule, pair_limit_rule}
+use Rattle.command_words.specs.Requests.{NamesMethod, IsCommand, NumberRule, IsFirstLacking, IsModeBy, IsNumberBy, IsNumberIn, HasNumber, LacksNumber, NamesEntry, AsksFor, Wanted, IsUsageFault, IsUsageFailure, are_two_modes, have_two_modes, stages_rule, depth_rule, fact_limit_rule, pair_limit_rule, sample_rule}
 
 -- the number of a value is that of the option in words that give the value
 module _ (words : List (List ℕ)) (r : NumberRule) (value : Option (List ℕ)) (is : option_in words r.name ≡ value) where
@@ -34,6 +35,14 @@ module _ (words : List (List ℕ)) (g : Given) (gives : Gives words g) where
       let same : is.entry ≡ g.start = same_Some is.entry g.start (sym is.given ∙ gives.start) in
       none (class, method, subst (λ (word : List ℕ). NamesMethod word class method) same is.names)
 
+  mode_in : (w : Wanted) → IsModeBy g.trace g.sample w.mode → IsModeBy (option_in words (codes "trace")) (option_in words (codes "sample")) w.mode
+  mode_in w h =
+      subst (λ (t : Option (List ℕ)). IsModeBy t (option_in words (codes "sample")) w.mode) (sym gives.trace)
+      (subst (λ (v : Option (List ℕ)). IsModeBy g.trace v w.mode) (sym gives.sample) h)
+
+  two_modes : (b : Bool) → are_two_modes g.trace g.sample ≡ b → have_two_modes words ≡ b
+  two_modes b h = ap₂ are_two_modes gives.trace gives.sample ∙ h
+
   pub asked_for : (w : Wanted) → Ask g w → AsksFor words w
   asked_for w a = record {
     command = names_entry w.class w.method a.names;
@@ -43,31 +52,40 @@ module _ (words : List (List ℕ)) (g : Given) (gives : Gives words g) where
     depth = number_in words depth_rule g.depth gives.depth w.depth a.depth;
     fact_limit = number_in words fact_limit_rule g.fact_limit gives.fact_limit w.fact_limit a.fact_limit;
     pair_limit = number_in words pair_limit_rule g.pair_limit gives.pair_limit w.pair_limit a.pair_limit;
-    trace = a.trace ∙ ap is_set (sym gives.trace);
+    mode = mode_in w a.mode;
   }
 
-  pub wrong_with : (fault : UsageFault) → IsWrongWith g fault → IsUsageFault words fault
-  wrong_with Words none = no_entry none
-  wrong_with (Range Stages) (names, none) = (some_entry names, lacks_in words stages_rule g.stages gives.stages none)
-  wrong_with (Range Depth) (names, first) =
-      (some_entry names, has_in words stages_rule g.stages gives.stages first.0, lacks_in words depth_rule g.depth gives.depth first.1)
-  wrong_with (Range FactLimit) (names, first) = (
-    some_entry names,
+  first_lacking : (option : NumberOption) → IsFirstWithout g option → IsFirstLacking words option
+  first_lacking Stages none = lacks_in words stages_rule g.stages gives.stages none
+  first_lacking Depth first = (has_in words stages_rule g.stages gives.stages first.0, lacks_in words depth_rule g.depth gives.depth first.1)
+  first_lacking FactLimit first = (
     has_in words stages_rule g.stages gives.stages first.0,
     has_in words depth_rule g.depth gives.depth first.1,
     lacks_in words fact_limit_rule g.fact_limit gives.fact_limit first.2,
   )
-  wrong_with (Range PairLimit) (names, first) = (
-    some_entry names,
+  first_lacking PairLimit first = (
     has_in words stages_rule g.stages gives.stages first.0,
     has_in words depth_rule g.depth gives.depth first.1,
     has_in words fact_limit_rule g.fact_limit gives.fact_limit first.2,
     lacks_in words pair_limit_rule g.pair_limit gives.pair_limit first.3,
   )
+  first_lacking Sample first = (
+    has_in words stages_rule g.stages gives.stages first.0,
+    has_in words depth_rule g.depth gives.depth first.1,
+    has_in words fact_limit_rule g.fact_limit gives.fact_limit first.2,
+    has_in words pair_limit_rule g.pair_limit gives.pair_limit first.3,
+    lacks_in words sample_rule g.sample gives.sample first.4,
+  )
+
+  pub wrong_with : (fault : UsageFault) → IsWrongWith g fault → IsUsageFault words fault
+  wrong_with Words none = no_entry none
+  wrong_with Modes (names, two) = (some_entry names, two_modes true two)
+  wrong_with (Range option) (names, one, first) = (some_entry names, two_modes false one, first_lacking option first)
 
 -- words that are not of the command's form name no entry
 pub form_failure : (words : List (List ℕ)) (failure : Failure UsageFault) → IsFormFailure words failure → IsUsageFailure words failure
 form_failure words (Cause Words) none = λ (class, method, is). none is.form
+form_failure words (Cause Modes) none = absurd none
 form_failure words (Cause (Range option)) none = absurd none
 form_failure words OutOfMemory memory = tt
 

@@ -19,7 +19,7 @@ use Rattle.clap.proofs.WalkLemmas.{first_value-rows}
 use Rattle.failure.specs.declared.Failure.{Failure}
 use Rattle.failure.specs.declared.Failure.TheVariants.{Cause, OutOfMemory}
 use Rattle.command_words.specs.declared.fault.UsageFault.{UsageFault}
-use Rattle.command_words.specs.declared.fault.UsageFault.TheVariants.{Words, Range}
+use Rattle.command_words.specs.declared.fault.UsageFault.TheVariants.{Words, Modes, Range}
 use Rattle.command_words.specs.Command.{HasForm, option_in, options, required_option, run_command}
 use Rattle.command_words.specs.Options.{bare_command, AreMatches, IsFailureBy, IsFormFailure, IsRunCommand}
 use Rattle.command_words.proofs.OptionRules.{added_rules, apart_distinct, are_apart, is_own_rule, own_fit, rule_at, takes_value}
@@ -83,6 +83,7 @@ module _ (command : Command) (is : app_of command ≡ run_command) (words : List
       by : HasForm words → HasKind (fault_of run_command words) e → ⊥
       by form (inl memory) = other memory
       by form (inr among) = subst (λ (ks : Kinds). IsAmong (kind_of e) ks) form among
+  error_told e (Cause Modes) err none = none
   error_told e (Cause (Range option)) err none = none
   error_told e OutOfMemory err memory = tt
 

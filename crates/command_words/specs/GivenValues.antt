@@ -1,14 +1,15 @@
 -- This crate's own proofs alone rest on this module.
 -- The values that words give to the options, what these ask for, and what is wrong with them.
-use Rattle.std.specs.Prelude.{codes, ◌≡◌, ℕ, List, Option, Some, option_map}
+use Rattle.std.specs.Prelude.{codes, ◌≡◌, ℕ, true, false, List, Option, Some, option_map}
 use Rattle.command_words.specs.declared.command.OptionValues.{OptionValues}
 use Rattle.command_words.specs.declared.fault.NumberOption.{NumberOption}
-use Rattle.command_words.specs.declared.fault.NumberOption.TheVariants.{Stages, Depth, FactLimit, PairLimit}
+use Rattle.command_words.specs.declared.fault.NumberOption.TheVariants.{Stages, Depth, FactLimit, PairLimit, Sample}
 use Rattle.command_words.specs.declared.fault.UsageFault.{UsageFault}
-use Rattle.command_words.specs.declared.fault.UsageFault.TheVariants.{Words, Range}
+use Rattle.command_words.specs.declared.fault.UsageFault.TheVariants.{Words, Modes, Range}
+use Rattle.command_words.specs.declared.request.Mode.{Mode}
 use Rattle.command_words.specs.declared.request.Numbers.{Numbers}
-use Rattle.command_words.specs.Command.{HasForm, is_set, option_in}
-use Rattle.command_words.specs.Requests.{NamesMethod, NumberRule, IsNumberBy, Wanted, stages_rule, depth_rule, fact_limit_rule, pair_limit_rule}
+use Rattle.command_words.specs.Command.{HasForm, option_in}
+use Rattle.command_words.specs.Requests.{NamesMethod, NumberRule, IsModeBy, IsNumberBy, Wanted, are_two_modes, stages_rule, depth_rule, fact_limit_rule, pair_limit_rule, sample_rule}
 
 -- The values: those of the property file and of the entry, and the others where they are given.
 pub record Given : Type 0 where
@@ -20,6 +21,7 @@ pub record Given : Type 0 where
   pub fact_limit : Option (List ℕ)
   pub pair_limit : Option (List ℕ)
   pub trace : Option (List ℕ)
+  pub sample : Option (List ℕ)
 
 -- The values that the options have.
 abbrev pub given_of : OptionValues → Given
@@ -32,6 +34,7 @@ given_of v = record {
   fact_limit = option_map (λ s. s.now) v.fact_limit;
   pair_limit = option_map (λ s. s.now) v.pair_limit;
   trace = option_map (λ s. s.now) v.trace;
+  sample = option_map (λ s. s.now) v.sample;
 }
 
 -- The words are of the command's form, and give these values.
@@ -45,6 +48,7 @@ pub record Gives (words : List (List ℕ)) (g : Given) : Type 0 where
   pub fact_limit : option_in words (codes "fact-limit") ≡ g.fact_limit
   pub pair_limit : option_in words (codes "pair-limit") ≡ g.pair_limit
   pub trace : option_in words (codes "trace") ≡ g.trace
+  pub sample : option_in words (codes "sample") ≡ g.sample
 
 -- ---- numbers
 
@@ -54,6 +58,7 @@ rule_for Stages = stages_rule
 rule_for Depth = depth_rule
 rule_for FactLimit = fact_limit_rule
 rule_for PairLimit = pair_limit_rule
+rule_for Sample = sample_rule
 
 -- The value has a number by the rule.
 abbrev pub HasBy : NumberRule → Option (List ℕ) → Type 0
@@ -69,6 +74,7 @@ pub record AreNumbers (g : Given) (n : Numbers) : Type 0 where
   pub depth : IsNumberBy depth_rule g.depth n.depth
   pub fact_limit : IsNumberBy fact_limit_rule g.fact_limit n.fact_limit
   pub pair_limit : IsNumberBy pair_limit_rule g.pair_limit n.pair_limit
+  pub sample : IsNumberBy sample_rule g.sample n.sample
 
 -- The option is the first of which the value has no number.
 abbrev pub IsFirstWithout : Given → NumberOption → Type 0
@@ -77,6 +83,13 @@ IsFirstWithout g Depth = HasBy stages_rule g.stages × LacksBy depth_rule g.dept
 IsFirstWithout g FactLimit = HasBy stages_rule g.stages × HasBy depth_rule g.depth × LacksBy fact_limit_rule g.fact_limit
 IsFirstWithout g PairLimit =
     HasBy stages_rule g.stages × HasBy depth_rule g.depth × HasBy fact_limit_rule g.fact_limit × LacksBy pair_limit_rule g.pair_limit
+IsFirstWithout g Sample =
+    HasBy stages_rule g.stages × HasBy depth_rule g.depth × HasBy fact_limit_rule g.fact_limit × HasBy pair_limit_rule g.pair_limit
+    × LacksBy sample_rule g.sample
+
+-- What is to be told, by the values of the options of modes.
+abbrev pub IsModeOf : Given → Mode → Type 0
+IsModeOf g mode = IsModeBy g.trace g.sample mode
 
 -- ---- the whole
 
@@ -89,13 +102,14 @@ pub record Ask (g : Given) (w : Wanted) : Type 0 where
   pub depth : IsNumberBy depth_rule g.depth w.depth
   pub fact_limit : IsNumberBy fact_limit_rule g.fact_limit w.fact_limit
   pub pair_limit : IsNumberBy pair_limit_rule g.pair_limit w.pair_limit
-  pub trace : w.trace ≡ is_set g.trace
+  pub mode : IsModeOf g w.mode
 
 -- The word names a method of a class.
 abbrev pub NamesSome : List ℕ → Type 0
 NamesSome word = (class : List ℕ) × (method : List ℕ) × NamesMethod word class method
 
--- What is wrong with values: the entry names nothing, or it does and an option has no number.
+-- What is wrong with values: the entry names nothing; or two modes are asked for; or an option has no number.
 abbrev pub IsWrongWith : Given → UsageFault → Type 0
 IsWrongWith g Words = NamesSome g.start → ⊥
-IsWrongWith g (Range option) = NamesSome g.start × IsFirstWithout g option
+IsWrongWith g Modes = NamesSome g.start × (are_two_modes g.trace g.sample ≡ true)
+IsWrongWith g (Range option) = NamesSome g.start × (are_two_modes g.trace g.sample ≡ false) × IsFirstWithout g option

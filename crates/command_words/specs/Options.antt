@@ -15,7 +15,7 @@ use Rattle.clap.specs.declared.parser.matches.ArgMatches.{ArgMatches}
 use Rattle.failure.specs.declared.Failure.{Failure}
 use Rattle.failure.specs.declared.Failure.TheVariants.{Cause, OutOfMemory}
 use Rattle.command_words.specs.declared.fault.UsageFault.{UsageFault}
-use Rattle.command_words.specs.declared.fault.UsageFault.TheVariants.{Words, Range}
+use Rattle.command_words.specs.declared.fault.UsageFault.TheVariants.{Words, Modes, Range}
 use Rattle.command_words.specs.Command.{HasForm, options, run_command}
 
 -- The command without its options.
@@ -47,11 +47,13 @@ pub record AreMatches (words : List (List ℕ)) (m : ArgMatches) : Type 0 where
 -- An error of the parser is out of memory, or says that the words are not of the form.
 abbrev pub IsFailureBy : ErrorKind → Failure UsageFault → Type 0
 IsFailureBy kind (Cause Words) = kind ≡ kinds.OutOfMemory → ⊥
+IsFailureBy kind (Cause Modes) = ⊥
 IsFailureBy kind (Cause (Range option)) = ⊥
 IsFailureBy kind OutOfMemory = kind ≡ kinds.OutOfMemory
 
 -- The words are not of the form. Out of memory says nothing of them.
 abbrev pub IsFormFailure : List (List ℕ) → Failure UsageFault → Type 0
 IsFormFailure words (Cause Words) = HasForm words → ⊥
+IsFormFailure words (Cause Modes) = ⊥
 IsFormFailure words (Cause (Range option)) = ⊥
 IsFormFailure words OutOfMemory = Unit {0}

@@ -1,17 +1,19 @@
 -- Public contracts rest on this module.
 -- What the words of a run ask for, and what is wrong with them.
-use Rattle.std.specs.Prelude.{codes, ◌≡◌, ℕ, ◌+◌, ◌*◌, ◌-◌, ◌≤◌, ◌&&◌, ◌==◌, nat_le, not, Bool, List, ◌∷◌, ◌++◌, length, fold, Option, Some, None, option_map, IsTrue}
+use Rattle.std.specs.Prelude.{codes, ◌≡◌, ℕ, ◌+◌, ◌*◌, ◌-◌, ◌≤◌, ◌&&◌, ◌==◌, nat_le, not, Bool, true, false, is_some, List, ◌∷◌, ◌++◌, length, fold, Option, Some, None, option_map, IsTrue}
 use Rattle.std.specs.List.{list_all}
 use Rattle.failure.specs.declared.Failure.{Failure}
 use Rattle.failure.specs.declared.Failure.TheVariants.{Cause, OutOfMemory}
-use Rattle.command_words.specs.declared.fault.NumberOption.TheVariants.{Stages, Depth, FactLimit, PairLimit}
+use Rattle.command_words.specs.declared.fault.NumberOption.{NumberOption}
+use Rattle.command_words.specs.declared.fault.NumberOption.TheVariants.{Stages, Depth, FactLimit, PairLimit, Sample}
 use Rattle.command_words.specs.declared.fault.UsageFault.{UsageFault}
-use Rattle.command_words.specs.declared.fault.UsageFault.TheVariants.{Words, Range}
+use Rattle.command_words.specs.declared.fault.UsageFault.TheVariants.{Words, Modes, Range}
+use Rattle.command_words.specs.declared.request.Mode.{Mode}
+use Rattle.command_words.specs.declared.request.Mode.TheVariants as modes
 use Rattle.command_words.specs.declared.request.Request.{Request}
 use Rattle.command_words.specs.Command.{HasForm, is_set, option_in}
 
--- What a run is asked for: a property file and a stub file, an entry by its class and its name, the last stage, and the limits; and whether it is to tell
--- why sites are unproved.
+-- What a run is asked for: a property file and a stub file, an entry by its class and its name, the last stage, and the limits; and what it is to tell.
 pub record Wanted : Type 0 where
   pub property : List ℕ
   pub stubs : Option (List ℕ)
@@ -21,7 +23,7 @@ pub record Wanted : Type 0 where
   pub depth : ℕ
   pub fact_limit : ℕ
   pub pair_limit : ℕ
-  pub trace : Bool
+  pub mode : Mode
 
 abbrev pub wanted_of : Request → Wanted
 wanted_of r = record {
@@ -33,7 +35,7 @@ wanted_of r = record {
   depth = r.depth;
   fact_limit = r.fact_limit;
   pair_limit = r.pair_limit;
-  trace = r.trace;
+  mode = r.mode;
 }
 
 -- ---- the entry
@@ -91,6 +93,10 @@ fact_limit_rule = record { name = codes "fact-limit"; least = 1; most = 1000000;
 abbrev pub pair_limit_rule : NumberRule
 pair_limit_rule = record { name = codes "pair-limit"; least = 1; most = 20000000; otherwise = 20000000 }
 
+-- The methods of a sample. Where the option is not given, there is none.
+abbrev pub sample_rule : NumberRule
+sample_rule = record { name = codes "sample"; least = 1; most = 200; otherwise = 0 }
+
 -- The number of a value, if there is one.
 abbrev pub IsNumberBy : NumberRule → Option (List ℕ) → ℕ → Type 0
 IsNumberBy r None n = n ≡ r.otherwise
@@ -99,6 +105,28 @@ IsNumberBy r (Some text) n = Spells r.least r.most text n
 -- The number of an option in words.
 abbrev pub IsNumberIn : List (List ℕ) → NumberRule → ℕ → Type 0
 IsNumberIn words r n = IsNumberBy r (option_in words r.name) n
+
+-- ---- modes
+
+-- Options of two modes stand, by their values.
+abbrev pub are_two_modes : (trace sample : Option (List ℕ)) → Bool
+are_two_modes trace sample = is_set trace && is_some sample
+
+-- They do so in words.
+abbrev pub have_two_modes : List (List ℕ) → Bool
+have_two_modes words = are_two_modes (option_in words (codes "trace")) (option_in words (codes "sample"))
+
+-- What is to be told, by the values of these options: derivations, or a sample with a number of methods, or neither.
+abbrev pub IsModeBy : (trace sample : Option (List ℕ)) → Mode → Type 0
+IsModeBy trace sample modes.Report = (is_set trace ≡ false) × (sample ≡ None)
+IsModeBy trace sample modes.Trace = (is_set trace ≡ true) × (sample ≡ None)
+IsModeBy trace sample (modes.Sample n) = (is_set trace ≡ false) × (text : List ℕ) × (sample ≡ Some text) × IsNumberBy sample_rule (Some text) n
+
+-- Derivations are to be told.
+abbrev pub is_trace : Mode → Bool
+is_trace modes.Report = false
+is_trace modes.Trace = true
+is_trace (modes.Sample n) = false
 
 -- ---- the whole
 
@@ -110,7 +138,7 @@ pub record AsksFor (words : List (List ℕ)) (w : Wanted) : Type 0 where
   pub depth : IsNumberIn words depth_rule w.depth
   pub fact_limit : IsNumberIn words fact_limit_rule w.fact_limit
   pub pair_limit : IsNumberIn words pair_limit_rule w.pair_limit
-  pub trace : w.trace ≡ is_set (option_in words (codes "trace"))
+  pub mode : IsModeBy (option_in words (codes "trace")) (option_in words (codes "sample")) w.mode
 
 -- The option has a number; it has none.
 abbrev pub HasNumber : List (List ℕ) → NumberRule → Type 0
@@ -123,14 +151,22 @@ LacksNumber words r = (n : ℕ) → IsNumberIn words r n → ⊥
 abbrev pub NamesEntry : List (List ℕ) → Type 0
 NamesEntry words = (class : List ℕ) × (method : List ℕ) × IsCommand words class method
 
+-- The option is the first that has no number.
+abbrev pub IsFirstLacking : List (List ℕ) → NumberOption → Type 0
+IsFirstLacking words Stages = LacksNumber words stages_rule
+IsFirstLacking words Depth = HasNumber words stages_rule × LacksNumber words depth_rule
+IsFirstLacking words FactLimit = HasNumber words stages_rule × HasNumber words depth_rule × LacksNumber words fact_limit_rule
+IsFirstLacking words PairLimit =
+    HasNumber words stages_rule × HasNumber words depth_rule × HasNumber words fact_limit_rule × LacksNumber words pair_limit_rule
+IsFirstLacking words Sample =
+    HasNumber words stages_rule × HasNumber words depth_rule × HasNumber words fact_limit_rule × HasNumber words pair_limit_rule
+    × LacksNumber words sample_rule
+
 -- What is wrong with words: the checks stand in their order, and those before the one that fails pass.
 abbrev pub IsUsageFault : List (List ℕ) → UsageFault → Type 0
 IsUsageFault words Words = NamesEntry words → ⊥
-IsUsageFault words (Range Stages) = NamesEntry words × LacksNumber words stages_rule
-IsUsageFault words (Range Depth) = NamesEntry words × HasNumber words stages_rule × LacksNumber words depth_rule
-IsUsageFault words (Range FactLimit) = NamesEntry words × HasNumber words stages_rule × HasNumber words depth_rule × LacksNumber words fact_limit_rule
-IsUsageFault words (Range PairLimit) =
-    NamesEntry words × HasNumber words stages_rule × HasNumber words depth_rule × HasNumber words fact_limit_rule × LacksNumber words pair_limit_rule
+IsUsageFault words Modes = NamesEntry words × (have_two_modes words ≡ true)
+IsUsageFault words (Range option) = NamesEntry words × (have_two_modes words ≡ false) × IsFirstLacking words option
 
 -- Out of memory says nothing of the words.
 abbrev pub IsUsageFailure : List (List ℕ) → Failure UsageFault → Type 0

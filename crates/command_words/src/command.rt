@@ -27,6 +27,7 @@ pub(crate) struct OptionValues<'a> {
     pub fact_limit: Option<&'a str>,
     pub pair_limit: Option<&'a str>,
     pub trace: Option<&'a str>,
+    pub sample: Option<&'a str>,
 }
 
 /// The values that the words give to the options; or `Words` where they are not of the command's form.
@@ -49,6 +50,7 @@ pub(crate) fn values_of<'a>(
         fact_limit: matches.get_str("fact-limit"),
         pair_limit: matches.get_str("pair-limit"),
         trace: matches.get_str("trace"),
+        sample: matches.get_str("sample"),
     })
 }
 
@@ -112,6 +114,7 @@ fn run_options<'a>(alloc: Global) -> Result<Vec<Arg<'a>>, AllocError>
         option_named(alloc, "fact-limit"),
         option_named(alloc, "pair-limit"),
         flag_named(alloc, "trace"),
+        option_named(alloc, "sample"),
     ]?;
     Ok(options)
 }

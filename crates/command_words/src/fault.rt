@@ -10,6 +10,7 @@ pub enum NumberOption {
     Depth,
     FactLimit,
     PairLimit,
+    Sample,
 }
 
 /// What is wrong with the words of a run.
@@ -18,6 +19,9 @@ pub enum UsageFault {
     /// They are not of the command's form, or the entry has no full stop.
     #[error("the words are not those of a run")]
     Words,
+    /// Two options stand of which each is a mode of its own.
+    #[error("two modes are asked for")]
+    Modes,
     /// A number is not of its form or not in its range.
     #[error("a number is not of its form or not in its range")]
     Range(NumberOption),

@@ -10,4 +10,4 @@ mod numbers;
 mod request;
 
 pub use fault::{NumberOption, UsageFailure, UsageFault};
-pub use request::{Request, read_words};
+pub use request::{Mode, Request, read_words};

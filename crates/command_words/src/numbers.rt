@@ -69,6 +69,11 @@ fn range_of(option: NumberOption) -> NumberRange
             most: 20_000_000,
             otherwise: 20_000_000,
         },
+        NumberOption::Sample => NumberRange {
+            least: 1,
+            most: 200,
+            otherwise: 0,
+        },
     }
 }
 

@@ -1,15 +1,26 @@
 //! What a run is asked for, from its words.
 
-ghost use Rattle.std.specs.Prelude.{◌≡◌, ℕ, List, map, option_map, string_bytes, IfOk, IfErr, IfSome, IfNone};
+ghost use Rattle.std.specs.Prelude.{◌≡◌, ℕ, false, List, map, option_map, string_bytes, IfOk, IfErr, IfSome, IfNone};
 ghost use Rattle.command_words.specs.Command.{is_set};
-ghost use Rattle.command_words.specs.GivenValues.{given_of, Ask, AreNumbers, IsFirstWithout, IsWrongWith};
-ghost use Rattle.command_words.specs.Requests.{AsksFor, IsUsageFailure, NamesMethod, wanted_of};
+ghost use Rattle.command_words.specs.GivenValues.{given_of, Ask, AreNumbers, IsFirstWithout, IsModeOf, IsWrongWith};
+ghost use Rattle.command_words.specs.Requests.{AsksFor, IsNumberBy, IsUsageFailure, NamesMethod, are_two_modes, sample_rule, wanted_of};
 
 use crate::command::{OptionValues, values_of};
 use crate::fault::{NumberOption, UsageFailure, UsageFault};
 use crate::numbers::number_for;
 use failure::Failure;
 use std::alloc::Global;
+
+/// What a run is to tell.
+#[derive(Clone, Copy, Debug, PartialEq, Eq)]
+pub enum Mode {
+    /// A line for each tracked site, and the summary.
+    Report,
+    /// The same, with a derivation below the line of each unproved site.
+    Trace,
+    /// The summary alone, of the sample with so many methods besides `main`.
+    Sample(u32),
+}
 
 /// What a run is asked for. The names of files are those in the tree; the entry method is named by its class and its name.
 #[derive(Clone, Copy)]
@@ -26,8 +37,7 @@ pub struct Request<'a> {
     pub fact_limit: u32,
     /// How many pairs of a place and a site end the points-to analysis.
     pub pair_limit: u32,
-    /// Whether a derivation is told of each unproved site.
-    pub trace: bool,
+    pub mode: Mode,
 }
 
 /// The numbers of a request.
@@ -37,10 +47,12 @@ struct Numbers {
     depth: u8,
     fact_limit: u32,
     pair_limit: u32,
+    /// 0 where no sample is asked for.
+    sample: u32,
 }
 
 /// Reads the words after the program's name: `--classes DIR`, `--property FILE` and `--entry CLASS.NAME`, and with them, where they are given,
-/// `--stubs FILE`, `--stages N`, `--depth N`, `--fact-limit N`, `--pair-limit N` and `--trace`.
+/// `--stubs FILE`, `--stages N`, `--depth N`, `--fact-limit N`, `--pair-limit N`, and one of `--trace` and `--sample N`.
 pub fn read_words<'a>(alloc: Global, words: &'a [String]) -> Result<Request<'a>, UsageFailure>
     ensures asks { IfOk result (λ r. AsksFor (map string_bytes words.now) (wanted_of r)) }
     ensures fault { IfErr result (IsUsageFailure (map string_bytes words.now)) }
@@ -60,6 +72,9 @@ fn request_of<'a>(values: OptionValues<'a>) -> Result<Request<'a>, UsageFault>
     let Some((class, method)) = split_at_last_stop(values.start.as_bytes()) else {
         return Err(UsageFault::Words);
     };
+    if are_two_modes(values) {
+        return Err(UsageFault::Modes);
+    }
     let numbers = match numbers_of(values) {
         Ok(numbers) => numbers,
         Err(option) => return Err(UsageFault::Range(option)),
@@ -73,8 +88,30 @@ fn request_of<'a>(values: OptionValues<'a>) -> Result<Request<'a>, UsageFault>
         depth: numbers.depth,
         fact_limit: numbers.fact_limit,
         pair_limit: numbers.pair_limit,
-        trace: is_set(values.trace),
+        mode: mode_of(values, numbers.sample),
     })
+}
+
+/// Whether options of two modes stand.
+fn are_two_modes(values: OptionValues<'_>) -> bool
+    ensures { result ≡ are_two_modes (given_of values.entry).trace (given_of values.entry).sample }
+{
+    is_set(values.trace) && values.sample.is_some()
+}
+
+/// What is to be told, where options of no two modes stand, from the number of the sample.
+fn mode_of(values: OptionValues<'_>, sample: u32) -> Mode
+    requires alone { are_two_modes (given_of values).trace (given_of values).sample ≡ false }
+    requires sample { IsNumberBy sample_rule (given_of values).sample sample }
+    ensures { IsModeOf (given_of values.entry) result }
+{
+    if is_set(values.trace) {
+        return Mode::Trace;
+    }
+    match values.sample {
+        Some(_) => Mode::Sample(sample),
+        None => Mode::Report,
+    }
 }
 
 /// Whether the words have a flag, by its value.
@@ -96,11 +133,13 @@ fn numbers_of(values: OptionValues<'_>) -> Result<Numbers, NumberOption>
     let depth = number_for(NumberOption::Depth, values.depth)?;
     let fact_limit = number_for(NumberOption::FactLimit, values.fact_limit)?;
     let pair_limit = number_for(NumberOption::PairLimit, values.pair_limit)?;
+    let sample = number_for(NumberOption::Sample, values.sample)?;
     Ok(Numbers {
         stages: stages as u8,
         depth: depth as u8,
         fact_limit,
         pair_limit,
+        sample,
     })
 }
 

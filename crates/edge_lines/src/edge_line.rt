@@ -52,8 +52,8 @@ fn push_edge(text: &mut Vec<u8>, edge: &EdgeText<'_>) -> Result<(), AllocError>
     push_fact(text, edge.fact)
 }
 
-/// Adds a site: what allocates, its method, its offset and the class of its objects.
-fn push_site(text: &mut Vec<u8>, site: &Site) -> Result<(), AllocError>
+/// Adds the words of a site: what allocates, its method, its offset and the class of its objects.
+pub fn push_site(text: &mut Vec<u8>, site: &Site) -> Result<(), AllocError>
     ensures { OnOk result (text.new.items ≡ text.old.items ++ site_words site.now) }
 {
     push_kind(text, site.kind)?;

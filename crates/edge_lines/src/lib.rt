@@ -6,4 +6,4 @@ mod edge_line;
 mod fact_words;
 mod path_texts;
 
-pub use edge_line::{EdgeText, push_edge_line};
+pub use edge_line::{EdgeText, push_edge_line, push_site};

@@ -26,6 +26,7 @@ module _ (main : CodeBody) (nexts property : List ℕ) (fits : body_fits main �
     input = record { wanted = wanted_with stages; property = with_reads nexts; stubs = []; classes = named main ∷ [] };
     is_input = record {
       asks = asked;
+      of_tree = tt;
       property_bytes = property;
       property_held = refl;
       property = is_property;

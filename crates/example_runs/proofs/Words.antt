@@ -1,7 +1,8 @@
 -- What the words of the examples ask for, by computing.
-use Rattle.std.proofs.Common.{codes, ◌≡◌, ℕ, false, None, Some, refl, arith}
+use Rattle.std.proofs.Common.{codes, ◌≡◌, ℕ, None, Some, refl, arith}
 use Rattle.clap.proofs.OnLiterals.{clap_on_literals}
 use Rattle.command_words.specs.Command.{HasForm, option_in}
+use Rattle.command_words.specs.declared.request.Mode.TheVariants as modes
 use Rattle.command_words.specs.Requests.{AsksFor, Wanted}
 use Rattle.example_runs.specs.Examples.{default_words, words}
 
@@ -16,7 +17,7 @@ wanted_with stages = record {
   depth = 2;
   fact_limit = 50000;
   pair_limit = 20000000;
-  trace = false;
+  mode = modes.Report;
 }
 
 -- ---- with the last stage
@@ -39,7 +40,7 @@ asks = record {
   depth = refl;
   fact_limit = refl;
   pair_limit = refl;
-  trace = refl;
+  mode = (refl, refl);
 }
 
 -- ---- without it
@@ -62,5 +63,5 @@ asks_by_default = record {
   depth = refl;
   fact_limit = refl;
   pair_limit = refl;
-  trace = refl;
+  mode = (refl, refl);
 }

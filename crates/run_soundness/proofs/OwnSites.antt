@@ -1,18 +1,10 @@
 -- An object of an execution stands at a site that a method which may run makes it at: so a site of the property's class at which there is one is tracked.
-use Rattle.std.proofs.Common.{◌≡◌, ◌⊎◌, inl, inr, ℕ, Bool, true, List, [], Option, Some, Contains, sym, ◌∙◌, ap, subst, arith}
-use Rattle.std.specs.List.{slice_get}
-use Rattle.std.specs.Option.{option_map, unwrap_or}
-use Rattle.std.proofs.lemmas.List.Elements.{All-contains}
-use Rattle.std.proofs.lemmas.Option.{slice_get-map, slice_get_cases}
+use Rattle.std.proofs.Common.{◌≡◌, ◌⊎◌, inl, inr, ℕ, Bool, true, List, Contains, ap, subst}
 use Rattle.jvm_model.specs.declared.number.MethodNo.{MethodNo}
 use Rattle.jvm_model.specs.declared.site.Site.{Site}
 use Rattle.jvm_model.specs.declared.site.SiteKind.{SiteKind}
 use Rattle.jvm_model.specs.declared.site.SiteKind.TheVariants.{Boot, New, Result, Thrown}
-use Rattle.jvm_model.specs.LinkedPrograms.{IsProgram, class_names}
-use Rattle.jvm_model.specs.Names.{IsClassName}
-use Rattle.jvm_model.specs.Programs.{Class}
-use Rattle.program_model.specs.Numbers.{name_at, IsClassNumber}
-use Rattle.least_sets.proofs.Places.{contains_at}
+use Rattle.jvm_model.specs.LinkedPrograms.{IsProgram}
 use Rattle.machine_bytecode.specs.Executions.{Errs}
 use Rattle.machine_bytecode.specs.Objects.{Subject}
 use Rattle.op_model.specs.declared.lowered.LoweredMethod.{LoweredMethod}

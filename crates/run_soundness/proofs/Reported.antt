@@ -1,5 +1,5 @@
 -- A run whose status is that of a report has passed each level: each other case of a level ends with a line and the status of a refusal or of usage.
-use Rattle.std.proofs.Common.{◌≡◌, ◌⊎◌, inl, inr, ℕ, Bool, List, [], Option, Some, Ok, refl, sym, ap, subst}
+use Rattle.std.proofs.Common.{◌≡◌, ◌∙◌, ◌⊎◌, inl, inr, ℕ, Bool, List, [], Option, Some, Ok, refl, sym, ap, subst}
 use Rattle.ts_outside.specs.Files.{File, file_at}
 use Rattle.jvm_model.specs.declared.automaton.Automaton.{Automaton}
 use Rattle.jvm_model.specs.declared.number.MethodNo.{MethodNo}
@@ -10,7 +10,7 @@ use Rattle.jvm_model.specs.Lookups.{Signature}
 use Rattle.jvm_model.specs.Programs.{Class, Program}
 use Rattle.jvm_model.specs.Subtypes.{class_named}
 use Rattle.machine_bytecode.specs.Objects.{Subject}
-use Rattle.command_words.specs.Requests.{Wanted, AsksFor}
+use Rattle.command_words.specs.Requests.{Wanted, AsksFor, is_trace}
 use Rattle.entry_points.specs.Entries.{IsEntry, with_strings, plain}
 use Rattle.lowering_supply.specs.Supplied.{IsSupplied}
 use Rattle.points_to_rules.specs.Facts.{Fact}
@@ -18,10 +18,11 @@ use Rattle.points_to_rules.specs.Solutions.{IsSolution}
 use Rattle.property_file.specs.PropertyFile.{IsPropertyFile}
 use Rattle.run_spec.specs.declared.status.Status.{Status}
 use Rattle.run_spec.specs.declared.status.Status.TheVariants.{AllSafe, SomeUnproved, Refused, Usage}
-use Rattle.run_spec.specs.Inputs.{AreStubs, Input, IsInput, all_stubs}
+use Rattle.run_spec.specs.Inputs.{AreStubs, AsksForSample, Input, IsInput, IsOfTree, all_stubs}
 use Rattle.run_spec.specs.Outcomes.{asked_of, report_status, AnalysisOutcome, pair_limit, refused_method, reported, ClassOutcome, no_class, has_class, EntryOutcome, no_entry, other_shape, has_entry, LinkOutcome, unlinked, linked, FolderOutcome, refused_folder, has_classes, StubOutcome, no_stub_file, stubs_no_document, broken_stubs, no_stubs, has_stubs, PropertyOutcome, no_property, property_no_document, broken_property, has_property, Outcome, unusable, usable}
 use Rattle.simulation.specs.Simulation.{HasEntry, HasExceptions}
 use Rattle.run_spec.specs.RunSubjects.{IsRunOf}
+use Rattle.run_spec.proofs.ReadFiles.{of_tree, read_are, written_are}
 use Rattle.run_spec.specs.WholeInputs.{IsWholeInput}
 use Rattle.report_spec.specs.Verdicts.{Asked}
 use Rattle.run_soundness.specs.Reports.{IsReportOf}
@@ -53,7 +54,7 @@ IsAnalysed x limit =
 -- what the run is of, with its report
 abbrev IsReported : List (List ℕ) → List File → Status → List (List ℕ) → Type 0
 IsReported words files status lines =
-    (x : Subject) × (run : IsRunOf words files x) × IsProgram x.program × HasExceptions x.program × HasEntry x × HasReport x (asked_of run.input) run.input.wanted.trace status lines
+    (x : Subject) × (run : IsRunOf words files x) × IsProgram x.program × HasExceptions x.program × HasEntry x × HasReport x (asked_of run.input) (is_trace run.input.wanted.mode) status lines
     × IsAnalysed x run.input.wanted.pair_limit
 
 -- ---- the levels, from the last to the first
@@ -66,7 +67,7 @@ module _ (status : Status) (lines : List (List ℕ)) (ends : (status ≡ AllSafe
   never_usage is = elim ends [ inl safe ↦ cc | inr unproved ↦ cc ]
 
   of_analysis : (i : Input) (p : Program) (entry : MethodNo) → AnalysisOutcome i p entry status lines
-      → HasReport (subject p i.property entry) (asked_of i) i.wanted.trace status lines
+      → HasReport (subject p i.property entry) (asked_of i) (is_trace i.wanted.mode) status lines
       × ((facts : List Fact) × IsSolution p (IsSupplied p) entry i.wanted.pair_limit facts)
   of_analysis i p entry (pair_limit many e) = absurd (never_refused e.status_is)
   of_analysis i p entry (refused_method r is e) = absurd (never_refused e.status_is)
@@ -76,7 +77,7 @@ module _ (status : Status) (lines : List (List ℕ)) (ends : (status ≡ AllSafe
   )
 
   of_class : (i : Input) (p : Program) (entry : MethodNo) → ClassOutcome i p entry status lines
-      → HasReport (subject p i.property entry) (asked_of i) i.wanted.trace status lines × IsAnalysed (subject p i.property entry) i.wanted.pair_limit
+      → HasReport (subject p i.property entry) (asked_of i) (is_trace i.wanted.mode) status lines × IsAnalysed (subject p i.property entry) i.wanted.pair_limit
   of_class i p entry (no_class none e) = absurd (never_refused e.status_is)
   of_class i p entry (has_class class is next) = let told = of_analysis i p entry next in (told.0, ((class, is), told.1))
 
@@ -95,7 +96,7 @@ module _ (status : Status) (lines : List (List ℕ)) (ends : (status ≡ AllSafe
       of_link (unlinked r links e) = absurd (never_refused e.status_is)
       of_link (linked p links program next) = of_entry p links program next
 
-    module _ (w : Wanted) (asks : AsksFor words w) where
+    module _ (w : Wanted) (asks : AsksFor words w) (plain : IsOfTree w.mode) where
       module _ (property_bytes : List ℕ) (a : Automaton) (property_held : file_at files w.property ≡ Some property_bytes)
           (property : IsPropertyFile property_bytes a) where
         of_folder : (stubs : List StubClass) → AreStubs files w.stubs stubs → FolderOutcome files w a stubs status lines → IsReported words files status lines
@@ -103,6 +104,7 @@ module _ (status : Status) (lines : List (List ℕ)) (ends : (status ≡ AllSafe
         of_folder stubs are_stubs (has_classes classes are next) =
             of_link (record { wanted = w; property = a; stubs = stubs; classes = classes }) (record {
               asks = asks;
+              of_tree = plain;
               property_bytes = property_bytes;
               property_held = property_held;
               property = property;
@@ -124,18 +126,22 @@ module _ (status : Status) (lines : List (List ℕ)) (ends : (status ≡ AllSafe
       of_property (broken_property bytes key held bad e) = absurd (never_refused e.status_is)
       of_property (has_property bytes a held is next) = of_stubs bytes a held is next
 
-    of_words : Outcome words files status lines → IsReported words files status lines
-    of_words (unusable fault is e) = absurd (never_usage e.status_is)
-    of_words (usable w asks next) = of_property w asks next
-
 module _ (words : List (List ℕ)) (files : List File) (status : Status) (lines : List (List ℕ)) (outcome : Outcome words files status lines)
-    (ends : (status ≡ AllSafe) ⊎ (status ≡ SomeUnproved)) where
+    (ends : (status ≡ AllSafe) ⊎ (status ≡ SomeUnproved)) (none : AsksForSample words → ⊥) where
+  of_words : Outcome words files status lines → IsReported words files status lines
+  of_words (unusable fault is e) = absurd (never_usage status lines ends e.status_is)
+  of_words (usable w all asks next cut) =
+      let plain = of_tree words w asks none in
+      let here = subst (λ (fs : List File). PropertyOutcome fs w status all) (read_are w.mode files plain) next in
+      let same = cut ∙ written_are w.mode all plain in
+      of_property status lines ends words files w asks plain (subst (PropertyOutcome files w status) (sym same) here)
+
   pub is_reported : (x : Subject) × (run : IsRunOf words files x) × IsProgram x.program × HasExceptions x.program × HasEntry x
-      × HasReport x (asked_of run.input) run.input.wanted.trace status lines
-  is_reported = let (x, run, program, exceptions, entry, report, analysed) = of_words status lines ends words files outcome in (x, run, program, exceptions, entry, report)
+      × HasReport x (asked_of run.input) (is_trace run.input.wanted.mode) status lines
+  is_reported = let (x, run, program, exceptions, entry, report, analysed) = of_words outcome in (x, run, program, exceptions, entry, report)
 
   -- nothing was missing, and nothing was refused
   pub is_whole : IsWholeInput words files
   is_whole =
-      let (x, run, program, exceptions, entry, report, analysed) = of_words status lines ends words files outcome in
+      let (x, run, program, exceptions, entry, report, analysed) = of_words outcome in
       record { x = x; run = run; class = analysed.0.0; is_class = analysed.0.1; facts = analysed.1.0; solution = analysed.1.1 }

@@ -1,6 +1,6 @@
 -- Of two runs that are asked for the same but for their last stages, level by level: where the one goes on, so does the other, and where the one ends with
 -- a line of its own, no line says that a site is safe.
-use Rattle.std.proofs.Common.{◌≡◌, ◌≢◌, ◌≤◌, ℕ, false, List, [], Some, None, AllPairs, Contains, refl, sym, subst}
+use Rattle.std.proofs.Common.{◌≡◌, ◌≢◌, ◌∙◌, ◌≤◌, inl, inr, ℕ, false, List, [], ◌∷◌, Some, None, AllPairs, Contains, refl, sym, ap, subst}
 use Rattle.std.proofs.lemmas.List.Elements.{All-nil}
 use Rattle.ts_outside.specs.Files.{File}
 use Rattle.jvm_model.specs.declared.automaton.Automaton.{Automaton}
@@ -10,8 +10,10 @@ use Rattle.jvm_model.specs.declared.stub.StubClass.{StubClass}
 use Rattle.jvm_model.specs.LinkedPrograms.{MembersDiffer}
 use Rattle.jvm_model.specs.Programs.{Program}
 use Rattle.command_words.specs.declared.fault.UsageFault.{UsageFault}
-use Rattle.command_words.specs.declared.fault.UsageFault.TheVariants.{Words, Range}
-use Rattle.command_words.specs.Requests.{Wanted, AsksFor}
+use Rattle.command_words.specs.declared.fault.UsageFault.TheVariants.{Words, Modes, Range}
+use Rattle.command_words.specs.declared.request.Mode.{Mode}
+use Rattle.command_words.specs.declared.request.Mode.TheVariants as modes
+use Rattle.command_words.specs.Requests.{Wanted, AsksFor, is_trace}
 use Rattle.lowering_supply.specs.OneAnswer.{one_answer}
 use Rattle.lowering_supply.specs.Supplied.{IsSupplied}
 use Rattle.least_sets.proofs.Least.{least_is_one}
@@ -20,15 +22,18 @@ use Rattle.report_spec.proofs.Traced.{traced_into}
 use Rattle.run_spec.specs.declared.status.Status.{Status}
 use Rattle.run_spec.specs.declared.status.Status.TheVariants.{Refused, Usage}
 use Rattle.run_spec.specs.Inputs.{HaveDifferentNames, Input}
-use Rattle.run_spec.specs.Lines.{missing_line, no_file, refused_line, usage_line}
-use Rattle.run_spec.specs.Outcomes.{asked_of, run_of, AnalysisOutcome, ClassOutcome, EndsWith, EntryOutcome, FolderOutcome, LinkOutcome, Outcome, PropertyOutcome, StubOutcome, pair_limit, refused_method, reported, no_class, has_class, no_entry, other_shape, has_entry, unlinked, linked, refused_folder, has_classes, no_stub_file, stubs_no_document, broken_stubs, no_stubs, has_stubs, no_property, property_no_document, broken_property, has_property, unusable, usable}
+use Rattle.run_spec.specs.Lines.{last_of, missing_line, no_file, refused_line, usage_line}
+use Rattle.run_spec.specs.Outcomes.{asked_of, run_of, AnalysisOutcome, ClassOutcome, EndsWith, EntryOutcome, FolderOutcome, LinkOutcome, Outcome, PropertyOutcome, StubOutcome, pair_limit, refused_method, reported, no_class, has_class, no_entry, other_shape, has_entry, unlinked, linked, refused_folder, has_classes, no_stub_file, stubs_no_document, broken_stubs, no_stubs, has_stubs, no_property, property_no_document, broken_property, has_property, unusable, usable, files_read, lines_written}
 use Rattle.run_spec.proofs.Levels.{past_class, past_entry, past_link, past_folder, past_stubs, past_property, past_words}
 use Rattle.run_spec.proofs.OneAnalysis.{many_or_few, refused_or_solved}
 use Rattle.run_spec.proofs.OneFolder.{files_differ}
 use Rattle.run_spec.proofs.OneRequest.{AsksFor-same}
+use Rattle.run_spec.proofs.ReadFiles.{read_differ}
 use Rattle.run_soundness.specs.Truth.{SaysSafe}
 use Rattle.run_soundness.proofs.MoreStages.{AreKeptIn, kept_with, safe_lines_kept}
+use Rattle.run_soundness.proofs.LineForms.{AreFormed, property_formed}
 use Rattle.run_soundness.proofs.SafeLines.{has_a, says_a}
+use Rattle.site_report.proofs.PlainLines.{Among}
 
 module _ (files : List File) (differ : HaveDifferentNames files) (s t : Status) (l m : List (List ℕ)) where
   abbrev Kept : Type 0
@@ -42,6 +47,7 @@ module _ (files : List File) (differ : HaveDifferentNames files) (s t : Status) 
 
   of_usage : (fault : UsageFault) → EndsWith s l Usage (usage_line fault) → Kept
   of_usage Words ends = none_safe Usage (usage_line Words) refl ends
+  of_usage Modes ends = none_safe Usage (usage_line Modes) refl ends
   of_usage (Range option) ends = none_safe Usage (usage_line (Range option)) refl ends
 
   -- an input that is asked for more stages
@@ -62,8 +68,8 @@ module _ (files : List File) (differ : HaveDifferentNames files) (s t : Status) 
     of_analysis p entry (reported facts all b is of_all report si) (reported others other c is2 of_other report2 ti) =
         let to = least_is_one (AnyInstance p (IsSupplied p) entry) all other of_all.least of_other.least in
         let back = least_is_one (AnyInstance p (IsSupplied p) entry) other all of_other.least of_all.least in
-        let here = traced_into (run_of i p entry) (IsSupplied p) (Contains other) (Contains all) back to (asked_of asked_for_more) i.wanted.trace m c report2 in
-        safe_lines_kept (run_of i p entry) (IsSupplied p) (Contains all) (asked_of i) more le i.wanted.trace i.wanted.trace l m b c report here
+        let here = traced_into (run_of i p entry) (IsSupplied p) (Contains other) (Contains all) back to (asked_of asked_for_more) (is_trace i.wanted.mode) m c report2 in
+        safe_lines_kept (run_of i p entry) (IsSupplied p) (Contains all) (asked_of i) more le (is_trace i.wanted.mode) (is_trace i.wanted.mode) l m b c report here
 
     of_class : (p : Program) (entry : MethodNo) → ClassOutcome i p entry s l → ClassOutcome asked_for_more p entry t m → Kept
     of_class p entry (no_class none ends) other = none_safe Refused (refused_line i.wanted.property 0 MissingClass) refl ends
@@ -103,8 +109,28 @@ module _ (files : List File) (differ : HaveDifferentNames files) (s t : Status) 
     of_property (broken_property bytes key held bad ends) other = none_safe Refused (refused_line w.property 0 BadProperty) refl ends
     of_property (has_property bytes a held is next) other = of_stubs a next (past_property t m files asked_more bytes a held is other)
 
-    pub of_words : (words others : List (List ℕ)) → AsksFor words w → AsksFor others asked_more → Outcome words files s l → Outcome others files t m → Kept
-    of_words words others asks asks_more (unusable fault is ends) other = of_usage fault ends
-    of_words words others asks asks_more (usable u asked next) other =
-        of_property (subst (λ (k : Wanted). PropertyOutcome files k s l) (AsksFor-same words u w asked asks) next)
-        (past_words t m others files asked_more asks_more other)
+-- lines none of which says it
+none_says : (m lines : List (List ℕ)) → ((line : List ℕ) → Among line lines → SaysSafe line → ⊥) → AreKeptIn m lines
+none_says m [] never = All-nil (λ (k : List ℕ). SaysSafe k → Contains m k)
+none_says m (line ∷ lines) never =
+    kept_with m lines line (λ says. absurd (never line (inl refl) says)) (none_says m lines (λ other among. never other (inr among)))
+
+-- of the lines of a sample the last one says of no site that it is safe
+written_kept : (mode : Mode) (s : Status) (l m all others : List (List ℕ)) → AreFormed s all → l ≡ lines_written mode all → m ≡ lines_written mode others
+    → AreKeptIn others all → AreKeptIn m l
+written_kept modes.Report s l m all others are cut cut2 kept = subst (λ (ls : List (List ℕ)). AreKeptIn ls l) (sym cut2) (subst (AreKeptIn others) (sym cut) kept)
+written_kept modes.Trace s l m all others are cut cut2 kept = subst (λ (ls : List (List ℕ)). AreKeptIn ls l) (sym cut2) (subst (AreKeptIn others) (sym cut) kept)
+written_kept (modes.Sample count) s l m all others are cut cut2 kept =
+    subst (AreKeptIn m) (sym (cut ∙ ap last_of are.formed.same)) (none_says m (last_of are.formed.others) are.last)
+
+module _ (files : List File) (differ : HaveDifferentNames files) (s t : Status) (l m : List (List ℕ)) (w : Wanted) (more : ℕ) (le : w.stages ≤ more) where
+  pub of_words : (words others : List (List ℕ)) → AsksFor words w → AsksFor others (record w { stages = more }) → Outcome words files s l
+      → Outcome others files t m → AreKeptIn m l
+  of_words words others asks asks_more (unusable fault is ends) other = of_usage files differ s t l m fault ends
+  of_words words others asks asks_more (usable u all asked next cut) other =
+      let read = files_read w.mode files in
+      let apart = read_differ w.mode files differ in
+      let here = subst (λ (k : Wanted). PropertyOutcome (files_read k.mode files) k s all × (l ≡ lines_written k.mode all)) (AsksFor-same words u w asked asks) (next, cut) in
+      let there = past_words t m others files (record w { stages = more }) asks_more other in
+      let kept = of_property read apart s t all there.0 w more le here.0 there.1 in
+      written_kept w.mode s l m all there.0 (property_formed read w s all here.0) here.1 there.2 kept

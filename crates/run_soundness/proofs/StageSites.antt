@@ -1,6 +1,6 @@
 -- A tracked site is one of the program's own: an instruction that makes an object, or a described method that gives a new one, is at it; and its class is
 -- the property's or one below it.
-use Rattle.std.proofs.Common.{◌≡◌, ◌⊎◌, inl, inr, ◌∙◌, ℕ, ◌+◌, Bool, true, false, List, [], Option, Some, Contains, refl, sym, ap, subst, arith}
+use Rattle.std.proofs.Common.{◌≡◌, ◌⊎◌, inl, inr, ◌∙◌, ℕ, ◌+◌, Bool, true, false, [], Option, Some, Contains, refl, sym, ap, subst, arith}
 use Rattle.std.specs.Prelude.{Ok, slice_get, MatchBool, if◌then◌else◌}
 use Rattle.std.specs.Option.{option_map, unwrap_or}
 use Rattle.std.proofs.lemmas.List.Elements.{All-contains}

@@ -1,5 +1,5 @@
 -- A site that the first stage proves safe never errs, in any execution of the bytecode.
-use Rattle.std.proofs.Common.{inl, ℕ, List, Contains}
+use Rattle.std.proofs.Common.{inl, List, Contains}
 use Rattle.jvm_model.specs.declared.site.Site.{Site}
 use Rattle.jvm_model.specs.LinkedPrograms.{IsProgram}
 use Rattle.machine_bytecode.specs.Executions.{Errs}

@@ -9,6 +9,8 @@ use Rattle.run_soundness.specs.Truth.{IsTrueLine, SaysSafe}
 use Rattle.run_spec.specs.RunSubjects.{IsRunOf}
 use Rattle.run_spec.specs.declared.status.Status.{Status}
 use Rattle.run_spec.specs.declared.status.Status.TheVariants.{AllSafe}
+use Rattle.command_words.specs.Requests.{is_trace}
+use Rattle.run_spec.specs.Inputs.{AsksForSample}
 use Rattle.run_spec.specs.Outcomes.{Outcome, asked_of, report_status}
 use Rattle.run_soundness.proofs.TrueReports.{EdgesNeverErr, lines_reported, lines_true}
 use Rattle.run_soundness.proofs.Verdicts.{least_are_closed}
@@ -27,15 +29,16 @@ abbrev pub AreTrue : List (List ℕ) → List File → List (List ℕ) → Type 
 AreTrue words files lines = (x : Subject) × IsRunOf words files x × All (λ (line : List ℕ). SaysSafe line → IsTrueLine x line) lines
 
 reports_are_told : EdgesNeverErr → (words : List (List ℕ)) (files : List File) (s : Status) (lines : List (List ℕ)) → Outcome words files s lines → IsReport s
-    → AreReported words files lines
-reports_are_told never_by_edges words files s lines outcome reports =
-    let r = is_reported words files s lines outcome reports in
-    (r.0, r.1, lines_reported never_by_edges r.0 (asked_of r.1.input) r.1.input.wanted.trace r.5.0 lines r.5.1 r.2 r.3 r.4 r.5.2)
+    → (AsksForSample words → ⊥) → AreReported words files lines
+reports_are_told never_by_edges words files s lines outcome reports none =
+    let r = is_reported words files s lines outcome reports none in
+    (r.0, r.1, lines_reported never_by_edges r.0 (asked_of r.1.input) (is_trace r.1.input.wanted.mode) r.5.0 lines r.5.1 r.2 r.3 r.4 r.5.2)
 
-pub reports_are_true : EdgesNeverErr → (words : List (List ℕ)) (files : List File) (s : Status) (lines : List (List ℕ)) → Outcome words files s lines → IsReport s → AreTrue words files lines
-reports_are_true never_by_edges words files s lines outcome reports =
-    let r = is_reported words files s lines outcome reports in
-    (r.0, r.1, lines_true never_by_edges r.0 (asked_of r.1.input) r.1.input.wanted.trace r.5.0 lines r.5.1 r.2 r.3 r.4 (least_are_closed r.0 r.5.0 r.5.2.of_all) r.5.2.report)
+pub reports_are_true : EdgesNeverErr → (words : List (List ℕ)) (files : List File) (s : Status) (lines : List (List ℕ)) → Outcome words files s lines → IsReport s
+    → (AsksForSample words → ⊥) → AreTrue words files lines
+reports_are_true never_by_edges words files s lines outcome reports none =
+    let r = is_reported words files s lines outcome reports none in
+    (r.0, r.1, lines_true never_by_edges r.0 (asked_of r.1.input) (is_trace r.1.input.wanted.mode) r.5.0 lines r.5.1 r.2 r.3 r.4 (least_are_closed r.0 r.5.0 r.5.2.of_all) r.5.2.report)
 
 module _ (x : Subject) where
   abbrev IsReportedIfSafe : List ℕ → Type 0
@@ -55,7 +58,7 @@ written_reported never_by_edges words files s lines outcome line stands says =
     ∙ (ap (λ (l : List ℕ). stands.front ++ (l ++ stands.rest)) stands.line_is ∙ ap (λ xs. stands.front ++ xs) (append_assoc stands.content (10 ∷ []) stands.rest))) in
     let there = line_among formed.others stands.front stands.content stands.rest formed.are stands.whole (IsPlain-all stands.content stands.plain) e in
     let among : Among line formed.others = subst (λ (l : List ℕ). Among l formed.others) (sym stands.line_is) there in
-    let t = reports_are_told never_by_edges words files s lines outcome (formed.reports line among says) in
+    let t = reports_are_told never_by_edges words files s lines outcome (formed.reports line among says) (λ sample. formed.of_sample sample line among says) in
     let all = subst (λ (ls : List (List ℕ)). All (λ (l : List ℕ). SaysSafe l → IsReportedLine t.0 l) ls) formed.same t.2 in
     record { x = t.0; run = t.1; reported = among_reported t.0 formed.others line all among says }
 
@@ -71,8 +74,9 @@ all_are : (all_safe : Bool) → AllSafe ≡ report_status all_safe → all_safe 
 all_are true is = refl
 all_are false is = absurd (cc)
 
-pub safe_runs_keep : EdgesNeverErr → (words : List (List ℕ)) (files : List File) (lines : List (List ℕ)) → Outcome words files AllSafe lines → KeepsProtocol words files
-safe_runs_keep never_by_edges words files lines outcome =
-    let r = is_reported words files AllSafe lines outcome (inl refl) in
+pub safe_runs_keep : EdgesNeverErr → (words : List (List ℕ)) (files : List File) (lines : List (List ℕ)) → Outcome words files AllSafe lines → (AsksForSample words → ⊥)
+    → KeepsProtocol words files
+safe_runs_keep never_by_edges words files lines outcome none =
+    let r = is_reported words files AllSafe lines outcome (inl refl) none in
     let are = least_are_closed r.0 r.5.0 r.5.2.of_all in
-    record { x = r.0; run = r.1; never = own_never_err never_by_edges r.0 (asked_of r.1.input) r.1.input.wanted.trace r.5.0 lines r.5.1 r.2 r.3 r.4 are r.5.2.report (all_are r.5.1 r.5.3) }
+    record { x = r.0; run = r.1; never = own_never_err never_by_edges r.0 (asked_of r.1.input) (is_trace r.1.input.wanted.mode) r.5.0 lines r.5.1 r.2 r.3 r.4 are r.5.2.report (all_are r.5.1 r.5.3) }

@@ -4,11 +4,11 @@ ghost use Rattle.std.specs.Prelude.{◌≡◌, ◌⊎◌, ◌≤◌, ℕ, Bool, 
 ghost use Rattle.ts_outside.specs.Files.{File};
 ghost use Rattle.jvm_model.specs.LinkedPrograms.{IsProgram};
 ghost use Rattle.machine_bytecode.specs.Objects.{Subject};
-ghost use Rattle.command_words.specs.Requests.{Wanted, AsksFor};
+ghost use Rattle.command_words.specs.Requests.{Wanted, AsksFor, is_trace};
 ghost use Rattle.points_to_rules.specs.Facts.{Fact};
 ghost use Rattle.run_spec.specs.declared.status.Status.{Status};
 ghost use Rattle.run_spec.specs.declared.status.Status.TheVariants.{AllSafe, SomeUnproved};
-ghost use Rattle.run_spec.specs.Inputs.{HaveDifferentNames};
+ghost use Rattle.run_spec.specs.Inputs.{AsksForSample, HaveDifferentNames};
 ghost use Rattle.run_spec.specs.Outcomes.{asked_of, report_status, Outcome};
 ghost use Rattle.run_spec.specs.RunSubjects.{IsRunOf};
 ghost use Rattle.run_spec.specs.WholeInputs.{IsWholeInput};
@@ -16,20 +16,20 @@ ghost use Rattle.run_soundness.specs.Reports.{IsReportOf};
 ghost use Rattle.run_soundness.specs.Truth.{SaysSafe};
 ghost use Rattle.simulation.specs.Simulation.{HasEntry, HasExceptions};
 
-/// A run that ends with the status of a report is of a linked program with the classes of exceptions and the entry, which its words and files
-/// give; and what it writes is the report on this program by the stages that its words ask for and by the least facts of its analysis, with the status
-/// that the report has.
+/// A run that ends with the status of a report, and not on a sample, is of a linked program with the classes of exceptions and the entry, which its words
+/// and files give; and what it writes is the report on this program by the stages that its words ask for and by the least facts of its analysis, with the
+/// status that the report has.
 pub fn reports_are_of_runs()
     ensures { (words : List (List ℕ)) (files : List File) (status : Status) (lines : List (List ℕ)) → Outcome words files status lines
-        → (status ≡ AllSafe) ⊎ (status ≡ SomeUnproved)
+        → (status ≡ AllSafe) ⊎ (status ≡ SomeUnproved) → (AsksForSample words → ⊥)
         → (x : Subject) × (run : IsRunOf words files x) × IsProgram x.program × HasExceptions x.program × HasEntry x
-        × ((facts : List Fact) × (all_safe : Bool) × IsReportOf x (asked_of run.input) run.input.wanted.trace facts lines all_safe × (status ≡ report_status all_safe)) }
+        × ((facts : List Fact) × (all_safe : Bool) × IsReportOf x (asked_of run.input) (is_trace run.input.wanted.mode) facts lines all_safe × (status ≡ report_status all_safe)) }
 {}
 
 /// So it is of an input in which nothing is missing and nothing is refused, as that of which `complete` says that there is a report.
 pub fn reported_inputs_are_whole()
     ensures { (words : List (List ℕ)) (files : List File) (status : Status) (lines : List (List ℕ)) → Outcome words files status lines
-        → (status ≡ AllSafe) ⊎ (status ≡ SomeUnproved) → IsWholeInput words files }
+        → (status ≡ AllSafe) ⊎ (status ≡ SomeUnproved) → (AsksForSample words → ⊥) → IsWholeInput words files }
 {}
 
 /// More stages take nothing back: of two runs over the same files whose words ask for the same but for their last stages, the second for as many stages or

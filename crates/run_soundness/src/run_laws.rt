@@ -8,17 +8,18 @@ ghost use Rattle.run_soundness.specs.Truth.{IsTrueLine, SaysSafe};
 ghost use Rattle.run_spec.specs.RunSubjects.{IsRunOf};
 ghost use Rattle.run_spec.specs.declared.status.Status.{Status as RunStatus};
 ghost use Rattle.run_spec.specs.declared.status.Status.TheVariants.{AllSafe, SomeUnproved};
+ghost use Rattle.run_spec.specs.Inputs.{AsksForSample};
 ghost use Rattle.run_spec.specs.Outcomes.{Outcome};
 ghost use Rattle.run_soundness.specs.Claims.{IsTrueOfRun, KeepsProtocol, StandsIn};
 ghost use Rattle.run_soundness.specs.Reports.{IsReportedOfRun};
 
 use stage_soundness::laws::safe_stages_never_err;
 
-/// Of a run that reports, each line that says that a site is safe is true: no execution of the bytecode of the program that its words and files give,
+/// Of a run that reports, and not on a sample, each line that says that a site is safe is true: no execution of the bytecode of the program that its words and files give,
 /// of any length, has a state in which an object of the site is in the error state.
 pub fn safe_lines_of_runs_are_true()
     ensures { (words : List (List ℕ)) (files : List File) (status : RunStatus) (lines : List (List ℕ)) → Outcome words files status lines
-        → (status ≡ AllSafe) ⊎ (status ≡ SomeUnproved)
+        → (status ≡ AllSafe) ⊎ (status ≡ SomeUnproved) → (AsksForSample words → ⊥)
         → (x : Subject) × IsRunOf words files x × All (λ (line : List ℕ). SaysSafe line → IsTrueLine x line) lines }
 {
     safe_stages_never_err();
@@ -41,9 +42,10 @@ pub fn written_safe_lines_are_reported()
     safe_stages_never_err();
 }
 
-/// Where the status says that all sites are safe, no site ever errs at which the program, or a stub, makes objects of the property's class or of one below it.
+/// Where the status says that all sites are safe, and the run is not on a sample, no site ever errs at which the program, or a stub, makes objects of the property's class or of one below it.
 pub fn safe_runs_keep_the_protocol()
-    ensures { (words : List (List ℕ)) (files : List File) (lines : List (List ℕ)) → Outcome words files AllSafe lines → KeepsProtocol words files }
+    ensures { (words : List (List ℕ)) (files : List File) (lines : List (List ℕ)) → Outcome words files AllSafe lines → (AsksForSample words → ⊥)
+        → KeepsProtocol words files }
 {
     safe_stages_never_err();
 }

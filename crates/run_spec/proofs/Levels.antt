@@ -27,7 +27,7 @@ use Rattle.stub_file.proofs.OneAnswer.{IsStubFile-unique, not_both, one_reason}
 use Rattle.toml_tables.specs.Documents.{IsNoDocument}
 use Rattle.run_spec.specs.declared.status.Status.{Status}
 use Rattle.run_spec.specs.Inputs.{AreStubs, HaveDifferentNames, Input, all_stubs}
-use Rattle.run_spec.specs.Outcomes.{AnalysisOutcome, ClassOutcome, no_class, has_class, EntryOutcome, no_entry, other_shape, has_entry, LinkOutcome, unlinked, linked, FolderOutcome, refused_folder, has_classes, StubOutcome, no_stub_file, stubs_no_document, broken_stubs, no_stubs, has_stubs, PropertyOutcome, no_property, property_no_document, broken_property, has_property, Outcome, unusable, usable}
+use Rattle.run_spec.specs.Outcomes.{AnalysisOutcome, ClassOutcome, no_class, has_class, EntryOutcome, no_entry, other_shape, has_entry, LinkOutcome, unlinked, linked, FolderOutcome, refused_folder, has_classes, StubOutcome, no_stub_file, stubs_no_document, broken_stubs, no_stubs, has_stubs, PropertyOutcome, no_property, property_no_document, broken_property, has_property, Outcome, unusable, usable, files_read, lines_written}
 use Rattle.run_spec.proofs.OneEntry.{entry_same}
 use Rattle.run_spec.proofs.OneFolder.{AreClassFiles-same, classes_or_refused}
 use Rattle.run_spec.proofs.OneRequest.{AsksFor-same, asked_or_wrong}
@@ -150,6 +150,9 @@ module _ (s : Status) (l : List (List ℕ)) where
       let here = subst (λ (k : List ℕ). IsPropertyFile k b) (bytes_same files w.property other bytes held2 held) is2 in
       subst (λ (k : Automaton). StubOutcome files w k s l) (IsPropertyFile-same bytes b a here is) next
 
-  pub past_words : (words : List (List ℕ)) (files : List File) (w : Wanted) → AsksFor words w → Outcome words files s l → PropertyOutcome files w s l
+  pub past_words : (words : List (List ℕ)) (files : List File) (w : Wanted) → AsksFor words w → Outcome words files s l
+      → (all : List (List ℕ)) × PropertyOutcome (files_read w.mode files) w s all × (l ≡ lines_written w.mode all)
   past_words words files w asks (unusable fault is ends) = absurd (asked_or_wrong words w fault asks is)
-  past_words words files w asks (usable v asks2 next) = subst (λ (k : Wanted). PropertyOutcome files k s l) (AsksFor-same words v w asks2 asks) next
+  past_words words files w asks (usable v all asks2 next cut) =
+      subst (λ (k : Wanted). (ls : List (List ℕ)) × PropertyOutcome (files_read k.mode files) k s ls × (l ≡ lines_written k.mode ls))
+      (AsksFor-same words v w asks2 asks) (all, next, cut)

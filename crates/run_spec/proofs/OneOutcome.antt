@@ -1,5 +1,5 @@
 -- The outcome of a run is one: level by level, from the last one up. Of two outcomes of a level both fail at one check, or both go on to the next level.
-use Rattle.std.proofs.Common.{codes, ◌≡◌, ◌≢◌, ◌∙◌, ℕ, Bool, true, false, List, [], ◌∷◌, Option, Some, None, Contains, AllPairs, refl, sym, ap, subst}
+use Rattle.std.proofs.Common.{codes, ◌≡◌, ◌≢◌, ◌∙◌, ℕ, Bool, false, List, [], ◌∷◌, Option, Some, None, Contains, AllPairs, refl, sym, ap, subst}
 use Rattle.std.proofs.lemmas.Option.{same_Some, none-some}
 use Rattle.ts_outside.specs.Files.{File, file_at}
 use Rattle.failure.specs.declared.Failure.TheVariants.{Cause}
@@ -11,8 +11,10 @@ use Rattle.jvm_model.specs.declared.reason.Refusal.{Refusal}
 use Rattle.jvm_model.specs.declared.stub.StubClass.{StubClass}
 use Rattle.jvm_model.specs.LinkedPrograms.{IsProgram}
 use Rattle.jvm_model.specs.Programs.{Program}
-use Rattle.command_words.specs.Command.{HasFlag, is_set, option_in}
-use Rattle.command_words.specs.Requests.{Wanted}
+use Rattle.command_words.specs.declared.request.Mode.{Mode}
+use Rattle.command_words.specs.declared.request.Mode.TheVariants as modes
+use Rattle.command_words.specs.Command.{HasFlag, option_in}
+use Rattle.command_words.specs.Requests.{Wanted, IsModeBy, is_trace}
 use Rattle.lowering_supply.specs.OneAnswer.{one_answer}
 use Rattle.lowering_supply.specs.Supplied.{IsSupplied}
 use Rattle.property_file.specs.Refusals.{IsBrokenFile}
@@ -27,10 +29,11 @@ use Rattle.run_spec.specs.declared.status.Status.{Status}
 use Rattle.run_spec.specs.declared.status.Status.TheVariants as statuses
 use Rattle.run_spec.specs.Inputs.{HaveDifferentNames, Input}
 use Rattle.run_spec.specs.Lines.{missing_line, refused_line, usage_line}
-use Rattle.run_spec.specs.Outcomes.{EndsWith, Refuses, asked_of, run_of, report_status, AnalysisOutcome, pair_limit, refused_method, reported, ClassOutcome, no_class, has_class, EntryOutcome, no_entry, other_shape, has_entry, LinkOutcome, unlinked, linked, FolderOutcome, refused_folder, has_classes, StubOutcome, no_stub_file, stubs_no_document, broken_stubs, no_stubs, has_stubs, PropertyOutcome, no_property, property_no_document, broken_property, has_property, Outcome, unusable, usable}
+use Rattle.run_spec.specs.Outcomes.{EndsWith, Refuses, asked_of, run_of, report_status, AnalysisOutcome, pair_limit, refused_method, reported, ClassOutcome, no_class, has_class, EntryOutcome, no_entry, other_shape, has_entry, LinkOutcome, unlinked, linked, FolderOutcome, refused_folder, has_classes, StubOutcome, no_stub_file, stubs_no_document, broken_stubs, no_stubs, has_stubs, PropertyOutcome, no_property, property_no_document, broken_property, has_property, Outcome, unusable, usable, files_read, lines_written}
 use Rattle.run_spec.proofs.Levels.{past_class, past_entry, past_link, past_folder, past_stubs, past_property, past_words, linked_or_not, link_refusal_same, stubs_or_refused, document_or_broken}
 use Rattle.run_spec.proofs.OneAnalysis.{many_or_few, refusal_same, refused_or_solved}
 use Rattle.run_spec.proofs.OneFolder.{classes_or_refused, files_differ, IsRefusedFolder-same}
+use Rattle.run_spec.proofs.ReadFiles.{read_differ}
 use Rattle.run_spec.proofs.OneRequest.{asked_or_wrong, UsageFault-same}
 
 bytes_same : (files : List File) (name other b c : List ℕ) → name ≡ other → file_at files name ≡ Some b → file_at files other ≡ Some c → b ≡ c
@@ -63,8 +66,8 @@ module _ (s t : Status) (l m : List (List ℕ)) where
     abbrev limit : ℕ
     limit = i.wanted.pair_limit
 
-    AnalysisOutcome-same : AnalysisOutcome i p entry s l → AnalysisOutcome i p entry t m → Same i.wanted.trace
-    AnalysisOutcome-same (pair_limit many ends) (pair_limit many2 ends2) = same_end i.wanted.trace statuses.Refused _ _ refl ends ends2
+    AnalysisOutcome-same : AnalysisOutcome i p entry s l → AnalysisOutcome i p entry t m → Same (is_trace i.wanted.mode)
+    AnalysisOutcome-same (pair_limit many ends) (pair_limit many2 ends2) = same_end (is_trace i.wanted.mode) statuses.Refused _ _ refl ends ends2
     AnalysisOutcome-same (pair_limit many ends) (refused_method q is ends2) =
         absurd (many_or_few p (IsSupplied p) (one_answer p) entry limit is.facts many.1 is.least)
     AnalysisOutcome-same (pair_limit many ends) (reported facts all b is of_all report ti) =
@@ -72,7 +75,7 @@ module _ (s t : Status) (l m : List (List ℕ)) where
     AnalysisOutcome-same (refused_method r is ends) (pair_limit many ends2) =
         absurd (many_or_few p (IsSupplied p) (one_answer p) entry limit is.facts many.1 is.least)
     AnalysisOutcome-same (refused_method r is ends) (refused_method q is2 ends2) =
-        same_refusal i.wanted.trace r q (refusal_same p (IsSupplied p) (one_answer p) entry limit r q is is2) ends ends2
+        same_refusal (is_trace i.wanted.mode) r q (refusal_same p (IsSupplied p) (one_answer p) entry limit r q is is2) ends ends2
     AnalysisOutcome-same (refused_method r is ends) (reported facts all b is2 of_all report ti) =
         absurd (refused_or_solved p (IsSupplied p) (one_answer p) entry limit r facts is is2)
     AnalysisOutcome-same (reported facts all b is of_all report si) (pair_limit many ends) =
@@ -82,41 +85,41 @@ module _ (s t : Status) (l m : List (List ℕ)) where
     AnalysisOutcome-same (reported facts all b is of_all report si) (reported others other c is2 of_other report2 ti) =
         let to = least_is_one (AnyInstance p (IsSupplied p) entry) all other of_all.least of_other.least in
         let back = least_is_one (AnyInstance p (IsSupplied p) entry) other all of_other.least of_all.least in
-        let safe = safe_same (run_of i p entry) (IsSupplied p) (asked_of i) (Contains all) (Contains other) to back i.wanted.trace l m b c report report2 in (
+        let safe = safe_same (run_of i p entry) (IsSupplied p) (asked_of i) (Contains all) (Contains other) to back (is_trace i.wanted.mode) l m b c report report2 in (
           si ∙ ap report_status safe ∙ sym ti,
-          λ none. lines_same (run_of i p entry) (IsSupplied p) (asked_of i) (Contains all) (Contains other) to back i.wanted.trace none l m b c report report2,
+          λ none. lines_same (run_of i p entry) (IsSupplied p) (asked_of i) (Contains all) (Contains other) to back (is_trace i.wanted.mode) none l m b c report report2,
         )
 
     -- ---- the program
 
-    ClassOutcome-same : ClassOutcome i p entry s l → ClassOutcome i p entry t m → Same i.wanted.trace
-    ClassOutcome-same (no_class none ends) (no_class none2 ends2) = same_end i.wanted.trace statuses.Refused _ _ refl ends ends2
+    ClassOutcome-same : ClassOutcome i p entry s l → ClassOutcome i p entry t m → Same (is_trace i.wanted.mode)
+    ClassOutcome-same (no_class none ends) (no_class none2 ends2) = same_end (is_trace i.wanted.mode) statuses.Refused _ _ refl ends ends2
     ClassOutcome-same (no_class none ends) (has_class class is next) = absurd (none-some class (sym none ∙ is))
     ClassOutcome-same (has_class class is next) other = AnalysisOutcome-same next (past_class t m i p entry class is other)
 
   module _ (i : Input) where
-    EntryOutcome-same : (p : Program) → IsProgram p → EntryOutcome i p s l → EntryOutcome i p t m → Same i.wanted.trace
-    EntryOutcome-same p program (no_entry none no_name ends) (no_entry none2 no_name2 ends2) = same_end i.wanted.trace statuses.Refused _ _ refl ends ends2
+    EntryOutcome-same : (p : Program) → IsProgram p → EntryOutcome i p s l → EntryOutcome i p t m → Same (is_trace i.wanted.mode)
+    EntryOutcome-same p program (no_entry none no_name ends) (no_entry none2 no_name2 ends2) = same_end (is_trace i.wanted.mode) statuses.Refused _ _ refl ends ends2
     EntryOutcome-same p program (no_entry none no_name ends) (other_shape none2 named ends2) = absurd (no_name named)
     EntryOutcome-same p program (no_entry none no_name ends) (has_entry entry is next) = absurd (none entry.0 is)
     EntryOutcome-same p program (other_shape none named ends) (no_entry none2 no_name ends2) = absurd (no_name named)
-    EntryOutcome-same p program (other_shape none named ends) (other_shape none2 named2 ends2) = same_end i.wanted.trace statuses.Refused _ _ refl ends ends2
+    EntryOutcome-same p program (other_shape none named ends) (other_shape none2 named2 ends2) = same_end (is_trace i.wanted.mode) statuses.Refused _ _ refl ends ends2
     EntryOutcome-same p program (other_shape none named ends) (has_entry entry is next) = absurd (none entry.0 is)
     EntryOutcome-same p program (has_entry entry is next) other =
         ClassOutcome-same i p entry next (past_entry t m i p program.members entry is other)
 
-    LinkOutcome-same : AllPairs (λ f g. f.file ≢ g.file) i.classes → LinkOutcome i s l → LinkOutcome i t m → Same i.wanted.trace
+    LinkOutcome-same : AllPairs (λ f g. f.file ≢ g.file) i.classes → LinkOutcome i s l → LinkOutcome i t m → Same (is_trace i.wanted.mode)
     LinkOutcome-same differ (unlinked r is ends) (unlinked q is2 ends2) =
-        same_refusal i.wanted.trace r q (link_refusal_same i.stubs i.classes differ r q is is2) ends ends2
+        same_refusal (is_trace i.wanted.mode) r q (link_refusal_same i.stubs i.classes differ r q is is2) ends ends2
     LinkOutcome-same differ (unlinked r is ends) (linked p is2 program next) = absurd (linked_or_not i.stubs i.classes differ p r is2 is)
     LinkOutcome-same differ (linked p is program next) other = EntryOutcome-same p program next (past_link t m i differ p is other).1
 
   -- ---- the files
 
   module _ (files : List File) (differ : HaveDifferentNames files) (w : Wanted) where
-    FolderOutcome-same : (a : Automaton) (stubs : List StubClass) → FolderOutcome files w a stubs s l → FolderOutcome files w a stubs t m → Same w.trace
+    FolderOutcome-same : (a : Automaton) (stubs : List StubClass) → FolderOutcome files w a stubs s l → FolderOutcome files w a stubs t m → Same (is_trace w.mode)
     FolderOutcome-same a stubs (refused_folder r is ends) (refused_folder q is2 ends2) =
-        same_refusal w.trace r q (IsRefusedFolder-same files differ r q is is2) ends ends2
+        same_refusal (is_trace w.mode) r q (IsRefusedFolder-same files differ r q is is2) ends ends2
     FolderOutcome-same a stubs (refused_folder r is ends) (has_classes classes are next) = absurd (classes_or_refused files differ classes r are is)
     FolderOutcome-same a stubs (has_classes classes are next) other =
         let input : Input = record { wanted = w; property = a; stubs = stubs; classes = classes } in
@@ -148,9 +151,9 @@ module _ (s t : Status) (l m : List (List ℕ)) where
           let named = subst (λ (n : List ℕ). Broken n b class) (names_same name other asked asked2) x in
           stubs_or_refused other c stubs (stub_faults.BadStub class) y (subst (λ (k : List ℕ). Broken other k class) contents_same named)
 
-    StubOutcome-same : (a : Automaton) → StubOutcome files w a s l → StubOutcome files w a t m → Same w.trace
+    StubOutcome-same : (a : Automaton) → StubOutcome files w a s l → StubOutcome files w a t m → Same (is_trace w.mode)
     StubOutcome-same a (no_stub_file name asked none ends) (no_stub_file other asked2 none2 ends2) =
-        same_end w.trace statuses.Usage (missing_line name) (missing_line other) (ap missing_line (names_same name other asked asked2)) ends ends2
+        same_end (is_trace w.mode) statuses.Usage (missing_line name) (missing_line other) (ap missing_line (names_same name other asked asked2)) ends ends2
     StubOutcome-same a (no_stub_file name asked none ends) (stubs_no_document other bytes asked2 held bad ends2) =
         absurd (held_or_not files name other bytes (names_same name other asked asked2) none held)
     StubOutcome-same a (no_stub_file name asked none ends) (broken_stubs other bytes class asked2 held bad ends2) =
@@ -161,7 +164,7 @@ module _ (s t : Status) (l m : List (List ℕ)) where
     StubOutcome-same a (stubs_no_document name b asked held bad ends) (no_stub_file other asked2 none ends2) =
         absurd (held_or_not files other name b (names_same other name asked2 asked) none held)
     StubOutcome-same a (stubs_no_document name b asked held bad ends) (stubs_no_document other c asked2 held2 bad2 ends2) =
-        same_named w.trace BadToml name other (names_same name other asked asked2) ends ends2
+        same_named (is_trace w.mode) BadToml name other (names_same name other asked asked2) ends ends2
     StubOutcome-same a (stubs_no_document name b asked held bad ends) (broken_stubs other c class asked2 held2 bad2 ends2) =
         absurd (no_document_or_broken name other b c asked asked2 held held2 class bad bad2)
     StubOutcome-same a (stubs_no_document name b asked held bad ends) (no_stubs unasked next) = absurd (asked_or_not name unasked asked)
@@ -172,7 +175,7 @@ module _ (s t : Status) (l m : List (List ℕ)) where
     StubOutcome-same a (broken_stubs name b class asked held bad ends) (stubs_no_document other c asked2 held2 bad2 ends2) =
         absurd (no_document_or_broken other name c b asked2 asked held2 held class bad2 bad)
     StubOutcome-same a (broken_stubs name b class asked held bad ends) (broken_stubs other c class2 asked2 held2 bad2 ends2) =
-        same_named w.trace BadStub name other (names_same name other asked asked2) ends ends2
+        same_named (is_trace w.mode) BadStub name other (names_same name other asked asked2) ends ends2
     StubOutcome-same a (broken_stubs name b class asked held bad ends) (no_stubs unasked next) = absurd (asked_or_not name unasked asked)
     StubOutcome-same a (broken_stubs name b class asked held bad ends) (has_stubs other c stubs asked2 held2 are next) =
         absurd (broken_or_stubs name other b c asked asked2 held held2 class stubs bad are)
@@ -180,15 +183,15 @@ module _ (s t : Status) (l m : List (List ℕ)) where
     StubOutcome-same a (has_stubs name bytes stubs asked held are next) other =
         FolderOutcome-same a stubs next (past_stubs t m files w a stubs (Some name) asked (bytes, held, are) other)
 
-    PropertyOutcome-same : PropertyOutcome files w s l → PropertyOutcome files w t m → Same w.trace
-    PropertyOutcome-same (no_property none ends) (no_property none2 ends2) = same_end w.trace statuses.Usage _ _ refl ends ends2
+    PropertyOutcome-same : PropertyOutcome files w s l → PropertyOutcome files w t m → Same (is_trace w.mode)
+    PropertyOutcome-same (no_property none ends) (no_property none2 ends2) = same_end (is_trace w.mode) statuses.Usage _ _ refl ends ends2
     PropertyOutcome-same (no_property none ends) (property_no_document bytes held bad ends2) =
         absurd (held_or_not files w.property w.property bytes refl none held)
     PropertyOutcome-same (no_property none ends) (broken_property bytes key held bad ends2) =
         absurd (held_or_not files w.property w.property bytes refl none held)
     PropertyOutcome-same (no_property none ends) (has_property bytes a held is next) = absurd (held_or_not files w.property w.property bytes refl none held)
     PropertyOutcome-same (property_no_document b held bad ends) (no_property none ends2) = absurd (held_or_not files w.property w.property b refl none held)
-    PropertyOutcome-same (property_no_document b held bad ends) (property_no_document c held2 bad2 ends2) = same_end w.trace statuses.Refused _ _ refl ends ends2
+    PropertyOutcome-same (property_no_document b held bad ends) (property_no_document c held2 bad2 ends2) = same_end (is_trace w.mode) statuses.Refused _ _ refl ends ends2
     PropertyOutcome-same (property_no_document b held bad ends) (broken_property c key held2 bad2 ends2) =
         absurd (IsNoDocument-not_broken c key (subst IsNoDocument (bytes_same files w.property w.property b c refl held held2) bad) bad2)
     PropertyOutcome-same (property_no_document b held bad ends) (has_property c a held2 is next) =
@@ -196,7 +199,7 @@ module _ (s t : Status) (l m : List (List ℕ)) where
     PropertyOutcome-same (broken_property b key held bad ends) (no_property none ends2) = absurd (held_or_not files w.property w.property b refl none held)
     PropertyOutcome-same (broken_property b key held bad ends) (property_no_document c held2 bad2 ends2) =
         absurd (IsNoDocument-not_broken b key (subst IsNoDocument (bytes_same files w.property w.property c b refl held2 held) bad2) bad)
-    PropertyOutcome-same (broken_property b key held bad ends) (broken_property c key2 held2 bad2 ends2) = same_end w.trace statuses.Refused _ _ refl ends ends2
+    PropertyOutcome-same (broken_property b key held bad ends) (broken_property c key2 held2 bad2 ends2) = same_end (is_trace w.mode) statuses.Refused _ _ refl ends ends2
     PropertyOutcome-same (broken_property b key held bad ends) (has_property c a held2 is next) =
         absurd (IsBrokenFile-not c key a (subst (λ (k : List ℕ). IsBrokenFile k key) (bytes_same files w.property w.property b c refl held held2) bad) is)
     PropertyOutcome-same (has_property bytes a held is next) other = StubOutcome-same a next (past_property t m files w bytes a held is other)
@@ -204,19 +207,22 @@ module _ (s t : Status) (l m : List (List ℕ)) where
 -- ---- the words
 
 -- words without the flag ask for no derivations
-not_set : (b : Bool) → (b ≡ true → ⊥) → b ≡ false
-not_set true none = absurd (none refl)
-not_set false none = refl
+no_traces : (words : List (List ℕ)) (mode : Mode) → IsModeBy (option_in words (codes "trace")) (option_in words (codes "sample")) mode
+    → (HasFlag words (codes "trace") → ⊥) → is_trace mode ≡ false
+no_traces words modes.Report is none = refl
+no_traces words modes.Trace is none = absurd (none is.0)
+no_traces words (modes.Sample n) is none = refl
 
 Outcome-same : (words : List (List ℕ)) (files : List File) (s t : Status) (l m : List (List ℕ)) → HaveDifferentNames files
     → Outcome words files s l → Outcome words files t m → (s ≡ t) × ((HasFlag words (codes "trace") → ⊥) → l ≡ m)
 Outcome-same words files s t l m differ (unusable f is ends) (unusable g is2 ends2) =
     let both = same_end s t l m false statuses.Usage (usage_line f) (usage_line g) (ap usage_line (UsageFault-same words f g is is2)) ends ends2 in
     (both.0, λ none. both.1 refl)
-Outcome-same words files s t l m differ (unusable f is ends) (usable w asks next) = absurd (asked_or_wrong words w f asks is)
-Outcome-same words files s t l m differ (usable w asks next) other =
-    let both = PropertyOutcome-same s t l m files differ w next (past_words t m words files w asks other) in
-    (both.0, λ none. both.1 (asks.trace ∙ not_set (is_set (option_in words (codes "trace"))) none))
+Outcome-same words files s t l m differ (unusable f is ends) (usable w all asks next cut) = absurd (asked_or_wrong words w f asks is)
+Outcome-same words files s t l m differ (usable w all asks next cut) other =
+    let there = past_words t m words files w asks other in
+    let both = PropertyOutcome-same s t all there.0 (files_read w.mode files) (read_differ w.mode files differ) w next there.1 in
+    (both.0, λ none. cut ∙ ap (lines_written w.mode) (both.1 (no_traces words w.mode asks.mode none)) ∙ sym there.2)
 
 pub status_same : (words : List (List ℕ)) (files : List File) (s t : Status) (l m : List (List ℕ)) → HaveDifferentNames files
     → Outcome words files s l → Outcome words files t m → s ≡ t

@@ -1,13 +1,16 @@
 -- Words ask for one thing and are not wrong then; or one thing is wrong with them.
-use Rattle.std.proofs.Common.{◌≡◌, ◌∙◌, ℕ, Bool, true, not, ◌==◌, List, [], ◌∷◌, ◌++◌, Option, Some, None, IsTrue, refl, sym, ap, subst}
+use Rattle.std.proofs.Common.{codes, ◌≡◌, ◌∙◌, ℕ, Bool, true, false, not, is_some, true≢false, ◌==◌, List, [], ◌∷◌, ◌++◌, Option, Some, None, IsTrue, refl, sym, ap, subst}
 use Rattle.std.specs.List.{list_all}
 use Rattle.std.proofs.lemmas.Bool.{and_parts, false≢true}
-use Rattle.std.proofs.lemmas.Option.{same_Some}
-use Rattle.command_words.specs.declared.fault.NumberOption.TheVariants.{Stages, Depth, FactLimit, PairLimit}
+use Rattle.std.proofs.lemmas.Option.{none-some, same_Some}
+use Rattle.command_words.specs.declared.fault.NumberOption.{NumberOption}
+use Rattle.command_words.specs.declared.fault.NumberOption.TheVariants.{Stages, Depth, FactLimit, PairLimit, Sample}
 use Rattle.command_words.specs.declared.fault.UsageFault.{UsageFault}
-use Rattle.command_words.specs.declared.fault.UsageFault.TheVariants.{Words, Range}
-use Rattle.command_words.specs.Command.{option_in}
-use Rattle.command_words.specs.Requests.{Wanted, NamesMethod, AsksFor, NumberRule, IsNumberBy, IsNumberIn, HasNumber, LacksNumber, IsUsageFault, stages_rule, depth_rule, fact_limit_rule, pair_limit_rule}
+use Rattle.command_words.specs.declared.fault.UsageFault.TheVariants.{Words, Modes, Range}
+use Rattle.command_words.specs.declared.request.Mode.{Mode}
+use Rattle.command_words.specs.declared.request.Mode.TheVariants as modes
+use Rattle.command_words.specs.Command.{is_set, option_in}
+use Rattle.command_words.specs.Requests.{Wanted, NamesMethod, AsksFor, NumberRule, IsFirstLacking, IsModeBy, IsNumberBy, IsNumberIn, HasNumber, LacksNumber, IsUsageFault, are_two_modes, stages_rule, depth_rule, fact_limit_rule, pair_limit_rule, sample_rule}
 
 -- ---- the entry
 
@@ -44,6 +47,32 @@ number_same : (r : NumberRule) (value : Option (List ℕ)) (n m : ℕ) → IsNum
 number_same r None n m x y = x ∙ sym y
 number_same r (Some text) n m x y = x.value ∙ sym y.value
 
+-- ---- modes
+
+module _ (trace sample : Option (List ℕ)) where
+  -- a flag is set or not, and an option is given or not
+  set_or_not : is_set trace ≡ true → is_set trace ≡ false → ⊥
+  set_or_not is not = true≢false (sym is ∙ not)
+
+  mode_same : (v w : Mode) → IsModeBy trace sample v → IsModeBy trace sample w → v ≡ w
+  mode_same modes.Report modes.Report x y = refl
+  mode_same modes.Report modes.Trace x y = absurd (set_or_not y.0 x.0)
+  mode_same modes.Report (modes.Sample n) x y = absurd (none-some y.1 (sym x.1 ∙ y.2))
+  mode_same modes.Trace modes.Report x y = absurd (set_or_not x.0 y.0)
+  mode_same modes.Trace modes.Trace x y = refl
+  mode_same modes.Trace (modes.Sample n) x y = absurd (set_or_not x.0 y.0)
+  mode_same (modes.Sample n) modes.Report x y = absurd (none-some x.1 (sym y.1 ∙ x.2))
+  mode_same (modes.Sample n) modes.Trace x y = absurd (set_or_not y.0 x.0)
+  mode_same (modes.Sample n) (modes.Sample m) x y =
+      let text = same_Some x.1 y.1 (sym x.2 ∙ y.2) in
+      ap modes.Sample (number_same sample_rule (Some y.1) n m (subst (λ (t : List ℕ). IsNumberBy sample_rule (Some t) n) text x.3) y.3)
+
+  -- a mode is one
+  one_mode : (mode : Mode) → IsModeBy trace sample mode → are_two_modes trace sample ≡ true → ⊥
+  one_mode modes.Report is two = set_or_not (and_parts (is_set trace) _ two).0 is.0
+  one_mode modes.Trace is two = true≢false (sym (and_parts (is_set trace) _ two).1 ∙ ap (λ (v : Option (List ℕ)). is_some v) is.1)
+  one_mode (modes.Sample n) is two = set_or_not (and_parts (is_set trace) _ two).0 is.0
+
 module _ (words : List (List ℕ)) where
   in_words : (r : NumberRule) (n m : ℕ) → IsNumberIn words r n → IsNumberIn words r m → n ≡ m
   in_words r n m x y = number_same r (option_in words r.name) n m x y
@@ -64,7 +93,7 @@ module _ (words : List (List ℕ)) where
       let depth = in_words depth_rule v.depth w.depth x.depth y.depth in
       let facts = in_words fact_limit_rule v.fact_limit w.fact_limit x.fact_limit y.fact_limit in
       let pairs = in_words pair_limit_rule v.pair_limit w.pair_limit x.pair_limit y.pair_limit in
-      let told : v.trace ≡ w.trace = x.trace ∙ sym y.trace in
+      let told = mode_same (option_in words (codes "trace")) (option_in words (codes "sample")) v.mode w.mode x.mode y.mode in
       (λ i. record {
         property = property i;
         stubs = stubs i;
@@ -74,41 +103,64 @@ module _ (words : List (List ℕ)) where
         depth = depth i;
         fact_limit = facts i;
         pair_limit = pairs i;
-        trace = told i;
+        mode = told i;
       })
 
   -- words that ask for something are not wrong
   pub asked_or_wrong : (w : Wanted) (fault : UsageFault) → AsksFor words w → IsUsageFault words fault → ⊥
   asked_or_wrong w Words asks wrong = wrong (w.class, w.method, asks.command)
-  asked_or_wrong w (Range Stages) asks wrong = wrong.1 w.stages asks.stages
-  asked_or_wrong w (Range Depth) asks wrong = wrong.2 w.depth asks.depth
-  asked_or_wrong w (Range FactLimit) asks wrong = wrong.3 w.fact_limit asks.fact_limit
-  asked_or_wrong w (Range PairLimit) asks wrong = wrong.4 w.pair_limit asks.pair_limit
+  asked_or_wrong w Modes asks wrong = one_mode (option_in words (codes "trace")) (option_in words (codes "sample")) w.mode asks.mode wrong.1
+  asked_or_wrong w (Range Stages) asks wrong = wrong.2 w.stages asks.stages
+  asked_or_wrong w (Range Depth) asks wrong = wrong.2.1 w.depth asks.depth
+  asked_or_wrong w (Range FactLimit) asks wrong = wrong.2.2 w.fact_limit asks.fact_limit
+  asked_or_wrong w (Range PairLimit) asks wrong = wrong.2.3 w.pair_limit asks.pair_limit
+  asked_or_wrong w (Range Sample) asks wrong = not_lacking w.mode asks.mode
+    where
+      not_lacking : (mode : Mode) → IsModeBy (option_in words (codes "trace")) (option_in words (codes "sample")) mode → ⊥
+      not_lacking modes.Report is = wrong.2.4 0 (subst (λ (v : Option (List ℕ)). IsNumberBy sample_rule v 0) (sym is.1) refl)
+      not_lacking modes.Trace is = wrong.2.4 0 (subst (λ (v : Option (List ℕ)). IsNumberBy sample_rule v 0) (sym is.1) refl)
+      not_lacking (modes.Sample n) is = wrong.2.4 n (subst (λ (v : Option (List ℕ)). IsNumberBy sample_rule v n) (sym is.2) is.3)
+
+  -- one option is the first that has no number
+  first_same : (o q : NumberOption) → IsFirstLacking words o → IsFirstLacking words q → o ≡ q
+  first_same Stages Stages x y = refl
+  first_same Stages Depth x y = absurd (not_both stages_rule y.0 x)
+  first_same Stages FactLimit x y = absurd (not_both stages_rule y.0 x)
+  first_same Stages PairLimit x y = absurd (not_both stages_rule y.0 x)
+  first_same Stages Sample x y = absurd (not_both stages_rule y.0 x)
+  first_same Depth Stages x y = absurd (not_both stages_rule x.0 y)
+  first_same Depth Depth x y = refl
+  first_same Depth FactLimit x y = absurd (not_both depth_rule y.1 x.1)
+  first_same Depth PairLimit x y = absurd (not_both depth_rule y.1 x.1)
+  first_same Depth Sample x y = absurd (not_both depth_rule y.1 x.1)
+  first_same FactLimit Stages x y = absurd (not_both stages_rule x.0 y)
+  first_same FactLimit Depth x y = absurd (not_both depth_rule x.1 y.1)
+  first_same FactLimit FactLimit x y = refl
+  first_same FactLimit PairLimit x y = absurd (not_both fact_limit_rule y.2 x.2)
+  first_same FactLimit Sample x y = absurd (not_both fact_limit_rule y.2 x.2)
+  first_same PairLimit Stages x y = absurd (not_both stages_rule x.0 y)
+  first_same PairLimit Depth x y = absurd (not_both depth_rule x.1 y.1)
+  first_same PairLimit FactLimit x y = absurd (not_both fact_limit_rule x.2 y.2)
+  first_same PairLimit PairLimit x y = refl
+  first_same PairLimit Sample x y = absurd (not_both pair_limit_rule y.3 x.3)
+  first_same Sample Stages x y = absurd (not_both stages_rule x.0 y)
+  first_same Sample Depth x y = absurd (not_both depth_rule x.1 y.1)
+  first_same Sample FactLimit x y = absurd (not_both fact_limit_rule x.2 y.2)
+  first_same Sample PairLimit x y = absurd (not_both pair_limit_rule x.3 y.3)
+  first_same Sample Sample x y = refl
+
+  -- two modes and one mode
+  two_or_one : (two : Bool) → two ≡ true → two ≡ false → ⊥
+  two_or_one two is not = true≢false (sym is ∙ not)
 
   -- one thing is wrong
   pub UsageFault-same : (f g : UsageFault) → IsUsageFault words f → IsUsageFault words g → f ≡ g
   UsageFault-same Words Words x y = refl
-  UsageFault-same Words (Range Stages) x y = absurd (x y.0)
-  UsageFault-same Words (Range Depth) x y = absurd (x y.0)
-  UsageFault-same Words (Range FactLimit) x y = absurd (x y.0)
-  UsageFault-same Words (Range PairLimit) x y = absurd (x y.0)
-  UsageFault-same (Range Stages) Words x y = absurd (y x.0)
-  UsageFault-same (Range Stages) (Range Stages) x y = refl
-  UsageFault-same (Range Stages) (Range Depth) x y = absurd (not_both stages_rule y.1 x.1)
-  UsageFault-same (Range Stages) (Range FactLimit) x y = absurd (not_both stages_rule y.1 x.1)
-  UsageFault-same (Range Stages) (Range PairLimit) x y = absurd (not_both stages_rule y.1 x.1)
-  UsageFault-same (Range Depth) Words x y = absurd (y x.0)
-  UsageFault-same (Range Depth) (Range Stages) x y = absurd (not_both stages_rule x.1 y.1)
-  UsageFault-same (Range Depth) (Range Depth) x y = refl
-  UsageFault-same (Range Depth) (Range FactLimit) x y = absurd (not_both depth_rule y.2 x.2)
-  UsageFault-same (Range Depth) (Range PairLimit) x y = absurd (not_both depth_rule y.2 x.2)
-  UsageFault-same (Range FactLimit) Words x y = absurd (y x.0)
-  UsageFault-same (Range FactLimit) (Range Stages) x y = absurd (not_both stages_rule x.1 y.1)
-  UsageFault-same (Range FactLimit) (Range Depth) x y = absurd (not_both depth_rule x.2 y.2)
-  UsageFault-same (Range FactLimit) (Range FactLimit) x y = refl
-  UsageFault-same (Range FactLimit) (Range PairLimit) x y = absurd (not_both fact_limit_rule y.3 x.3)
-  UsageFault-same (Range PairLimit) Words x y = absurd (y x.0)
-  UsageFault-same (Range PairLimit) (Range Stages) x y = absurd (not_both stages_rule x.1 y.1)
-  UsageFault-same (Range PairLimit) (Range Depth) x y = absurd (not_both depth_rule x.2 y.2)
-  UsageFault-same (Range PairLimit) (Range FactLimit) x y = absurd (not_both fact_limit_rule x.3 y.3)
-  UsageFault-same (Range PairLimit) (Range PairLimit) x y = refl
+  UsageFault-same Words Modes x y = absurd (x y.0)
+  UsageFault-same Words (Range q) x y = absurd (x y.0)
+  UsageFault-same Modes Words x y = absurd (y x.0)
+  UsageFault-same Modes Modes x y = refl
+  UsageFault-same Modes (Range q) x y = absurd (two_or_one _ x.1 y.1)
+  UsageFault-same (Range o) Words x y = absurd (y x.0)
+  UsageFault-same (Range o) Modes x y = absurd (two_or_one _ y.1 x.1)
+  UsageFault-same (Range o) (Range q) x y = ap Range (first_same o q x.2 y.2)

@@ -12,11 +12,12 @@ use Rattle.points_to_rules.specs.Facts.{Fact}
 use Rattle.run_spec.specs.declared.status.Status.{Status}
 use Rattle.run_spec.specs.declared.status.Status.TheVariants.{AllSafe, SomeUnproved}
 use Rattle.run_spec.specs.Inputs.{HaveDifferentNames, Input}
-use Rattle.run_spec.specs.Outcomes.{report_status, AnalysisOutcome, pair_limit, refused_method, reported, Outcome}
+use Rattle.run_spec.specs.Outcomes.{report_status, AnalysisOutcome, pair_limit, refused_method, reported, Outcome, PropertyOutcome}
 use Rattle.run_spec.specs.WholeInputs.{IsWholeInput}
 use Rattle.run_spec.proofs.Levels.{past_class, past_entry, past_link, past_folder, past_stubs, past_property, past_words}
 use Rattle.run_spec.proofs.OneAnalysis.{many_or_few, refused_or_solved}
 use Rattle.run_spec.proofs.OneFolder.{files_differ}
+use Rattle.run_spec.proofs.ReadFiles.{read_are}
 
 by_report : (s : Status) (all_safe : Bool) → s ≡ report_status all_safe → (s ≡ AllSafe) ⊎ (s ≡ SomeUnproved)
 by_report s true is = inl is
@@ -32,21 +33,24 @@ solved i p entry s l facts solution (reported others facts_ all_safe is of_all r
 
 -- the levels of a whole input lead to its analysis
 past_levels : (words : List (List ℕ)) (files : List File) (s : Status) (l : List (List ℕ)) → HaveDifferentNames files → (w : IsWholeInput words files)
-    → Outcome words files s l → AnalysisOutcome w.run.input w.x.program (record { 0 = w.x.entry }) s l
+    → Outcome words files s l → (all : List (List ℕ)) × AnalysisOutcome w.run.input w.x.program (record { 0 = w.x.entry }) s all
 past_levels words files s l differ w o =
     let i = w.run.input in
     let is = w.run.is_input in
     let p = w.x.program in
     let of_words = past_words s l words files i.wanted is.asks o in
-    let of_property = past_property s l files i.wanted is.property_bytes i.property is.property_held is.property of_words in
-    let of_stubs = past_stubs s l files i.wanted i.property i.stubs i.wanted.stubs refl is.stubs of_property in
-    let of_folder = past_folder s l files differ i is.classes of_stubs in
-    let of_link = past_link s l i (files_differ files differ i.classes is.classes) p w.run.links of_folder in
-    let of_entry = past_entry s l i p of_link.0.members (record { 0 = w.x.entry }) w.run.entry of_link.1 in
+    let all = of_words.0 in
+    let of_files = subst (λ (fs : List File). PropertyOutcome fs i.wanted s all) (read_are i.wanted.mode files is.of_tree) of_words.1 in
+    let of_property = past_property s all files i.wanted is.property_bytes i.property is.property_held is.property of_files in
+    let of_stubs = past_stubs s all files i.wanted i.property i.stubs i.wanted.stubs refl is.stubs of_property in
+    let of_folder = past_folder s all files differ i is.classes of_stubs in
+    let of_link = past_link s all i (files_differ files differ i.classes is.classes) p w.run.links of_folder in
+    let of_entry = past_entry s all i p of_link.0.members (record { 0 = w.x.entry }) w.run.entry of_link.1 in
     let there = subst (λ (a : Automaton). class_named p a.class_name ≡ Some w.class) (sym w.run.property) w.is_class in
-    past_class s l i p (record { 0 = w.x.entry }) w.class there of_entry
+    (all, past_class s all i p (record { 0 = w.x.entry }) w.class there of_entry)
 
 pub whole_is_reported : (words : List (List ℕ)) (files : List File) (s : Status) (l : List (List ℕ)) → HaveDifferentNames files → IsWholeInput words files
     → Outcome words files s l → (s ≡ AllSafe) ⊎ (s ≡ SomeUnproved)
 whole_is_reported words files s l differ w o =
-    solved w.run.input w.x.program (record { 0 = w.x.entry }) s l w.facts w.solution (past_levels words files s l differ w o)
+    let there = past_levels words files s l differ w o in
+    solved w.run.input w.x.program (record { 0 = w.x.entry }) s there.0 w.facts w.solution there.1

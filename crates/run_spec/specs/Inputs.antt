@@ -6,6 +6,8 @@ use Rattle.jvm_model.specs.declared.automaton.Automaton.{Automaton}
 use Rattle.jvm_model.specs.declared.program.NamedClass.{NamedClass}
 use Rattle.jvm_model.specs.declared.stub.StubClass.{StubClass}
 use Rattle.class_folder.specs.ClassFiles.{AreClassFiles}
+use Rattle.command_words.specs.declared.request.Mode.{Mode}
+use Rattle.command_words.specs.declared.request.Mode.TheVariants as modes
 use Rattle.command_words.specs.Requests.{Wanted, AsksFor}
 use Rattle.property_file.specs.PropertyFile.{IsPropertyFile}
 use Rattle.stub_file.specs.BaseStubs.{base_classes}
@@ -14,6 +16,16 @@ use Rattle.stub_file.specs.StubFile.{IsStubFile}
 -- The names of the files differ, as those of a folder do.
 abbrev pub HaveDifferentNames : List File → Type 0
 HaveDifferentNames files = IsTrue (names_differ (map (λ (f : File). f.name) files))
+
+-- What is to be told is of the files of the tree, and not of a sample.
+abbrev pub IsOfTree : Mode → Type 0
+IsOfTree modes.Report = Unit {0}
+IsOfTree modes.Trace = Unit {0}
+IsOfTree (modes.Sample count) = ⊥
+
+-- Words ask for a sample.
+abbrev pub AsksForSample : List (List ℕ) → Type 0
+AsksForSample words = (w : Wanted) × AsksFor words w × (count : ℕ) × (w.mode ≡ modes.Sample count)
 
 -- The user's stubs: those of the stub file, or none.
 abbrev pub AreStubs : List File → Option (List ℕ) → List StubClass → Type 0
@@ -31,9 +43,11 @@ pub record Input : Type 0 where
   pub stubs : List StubClass
   pub classes : List NamedClass
 
--- The words ask for a run; the property file and the stub file keep their rules; and the class files are sound, and within the limits.
+-- The words ask for a run on the files of the tree; the property file and the stub file keep their rules; and the class files are sound, and within the
+-- limits.
 pub record IsInput (words : List (List ℕ)) (files : List File) (input : Input) : Type 0 where
   pub asks : AsksFor words input.wanted
+  pub of_tree : IsOfTree input.wanted.mode
   pub property_bytes : List ℕ
   pub property_held : file_at files input.wanted.property ≡ Some property_bytes
   pub property : IsPropertyFile property_bytes input.property

@@ -16,8 +16,11 @@ use Rattle.jvm_model.specs.Linking.{Links}
 use Rattle.jvm_model.specs.Programs.{Class, Program}
 use Rattle.jvm_model.specs.Subtypes.{class_named}
 use Rattle.class_folder.specs.ClassFiles.{AreClassFiles, IsRefusedFolder}
+use Rattle.class_maker.specs.Sample.{sample_files}
 use Rattle.command_words.specs.declared.fault.UsageFault.{UsageFault}
-use Rattle.command_words.specs.Requests.{Wanted, AsksFor, IsUsageFault}
+use Rattle.command_words.specs.declared.request.Mode.{Mode}
+use Rattle.command_words.specs.declared.request.Mode.TheVariants as modes
+use Rattle.command_words.specs.Requests.{Wanted, AsksFor, IsUsageFault, is_trace}
 use Rattle.entry_points.specs.Entries.{IsEntry, NamesMethod}
 use Rattle.lowering_supply.specs.Supplied.{IsSupplied}
 use Rattle.machine_bytecode.specs.Objects.{Subject}
@@ -35,7 +38,7 @@ use Rattle.toml_tables.specs.Documents.{IsNoDocument}
 use Rattle.run_spec.specs.declared.status.Status.{Status}
 use Rattle.run_spec.specs.declared.status.Status.TheVariants as statuses
 use Rattle.run_spec.specs.Inputs.{Input, all_stubs}
-use Rattle.run_spec.specs.Lines.{no_file, missing_line, refused_line, usage_line}
+use Rattle.run_spec.specs.Lines.{last_of, no_file, missing_line, refused_line, usage_line}
 
 -- ---- what is said where a check fails
 
@@ -74,7 +77,7 @@ pub data AnalysisOutcome (i : Input) (p : Program) (entry : MethodNo) (status : 
       → Refuses status lines r.file r.offset r.reason → AnalysisOutcome i p entry status lines
   reported : (found facts : List Fact) (all_safe : Bool) → IsSolution p (IsSupplied p) entry i.wanted.pair_limit found
       → AreAllFacts p (IsSupplied p) entry facts
-      → IsTracedReport (run_of i p entry) (IsSupplied p) (Contains facts) (asked_of i) i.wanted.trace lines all_safe
+      → IsTracedReport (run_of i p entry) (IsSupplied p) (Contains facts) (asked_of i) (is_trace i.wanted.mode) lines all_safe
       → status ≡ report_status all_safe → AnalysisOutcome i p entry status lines
 
 -- ---- the program
@@ -129,7 +132,20 @@ pub data PropertyOutcome (files : List File) (w : Wanted) (status : Status) (lin
 
 -- ---- the words
 
+-- The files that a run reads: those of its tree, or where a sample is asked for, those of the sample.
+abbrev pub files_read : Mode → List File → List File
+files_read modes.Report files = files
+files_read modes.Trace files = files
+files_read (modes.Sample count) files = sample_files count
+
+-- Of lines on a sample the last one alone is written: the summary, or why there is none.
+abbrev pub lines_written : Mode → List (List ℕ) → List (List ℕ)
+lines_written modes.Report lines = lines
+lines_written modes.Trace lines = lines
+lines_written (modes.Sample count) lines = last_of lines
+
 pub data Outcome (words : List (List ℕ)) (files : List File) (status : Status) (lines : List (List ℕ)) : Type 0 where
-  -- The words are not those of a run, or a number among them is not of its form or range.
+  -- The words are not those of a run, or ask for two modes, or a number among them is not of its form or range.
   unusable : (fault : UsageFault) → IsUsageFault words fault → EndsWith status lines statuses.Usage (usage_line fault) → Outcome words files status lines
-  usable : (w : Wanted) → AsksFor words w → PropertyOutcome files w status lines → Outcome words files status lines
+  usable : (w : Wanted) (all : List (List ℕ)) → AsksFor words w → PropertyOutcome (files_read w.mode files) w status all → lines ≡ lines_written w.mode all
+      → Outcome words files status lines

@@ -2,7 +2,7 @@
 
 use crate::escaped::escaped;
 use crate::sentences::{reason_named, sentence_on};
-use command_words::{Request, UsageFault, read_words};
+use command_words::{Mode, Request, UsageFault, read_words};
 use failure::Failure;
 use jvm_model::Reason;
 use property_file::read_property;
@@ -18,11 +18,16 @@ const DOCUMENT_BYTES: u32 = DOCUMENT_LIMIT as u32 + 1;
 
 const WRONG_WORDS: &str = "The words are not those of a run: ./typestate --help shows them.";
 
+const TWO_MODES: &str = "At most one of --trace and --sample may stand.";
+
 const WRONG_NUMBER: &str =
     "The number of this option is not in its range: ./typestate --help shows it.";
 
 const MISSING: &str =
     "There is no file of this name in the folder of --classes: names are relative to it, with / between folders.";
+
+const MISSING_IN_SAMPLE: &str =
+    "The sample has no such file: its property is sample.toml, and it has no stub file.";
 
 const READ_FAULT: &str = "A file or a folder cannot be read: look at their permissions and names.";
 
@@ -47,12 +52,21 @@ pub(crate) fn advise<R: Eprint, T: Tree>(
         Status::ReadFault => say_trouble(rt, trouble),
         Status::WriteFault => say(rt, WRITE_FAULT),
         Status::Usage => match read_words(alloc, words) {
-            Ok(_) => say(rt, MISSING),
+            Ok(request) => say(rt, sentence_on_missing(request.mode)),
             Err(Failure::Cause(UsageFault::Words)) => say(rt, WRONG_WORDS),
+            Err(Failure::Cause(UsageFault::Modes)) => say(rt, TWO_MODES),
             Err(Failure::Cause(UsageFault::Range(_))) => say(rt, WRONG_NUMBER),
             Err(Failure::OutOfMemory) => say(rt, NO_MEMORY),
         },
         Status::Memory => say(rt, NO_MEMORY),
+    }
+}
+
+/// What to do where a file that the words name is not there.
+fn sentence_on_missing(mode: Mode) -> &'static str {
+    match mode {
+        Mode::Report | Mode::Trace => MISSING,
+        Mode::Sample(_) => MISSING_IN_SAMPLE,
     }
 }
 
@@ -66,7 +80,7 @@ fn say_trouble<R: Eprint>(rt: &R, trouble: Option<Trouble>) {
     }
 }
 
-/// Says what to do about a refusal. Where a property file or a stub file is refused, what is wrong with it is said first.
+/// Says what to do about a refusal. Where a property file or a stub file of the folder is refused, what is wrong with it is said first.
 fn advise_on_refusal<R: Eprint, T: Tree>(
     rt: &R,
     alloc: Global,
@@ -82,12 +96,20 @@ fn advise_on_refusal<R: Eprint, T: Tree>(
         Reason::BadToml | Reason::BadProperty | Reason::BadStub
     ) {
         if let Ok(request) = read_words(alloc, words) {
-            if !say_property_fault(rt, alloc, &request, tree) {
-                say_stub_fault(rt, alloc, &request, tree);
-            }
+            say_fault(rt, alloc, &request, tree);
         }
     }
     say(rt, sentence_on(reason));
+}
+
+/// Says what is wrong with the property file or the stub file. The sample has its own, and nothing is wrong with these.
+fn say_fault<R: Eprint, T: Tree>(rt: &R, alloc: Global, request: &Request<'_>, tree: &mut T) {
+    if matches!(request.mode, Mode::Sample(_)) {
+        return;
+    }
+    if !say_property_fault(rt, alloc, request, tree) {
+        say_stub_fault(rt, alloc, request, tree);
+    }
 }
 
 /// Says what is wrong with the property file. Whether anything is.

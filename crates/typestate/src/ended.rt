@@ -1,14 +1,14 @@
 //! How the program ends: only a run of the verifier gives an end with a report, and each end has its exit code.
 
-ghost use Rattle.std.specs.Prelude.{◌≡◌, ◌≢◌, ℕ, ◌≤◌, List, map, string_bytes, IfSome};
+ghost use Rattle.std.specs.Prelude.{◌≡◌, ◌≢◌, ℕ, ◌≤◌, List, [], map, string_bytes, IfSome};
 ghost use Rattle.ts_outside.specs.Counts.{Rose};
 ghost use Rattle.run_soundness.specs.Truth.{SaysSafe};
-ghost use Rattle.run_spec.specs.Inputs.{HaveDifferentNames};
+ghost use Rattle.run_spec.specs.Inputs.{AsksForSample, HaveDifferentNames};
 ghost use Rattle.run_spec.specs.WholeInputs.{IsWholeInput};
 ghost use Rattle.run_soundness.specs.Claims.{IsTrueOfRun, KeepsProtocol, WroteLine};
 ghost use Rattle.run_soundness.specs.Reports.{IsReportedOfRun};
 ghost use Rattle.typestate_core.specs.Answers.{AnswersRun, HandsRun, IsReportOrFault};
-ghost use Rattle.typestate_core.specs.ReadingOrder.{AsksInOrder, IsMisused, IsUsageEnd, RunCalls, is_report};
+ghost use Rattle.typestate_core.specs.ReadingOrder.{AsksInOrder, IsMisused, IsUsageEnd, LeavesTree, RunCalls, is_report};
 ghost use Rattle.run_spec.specs.Statuses.{code_of};
 
 use std::alloc::Global;
@@ -30,11 +30,12 @@ impl Ended {
         out: &mut S,
     ) -> Ended
         ensures told { IfSome (T.files tree.old) (λ files. AnswersRun (map string_bytes words.now) files result.status (S.taken out.old) (S.taken out.new)) }
+        ensures sampled { AsksForSample (map string_bytes words.now) → AnswersRun (map string_bytes words.now) [] result.status (S.taken out.old) (S.taken out.new) }
         ensures pieces { IfSome (T.files tree.old) (λ files. HandsRun (map string_bytes words.now) files result.status (S.handed out.old) (S.handed out.new)) }
         ensures complete { IfSome (T.files tree.old) (λ files. HaveDifferentNames files → IsWholeInput (map string_bytes words.now) files → IsReportOrFault result.status) }
         ensures sound { IfSome (T.files tree.old) (λ files. (line : List ℕ) → WroteLine (S.taken out.old) (S.taken out.new) line → SaysSafe line → IsTrueOfRun (map string_bytes words.now) files line) }
         ensures about { IfSome (T.files tree.old) (λ files. (line : List ℕ) → WroteLine (S.taken out.old) (S.taken out.new) line → SaysSafe line → IsReportedOfRun (map string_bytes words.now) files line) }
-        ensures all_safe { IfSome (T.files tree.old) (λ files. result.status ≡ Status.AllSafe → KeepsProtocol (map string_bytes words.now) files) }
+        ensures all_safe { IfSome (T.files tree.old) (λ files. result.status ≡ Status.AllSafe → (AsksForSample (map string_bytes words.now) → ⊥) → KeepsProtocol (map string_bytes words.now) files) }
         ensures read_fault { result.status ≡ Status.ReadFault → Rose (T.faults tree.old) (T.faults tree.new) }
         ensures write_fault { result.status ≡ Status.WriteFault → Rose (S.faults out.old) (S.faults out.new) }
         ensures no_read_fault { result.status ≢ Status.ReadFault → T.faults tree.new ≡ T.faults tree.old }
@@ -42,7 +43,7 @@ impl Ended {
         ensures silent { result.status ≡ Status.ReadFault → out.new ≡ out.old }
         ensures silent_without_memory { result.status ≡ Status.Memory → out.new ≡ out.old }
         ensures calls { AsksInOrder (T.called tree.old) (T.called tree.new) (RunCalls (map string_bytes words.now) (T.files tree.old) (is_report result.status)) }
-        ensures unread { IsMisused (map string_bytes words.now) → tree.new ≡ tree.old }
+        ensures unread { LeavesTree (map string_bytes words.now) → tree.new ≡ tree.old }
         ensures misused { IsMisused (map string_bytes words.now) → IsUsageEnd result.status }
         ensures no_certificate { result.status ≢ Status.RejectedCertificate }
         ensures same_files { T.files tree.new ≡ T.files tree.old }

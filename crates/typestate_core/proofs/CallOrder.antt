@@ -15,9 +15,10 @@ use Rattle.command_words.specs.Requests.{Wanted, AsksFor}
 use Rattle.property_file.specs.PropertyFile.{IsPropertyFile}
 use Rattle.stub_file.specs.StubFile.{IsStubFile}
 use Rattle.run_spec.specs.declared.status.Status.{Status}
+use Rattle.run_spec.specs.Inputs.{AsksForSample}
 use Rattle.typestate_core.specs.declared.answer.Answer.{Answer}
 use Rattle.typestate_core.specs.Answers.{reports}
-use Rattle.typestate_core.specs.ReadingOrder.{AsksInOrder, FolderCalls, HasProperty, HasStubs, PropertyCalls, RunCalls, StubCalls, document_question, folder_read, folder_stops, is_report, no_calls, property_read, property_stops, some_calls, stubs_read, stubs_stop, without_stubs}
+use Rattle.typestate_core.specs.ReadingOrder.{AsksInOrder, FolderCalls, HasProperty, HasStubs, PropertyCalls, RunCalls, StubCalls, document_question, folder_read, folder_stops, is_report, no_calls, of_sample, property_read, property_stops, some_calls, stubs_read, stubs_stop, without_stubs}
 use Rattle.typestate_core.proofs.Judging.{IsRead, SaysLine, read_of}
 use Rattle.typestate_core.proofs.Options.{if_some}
 use Rattle.typestate_core.proofs.Wholes.{property_whole, stubs_whole}
@@ -92,6 +93,10 @@ pub run_calls : (words : List (List ℕ)) (files : Option (List File)) (old new 
     → AsksInOrder old new (PropertyCalls files w report) → AsksInOrder old new (RunCalls words files report)
 run_calls words files old new report w asks (calls, are, order) = (calls, are, some_calls w asks order)
 
+pub sample_calls : (words : List (List ℕ)) (files : Option (List File)) (old : Option (List Called)) (report : Bool) → AsksForSample words
+    → AsksInOrder old old (RunCalls words files report)
+sample_calls words files old report asks = ([], none_asked old, of_sample asks refl)
+
 -- ---- where the lines of a report cannot be written, no report is claimed
 
 folder_quiet : (files : Option (List File)) (report : Bool) (calls : List Called) → FolderCalls files report calls → FolderCalls files false calls
@@ -110,4 +115,5 @@ property_quiet files w report calls (property_read rest has order is) = property
 pub run_quiet : (words : List (List ℕ)) (files : Option (List File)) (old new : Option (List Called)) (report : Bool) → AsksInOrder old new (RunCalls words files report)
     → AsksInOrder old new (RunCalls words files false)
 run_quiet words files old new report (calls, are, no_calls is quiet) = (calls, are, no_calls is refl)
+run_quiet words files old new report (calls, are, of_sample asks is) = (calls, are, of_sample asks is)
 run_quiet words files old new report (calls, are, some_calls w asks order) = (calls, are, some_calls w asks (property_quiet files w report calls order))

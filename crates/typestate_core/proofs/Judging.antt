@@ -1,5 +1,5 @@
 -- From what each check found to the outcome of its level.
-use Rattle.std.proofs.Common.{◌≡◌, ◌∙◌, ℕ, ◌<◌, List, [], ◌∷◌, take, Option, Some, None, Result, IfSome, IfOk, option_map, subst, refl}
+use Rattle.std.proofs.Common.{◌≡◌, ◌⊎◌, ◌∙◌, ℕ, ◌<◌, List, [], ◌∷◌, take, Option, Some, None, Result, IfSome, IfOk, option_map, inl, inr, sym, ap, subst, refl}
 use Rattle.ts_outside.specs.Files.{File, file_at}
 use Rattle.failure.specs.declared.Failure.{Failure}
 use Rattle.failure.specs.declared.Failure.TheVariants.{Cause}
@@ -12,6 +12,8 @@ use Rattle.class_folder.specs.ClassFiles.{AreClassFiles, IsFolderFailure}
 use Rattle.class_folder.specs.declared.fault.FolderFault.{FolderFault}
 use Rattle.class_folder.specs.declared.fault.FolderFault.TheVariants as folders
 use Rattle.command_words.specs.declared.fault.UsageFault.{UsageFault}
+use Rattle.command_words.specs.declared.request.Mode.{Mode}
+use Rattle.command_words.specs.declared.request.Mode.TheVariants as modes
 use Rattle.command_words.specs.Requests.{Wanted, AsksFor, IsUsageFailure}
 use Rattle.property_file.specs.declared.property_failure.PropertyFault.{PropertyFault}
 use Rattle.property_file.specs.declared.property_failure.PropertyFault.TheVariants as properties
@@ -22,11 +24,14 @@ use Rattle.stub_file.specs.declared.stub_failure.StubFault.TheVariants as stub_f
 use Rattle.stub_file.specs.StubFile.{IsStubFile, IsStubRefusal}
 use Rattle.run_spec.specs.declared.status.Status.{Status}
 use Rattle.run_spec.specs.declared.status.Status.TheVariants as statuses
-use Rattle.run_spec.specs.Inputs.{Input}
+use Rattle.run_spec.specs.Inputs.{AsksForSample, Input, IsOfTree}
 use Rattle.run_spec.specs.Lines.{missing_line, refused_line, usage_line}
-use Rattle.run_spec.specs.Outcomes.{EndsWith, FolderOutcome, LinkOutcome, Outcome, PropertyOutcome, StubOutcome, unusable, usable, property_no_document, broken_property, has_property, no_stub_file, stubs_no_document, broken_stubs, no_stubs, has_stubs, refused_folder, has_classes}
+use Rattle.run_spec.specs.Outcomes.{EndsWith, FolderOutcome, LinkOutcome, Outcome, PropertyOutcome, StubOutcome, files_read, lines_written, unusable, usable, property_no_document, broken_property, has_property, no_stub_file, stubs_no_document, broken_stubs, no_stubs, has_stubs, refused_folder, has_classes}
+use Rattle.run_spec.proofs.OneRequest.{AsksFor-same, asked_or_wrong}
+use Rattle.run_spec.proofs.ReadFiles.{read_are, written_are}
 use Rattle.typestate_core.specs.declared.answer.Answer.{Answer}
-use Rattle.typestate_core.specs.Answers.{Says, lines_of}
+use Rattle.typestate_core.specs.Answers.{IsOnSample, Says, lines_of}
+use Rattle.typestate_core.specs.ReadingOrder.{LeavesTree}
 use Rattle.typestate_core.proofs.Options.{at_some, if_ok, if_some}
 use Rattle.typestate_core.proofs.Wholes.{whole_of, document_whole, property_whole, broken_whole, stubs_whole, broken_stubs_whole}
 
@@ -59,9 +64,46 @@ pub usage_told : {E : Type 0} (o : Option (List File)) (r : Result Answer E) (wo
 usage_told o r words failure fault is bad says =
     said o r statuses.Usage (usage_line fault) (Outcome words) says (λ files e s l ends. unusable fault (subst (IsUsageFailure words) is bad) ends)
 
-pub usable_told : {E : Type 0} (o : Option (List File)) (r : Result Answer E) (words : List (List ℕ)) (w : Wanted) → AsksFor words w
+on_tree : (words : List (List ℕ)) (w : Wanted) (files : List File) (s : Status) (l : List (List ℕ)) → IsOfTree w.mode → AsksFor words w → PropertyOutcome files w s l
+    → Outcome words files s l
+on_tree words w files s l plain asks outcome =
+    usable w l asks (subst (λ (fs : List File). PropertyOutcome fs w s l) (sym (read_are w.mode files plain)) outcome) (sym (written_are w.mode l plain))
+
+pub plain_mode : (mode : Mode) → (mode ≡ modes.Report) ⊎ (mode ≡ modes.Trace) → IsOfTree mode
+plain_mode mode (inl is) = subst IsOfTree (sym is) tt
+plain_mode mode (inr is) = subst IsOfTree (sym is) tt
+
+-- words that are of the tree ask for no sample, and leave no tree
+pub no_sample : (words : List (List ℕ)) (w : Wanted) → IsOfTree w.mode → AsksFor words w → AsksForSample words → ⊥
+no_sample words w plain asks (v, other, count, is) = subst IsOfTree (ap (λ (k : Wanted). k.mode) (AsksFor-same words w v asks other) ∙ is) plain
+
+pub not_left : (words : List (List ℕ)) (w : Wanted) → IsOfTree w.mode → AsksFor words w → LeavesTree words → ⊥
+not_left words w plain asks (inl misused) = misused w asks
+not_left words w plain asks (inr sample) = no_sample words w plain asks sample
+
+-- and words with a fault ask for none
+pub no_sample_asked : (words : List (List ℕ)) (failure : Failure UsageFault) (fault : UsageFault) → failure ≡ Cause fault → IsUsageFailure words failure
+    → AsksForSample words → ⊥
+no_sample_asked words failure fault is bad (w, asks, count, is_sample) = asked_or_wrong words w fault asks (subst (IsUsageFailure words) is bad)
+
+pub usable_told : {E : Type 0} (o : Option (List File)) (r : Result Answer E) (words : List (List ℕ)) (w : Wanted) → IsOfTree w.mode → AsksFor words w
     → Told o r (λ files s l. PropertyOutcome files w s l) → Told o r (Outcome words)
-usable_told o r words w asks told = goes_on o o r (λ files s l. PropertyOutcome files w s l) (Outcome words) refl told (λ files e s l outcome. usable w asks outcome)
+usable_told o r words w plain asks told =
+    goes_on o o r (λ files s l. PropertyOutcome files w s l) (Outcome words) refl told (λ files e s l outcome. on_tree words w files s l plain asks outcome)
+
+-- ---- the sample
+
+on_sample : (words : List (List ℕ)) (w : Wanted) (count : ℕ) (files : List File) (s : Status) (l : List (List ℕ)) → w.mode ≡ modes.Sample count → AsksFor words w
+    → IsOnSample w count s l → Outcome words files s l
+on_sample words w count files s l is asks told =
+    usable w told.0 asks (subst (λ (mode : Mode). PropertyOutcome (files_read mode files) w s told.0) (sym is) told.1)
+    (told.2 ∙ ap (λ (mode : Mode). lines_written mode told.0) (sym is))
+
+pub sample_told : {E : Type 0} (o : Option (List File)) (r : Result Answer E) (words : List (List ℕ)) (w : Wanted) (count : ℕ) → w.mode ≡ modes.Sample count
+    → AsksFor words w → IfOk r (λ a. IsOnSample w count a.status (lines_of a)) → Told o r (Outcome words)
+sample_told o r words w count is asks told =
+    if_ok r (λ (a : Answer). IsOnSample w count a.status (lines_of a)) (λ (a : Answer). IfSome o (λ files. Outcome words files a.status (lines_of a))) told
+    (λ a t. if_some o (λ files. Outcome words files a.status (lines_of a)) (λ files e. on_sample words w count files a.status (lines_of a) is asks t))
 
 -- ---- a file that was read up to a limit
 

@@ -13,6 +13,7 @@ pub mod ReadStubs
 pub mod Reported
 pub mod CallOrder
 pub mod Cutting
+pub mod LastLines
 pub mod TextLines
 pub mod Written
 pub mod Handing

@@ -5,7 +5,7 @@ use Rattle.jvm_model.specs.declared.number.MethodNo.{MethodNo}
 use Rattle.jvm_model.specs.Programs.{Program}
 use Rattle.machine_bytecode.specs.Objects.{Subject}
 use Rattle.ground.specs.Findings.{Findings}
-use Rattle.command_words.specs.Requests.{Wanted}
+use Rattle.command_words.specs.Requests.{Wanted, is_trace}
 use Rattle.report_analysis.specs.Analyses.{IsAnalysis}
 use Rattle.lowering_supply.specs.Supplied.{IsSupplied}
 use Rattle.report_spec.specs.Traces.{IsTracedReport}
@@ -20,14 +20,15 @@ abbrev run : Program → Automaton → ℕ → Subject
 run p a entry = record { program = p; property = a; entry = entry }
 
 pub reported_told : {E : Type 0} (r : Result Answer E) (w : Wanted) (a : Automaton) (p : Program) (entry : MethodNo) (limit : ℕ) (g : Findings)
-    → limit ≡ w.pair_limit → IsAnalysis p (IsSupplied p) entry limit g
-    → IfOk r (λ x. (all_safe : Bool) × IsTracedReport (run g.program a entry.0) (IsSupplied g.program) (Contains g.facts) (asked_by w) w.trace (lines_of x) all_safe
+    (trace : Bool) → limit ≡ w.pair_limit → trace ≡ is_trace w.mode → IsAnalysis p (IsSupplied p) entry limit g
+    → IfOk r (λ x. (all_safe : Bool) × IsTracedReport (run g.program a entry.0) (IsSupplied g.program) (Contains g.facts) (asked_by w) trace (lines_of x) all_safe
     × (x.status ≡ report_status all_safe))
     → IfOk r (λ x. OfInputs w a (λ i. AnalysisOutcome i p entry x.status (lines_of x)))
-reported_told (Err e) w a p entry limit g limit_is at_limit says = tt
-reported_told (Ok x) w a p entry limit g limit_is at_limit says = λ stubs classes.
+reported_told (Err e) w a p entry limit g trace limit_is trace_is at_limit says = tt
+reported_told (Ok x) w a p entry limit g trace limit_is trace_is at_limit says = λ stubs classes.
     let i : Input = record { wanted = w; property = a; stubs = stubs; classes = classes } in
     let analysis : IsAnalysis p (IsSupplied p) entry w.pair_limit g = subst (λ (n : ℕ). IsAnalysis p (IsSupplied p) entry n g) limit_is at_limit in
     let (all_safe, of_ground, status_is) = says in
-    let report = subst (λ (q : Program). IsTracedReport (run q a entry.0) (IsSupplied q) (Contains g.facts) (asked_of i) w.trace (lines_of x) all_safe) analysis.program of_ground in
+    let of_program = subst (λ (q : Program). IsTracedReport (run q a entry.0) (IsSupplied q) (Contains g.facts) (asked_of i) trace (lines_of x) all_safe) analysis.program of_ground in
+    let report = subst (λ (t : Bool). IsTracedReport (run p a entry.0) (IsSupplied p) (Contains g.facts) (asked_of i) t (lines_of x) all_safe) trace_is of_program in
     reported analysis.found g.facts all_safe analysis.solution (record { least = analysis.least; unrefused = analysis.unrefused }) report status_is

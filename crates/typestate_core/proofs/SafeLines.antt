@@ -5,6 +5,7 @@ use Rattle.ts_outside.specs.Files.{File}
 use Rattle.run_soundness.specs.Truth.{SaysSafe}
 use Rattle.run_spec.specs.declared.status.Status.{Status}
 use Rattle.run_spec.specs.declared.status.Status.TheVariants as statuses
+use Rattle.run_spec.specs.Inputs.{AsksForSample}
 use Rattle.run_spec.specs.Outcomes.{Outcome}
 use Rattle.run_soundness.specs.Claims.{KeepsProtocol, StandsIn, WroteLine}
 use Rattle.typestate_core.specs.Answers.{AnswersRun}
@@ -19,7 +20,9 @@ AreWritten Q =
     → StandsIn (text_of lines) line → SaysSafe line → Q words files line
 
 abbrev AreAllKept : Type 0
-AreAllKept = (words : List (List ℕ)) (files : List File) (lines : List (List ℕ)) → Outcome words files statuses.AllSafe lines → KeepsProtocol words files
+AreAllKept =
+    (words : List (List ℕ)) (files : List File) (lines : List (List ℕ)) → Outcome words files statuses.AllSafe lines → (AsksForSample words → ⊥)
+    → KeepsProtocol words files
 
 -- what the sink took is what it was given
 taken : (old new : Option (List ℕ)) (line bytes : List ℕ) (wrote : WroteLine old new line) → TakesAll old new bytes → bytes ≡ wrote.text
@@ -78,8 +81,8 @@ told_of_lines Q law None words status old new told = tt
 told_of_lines Q law (Some files) words status old new told = λ line wrote says. by_status Q law words files old new line wrote says status told
 
 pub all_safe_told : AreAllKept → (o : Option (List File)) (words : List (List ℕ)) (status : Status) (old new : Option (List ℕ))
-    → IfSome o (λ files. AnswersRun words files status old new) → IfSome o (λ files. status ≡ statuses.AllSafe → KeepsProtocol words files)
+    → IfSome o (λ files. AnswersRun words files status old new) → IfSome o (λ files. status ≡ statuses.AllSafe → (AsksForSample words → ⊥) → KeepsProtocol words files)
 all_safe_told law None words status old new told = tt
-all_safe_told law (Some files) words status old new told = λ is.
+all_safe_told law (Some files) words status old new told = λ is none.
     let safe = subst (λ (s : Status). AnswersRun words files s old new) is told in
-    law words files safe.0 safe.1
+    law words files safe.0 safe.1 none

@@ -8,13 +8,15 @@ use Rattle.failure.specs.declared.Failure.TheVariants.{Cause, OutOfMemory}
 use Rattle.jvm_model.specs.declared.automaton.Automaton.{Automaton}
 use Rattle.jvm_model.specs.declared.program.NamedClass.{NamedClass}
 use Rattle.jvm_model.specs.declared.stub.StubClass.{StubClass}
+use Rattle.class_maker.specs.Sample.{sample_files}
 use Rattle.command_words.specs.Requests.{Wanted}
 use Rattle.run_spec.specs.declared.status.Status.{Status}
 use Rattle.run_spec.specs.declared.status.Status.TheVariants.{AllSafe, SomeUnproved, Refused, RejectedCertificate, ReadFault, WriteFault, Usage, Memory}
 use Rattle.typestate_core.specs.declared.answer.Answer.{Answer}
 use Rattle.typestate_core.specs.declared.answer.ReadFault.{ReadFault as Unread}
 use Rattle.run_spec.specs.Inputs.{Input}
-use Rattle.run_spec.specs.Outcomes.{Outcome}
+use Rattle.run_spec.specs.Lines.{last_of}
+use Rattle.run_spec.specs.Outcomes.{Outcome, PropertyOutcome}
 use Rattle.report_analysis.specs.Texts.{text_of}
 use Rattle.typestate_core.specs.ReadingOrder.{is_report}
 use Rattle.typestate_core.specs.Output.{TakesAll, TakesFront, Hands, HandsInVain, lines_in}
@@ -27,6 +29,10 @@ lines_of a = lines_in a.text.items
 pub record Says (a : Answer) (status : Status) (lines : List (List ℕ)) : Type 0 where
   pub status_is : a.status ≡ status
   pub lines_are : lines_of a ≡ lines
+
+-- The answer is that on the files of the sample with so many methods, of which the last line is kept.
+abbrev pub IsOnSample : Wanted → (count : ℕ) → Status → List (List ℕ) → Type 0
+IsOnSample w count status lines = (all : List (List ℕ)) × PropertyOutcome (sample_files count) w status all × (lines ≡ last_of all)
 
 -- It holds of each input that is asked for this and has this property, whatever its stubs and its class files are.
 abbrev pub OfInputs : Wanted → Automaton → (Input → Type 0) → Type 0

@@ -1,7 +1,7 @@
 -- Public contracts rest on this module.
 -- The order in which a run asks its tree: the property file, the stub file if the words name one, the listing, and each class file. It stops where something
 -- is not given or is refused.
-use Rattle.std.specs.Prelude.{◌≡◌, ℕ, Bool, true, false, List, [], ◌∷◌, Option, Some, None, IfSome}
+use Rattle.std.specs.Prelude.{◌≡◌, ◌⊎◌, ℕ, Bool, true, false, List, [], ◌∷◌, Option, Some, None, IfSome}
 use Rattle.ts_outside.specs.Calls.{Called, Calls, Question, all_given, given, reading}
 use Rattle.ts_outside.specs.Files.{File, file_at}
 use Rattle.failure.specs.declared.Failure.{Failure}
@@ -13,6 +13,7 @@ use Rattle.command_words.specs.Requests.{Wanted, AsksFor}
 use Rattle.property_file.specs.PropertyFile.{IsPropertyFile}
 use Rattle.stub_file.specs.StubFile.{IsStubFile}
 use Rattle.run_spec.specs.declared.status.Status.{Status}
+use Rattle.run_spec.specs.Inputs.{AsksForSample}
 use Rattle.run_spec.specs.declared.status.Status.TheVariants.{AllSafe, SomeUnproved, Refused, RejectedCertificate, ReadFault, WriteFault, Usage, Memory}
 
 -- ---- the words
@@ -21,7 +22,11 @@ use Rattle.run_spec.specs.declared.status.Status.TheVariants.{AllSafe, SomeUnpro
 abbrev pub IsMisused : List (List ℕ) → Type 0
 IsMisused words = (w : Wanted) → AsksFor words w → ⊥
 
--- What is answered then, whatever the tree and the sink tell.
+-- They ask for nothing of a tree.
+abbrev pub LeavesTree : List (List ℕ) → Type 0
+LeavesTree words = IsMisused words ⊎ AsksForSample words
+
+-- What is answered where they ask for nothing at all, whatever the tree and the sink tell.
 abbrev pub IsUsageEnd : Status → Type 0
 IsUsageEnd AllSafe = ⊥
 IsUsageEnd SomeUnproved = ⊥
@@ -78,9 +83,10 @@ pub data PropertyCalls (files : Option (List File)) (w : Wanted) (reports : Bool
   property_read : (rest : List Called) → HasProperty files w.property → StubCalls files w reports rest → calls ≡ given (document_question w.property) ∷ rest
       → PropertyCalls files w reports calls
 
--- Of the whole run. There are none where the words ask for nothing, or memory ran out before.
+-- Of the whole run. There are none where the words ask for nothing, or for a sample, or memory ran out before.
 pub data RunCalls (words : List (List ℕ)) (files : Option (List File)) (reports : Bool) (calls : List Called) : Type 0 where
   no_calls : calls ≡ [] → reports ≡ false → RunCalls words files reports calls
+  of_sample : AsksForSample words → calls ≡ [] → RunCalls words files reports calls
   some_calls : (w : Wanted) → AsksFor words w → PropertyCalls files w reports calls → RunCalls words files reports calls
 
 -- A run asks its tree for what these calls ask for, and for nothing besides.

@@ -38,6 +38,7 @@ fn option_word(option: NumberOption) -> &'static str
         NumberOption::Depth => "--depth",
         NumberOption::FactLimit => "--fact-limit",
         NumberOption::PairLimit => "--pair-limit",
+        NumberOption::Sample => "--sample",
     }
 }
 
@@ -73,13 +74,14 @@ fn missing_line(alloc: Global, name: &[u8]) -> Result<Vec<u8>, AllocError>
     Ok(line)
 }
 
-/// The line `usage words`, or `usage range OPTION`.
+/// The line `usage words`, `usage modes` or `usage range OPTION`.
 fn usage_line(alloc: Global, fault: UsageFault) -> Result<Vec<u8>, AllocError>
     ensures { IfOk result (λ line. line.items ≡ usage_line fault) }
 {
     let mut line = Vec::new(alloc);
     match fault {
         UsageFault::Words => line.extend_from_slice(b"usage words")?,
+        UsageFault::Modes => line.extend_from_slice(b"usage modes")?,
         UsageFault::Range(option) => {
             line.extend_from_slice(b"usage range ")?;
             line.extend_from_slice(option_word(option).as_bytes())?;

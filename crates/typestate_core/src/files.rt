@@ -1,6 +1,6 @@
 //! From words and a tree of files to what they give: the request, the property, the stubs and the class files.
 
-ghost use Rattle.std.specs.Prelude.{◌≡◌, ◌≢◌, ◌≤◌, All, map, string_bytes, IfOk, IfSome, IsErrOf};
+ghost use Rattle.std.specs.Prelude.{◌≡◌, ◌≢◌, ◌≤◌, [], All, map, string_bytes, IfOk, IfSome, IsErrOf};
 ghost use Rattle.failure.specs.declared.Failure.TheVariants.{Cause};
 ghost use Rattle.jvm_model.specs.Automata.{IsAutomaton};
 ghost use Rattle.jvm_model.specs.StubRules.{IsSoundStub};
@@ -8,14 +8,16 @@ ghost use Rattle.ts_outside.specs.Counts.{Rose};
 ghost use Rattle.command_words.specs.Requests.{wanted_of};
 ghost use Rattle.typestate_core.specs.Answers.{IsReported, SaysUsage, lines_of, read_fault, reports};
 ghost use Rattle.typestate_core.specs.Numbers.{asked_by};
-ghost use Rattle.typestate_core.specs.ReadingOrder.{AsksInOrder, FolderCalls, IsMisused, PropertyCalls, RunCalls, StubCalls};
+ghost use Rattle.typestate_core.specs.ReadingOrder.{AsksInOrder, FolderCalls, IsMisused, LeavesTree, PropertyCalls, RunCalls, StubCalls};
 ghost use Rattle.report_analysis.specs.Stages.{AreInRange};
+ghost use Rattle.run_spec.specs.Inputs.{AsksForSample};
 ghost use Rattle.run_spec.specs.Outcomes.{FolderOutcome, Outcome, PropertyOutcome, StubOutcome};
 
 use crate::answer::{Answer, ReadFault, RunFailure, miss, misuse, refuse};
 use crate::program::judge_classes;
+use crate::sample::judge_sample;
 use class_folder::{FolderFault, read_classes};
-use command_words::{Request, read_words};
+use command_words::{Mode, Request, read_words};
 use failure::Failure;
 use jvm_model::{Automaton, Reason, StubClass};
 use property_file::{PropertyFault, read_property};
@@ -26,31 +28,35 @@ use ts_outside::{Tree, TreeFault};
 /// One more than the most bytes of a property file or a stub file.
 const DOCUMENT_BYTES: u32 = 1_048_577;
 
-/// Reads the words.
+/// Reads the words. Where they ask for a sample, the tree is left as it is.
 pub(crate) fn judge<T: Tree>(
     alloc: Global,
     words: &[String],
     tree: &mut T,
 ) -> Result<Answer, RunFailure>
     ensures told { IfOk result (λ a. IfSome (T.files tree.old) (λ files. Outcome (map string_bytes words.now) files a.status (lines_of a))) }
+    ensures sampled { AsksForSample (map string_bytes words.now) → IfOk result (λ a. Outcome (map string_bytes words.now) [] a.status (lines_of a)) }
     ensures reported { IfOk result (λ a. IsReported a.status) }
     ensures read_fault { IsErrOf result (Cause read_fault) → Rose (T.faults tree.old) (T.faults tree.new) }
     ensures no_fault { result ≢ Err (Cause read_fault) → T.faults tree.new ≡ T.faults tree.old }
     ensures same_files { T.files tree.new ≡ T.files tree.old }
     ensures never_falls { T.faults tree.old ≤ T.faults tree.new }
     ensures calls { AsksInOrder (T.called tree.old) (T.called tree.new) (RunCalls (map string_bytes words.now) (T.files tree.old) (reports result)) }
-    ensures unread { IsMisused (map string_bytes words.now) → tree.new ≡ tree.old }
+    ensures unread { LeavesTree (map string_bytes words.now) → tree.new ≡ tree.old }
     ensures misused { IsMisused (map string_bytes words.now) → SaysUsage result }
 {
     match read_words(alloc, words) {
-        Ok(request) => judge_request(alloc, &request, tree),
+        Ok(request) => match request.mode {
+            Mode::Report | Mode::Trace => judge_request(alloc, &request, tree),
+            Mode::Sample(count) => judge_sample(alloc, &request, count),
+        },
         Err(Failure::Cause(fault)) => misuse(alloc, fault),
         Err(Failure::OutOfMemory) => Err(Failure::OutOfMemory),
     }
 }
 
 /// Reads the property file.
-fn judge_request<T: Tree>(
+pub(crate) fn judge_request<T: Tree>(
     alloc: Global,
     request: &Request<'_>,
     tree: &mut T,

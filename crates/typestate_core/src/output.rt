@@ -27,7 +27,7 @@ fn write_line<S: Sink>(out: &mut S, line: &[u8]) -> Result<(), SinkFailure>
 }
 
 /// Where the first line of a text ends: after its newline, or with the text.
-fn line_end(text: &[u8]) -> usize
+pub(crate) fn line_end(text: &[u8]) -> usize
     requires { 0 < length text.now }
     ensures some { 0 < result }
     ensures within { result ≤ length text.now }

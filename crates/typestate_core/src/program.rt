@@ -7,7 +7,7 @@ ghost use Rattle.jvm_model.specs.declared.program.NamedClass.{NamedClass as Rule
 ghost use Rattle.jvm_model.specs.Soundness.{IsChecked};
 ghost use Rattle.program_model.specs.Numbers.{IsMethodNumber, IsClassNumber, name_at};
 ghost use Rattle.jvm_model.specs.StubRules.{IsSoundStub};
-ghost use Rattle.command_words.specs.Requests.{wanted_of};
+ghost use Rattle.command_words.specs.Requests.{is_trace, wanted_of};
 ghost use Rattle.report_analysis.specs.Analyses.{IsAnalysis};
 ghost use Rattle.report_analysis.specs.Stages.{AreInRange, asked_of, subject_of};
 ghost use Rattle.lowering_supply.specs.Supplied.{IsSupplied};
@@ -19,7 +19,7 @@ ghost use Rattle.typestate_core.specs.Numbers.{asked_by};
 ghost use Rattle.run_spec.specs.Outcomes.{AnalysisOutcome, ClassOutcome, EntryOutcome, LinkOutcome, report_status};
 
 use crate::answer::{Answer, RunFailure, refuse};
-use command_words::Request;
+use command_words::{Mode, Request};
 use entry_points::{find_entry, has_method_named};
 use failure::Failure;
 use ground::Ground;
@@ -144,10 +144,20 @@ fn judge_analysis(
                 stages: request.stages,
                 depth: request.depth,
                 fact_limit: request.fact_limit,
-                trace: request.trace,
+                trace: is_trace(request.mode),
             },
         ),
         Err(failure) => refuse_end(alloc, &failure),
+    }
+}
+
+/// Whether derivations are to be told.
+fn is_trace(mode: Mode) -> bool
+    ensures { result ≡ is_trace mode }
+{
+    match mode {
+        Mode::Trace => true,
+        Mode::Report | Mode::Sample(_) => false,
     }
 }
 

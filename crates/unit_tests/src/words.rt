@@ -1,7 +1,7 @@
 //! Words of runs.
 
 use crate::seen::see;
-use command_words::{NumberOption, Request, UsageFault, read_words};
+use command_words::{Mode, NumberOption, Request, UsageFault, read_words};
 use failure::Failure;
 use std::alloc::{AllocError, Global};
 use std::process::Abort;
@@ -27,7 +27,7 @@ fn look_at_request(rt: &impl Abort, request: &Request<'_>) {
     see(rt, [request.stages, request.depth], [3, 3]);
     let limits = [request.fact_limit, request.pair_limit];
     see(rt, limits, [1_000_000, 1]);
-    see(rt, request.trace, true);
+    see(rt, request.mode, Mode::Trace);
 }
 
 /// Words with each option.
@@ -90,5 +90,43 @@ fn refuses_a_depth(rt: HostRuntime) -> Result<(), AllocError> {
 fn refuses_a_fifth_stage(rt: HostRuntime) -> Result<(), AllocError> {
     let wrong = wrong_number(rt.alloc(), "--stages", "5")?;
     see(&rt, wrong, Some(NumberOption::Stages));
+    Ok(())
+}
+
+#[test]
+fn refuses_a_sample_of_nothing(rt: HostRuntime) -> Result<(), AllocError> {
+    let wrong = wrong_number(rt.alloc(), "--sample", "0")?;
+    see(&rt, wrong, Some(NumberOption::Sample));
+    Ok(())
+}
+
+/// Words that ask for a sample.
+static OF_SAMPLE: [&str; 7] = [
+    "--classes=folder",
+    "--property",
+    "sample.toml",
+    "--entry",
+    "Sample.main",
+    "--sample",
+    "200",
+];
+
+#[test]
+fn reads_a_sample(rt: HostRuntime) -> Result<(), Fail> {
+    let words = words_of(rt.alloc(), &OF_SAMPLE)?;
+    let request = read_words(rt.alloc(), &words)?;
+    see(&rt, request.mode, Mode::Sample(200));
+    Ok(())
+}
+
+#[test]
+fn refuses_two_modes(rt: HostRuntime) -> Result<(), AllocError> {
+    let mut words = words_of(rt.alloc(), &OF_SAMPLE)?;
+    words.push(String::from_str(rt.alloc(), "--trace")?)?;
+    let fault = match read_words(rt.alloc(), &words) {
+        Err(Failure::Cause(fault)) => Some(fault),
+        Ok(_) | Err(Failure::OutOfMemory) => None,
+    };
+    see(&rt, fault, Some(UsageFault::Modes));
     Ok(())
 }

@@ -1,115 +1,55 @@
-//! Which members of a class have the name and the descriptor of an earlier one (JVMS 4.5, 4.6). First the texts of the
-//! constant pool are numbered by their bytes, so that a long text is compared once for each entry that has it, however
-//! many members are named by it. Then members are told apart by the two numbers of their names and descriptors.
+//! Which members of a class have the name and the descriptor of an earlier one (JVMS 4.5, 4.6). Members are told apart
+//! by the two numbers of their names and descriptors.
 
-ghost use Rattle.std.specs.Prelude.{◌≡◌, ◌+◌, ◌<◌, ◌||◌, false, Some, IfOk, List, OnOk, ℕ, if◌then◌else◌, length, option_map, slice_get, take, unwrap_or};
-ghost use Rattle.std.specs.BTreeSet.{contains};
+ghost use Rattle.std.specs.Prelude.{◌≡◌, ◌||◌, ◌++◌, false, [], ◌∷◌, IfOk, List, OnOk};
+ghost use Rattle.std.specs.HashSet.{contains};
 ghost use Rattle.std.specs.Option.{option_map_or};
-ghost use Rattle.std.specs.Ordering.{is_eq};
-ghost use Rattle.std.specs.Str.{bytes_eq};
-ghost use Rattle.jvm_model.specs.Lookups.{text_in};
-ghost use Rattle.classfile_reader.specs.TextNumbers.{number_at, place_in, text_numbers, ArePlaces};
-ghost use Rattle.classfile_reader.specs.Repeats.{signature_cmp, signature_of, AreRepeats};
+ghost use Rattle.jvm_model.specs.declared.class_file.Member.{Member};
+ghost use Rattle.jvm_model.specs.declared.pool.PoolEntry.{PoolEntry};
+ghost use Rattle.classfile_reader.specs.TextNumbers.{AreNumbers, StayNumbered};
+ghost use Rattle.classfile_reader.specs.Repeats.{signature_eq, AreEarlier, AreRepeats, IsRepeat, IsSignature};
 
+use crate::soundness::text_numbers::TextNumbers;
 use jvm_model::class_file::Member;
 use jvm_model::pool::PoolEntry;
 use std::alloc::{AllocError, Global};
-use std::collections::{BTreeMap, BTreeSet};
-
-/// The bytes of an entry, if it is a text.
-fn text_in(entry: &PoolEntry) -> Option<&[u8]>
-    ensures { option_map (λ text. text.now) result ≡ text_in entry.now }
-{
-    match entry {
-        PoolEntry::Utf8(bytes) => Some(bytes.as_slice()),
-        _ => None,
-    }
-}
-
-/// The first place of a text, where one is known. Else it is the place given, which is known then.
-fn first_place<'pool>(
-    places: &mut BTreeMap<&'pool [u8], usize>,
-    text: &'pool [u8],
-    place: usize,
-) -> Result<usize, AllocError>
-    ensures first { IfOk result (λ first. first ≡ unwrap_or (place_in places.old text.now) place) }
-    ensures known { IfOk result (λ first. (other : List ℕ) → place_in places.new other ≡ (if bytes_eq text.now other then Some first else place_in places.old other)) }
-{
-    match places.get(text) {
-        Some(first) => Ok(*first),
-        None => {
-            places.insert(text, place)?;
-            Ok(place)
-        }
-    }
-}
-
-/// The number of the entry at a place of a pool, if it is a text: the first place of its bytes. The first places of the
-/// texts before it are known.
-fn number_entry<'pool>(
-    places: &mut BTreeMap<&'pool [u8], usize>,
-    pool: &'pool [PoolEntry],
-    place: usize,
-) -> Result<Option<usize>, AllocError>
-    requires within { place < length pool.now }
-    requires known { ArePlaces (take place pool.now) places.old }
-    ensures number { IfOk result (λ number. slice_get (text_numbers pool.now) place ≡ Some number) }
-    ensures known { OnOk result (ArePlaces (take (place + 1) pool.now) places.new) }
-{
-    match text_in(&pool[place]) {
-        Some(text) => {
-            let first = first_place(places, text, place)?;
-            Ok(Some(first))
-        }
-        None => Ok(None),
-    }
-}
-
-/// The number of each entry of a pool that is a text. Two texts have one number exactly where they have the same bytes.
-fn number_texts(alloc: Global, pool: &[PoolEntry]) -> Result<Vec<Option<usize>>, AllocError>
-    ensures { IfOk result (λ numbers. numbers.items ≡ text_numbers pool.now) }
-{
-    let mut places = BTreeMap::new(alloc);
-    let mut numbers = Vec::new(alloc);
-    for place in 0..pool.len() {
-        let number = number_entry(&mut places, pool, place)?;
-        numbers.push(number)?;
-    }
-    Ok(numbers)
-}
-
-/// The number of the text at an index of the pool.
-fn number_at(numbers: &[Option<usize>], index: u16) -> Option<usize>
-    ensures { result ≡ number_at numbers.now index }
-{
-    let place = index.checked_sub(1)?;
-    *numbers.get(usize::from(place))?
-}
+use std::collections::HashSet;
 
 /// The numbers of a name and a descriptor.
-#[derive(Clone, Copy, PartialEq, Eq, PartialOrd, Ord, Drop)]
+#[derive(Clone, Copy, PartialEq, Eq, Hash, Drop)]
 struct NumberedSignature {
-    name: usize,
-    descriptor: usize,
+    name: u16,
+    descriptor: u16,
 }
 
-/// The numbers of a member's name and descriptor.
-fn signature_of(numbers: &[Option<usize>], member: &Member) -> Option<NumberedSignature>
-    ensures { result ≡ signature_of numbers.now member.now }
+/// The numbers of a member's name and descriptor, if both are texts.
+fn signature_of<'pool>(
+    numbers: &mut TextNumbers<'pool>,
+    pool: &'pool [PoolEntry],
+    member: &Member,
+) -> Result<Option<NumberedSignature>, AllocError>
+    requires { AreNumbers pool.now numbers.old }
+    ensures signature { IfOk result (IsSignature pool.now numbers.new member.now) }
+    ensures known { OnOk result (AreNumbers pool.now numbers.new) }
+    ensures stay { OnOk result (StayNumbered numbers.old numbers.new) }
 {
-    let name = number_at(numbers, member.name)?;
-    let descriptor = number_at(numbers, member.descriptor)?;
-    Some(NumberedSignature { name, descriptor })
+    let Some(name) = numbers.number_at(pool, member.name)? else {
+        return Ok(None);
+    };
+    let Some(descriptor) = numbers.number_at(pool, member.descriptor)? else {
+        return Ok(None);
+    };
+    Ok(Some(NumberedSignature { name, descriptor }))
 }
 
 /// Whether a signature, if there is one, is among those that were seen, to which it is added.
 fn was_seen(
-    seen: &mut BTreeSet<NumberedSignature>,
+    seen: &mut HashSet<NumberedSignature>,
     signature: Option<NumberedSignature>,
 ) -> Result<bool, AllocError>
-    ensures before { IfOk result (λ was. was ≡ option_map_or (contains signature_cmp seen.old) signature false) }
-    ensures after { OnOk result ((other : NumberedSignature) → contains signature_cmp seen.new other
-        ≡ (contains signature_cmp seen.old other || option_map_or (λ s. is_eq (signature_cmp s other)) signature false)) }
+    ensures before { IfOk result (λ was. was ≡ option_map_or (contains signature_eq seen.old) signature false) }
+    ensures after { OnOk result ((other : NumberedSignature) → contains signature_eq seen.new other
+        ≡ (contains signature_eq seen.old other || option_map_or (λ s. signature_eq s other) signature false)) }
 {
     match signature {
         Some(signature) => {
@@ -120,7 +60,41 @@ fn was_seen(
     }
 }
 
-/// For each member, whether an earlier one has the same name and the same descriptor, as bytes.
+/// The members of a class up to one of them, by the numbers of their names and descriptors.
+#[derive(Drop)]
+struct EarlierMembers<'pool> {
+    numbers: TextNumbers<'pool>,
+    signatures: HashSet<NumberedSignature>,
+}
+
+impl<'pool> EarlierMembers<'pool> {
+    /// No member.
+    fn new(alloc: Global) -> Self
+        ensures numbers { (pool : List PoolEntry) → AreNumbers pool result.numbers }
+        ensures none { (pool : List PoolEntry) → AreEarlier pool [] result.numbers result.signatures }
+    {
+        EarlierMembers {
+            numbers: TextNumbers::new(alloc),
+            signatures: HashSet::new(alloc),
+        }
+    }
+
+    /// Adds the next member. Says whether one of those before it has the same name and the same descriptor, as bytes.
+    fn add(&mut self, pool: &'pool [PoolEntry], member: &Member) -> Result<bool, AllocError>
+        requires { AreNumbers pool.now self.old.numbers }
+        ensures numbers { OnOk result (AreNumbers pool.now self.new.numbers) }
+        ensures repeat { IfOk result (λ answer. (earlier : List Member) → AreEarlier pool.now earlier self.old.numbers self.old.signatures
+            → IsRepeat pool.now earlier member.now answer) }
+        ensures added { OnOk result ((earlier : List Member) → AreEarlier pool.now earlier self.old.numbers self.old.signatures
+            → AreEarlier pool.now (earlier ++ member.now ∷ []) self.new.numbers self.new.signatures) }
+    {
+        let signature = signature_of(&mut self.numbers, pool, member)?;
+        was_seen(&mut self.signatures, signature)
+    }
+}
+
+/// For each member, whether an earlier one has the same name and the same descriptor, as bytes. Nothing is read for fewer
+/// than two members.
 pub(crate) fn repeats(
     alloc: Global,
     pool: &[PoolEntry],
@@ -128,12 +102,13 @@ pub(crate) fn repeats(
 ) -> Result<Vec<bool>, AllocError>
     ensures { IfOk result (λ answers. AreRepeats pool.now members.now answers.items) }
 {
-    let numbers = number_texts(alloc, pool)?;
-    let mut seen = BTreeSet::new(alloc);
+    if members.len() < 2 {
+        return vec![in alloc; false; members.len()];
+    }
+    let mut earlier = EarlierMembers::new(alloc);
     let mut answers = Vec::new(alloc);
     for member in members {
-        let signature = signature_of(numbers.as_slice(), member);
-        let answer = was_seen(&mut seen, signature)?;
+        let answer = earlier.add(pool, member)?;
         answers.push(answer)?;
     }
     Ok(answers)

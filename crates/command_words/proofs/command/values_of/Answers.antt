@@ -24,4 +24,5 @@ returns-clause-values c =
       fact_limit = option_read words m are (codes "fact-limit") c.get_str-4.result c.get_str-4.ensures;
       pair_limit = option_read words m are (codes "pair-limit") c.get_str-5.result c.get_str-5.ensures;
       trace = option_read words m are (codes "trace") c.get_str-6.result c.get_str-6.ensures;
+      sample = option_read words m are (codes "sample") c.get_str-7.result c.get_str-7.ensures;
     }

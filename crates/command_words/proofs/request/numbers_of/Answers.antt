@@ -31,12 +31,25 @@ returns-in_err-pair_limit-clause-fault c =
       h.1,
     )
 
+pub returns-in_err-sample-clause-fault : goal.returns-in_err-sample-clause-fault
+returns-in_err-sample-clause-fault c =
+    let p = err_from_is_err_and c.from_residual-in_err-sample.result c.from_residual-in_err-sample.ensures.1 in
+    let h = c.in_err-sample.ensures.fault in
+    rw (p.1, p.2, h.0) (
+      (c.in_ok-stages.stages, c.in_ok-stages.ensures.found),
+      (c.in_ok-depth.depth, c.in_ok-depth.ensures.found),
+      (c.in_ok-fact_limit.fact_limit, c.in_ok-fact_limit.ensures.found),
+      (c.in_ok-pair_limit.pair_limit, c.in_ok-pair_limit.ensures.found),
+      h.1,
+    )
+
 pub returns-clause-found : goal.returns-clause-found
 returns-clause-found c = record {
   stages = c.in_ok-stages.ensures.found;
   depth = c.in_ok-depth.ensures.found;
   fact_limit = c.in_ok-fact_limit.ensures.found;
   pair_limit = c.in_ok-pair_limit.ensures.found;
+  sample = c.in_ok-sample.ensures.found;
 }
 
 pub overflow_cast-result : goal.overflow_cast-result

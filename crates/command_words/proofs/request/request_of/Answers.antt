@@ -1,4 +1,4 @@
-use Rattle.std.proofs.Common.{ℕ, List, refl, subst}
+use Rattle.std.proofs.Common.{◌∙◌, ℕ, List, refl, sym, subst}
 use Rattle.command_words.specs.Requests.{NamesMethod}
 use Rattle.command_words.proofs.Asking.{names_none, names_some}
 use Rattle.command_words.proofs.request.request_of.Goals as goal
@@ -10,7 +10,7 @@ pub returns-in-Err-clause-fault : goal.returns-in-Err-clause-fault
 returns-in-Err-clause-fault c =
     let word = c.as_bytes in
     let names = names_some c.args.values.start.now word.result.now c.in-Some.class.now c.in-Some.method.now word.ensures.value c.in-Some.ensures.found in
-    (names, c.in-Err.ensures.fault)
+    (names, sym c.are_two_modes.ensures ∙ c.if-are_two_modes.false, c.in-Err.ensures.fault)
 
 pub returns-clause-asks : goal.returns-clause-asks
 returns-clause-asks c =
@@ -23,5 +23,5 @@ returns-clause-asks c =
       depth = are.depth;
       fact_limit = are.fact_limit;
       pair_limit = are.pair_limit;
-      trace = c.is_set.ensures;
+      mode = c.mode_of.ensures;
     }

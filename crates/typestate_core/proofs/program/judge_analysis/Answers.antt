@@ -27,7 +27,7 @@ report_on-requires-clause-analysis c =
 pub returns-in-Ok-clause-told : goal.returns-in-Ok-clause-told
 returns-in-Ok-clause-told c =
     reported_told c.report_on.result (wanted_of c.args.request.now) c.args.automaton.now c.args.program.now c.args.entry c.from.result c.in-Ok.ground
-    c.from.ensures c.in-Ok.ensures.ground c.report_on.ensures.told
+    c.is_trace.result c.from.ensures c.is_trace.ensures c.in-Ok.ensures.ground c.report_on.ensures.told
 
 pub returns-in-Err-clause-told : goal.returns-in-Err-clause-told
 returns-in-Err-clause-told c =

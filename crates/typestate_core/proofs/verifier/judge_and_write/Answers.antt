@@ -1,4 +1,4 @@
-use Rattle.std.proofs.Common.{Global, map, string_bytes}
+use Rattle.std.proofs.Common.{Global, Some, [], map, string_bytes}
 use Rattle.typestate_core.specs.ReadingOrder.{is_report}
 use Rattle.typestate_core.proofs.CallOrder.{run_quiet}
 use Rattle.typestate_core.proofs.HandedRuns.{handed_told, vain_told}
@@ -29,3 +29,13 @@ pub returns-in-Ok-clause-calls : goal.returns-in-Ok-clause-calls
 returns-in-Ok-clause-calls g c =
     run_quiet (map (string_bytes {Z = Global}) c.args.words.now) (g.T.Tree.files c.args.tree.now) (g.T.Tree.called c.args.tree.now) (g.T.Tree.called c.judge.new.tree)
     (is_report c.in-Ok.field-0.status) c.in-Ok.ensures.calls
+
+pub returns-in-Ok-write_lines-clause-sampled : goal.returns-in-Ok-write_lines-clause-sampled
+returns-in-Ok-write_lines-clause-sampled g c = λ sample.
+    written_told (Some []) (map (string_bytes {Z = Global}) c.args.words.now) c.in-Ok.field-0 c.deref.result.now (g.S.Sink.taken c.args.out.now) (g.S.Sink.taken c.write_lines.new.out)
+    c.deref.ensures.value c.in-Ok.ensures.reported (c.in-Ok.ensures.sampled sample) c.in-Ok-write_lines.ensures.all
+
+pub returns-in-Ok-clause-sampled : goal.returns-in-Ok-clause-sampled
+returns-in-Ok-clause-sampled g c = λ sample.
+    front_told (Some []) (map (string_bytes {Z = Global}) c.args.words.now) c.in-Ok.field-0 c.deref.result.now (g.S.Sink.taken c.args.out.now) (g.S.Sink.taken c.write_lines.new.out)
+    c.deref.ensures.value (c.in-Ok.ensures.sampled sample) c.in-Err.ensures.front
