@@ -4,7 +4,7 @@
   compare_cases.py [--write] [NAME..]
 
 A case is a folder as cases/run reads it; NAME is its path from the top of the repository, and without names it is each
-case of the verifier whose file `stdout` is a report. Of those that differ, the lines are printed, `-` before those that
+case of the verifier whose file `stdout` is a report on its folder. Of those that differ, the lines are printed, `-` before those that
 the case has alone, and the status is 1. With `--write` the files `stdout` and `status` get what the second writing
 says, but in cases with --trace. Which derivation stands there is free, so the lines of edges are left out. Nothing
 here comes from the program."""
@@ -26,6 +26,8 @@ from plain_report import (DEFAULT_DEPTH, DEFAULT_FACT_LIMIT, LAST_STAGE, Asked, 
 
 # The option without a value: derivations stand below the lines of unproved sites, each line of an edge behind two spaces.
 TRACE = "--trace"
+# The option by which the program makes what it reports on, so that no case has its files.
+SAMPLE = "sample"
 # Too large for the plain rules. It asks for the first stage alone.
 LARGE = ["cases/a-hundred-thousand-pairs"]
 
@@ -59,9 +61,10 @@ def report_of_case(case: Path) -> Report:
 
 
 def has_report(case: Path) -> bool:
-    """Whether the verifier has to print a report of a case."""
-    return not (case / "command").is_file() and (case / "stdout").read_text(encoding="utf-8").startswith(
-        ("safe ", "unproved ", "limit ", "sites "))
+    """Whether the verifier has to print a report on the folder of a case."""
+    if (case / "command").is_file() or SAMPLE in options_of(RUN.lines_of(case / "words")):
+        return False
+    return (case / "stdout").read_text(encoding="utf-8").startswith(("safe ", "unproved ", "limit ", "sites "))
 
 
 def written(case: Path) -> Report:
