@@ -2,9 +2,13 @@
 files by their names; its entry is the static method `main` of `()V` in the class `Main`.
 """
 
+import pathlib
+import sys
 from collections.abc import Callable
 
-from class_maker import (
+sys.path.append(str(pathlib.Path(__file__).resolve().parent.parent / "tools"))
+
+from class_maker import (  # noqa: E402
     ALOAD_0, ASTORE_0, ATHROW, GETFIELD, GETSTATIC, GOTO, INVOKESTATIC, INVOKEVIRTUAL, OBJECT, POP, PUBLIC, PUTFIELD,
     PUTSTATIC, RETURN, STATIC, ClassMaker, u2,
 )

@@ -3,9 +3,13 @@ stage proves nothing, since the order of events matters; the later ones prove no
 so each stage looks at each site. A program is class files by their names, and its entry the static method `main` of `()V` in the class `Main`.
 """
 
+import pathlib
+import sys
 from collections.abc import Callable
 
-from class_maker import (
+sys.path.append(str(pathlib.Path(__file__).resolve().parent.parent / "tools"))
+
+from class_maker import (  # noqa: E402
     ALOAD_0, ALOAD_1, ASTORE_0, ASTORE_1, ATHROW, GETFIELD, GOTO, ICONST_0, IFEQ, IFNE, INVOKESTATIC, INVOKEVIRTUAL, POP, PUBLIC, PUTFIELD, RETURN,
     STATIC, TABLESWITCH, ClassMaker, u2, u4,
 )

@@ -23,6 +23,7 @@ KINDS: dict[str, str] = {
     "cached": "an object that the library gives may be one that it gave before",
     "held": "an object that the library gives may be closed or used by the library itself later",
     "exceptions": "a handler catches an exception of the library that the stub file does not list",
+    "machine": "the machine throws no error of its own, as StackOverflowError or OutOfMemoryError; a handler catches such errors",
     "supertype": "a class is used in place of one below it, and the base stubs do not have it above that one",
     "cast": "an object of one type of the library is none of another one that is neither above nor below it",
     "selection": "a call by an interface selects a private method, as in Java 8",
@@ -30,8 +31,12 @@ KINDS: dict[str, str] = {
     "static": "what a static field of the library holds is that of the start, and no place of the report",
     "native": "a native method of the program does what its description says",
     "values": "objects of the classes in tools/facts/value_classes that the library gives back are not followed",
+    "callers": "callers do no more than the entry public looks at",
+    "cut-out": "an instruction that the verifier refuses is cut out: it is taken to run no code of the program, to keep what it is given, and to give any object of its type",
 }
 MAKES_OBJECTS = "makes_objects"
+# The errors that the machine throws at any instruction (JVMS 6.3), and those above them but for what every handler of all exceptions names.
+ERRORS_OF_MACHINE = [f"java/lang/{name}" for name in ("StackOverflowError", "OutOfMemoryError", "InternalError", "UnknownError", "VirtualMachineError", "Error")]
 ANY = ("any", "java/lang/Throwable", "java/lang/Exception")
 # The first stage that asks for the order of events, and so for what code is reached after what.
 LATER = 2
@@ -85,7 +90,7 @@ class Finder:
 
     def all(self) -> list[Assumption]:
         """All of them, by kind, and then by place."""
-        found = dict.fromkeys(each for part in (self.of_calls, self.of_handlers, self.of_supertypes, self.of_natives, self.of_fields, self.of_enums, self.of_models, self.of_names, self.of_casts, self.of_private, self.of_values)
+        found = dict.fromkeys(each for part in (self.of_calls, self.of_handlers, self.of_machine, self.of_supertypes, self.of_natives, self.of_fields, self.of_enums, self.of_models, self.of_names, self.of_casts, self.of_private, self.of_values)
                               for each in part())
         return sorted(found, key=lambda each: (list(KINDS).index(each.kind), each.line))
 
@@ -404,6 +409,14 @@ class Finder:
                     stage = LATER if handler.catches in (*ANY, "java/lang/RuntimeException") else 1
                     yield Assumption("exceptions", java_name(name), self.where(method, handler.target), f"as from {lacking[name]}", stage=stage)
 
+    def of_machine(self) -> Iterator[Assumption]:
+        """Handlers of the program that name an error of the machine, which the analysis takes not to come."""
+        for method, body in self.reach.methods.items():
+            for handler in body.handlers() if method[0] not in self.program.models else ():
+                if handler.catches in ERRORS_OF_MACHINE:
+                    yield Assumption("machine", java_name(handler.catches), self.where(method, handler.target), "what runs behind it is not looked at as "
+                                     "what follows such an error")
+
     def lacking(self, name: str, stubs: dict[Method, list[str]]) -> str:
         """A method of the stub file that may throw an exception and does not list it, or an empty text."""
         for (owner, key), throws in stubs.items():
@@ -440,7 +453,8 @@ class Resting:
 
     def without_places(self) -> "Resting":
         """Those that bear on whether there is a place at all: the points-to analysis says so, which asks for no order."""
-        return Resting(*([each for each in some if each.stage < LATER] for some in (self.open, self.taken)))
+        opened, taken = ([each for each in some if each.stage < LATER] for some in (self.open, self.taken))
+        return Resting(opened, taken)
 
     def taken_for(self, place: Place) -> list[Assumption]:
         """Those that bear on a place and were taken over."""

@@ -9,7 +9,7 @@ from bodies import (ARRAY_STORE, CALLS, FIELDS, GETFIELD, CLASS_CONSTANT, INVOKE
                     Use, named_type, parameter_types, result_type)
 from closure import MADE
 from class_file import OBJECT, PRIVATE, BadClassFile, element_class, parse
-from facts import LIBRARY, VALUES, WORDS
+from facts import CALLERS, LIBRARY, VALUES, WORDS
 from library import Unusable
 from program import Program
 from refusals import FREE_OF_CLASS
@@ -28,24 +28,37 @@ CONTAINERS = ("java/lang/Iterable", "java/util/Map", "java/util/Iterator", "java
 
 @dataclass
 class Protocol:
-    """A property: its class, the names and descriptors of its events, its states by number, the error state, and the states to which an event
-    leads, one for each state."""
+    """A property: its class, the names and descriptors of its events, its states by number, the error state, the states to which an event
+    leads, one for each state, the state that an object begins in, and what the first comment of its file says."""
     class_name: str
     events: set[Key]
     states: list[str]
     error: str
     next: dict[Key, list[str]]
+    initial: str = ""
+    says: str = ""
 
 
 def read_protocol(path: str) -> Protocol:
     """The property of a property file."""
     try:
-        with open(path, "rb") as file:
-            table = tomllib.load(file)
+        with open(path, encoding="utf-8") as file:
+            text = file.read()
+        table = tomllib.loads(text)
         leads = {(each["name"], each["descriptor"]): each["next"] for each in table["event"]}
-        return Protocol(table["class"], set(leads), table["states"], table["error"], leads)
-    except (OSError, tomllib.TOMLDecodeError, KeyError, TypeError) as fault:
+        return Protocol(table["class"], set(leads), table["states"], table["error"], leads, table["initial"], first_comment(text))
+    except (OSError, UnicodeDecodeError, tomllib.TOMLDecodeError, KeyError, TypeError) as fault:
         raise Unusable(f"{path} is no property file ({fault}): name the one of the run") from fault
+
+
+def first_comment(text: str) -> str:
+    """The comment that a file begins with, as one line."""
+    lines = []
+    for line in text.splitlines():
+        if not line.startswith("#"):
+            break
+        lines.append(line.lstrip("# "))
+    return " ".join(lines)
 
 
 class Declared:
@@ -86,6 +99,8 @@ class Effects:
         self.overriding: dict[str, list[Key]] = {}
         self.opened: dict[tuple[str, str], list[Key]] = {}
         self.inherited: dict[tuple[str, ...], list[str]] = {}
+        self.known_calls: dict[tuple[str, Key, tuple[str, ...]], list[Method]] = {}
+        self.known_selections: dict[tuple[str, Key, tuple[str, ...]], list[str]] = {}
         self.storing = storing_models(self.program)
         own = [name for name in self.program.code if name not in self.program.models]
         tracked = [name for name in [protocol.class_name, *reach.made, *own] if self.is_tracked(name)]
@@ -131,9 +146,10 @@ class Effects:
         ways = [name, *self.program.supers(name)]
         keys = [self.declared.keys(each) for each in ways if each in self.program.stubs or each in self.program.models]
         own = dict.fromkeys(key for each in ways if each in self.program.code for key in self.program.keys(each))
-        if any(each is None for each in keys):
+        known = [each for each in keys if each is not None]
+        if len(known) < len(keys):
             return list(own)
-        return [key for key in own if any(key in each for each in keys)]
+        return [key for key in own if any(key in each for each in known)]
 
     def why(self, name: str, declaring: str, key: Key) -> str:
         """Why a call of a method on an object of a class matters, or an empty text."""
@@ -174,7 +190,7 @@ class Effects:
                 continue
             body = self.program.body(*method)
             if body is None:
-                if self.program.is_native(*method) and method[0] not in self.program.models:
+                if self.program.is_native(*method) and method[0] not in self.program.models and method[0] != CALLERS:
                     return "it is native", seen
                 continue
             if 186 in (opcode for _, opcode in body.instructions()):
@@ -260,9 +276,11 @@ class Effects:
 
     def selects(self, owner: str, key: Key, made: dict[str, None]) -> list[str]:
         """The classes whose method a call may select."""
-        names = [*self.reach.answering.get(key, ()), *made]
-        found = [each for name in dict.fromkeys(names) if self.program.is_below(name, owner) for each in self.program.selected(name, key)]
-        return list(dict.fromkeys(found))
+        if (owner, key, tuple(made)) not in self.known_selections:
+            names = [*self.reach.answering.get(key, ()), *made]
+            found = [each for name in dict.fromkeys(names) if self.program.is_below(name, owner) for each in self.program.selected(name, key)]
+            self.known_selections[owner, key, tuple(made)] = list(dict.fromkeys(found))
+        return self.known_selections[owner, key, tuple(made)]
 
     def of_library(self, body: Body, use: Use, owner: str, made: dict[str, None]) -> tuple[str, list[Method]]:
         """Why a call of a described method matters, or else the methods of the folder that it may call in turn."""
@@ -280,13 +298,19 @@ class Effects:
         if not is_model and not self.keeps_nothing(owner, key):
             if any(self.matters(kind) for kind in arguments(body, use, self.program, owner)):
                 return f"it gives an object to {java_name(owner)}.{use.name}", []
-        called = []
-        for below in [each for each in [*self.reach.made, *made] if each in self.program.code]:
-            for word in self.with_inherited(calls, below):
-                upper, _, name = word.partition(".")
-                keys = self.open_keys(below, upper) if self.program.is_below(below, upper) else []
-                called += [(each, key) for key in keys if not name or key[0] == name for each in self.program.selected(below, key) if each in self.program.code]
-        return "", list(dict.fromkeys(called + self.of_receiver(use, owner, made)))
+        return "", list(dict.fromkeys(self.called_back(owner, key, calls, tuple(made)) + self.of_receiver(use, owner, made)))
+
+    def called_back(self, owner: str, key: Key, calls: list[str], made: tuple[str, ...]) -> list[Method]:
+        """The methods of the folder that a described method, which may call these, may call on objects of classes that are made; looked for once."""
+        if (owner, key, made) not in self.known_calls:
+            found: list[Method] = []
+            for below in [each for each in [*self.reach.made, *made] if each in self.program.code]:
+                for word in self.with_inherited(calls, below):
+                    upper, _, name = word.partition(".")
+                    keys = self.open_keys(below, upper) if self.program.is_below(below, upper) else []
+                    found += [(each, own) for own in keys if not name or own[0] == name for each in self.program.selected(below, own) if each in self.program.code]
+            self.known_calls[owner, key, made] = list(dict.fromkeys(found))
+        return self.known_calls[owner, key, made]
 
     def is_reflective(self, owner: str, key: Key) -> bool:
         """Whether a described method may make objects of classes of the program, or is refused in code that runs as reflection or for threads."""

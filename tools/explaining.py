@@ -1,28 +1,31 @@
 """Puts a report of the verifier into words: each line with its source line, what the verdicts mean, and what safe places rest on."""
 
-import os
 import textwrap
-from dataclasses import dataclass
+from dataclasses import dataclass, field
 
 from advice import ADVICE, OTHERS
-from assumptions import KINDS, Assumption, Resting, RunWords, bears, program_of, read_assumed, resting_of
+from assumptions import KINDS, Assumption, Resting, RunWords, bears, is_assumed, program_of, read_assumed, resting_of
 from closure import MADE
 from facts import names_of
 from library import Unusable
 from model_places import stay_inside
 from program import Program
 from report import Ending, Place, read_report, status_of
-from sarif import Finding, Moment, document
+from roots import Roots
+from sarif import Finding, Moment, Run, document
 from source_lines import Sources
 from tracing import Tracing
 from words import java_method, java_name, qualified
 
 # The status where all places are safe, some of them if assumptions hold.
 RESTS = 67
+# How the native methods begin that stand for what was cut out of a program, and for what callers have; premises of their own speak of these.
+STAND_INS = ("typestate.Cut.", "typestate.Callers.")
 MEANING: dict[str, str] = {
     "safe": "safe: no order of the property's events that may happen to the objects made there leads to the error "
             "state, on any way through the code. This rests on what models, the base stubs and the stub file say of the "
-            "library, and on a program without errors of the machine itself, as for want of memory; README.md "
+            "library, and on a program without errors of the machine itself, as for want of memory: where a "
+            "StackOverflowError or an OutOfMemoryError is caught, or passes a finally block, what runs then may break the protocol, and the place is called safe all the same. README.md "
             "says under \"What is proved\" what is proved of the verifier.",
     "unproved": "unproved: nothing is said against the program. The analysis follows the objects made "
                 "there through calls, fields and exceptions, in the order of the code, and some way that "
@@ -57,16 +60,22 @@ def more(reason: str, named: str) -> str:
     return MORE.get(reason, "")
 
 
+def kinds_of(assumptions: list[Assumption]) -> str:
+    """How many of each kind there are."""
+    counts = {kind: sum(each.kind == kind for each in assumptions) for kind in KINDS}
+    return ", ".join(f"{kind} {count}" for kind, count in counts.items() if count)
+
+
 class Telling:
     """Puts lines of a report into words."""
 
-    def __init__(self, sources: Sources, below: str, resting: Resting):
-        self.sources, self.below, self.resting = sources, below, resting
+    def __init__(self, sources: Sources, roots: Roots, resting: Resting):
+        self.sources, self.roots, self.resting = sources, roots, resting
 
     def source(self, owner: str, key: tuple[str, str], offset: int) -> tuple[str, int]:
         """The source file, below the folder of the sources, and the line."""
         file, line = self.sources.at(owner, key, offset)
-        return (os.path.join(self.below, file) if file else ""), line
+        return self.roots.path(file), line
 
     def place(self, place: Place) -> Finding:
         """A place of a report."""
@@ -86,8 +95,7 @@ class Telling:
 
     def safe_if(self, place: Place, made: str, bearing: list[Assumption]) -> Finding:
         """A place that is safe if assumptions hold."""
-        counts = {kind: sum(each.kind == kind for each in bearing) for kind in KINDS}
-        told = ", ".join(f"{kind} {count}" for kind, count in counts.items() if count) or "they were not looked for"
+        told = kinds_of(bearing) or "they were not looked for"
         says = f"safe if what is assumed holds ({told}): then, by stage {place.stage}, {keeps(place, made)}"
         return self.at_place(place, "safe-if", says)
 
@@ -101,7 +109,9 @@ class Telling:
         key = (place.method, place.descriptor)
         method = java_method(place.class_name, *key)
         file, line = self.source(place.class_name, key, place.offset)
-        return Finding(rule, f"{says} (in {method}, offset {place.offset})", qualified(place.class_name, *key), file, line)
+        text = f"{says} (in {method}, offset {place.offset})"
+        rests = [each.line for each in self.resting.bearing(place)] if rule == "safe-if" else []
+        return Finding(rule, text, qualified(place.class_name, *key), file, line, class_file=f"{place.class_name}.class", rests=rests)
 
     def ending(self, ending: Ending) -> Finding:
         """A line that stands alone; only a refusal is a finding of a rule."""
@@ -119,7 +129,7 @@ class Telling:
         method = java_method(owner, *key)
         file, line = self.source(owner, key, offset)
         text = f"refused as {ending.reason}{at} (in {method}, offset {offset}). {advice}{more(ending.reason, named)}"
-        return Finding("refused", text, qualified(owner, *key), file, line)
+        return Finding("refused", text, qualified(owner, *key), file, line, class_file=ending.name)
 
 
 def counted(findings: list[Finding]) -> str:
@@ -185,14 +195,17 @@ def write_story(story: list[Moment]) -> None:
 @dataclass
 class Explaining:
     """What an explanation is made of: the folder, the words of the run, or None where they are not known, the file of assumptions that are taken
-    over, the path before source files, the file for SARIF, whether each assumption is listed, and whether unproved places get their stories."""
+    over, the folders of source files, the file for SARIF, whether each assumption is listed, whether unproved places get their stories, the premises of
+    the run, and the classes that stand for callers."""
     folder: str
     run: RunWords | None
     assume: str | None = None
-    sources: str = ""
+    roots: Roots = field(default_factory=Roots)
     sarif: str | None = None
     in_full: bool = False
     trace: bool = False
+    premises: list[Assumption] = field(default_factory=list)
+    callers: tuple[str, ...] = ()
 
 
 def look_for_assumptions(asked: Explaining, program: Program | None, places: list[Place]) -> Resting:
@@ -205,27 +218,61 @@ def look_for_assumptions(asked: Explaining, program: Program | None, places: lis
     return found if places else found.without_places()
 
 
-def explain(report: str, asked: Explaining) -> int:
-    """Explains a report, and gives the exit status."""
+@dataclass
+class Explained:
+    """A report in words: its findings, the places that they are of, what the safe ones rest on, the line that stands alone, if there is no report,
+    how many places in models are left out, the status, and the program, where the words of the run are known."""
+    findings: list[Finding]
+    places: list[Place]
+    resting: Resting
+    ending: Ending | None
+    inside: int
+    status: int
+    program: Program | None = None
+
+
+def explained(report: str, asked: Explaining) -> Explained:
+    """A report in words."""
     places, ending = read_report(report)
     if ending:
-        findings = [Telling(Sources(asked.folder), asked.sources, Resting([], [])).ending(ending)]
-        write_sarif(asked.sarif, findings, ending)
-        write_findings(findings)
-        return status_of(places, ending)
+        finding = Telling(Sources(asked.folder), asked.roots, Resting([], [])).ending(ending)
+        return Explained([finding], [], Resting([], []), ending, 0, status_of(places, ending))
     program = program_of(asked.folder, asked.run) if asked.run else None
-    shown = [place for place in places if not (program and stay_inside(place, program))]
-    resting = look_for_assumptions(asked, program, shown)
-    telling = Telling(Sources(asked.folder), asked.sources, resting)
+    shown = [place for place in places if not (program and is_left_out(place, program, asked.callers))]
+    resting = with_premises(look_for_assumptions(asked, program, shown), asked)
+    telling = Telling(Sources(asked.folder), asked.roots, resting)
     findings = [telling.place(place) for place in shown]
     if asked.trace and asked.run is not None and program is not None:
         add_stories(findings, shown, Tracing(program, asked.folder, asked.run, telling.source))
-    write_sarif(asked.sarif, findings, None)
-    write_findings(findings, asked.trace)
-    write_words(findings, shown, resting, asked.in_full)
-    if len(shown) < len(places):
-        print(f"\nLeft out: {len(places) - len(shown)} more in models of library classes, whose objects never leave the models.")
-    return status_with(resting, findings, status_of(shown, None))
+    status = status_with(resting, findings, status_of(shown, None))
+    return Explained(findings, shown, resting, None, len(places) - len(shown), status, program)
+
+
+def is_left_out(place: Place, program: Program, callers: tuple[str, ...]) -> bool:
+    """Whether a place is no matter of the program's: in a model that keeps its objects, or in a class that stands for callers."""
+    return place.class_name in callers or stay_inside(place, program)
+
+
+def with_premises(resting: Resting, asked: Explaining) -> Resting:
+    """What safe places rest on, with the premises of the run in place of the methods that stand for something. Nobody can take over that something was
+    cut out."""
+    taken = read_assumed(asked.assume) if asked.assume else set()
+    own = [each for each in asked.premises if each.kind != "cut-out" and is_assumed(each, taken)]
+    others = [each for each in resting.open if not each.about.startswith(STAND_INS)]
+    return Resting([each for each in asked.premises if each not in own] + others, own + resting.taken, resting.looked)
+
+
+def explain(report: str, asked: Explaining) -> int:
+    """Explains a report, and gives the exit status."""
+    found = explained(report, asked)
+    write_sarif(asked.sarif, found.findings, Run(found.findings[0].text if found.ending else ""))
+    write_findings(found.findings, asked.trace)
+    if found.ending:
+        return found.status
+    write_words(found.findings, found.places, found.resting, asked.in_full)
+    if found.inside:
+        print(f"\nLeft out: {found.inside} more in models of library classes, whose objects never leave the models.")
+    return found.status
 
 
 def add_stories(findings: list[Finding], places: list[Place], tracing: Tracing) -> None:
@@ -241,13 +288,12 @@ def status_with(resting: Resting, findings: list[Finding], status: int) -> int:
     return RESTS if status == 0 and bears else status
 
 
-def write_sarif(path: str | None, findings: list[Finding], ending: Ending | None) -> None:
+def write_sarif(path: str | None, findings: list[Finding], run: Run) -> None:
     """Writes the findings as SARIF, if a file is named."""
     if path is None:
         return
-    trouble = findings[0].text if ending else ""
     try:
         with open(path, "w", encoding="utf-8", errors="backslashreplace") as file:
-            file.write(document(findings, trouble))
+            file.write(document(findings, run))
     except OSError as fault:
         raise Unusable(f"{path} cannot be written ({fault.strerror}): name another file") from fault

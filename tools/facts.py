@@ -9,6 +9,8 @@ from collections.abc import Callable, Sequence
 
 # The class of what models are made of.
 LIBRARY = "library/Library"
+# The class whose methods stand for the callers of a library; its native ones do nothing, and give objects.
+CALLERS = "typestate/Callers"
 # The unchecked exceptions (JLS 11.1.1), and those errors of the machine and of linking that are no matter of the library's (README.md).
 UNCHECKED = ("java/lang/RuntimeException", "java/lang/Error")
 OF_THE_MACHINE = ("java/lang/VirtualMachineError", "java/lang/LinkageError", "java/lang/ThreadDeath")

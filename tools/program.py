@@ -49,6 +49,7 @@ class Program:
         self.models: set[str] = set()
         self.above: dict[str, list[str]] = {}
         self.own_keys: dict[str, dict[Key, bool]] = {}
+        self.selections: dict[tuple[str, Key], list[str]] = {}
         self.read_folder(folder)
         self.stubs = base_stubs()
         for path in stub_files:
@@ -169,7 +170,13 @@ class Program:
     def selected(self, name: str, key: Key) -> list[str]:
         """The classes whose method may run at a call on an object of a class: that of the first superclass which has one, and else
         those of the interfaces with a body. A private one counts, and what is found behind it too: Java 8 and later ones differ."""
-        hidden = []
+        if (name, key) not in self.selections:
+            self.selections[name, key] = self.look_for_selected(name, key)
+        return self.selections[name, key]
+
+    def look_for_selected(self, name: str, key: Key) -> list[str]:
+        """Looks for them."""
+        hidden: list[str] = []
         for each in self.superclasses(name):
             if self.keys(each).get(key) is False and not self.is_private(each, key):
                 return [each, *hidden]

@@ -25,7 +25,7 @@ class Names:
 
     def event(self, key: Key) -> str:
         """An event."""
-        return f"{key[0]}({java_types(key[1])})"
+        return spelled_event(key)
 
     def variable(self, flow: Flow, slot: int, offset: int) -> str:
         """A local variable, at an offset: by its name in the source, where the class file has it."""
@@ -47,3 +47,8 @@ class Names:
         """A static field."""
         owner, (name, _) = self.numbering.field(number)
         return f"{java_name(owner)}.{name}"
+
+
+def spelled_event(key: Key) -> str:
+    """An event: its name, with its parameters."""
+    return f"{key[0]}({java_types(key[1])})"

@@ -1,6 +1,6 @@
 -- The facts of a ground, and that they are the least.
-use Rattle.std.proofs.Common.{◌≡◌, ◌↔◌, List, [], ◌∷◌, ◌++◌, map, refl, sym, ap, subst, inl, inr}
-use Rattle.std.specs.List.{Contains}
+use Rattle.std.proofs.Common.{◌≡◌, ◌↔◌, List, [], ◌∷◌, ◌++◌, map, refl, sym, ◌∙◌, ap, subst, inl, inr}
+use Rattle.std.specs.List.{Contains, slice_get}
 use Rattle.std.proofs.lemmas.List.Elements.{All-contains, Contains-append_left, Contains-append_right, Contains-append_cases}
 use Rattle.jvm_model.specs.declared.number.FieldNo.{FieldNo}
 use Rattle.jvm_model.specs.declared.number.MethodNo.{MethodNo}
@@ -13,7 +13,7 @@ use Rattle.least_sets.proofs.Places.{place_of, contains_at, All-from_contains}
 use Rattle.op_model.specs.declared.lowered.LoweredMethod.{LoweredMethod}
 use Rattle.op_model.specs.declared.node.Node.{Node}
 use Rattle.points_to.specs.Solutions.{AreFactsOf}
-use Rattle.points_to_rules.specs.Facts.{Fact, may_hold, may_run, may_call, may_write}
+use Rattle.points_to_rules.specs.Facts.{Fact, Holder, may_hold, may_run, may_call, may_write}
 use Rattle.points_to_rules.specs.Rules.{IsNodeOf, node_of}
 use Rattle.points_to_rules.specs.Writes.{write, target_writes, initialiser_writes}
 use Rattle.points_to_numbers.specs.declared.item.Item.{Item}
@@ -22,7 +22,7 @@ use Rattle.call_graph.specs.declared.edges.Edge.{Edge}
 use Rattle.ground.specs.declared.lists.FieldWrite.{FieldWrite}
 use Rattle.ground.specs.declared.lists.Lists.{Lists}
 use Rattle.ground.specs.Findings.{Findings, gives_listed}
-use Rattle.ground.specs.Lists.{HasFacts, nodes_of}
+use Rattle.ground.specs.Lists.{HasFacts, holders_of, nodes_of}
 use Rattle.call_graph.specs.Closing.{AreClosed, MayWrite, by_itself, by_callee}
 use Rattle.call_graph.specs.Edges.{AreEdges, AreStores, IsNodeThere}
 use Rattle.call_graph.specs.Grounds.{GroundInstance, IsGround}
@@ -178,8 +178,9 @@ module _ (numbered : Numbered) (lists : Lists) (are : AreNumbered numbered lists
     least = record { closed = rule_closed; derivable = All-from_contains (IsDerivable Rule) all all_derivable }
 
     -- so are the facts that lists tell, in whatever order
-    pub is_ground : (g : Findings) → g.program ≡ p → g.methods ≡ listed → HasFacts lists g.facts → IsGround p found g
-    is_ground g program methods has = record {
+    pub is_ground : (g : Findings) → g.program ≡ p → g.methods ≡ listed → g.holders ≡ holders_of lists → HasFacts lists g.facts → IsGround p found g
+    is_ground g program methods holders has = record {
       program = program;
+      placed = λ h s held. let there = (has.holds h s).0 held in (there.0, ap (λ (hs : List Holder). slice_get hs there.0) holders ∙ there.2);
       least = subst (λ (ms : List LoweredMethod). IsLeast (GroundInstance p ms found) g.facts) (sym methods) (least_same Rule all g.facts (same_facts lists all g.facts has_facts has) least);
     }

@@ -11,3 +11,5 @@ pub mod ReadSites
 pub mod SetsTaken
 pub mod SolutionLists
 mod NumberedMethods
+mod RowSites
+mod QueueSets

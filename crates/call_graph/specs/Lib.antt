@@ -3,3 +3,4 @@ pub mod Sets
 pub mod Edges
 pub mod Closing
 pub mod Written
+pub mod Rows

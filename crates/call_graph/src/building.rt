@@ -9,6 +9,7 @@ ghost use Rattle.points_to_rules.specs.declared.running_method.RunningMethod.{Ru
 ghost use Rattle.points_to_rules.specs.Facts.{Fact, Holder};
 ghost use Rattle.points_to_rules.specs.Places.{IsHolderIn, holder_from};
 ghost use Rattle.points_to_rules.specs.WholeMethods.{IsWholeMethod};
+ghost use Rattle.points_to.specs.Queues.{items_of};
 ghost use Rattle.points_to.specs.Solutions.{AreFactsOf};
 ghost use Rattle.ground.specs.Lists.{HaveDifferentNumbers, nodes_of, number_of};
 ghost use Rattle.call_graph.specs.Grounds.{HaveTargets, IsGround};
@@ -36,12 +37,12 @@ pub fn ground_of(
     program: &Program,
     solution: Solution,
 ) -> Result<Ground<'_>, AllocError>
-    requires facts { (found : List Fact) × AreFactsOf solution.tables solution.items.items.keys found × HaveTargets program.now found }
+    requires facts { (found : List Fact) × AreFactsOf solution.tables (items_of solution.items) found × HaveTargets program.now found }
     requires methods { (m : RunningMethod) → Contains solution.methods.items m → IsWholeMethod program.now m.method.method.0 m.method }
     requires names { (m : RunningMethod) → Contains solution.methods.items m → AreNames m.method (name_table m.names) }
     requires apart { HaveDifferentNumbers solution.methods.items }
     ensures methods { IfOk result (λ g. g.methods ≡ map nodes_of solution.methods.items) }
-    ensures facts { IfOk result (λ g. (found : List Fact) → AreFactsOf solution.tables solution.items.items.keys found → IsGround program.now found g) }
+    ensures facts { IfOk result (λ g. (found : List Fact) → AreFactsOf solution.tables (items_of solution.items) found → IsGround program.now found g) }
 {
     solution.tables.apart();
     let found = found_in(alloc, program, &solution)?;
@@ -59,16 +60,16 @@ struct Found {
 
 /// The numbers of the methods, the sets and the sites of a solution, and the instance fields that each method may write.
 fn found_in(alloc: Global, program: &Program, solution: &Solution) -> Result<Found, AllocError>
-    requires facts { (found : List Fact) × AreFactsOf solution.now.tables solution.now.items.items.keys found }
+    requires facts { (found : List Fact) × AreFactsOf solution.now.tables (items_of solution.now.items) found }
     requires methods { (m : RunningMethod) → Contains solution.now.methods.items m → IsWholeMethod program.now m.method.method.0 m.method }
     requires apart { HaveDifferentNumbers solution.now.methods.items }
     ensures numbers { IfOk result (λ found. found.numbers.keys ≡ map number_of solution.now.methods.items) }
-    ensures sets { IfOk result (λ found. AreSetsOf solution.now.tables solution.now.items.items.keys found.sets) }
+    ensures sets { IfOk result (λ found. AreSetsOf solution.now.tables (items_of solution.now.items) found.sets) }
     ensures sites { IfOk result (λ found. found.sites.items ≡ solution.now.tables.sites) }
     ensures writes { IfOk result (λ found. AreWrites program.now (map nodes_of solution.now.methods.items) found.sets found.writes.keys) }
 {
     let numbers = numbers_of(alloc, &solution.methods)?;
-    let sets = sets_of(alloc, &solution.tables, solution.items.items.as_slice())?;
+    let sets = sets_of(alloc, &solution.tables, &solution.items)?;
     let sites = sites_of(alloc, &solution.tables)?;
     let writes = writes_of(alloc, program, &solution.methods, &sets)?;
     Ok(Found {

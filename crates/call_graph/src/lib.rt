@@ -7,6 +7,7 @@
 mod building;
 mod edges;
 mod numbers;
+mod rows;
 mod sets;
 mod sites;
 mod stores;

@@ -4,12 +4,15 @@ ghost use Rattle.std.specs.Prelude.{Contains, IfOk, OnOk};
 ghost use Rattle.points_to_constraints.specs.Items.{Item as RuleItem};
 ghost use Rattle.points_to_numbers.specs.declared.item.Item.{Item};
 ghost use Rattle.points_to_numbers.specs.Steps.{IsItemAt};
+ghost use Rattle.points_to.specs.Queues.{items_of};
 ghost use Rattle.call_graph.specs.Sets.{AddsTarget, AreSetsOf, TakesItem};
 
+use crate::rows::add_rows;
 use grouped_lists::Groups;
 use indexmap::IndexSet;
 use jvm_model::{MethodNo, SiteNo};
 use op_model::NodeRef;
+use points_to::Queue;
 use points_to_numbers::{Item, Tables};
 use std::alloc::{AllocError, Global};
 
@@ -22,8 +25,18 @@ pub(crate) struct Sets {
     pub(crate) targets: Groups<MethodNo>,
 }
 
+/// The sets of the items of a work list: those of its other items, with the sites of its rows.
+pub(crate) fn sets_of(alloc: Global, tables: &Tables, queue: &Queue) -> Result<Sets, AllocError>
+    requires { (item : Item) → Contains (items_of queue.now) item → (x : RuleItem) × IsItemAt tables.now item x }
+    ensures { IfOk result (AreSetsOf tables.now (items_of queue.now)) }
+{
+    let mut sets = others_of(alloc, tables, queue.others.as_slice())?;
+    add_rows(&mut sets.sites, &queue.rows.rows)?;
+    Ok(sets)
+}
+
 /// The sets of items.
-pub(crate) fn sets_of(alloc: Global, tables: &Tables, items: &[Item]) -> Result<Sets, AllocError>
+fn others_of(alloc: Global, tables: &Tables, items: &[Item]) -> Result<Sets, AllocError>
     requires { (item : Item) → Contains items.now item → (x : RuleItem) × IsItemAt tables.now item x }
     ensures { IfOk result (AreSetsOf tables.now items.now) }
 {

@@ -4,10 +4,10 @@
   compare_cases.py [--write] [NAME..]
 
 A case is a folder as cases/run reads it; NAME is its path from the top of the repository, and without names it is each
-case of the verifier whose file `stdout` is a report on its folder. Of those that differ, the lines are printed, `-` before those that
-the case has alone, and the status is 1. With `--write` the files `stdout` and `status` get what the second writing
-says, but in cases with --trace. Which derivation stands there is free, so the lines of edges are left out. Nothing
-here comes from the program."""
+case of the verifier whose file `stdout` is a report on its folder, or a certificate. Of those that differ, the lines are printed,
+`-` before those that the case has alone, and the status is 1. With `--write` the files `stdout` and `status` get what the second
+writing says, but in cases with --trace. Which derivation stands there is free, so the lines of edges below reports are left out.
+A certificate is compared whole. Nothing here comes from the program."""
 
 import difflib
 import sys
@@ -19,15 +19,19 @@ from types import ModuleType
 from typing import Iterator
 
 sys.dont_write_bytecode = True
+from plain_certificate import VERSION, certificate_of  # noqa: E402
 from plain_edges import Limits  # noqa: E402
 from plain_program import ROOT  # noqa: E402
 from plain_report import (DEFAULT_DEPTH, DEFAULT_FACT_LIMIT, LAST_STAGE, Asked, Report, Verdicts,  # noqa: E402
                           read_subject, report_of)
 
-# The option without a value: derivations stand below the lines of unproved sites, each line of an edge behind two spaces.
-TRACE = "--trace"
+# The options without a value. By the first, derivations stand below the lines of unproved sites, each line of an edge behind two
+# spaces; by the other, a certificate stands in place of the report.
+TRACE, CERTIFICATE = FLAGS = ("--trace", "--print-cert")
 # The option by which the program makes what it reports on, so that no case has its files.
 SAMPLE = "sample"
+# How reports and certificates begin.
+BEGINNINGS = ("safe ", "unproved ", "limit ", "sites ", VERSION)
 # Too large for the plain rules. It asks for the first stage alone.
 LARGE = ["cases/a-hundred-thousand-pairs"]
 
@@ -45,26 +49,33 @@ RUN = load_run()
 
 def options_of(words: list[str]) -> dict[str, str]:
     """The options of a run with their values, which stand behind a sign of equality or in the next word."""
-    joined = "\n".join(word for word in words if word != TRACE).replace("=", "\n").split("\n")
+    joined = "\n".join(word for word in words if word not in FLAGS).replace("=", "\n").split("\n")
     return {name.removeprefix("--"): value for name, value in zip(joined[::2], joined[1::2])}
 
 
+def told_of(verdicts: Verdicts, asked: Asked, words: list[str]) -> Report:
+    """What a run with these words tells: its report, or the certificate with the status of the report."""
+    report = report_of(verdicts, asked)
+    return report._replace(lines=certificate_of(verdicts, asked)) if CERTIFICATE in words else report
+
+
 def report_of_case(case: Path) -> Report:
-    """The report of a case, by the second writing."""
-    options = options_of(RUN.lines_of(case / "words"))
+    """The report or the certificate of a case, by the second writing."""
+    words = RUN.lines_of(case / "words")
+    options = options_of(words)
     numbers = [("stages", LAST_STAGE), ("depth", DEFAULT_DEPTH), ("fact-limit", DEFAULT_FACT_LIMIT)]
     stages, depth, fact_limit = (int(options.get(name, otherwise)) for name, otherwise in numbers)
     with tempfile.TemporaryDirectory() as place:
         RUN.tree_of(case, "folder", Path(place))
         subject = read_subject(Path(place) / "folder", options["property"], options["entry"], options.get("stubs"))
-        return report_of(Verdicts(subject), Asked(stages, Limits(depth, fact_limit)))
+        return told_of(Verdicts(subject), Asked(stages, Limits(depth, fact_limit)), words)
 
 
 def has_report(case: Path) -> bool:
-    """Whether the verifier has to print a report on the folder of a case."""
+    """Whether the verifier has to print a report on the folder of a case, or a certificate."""
     if (case / "command").is_file() or SAMPLE in options_of(RUN.lines_of(case / "words")):
         return False
-    return (case / "stdout").read_text(encoding="utf-8").startswith(("safe ", "unproved ", "limit ", "sites "))
+    return (case / "stdout").read_text(encoding="utf-8").startswith(BEGINNINGS)
 
 
 def written(case: Path) -> Report:

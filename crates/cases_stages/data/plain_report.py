@@ -152,14 +152,19 @@ def parsed(words: list[str]) -> argparse.Namespace:
     return command.parse_args(words)
 
 
+def asked_by(given: argparse.Namespace) -> Asked:
+    """What the words ask for."""
+    return Asked(given.stages, Limits(given.depth, given.fact_limit))
+
+
 def main(words: list[str]) -> None:
-    asked = parsed(words)
+    given = parsed(words)
     try:
-        subject = read_subject(Path(asked.folder), asked.property, asked.entry, asked.stubs)
+        subject = read_subject(Path(given.folder), given.property, given.entry, given.stubs)
     except Refused as refusal:
         print(refusal, file=sys.stderr)
         sys.exit(REFUSED)
-    report = report_of(Verdicts(subject), Asked(asked.stages, Limits(asked.depth, asked.fact_limit)))
+    report = report_of(Verdicts(subject), asked_by(given))
     print("\n".join(report.lines))
     sys.exit(report.status)
 

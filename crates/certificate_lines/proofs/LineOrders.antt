@@ -66,13 +66,13 @@ tuple_total = then_total (on_total (λ (t : Tuple). t.unique) bool_cmp_total) (t
     (then_total (on_total (λ (t : Tuple). t.may) bool_cmp_total)
     (then_total (on_total (λ (t : Tuple). t.must) (lists_total path_total)) (on_total (λ (t : Tuple). t.must_not) (lists_total path_total)))))
 
-fact_total : IsTotalOrder fact_cmp
+pub fact_total : IsTotalOrder fact_cmp
 fact_total = then_total (on_total fact_rank nat_cmp_total) (on_total tuple_in (options_total tuple_total))
 
 spot_total : IsTotalOrder spot_cmp
 spot_total = then_total (on_total spot_rank nat_cmp_total) (on_total spot_offset nat_cmp_total)
 
-edge_total : IsTotalOrder edge_cmp
+pub edge_total : IsTotalOrder edge_cmp
 edge_total = then_total (on_total (λ (e : Edge). method_rank e.method) nat_cmp_total) (then_total (on_total (λ (e : Edge). e.entry) fact_total)
     (then_total (on_total (λ (e : Edge). e.spot) spot_total) (on_total (λ (e : Edge). e.fact) fact_total)))
 
@@ -100,7 +100,7 @@ line_total = on_total line_key line_key_total
 abbrev pub IsExact : {X : Type 0} → (X → X → Ordering) → Type 0
 IsExact {X} R = (x y : X) → R x y ≡ Equal → x ≡ y
 
-both : (o r : Ordering) → ordering_then o r ≡ Equal → (o ≡ Equal) × (r ≡ Equal)
+pub both : (o r : Ordering) → ordering_then o r ≡ Equal → (o ≡ Equal) × (r ≡ Equal)
 both Less r e = absurd (cc e)
 both Equal r e = (refl, e)
 both Greater r e = absurd (cc e)
@@ -143,7 +143,7 @@ kind_again kinds.New = refl
 kind_again kinds.Result = refl
 kind_again kinds.Thrown = refl
 
-method_exact : (m n : Option MethodNo) → method_rank m ≡ method_rank n → m ≡ n
+pub method_exact : (m n : Option MethodNo) → method_rank m ≡ method_rank n → m ≡ n
 method_exact None None e = refl
 method_exact None (Some n) e = absurd (omega (arith, e))
 method_exact (Some m) None e = absurd (omega (arith, e))
@@ -182,7 +182,7 @@ fact_again none_yet = refl
 fact_again some_yet = refl
 fact_again (of_object t) = refl
 
-fact_exact : IsExact fact_cmp
+pub fact_exact : IsExact fact_cmp
 fact_exact f g e =
     let p = both (nat_cmp (fact_rank f) (fact_rank g)) (option_cmp tuple_cmp (tuple_in f) (tuple_in g)) e in
     let rank = exact_unsigned (fact_rank f) (fact_rank g) p.0 in
@@ -204,7 +204,7 @@ spot_exact s t e =
     let offset = exact_unsigned (spot_offset s) (spot_offset t) p.1 in
     sym (spot_again s) ∙ (λ i. spot_from (rank i) (offset i)) ∙ spot_again t
 
-edge_exact : IsExact edge_cmp
+pub edge_exact : IsExact edge_cmp
 edge_exact e f h =
     let p = both (nat_cmp (method_rank e.method) (method_rank f.method)) _ h in
     let q = both (fact_cmp e.entry f.entry) _ p.1 in

@@ -44,7 +44,7 @@ fn compare_edges(one: &ListedEdge, other: &ListedEdge) -> Ordering
 }
 
 /// Nodes by their offsets, then the return, then the throw.
-fn compare_spots(one: Spot, other: Spot) -> Ordering
+pub fn compare_spots(one: Spot, other: Spot) -> Ordering
     ensures { result ≡ spot_cmp one other }
 {
     let by_rank = spot_rank(one).cmp(&spot_rank(other));
@@ -71,8 +71,8 @@ fn spot_offset(spot: Spot) -> u32
     }
 }
 
-/// No object, then some object, then what is known of one.
-fn compare_facts(one: &PlainFact, other: &PlainFact) -> Ordering
+/// No object, then some object, then what is known of one. It takes no memory.
+pub fn compare_facts(one: &PlainFact, other: &PlainFact) -> Ordering
     ensures { result ≡ fact_cmp (fact_of one.now) (fact_of other.now) }
 {
     let PlainFact::OfObject(tuple) = one else {

@@ -37,7 +37,7 @@ pub(crate) fn compare_optional_sites(one: Option<&Site>, other: Option<&Site>) -
 }
 
 /// The start of the program comes before its methods, and these by their numbers.
-pub(crate) fn compare_methods(one: Option<MethodNo>, other: Option<MethodNo>) -> Ordering
+pub fn compare_methods(one: Option<MethodNo>, other: Option<MethodNo>) -> Ordering
     ensures { result ≡ nat_cmp (method_rank one) (method_rank other) }
 {
     method_rank(one).cmp(&method_rank(other))

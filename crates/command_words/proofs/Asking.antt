@@ -1,5 +1,5 @@
 -- What the values of options ask for is what the words ask for, and what is wrong with the values is wrong with the words.
-use Rattle.std.proofs.Common.{codes, ◌≡◌, ◌∙◌, ℕ, Bool, true, false, List, Option, Some, sym, ap, ap₂, subst}
+use Rattle.std.proofs.Common.{codes, ◌≡◌, ◌∙◌, ℕ, Bool, true, false, List, Option, Some, sym, ap, subst}
 use Rattle.std.proofs.lemmas.Option.{same_Some}
 use Rattle.failure.specs.declared.Failure.{Failure}
 use Rattle.failure.specs.declared.Failure.TheVariants.{Cause, OutOfMemory}
@@ -10,7 +10,7 @@ use Rattle.command_words.specs.declared.fault.UsageFault.TheVariants.{Words, Mod
 use Rattle.command_words.specs.Command.{option_in}
 use Rattle.command_words.specs.GivenValues.{Given, Gives, HasBy, LacksBy, NamesSome, Ask, IsFirstWithout, IsWrongWith}
 use Rattle.command_words.specs.Options.{IsFormFailure}
-use Rattle.command_words.specs.Requests.{NamesMethod, IsCommand, NumberRule, IsFirstLacking, IsModeBy, IsNumberBy, IsNumberIn, HasNumber, LacksNumber, NamesEntry, AsksFor, Wanted, IsUsageFault, IsUsageFailure, are_two_modes, have_two_modes, stages_rule, depth_rule, fact_limit_rule, pair_limit_rule, sample_rule}
+use Rattle.command_words.specs.Requests.{NamesMethod, IsCommand, NumberRule, IsFirstLacking, IsModeBy, IsNumberBy, IsNumberIn, ModeOptions, HasNumber, LacksNumber, NamesEntry, AsksFor, Wanted, IsUsageFault, IsUsageFailure, are_two_modes, have_two_modes, mode_options, stages_rule, depth_rule, fact_limit_rule, pair_limit_rule, sample_rule}
 
 -- the number of a value is that of the option in words that give the value
 module _ (words : List (List ℕ)) (r : NumberRule) (value : Option (List ℕ)) (is : option_in words r.name ≡ value) where
@@ -35,13 +35,11 @@ module _ (words : List (List ℕ)) (g : Given) (gives : Gives words g) where
       let same : is.entry ≡ g.start = same_Some is.entry g.start (sym is.given ∙ gives.start) in
       none (class, method, subst (λ (word : List ℕ). NamesMethod word class method) same is.names)
 
-  mode_in : (w : Wanted) → IsModeBy g.trace g.sample w.mode → IsModeBy (option_in words (codes "trace")) (option_in words (codes "sample")) w.mode
-  mode_in w h =
-      subst (λ (t : Option (List ℕ)). IsModeBy t (option_in words (codes "sample")) w.mode) (sym gives.trace)
-      (subst (λ (v : Option (List ℕ)). IsModeBy g.trace v w.mode) (sym gives.sample) h)
+  mode_in : (w : Wanted) → IsModeBy g.modes w.mode → IsModeBy (mode_options words) w.mode
+  mode_in w h = subst (λ (o : ModeOptions). IsModeBy o w.mode) (sym gives.modes) h
 
-  two_modes : (b : Bool) → are_two_modes g.trace g.sample ≡ b → have_two_modes words ≡ b
-  two_modes b h = ap₂ are_two_modes gives.trace gives.sample ∙ h
+  two_modes : (b : Bool) → are_two_modes g.modes ≡ b → have_two_modes words ≡ b
+  two_modes b h = ap are_two_modes gives.modes ∙ h
 
   pub asked_for : (w : Wanted) → Ask g w → AsksFor words w
   asked_for w a = record {
@@ -74,7 +72,7 @@ module _ (words : List (List ℕ)) (g : Given) (gives : Gives words g) where
     has_in words depth_rule g.depth gives.depth first.1,
     has_in words fact_limit_rule g.fact_limit gives.fact_limit first.2,
     has_in words pair_limit_rule g.pair_limit gives.pair_limit first.3,
-    lacks_in words sample_rule g.sample gives.sample first.4,
+    lacks_in words sample_rule g.modes.sample (ap (λ (o : ModeOptions). o.sample) gives.modes) first.4,
   )
 
   pub wrong_with : (fault : UsageFault) → IsWrongWith g fault → IsUsageFault words fault

@@ -1,5 +1,5 @@
 -- The parser of the command of a run: what its matches and its errors say of the words.
-use Rattle.std.proofs.Common.{codes, ◌≡◌, ◌∙◌, ℕ, true, List, [], ◌∷◌, map, fold, Option, Some, Result, Ok, Err, option_map, slice_get, is_some, refl, sym, ap, subst, inl, inr}
+use Rattle.std.proofs.Common.{codes, ◌≡◌, ◌∙◌, ℕ, true, List, [], ◌∷◌, map, fold, Option, Some, Result, Ok, Err, option_map, slice_get, is_some, refl, sym, ap, ap₂, subst, inl, inr}
 use Rattle.std.specs.Borrow.{Bor}
 use Rattle.std.specs.List.{list_all, slice_index_or}
 use Rattle.std.proofs.lemmas.Result.{MatchResult-at_err, MatchResult-at_ok}
@@ -16,6 +16,7 @@ use Rattle.clap.specs.declared.error.Error.{Error}
 use Rattle.clap.specs.declared.parser.matches.ArgMatches.{ArgMatches}
 use Rattle.clap.proofs.CallerLemmas.{required_in_chain}
 use Rattle.clap.proofs.WalkLemmas.{first_value-rows}
+use Rattle.command_words.specs.Requests.{ModeOptions}
 use Rattle.failure.specs.declared.Failure.{Failure}
 use Rattle.failure.specs.declared.Failure.TheVariants.{Cause, OutOfMemory}
 use Rattle.command_words.specs.declared.fault.UsageFault.{UsageFault}
@@ -98,3 +99,19 @@ module _ (words : List (List ℕ)) (m : ArgMatches) (are : AreMatches words m) (
   -- one that is there
   pub value_read : (v : Bor Text) → o ≡ Some v → option_in words name ≡ Some v.now
   value_read v is = option_read ∙ ap (option_map (λ (s : Bor Text). s.now)) is
+
+-- values of the options of modes that are the same
+abbrev options_of : (trace certificate sample : Option (List ℕ)) → ModeOptions
+options_of t c s = record { trace = t; certificate = c; sample = s }
+
+pub same_modes : (trace certificate sample t c s : Option (List ℕ)) → trace ≡ t → certificate ≡ c → sample ≡ s → options_of trace certificate sample ≡ options_of t c s
+same_modes trace certificate sample t c s p q r = ap₂ (λ x y. options_of x y sample) p q ∙ ap (λ z. options_of t c z) r
+
+-- arguments with their rules, one by one
+pub data HaveRules : List Arg → List Rule → Type 0 where
+  none : HaveRules [] []
+  more : (arg : Arg) (rule : Rule) (args : List Arg) (rules : List Rule) → rule_of arg ≡ rule → HaveRules args rules → HaveRules (arg ∷ args) (rule ∷ rules)
+
+pub rules_are : {args : List Arg} {rules : List Rule} → HaveRules args rules → map rule_of args ≡ rules
+rules_are none = refl
+rules_are (more arg rule args rules one others) = ap₂ (λ x xs. x ∷ xs) one (rules_are others)

@@ -21,7 +21,7 @@ flag_named name = record (new_rule name) { long = Some name; action = Some SetTr
 abbrev pub options : List Rule
 options = required_option (codes "classes") ∷ required_option (codes "property") ∷ required_option (codes "entry") ∷ option_named (codes "stubs")
     ∷ option_named (codes "stages") ∷ option_named (codes "depth") ∷ option_named (codes "fact-limit") ∷ option_named (codes "pair-limit")
-    ∷ flag_named (codes "trace") ∷ option_named (codes "sample") ∷ []
+    ∷ flag_named (codes "trace") ∷ flag_named (codes "print-cert") ∷ option_named (codes "sample") ∷ []
 
 -- The command, which has these options and nothing else, and whose words do not begin with its own name.
 abbrev pub run_command : App

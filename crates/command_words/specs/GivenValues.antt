@@ -1,6 +1,7 @@
 -- This crate's own proofs alone rest on this module.
 -- The values that words give to the options, what these ask for, and what is wrong with them.
 use Rattle.std.specs.Prelude.{codes, ◌≡◌, ℕ, true, false, List, Option, Some, option_map}
+use Rattle.command_words.specs.declared.command.ModeValues.{ModeValues}
 use Rattle.command_words.specs.declared.command.OptionValues.{OptionValues}
 use Rattle.command_words.specs.declared.fault.NumberOption.{NumberOption}
 use Rattle.command_words.specs.declared.fault.NumberOption.TheVariants.{Stages, Depth, FactLimit, PairLimit, Sample}
@@ -9,7 +10,7 @@ use Rattle.command_words.specs.declared.fault.UsageFault.TheVariants.{Words, Mod
 use Rattle.command_words.specs.declared.request.Mode.{Mode}
 use Rattle.command_words.specs.declared.request.Numbers.{Numbers}
 use Rattle.command_words.specs.Command.{HasForm, option_in}
-use Rattle.command_words.specs.Requests.{NamesMethod, NumberRule, IsModeBy, IsNumberBy, Wanted, are_two_modes, stages_rule, depth_rule, fact_limit_rule, pair_limit_rule, sample_rule}
+use Rattle.command_words.specs.Requests.{NamesMethod, NumberRule, IsModeBy, IsNumberBy, ModeOptions, Wanted, are_two_modes, mode_options, stages_rule, depth_rule, fact_limit_rule, pair_limit_rule, sample_rule}
 
 -- The values: those of the property file and of the entry, and the others where they are given.
 pub record Given : Type 0 where
@@ -20,8 +21,11 @@ pub record Given : Type 0 where
   pub depth : Option (List ℕ)
   pub fact_limit : Option (List ℕ)
   pub pair_limit : Option (List ℕ)
-  pub trace : Option (List ℕ)
-  pub sample : Option (List ℕ)
+  pub modes : ModeOptions
+
+-- The values that the options of modes have.
+abbrev pub modes_of : ModeValues → ModeOptions
+modes_of v = record { trace = option_map (λ s. s.now) v.trace; certificate = option_map (λ s. s.now) v.certificate; sample = option_map (λ s. s.now) v.sample }
 
 -- The values that the options have.
 abbrev pub given_of : OptionValues → Given
@@ -33,8 +37,7 @@ given_of v = record {
   depth = option_map (λ s. s.now) v.depth;
   fact_limit = option_map (λ s. s.now) v.fact_limit;
   pair_limit = option_map (λ s. s.now) v.pair_limit;
-  trace = option_map (λ s. s.now) v.trace;
-  sample = option_map (λ s. s.now) v.sample;
+  modes = modes_of v.modes;
 }
 
 -- The words are of the command's form, and give these values.
@@ -47,8 +50,7 @@ pub record Gives (words : List (List ℕ)) (g : Given) : Type 0 where
   pub depth : option_in words (codes "depth") ≡ g.depth
   pub fact_limit : option_in words (codes "fact-limit") ≡ g.fact_limit
   pub pair_limit : option_in words (codes "pair-limit") ≡ g.pair_limit
-  pub trace : option_in words (codes "trace") ≡ g.trace
-  pub sample : option_in words (codes "sample") ≡ g.sample
+  pub modes : mode_options words ≡ g.modes
 
 -- ---- numbers
 
@@ -74,7 +76,7 @@ pub record AreNumbers (g : Given) (n : Numbers) : Type 0 where
   pub depth : IsNumberBy depth_rule g.depth n.depth
   pub fact_limit : IsNumberBy fact_limit_rule g.fact_limit n.fact_limit
   pub pair_limit : IsNumberBy pair_limit_rule g.pair_limit n.pair_limit
-  pub sample : IsNumberBy sample_rule g.sample n.sample
+  pub sample : IsNumberBy sample_rule g.modes.sample n.sample
 
 -- The option is the first of which the value has no number.
 abbrev pub IsFirstWithout : Given → NumberOption → Type 0
@@ -85,11 +87,11 @@ IsFirstWithout g PairLimit =
     HasBy stages_rule g.stages × HasBy depth_rule g.depth × HasBy fact_limit_rule g.fact_limit × LacksBy pair_limit_rule g.pair_limit
 IsFirstWithout g Sample =
     HasBy stages_rule g.stages × HasBy depth_rule g.depth × HasBy fact_limit_rule g.fact_limit × HasBy pair_limit_rule g.pair_limit
-    × LacksBy sample_rule g.sample
+    × LacksBy sample_rule g.modes.sample
 
 -- What is to be told, by the values of the options of modes.
 abbrev pub IsModeOf : Given → Mode → Type 0
-IsModeOf g mode = IsModeBy g.trace g.sample mode
+IsModeOf g mode = IsModeBy g.modes mode
 
 -- ---- the whole
 
@@ -111,5 +113,5 @@ NamesSome word = (class : List ℕ) × (method : List ℕ) × NamesMethod word c
 -- What is wrong with values: the entry names nothing; or two modes are asked for; or an option has no number.
 abbrev pub IsWrongWith : Given → UsageFault → Type 0
 IsWrongWith g Words = NamesSome g.start → ⊥
-IsWrongWith g Modes = NamesSome g.start × (are_two_modes g.trace g.sample ≡ true)
-IsWrongWith g (Range option) = NamesSome g.start × (are_two_modes g.trace g.sample ≡ false) × IsFirstWithout g option
+IsWrongWith g Modes = NamesSome g.start × (are_two_modes g.modes ≡ true)
+IsWrongWith g (Range option) = NamesSome g.start × (are_two_modes g.modes ≡ false) × IsFirstWithout g option

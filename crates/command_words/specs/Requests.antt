@@ -1,6 +1,6 @@
 -- Public contracts rest on this module.
 -- What the words of a run ask for, and what is wrong with them.
-use Rattle.std.specs.Prelude.{codes, ◌≡◌, ℕ, ◌+◌, ◌*◌, ◌-◌, ◌≤◌, ◌&&◌, ◌==◌, nat_le, not, Bool, true, false, is_some, List, ◌∷◌, ◌++◌, length, fold, Option, Some, None, option_map, IsTrue}
+use Rattle.std.specs.Prelude.{codes, ◌≡◌, ℕ, ◌+◌, ◌*◌, ◌-◌, ◌≤◌, ◌&&◌, ◌||◌, ◌==◌, nat_le, not, Bool, true, false, is_some, List, ◌∷◌, ◌++◌, length, fold, Option, Some, None, option_map, IsTrue}
 use Rattle.std.specs.List.{list_all}
 use Rattle.failure.specs.declared.Failure.{Failure}
 use Rattle.failure.specs.declared.Failure.TheVariants.{Cause, OutOfMemory}
@@ -108,25 +108,45 @@ IsNumberIn words r n = IsNumberBy r (option_in words r.name) n
 
 -- ---- modes
 
--- Options of two modes stand, by their values.
-abbrev pub are_two_modes : (trace sample : Option (List ℕ)) → Bool
-are_two_modes trace sample = is_set trace && is_some sample
+-- The values of the options of modes: two flags, and an option with a number.
+pub record ModeOptions : Type 0 where
+  pub trace : Option (List ℕ)
+  pub certificate : Option (List ℕ)
+  pub sample : Option (List ℕ)
+
+-- Those of words.
+abbrev pub mode_options : List (List ℕ) → ModeOptions
+mode_options words = record { trace = option_in words (codes "trace"); certificate = option_in words (codes "print-cert"); sample = option_in words (codes "sample") }
+
+-- Two of them stand.
+abbrev pub are_two_modes : ModeOptions → Bool
+are_two_modes o = (is_set o.trace && (is_set o.certificate || is_some o.sample)) || (is_set o.certificate && is_some o.sample)
 
 -- They do so in words.
 abbrev pub have_two_modes : List (List ℕ) → Bool
-have_two_modes words = are_two_modes (option_in words (codes "trace")) (option_in words (codes "sample"))
+have_two_modes words = are_two_modes (mode_options words)
 
--- What is to be told, by the values of these options: derivations, or a sample with a number of methods, or neither.
-abbrev pub IsModeBy : (trace sample : Option (List ℕ)) → Mode → Type 0
-IsModeBy trace sample modes.Report = (is_set trace ≡ false) × (sample ≡ None)
-IsModeBy trace sample modes.Trace = (is_set trace ≡ true) × (sample ≡ None)
-IsModeBy trace sample (modes.Sample n) = (is_set trace ≡ false) × (text : List ℕ) × (sample ≡ Some text) × IsNumberBy sample_rule (Some text) n
+-- What is to be told, by the values of these options: derivations, or a certificate, or a sample with a number of methods, or none of these.
+abbrev pub IsModeBy : ModeOptions → Mode → Type 0
+IsModeBy o modes.Report = (is_set o.trace ≡ false) × (is_set o.certificate ≡ false) × (o.sample ≡ None)
+IsModeBy o modes.Trace = (is_set o.trace ≡ true) × (is_set o.certificate ≡ false) × (o.sample ≡ None)
+IsModeBy o modes.Certificate = (is_set o.trace ≡ false) × (is_set o.certificate ≡ true) × (o.sample ≡ None)
+IsModeBy o (modes.Sample n) =
+    (is_set o.trace ≡ false) × (is_set o.certificate ≡ false) × (text : List ℕ) × (o.sample ≡ Some text) × IsNumberBy sample_rule (Some text) n
 
 -- Derivations are to be told.
 abbrev pub is_trace : Mode → Bool
 is_trace modes.Report = false
 is_trace modes.Trace = true
+is_trace modes.Certificate = false
 is_trace (modes.Sample n) = false
+
+-- A certificate is to be told, in place of a report.
+abbrev pub is_certificate : Mode → Bool
+is_certificate modes.Report = false
+is_certificate modes.Trace = false
+is_certificate modes.Certificate = true
+is_certificate (modes.Sample n) = false
 
 -- ---- the whole
 
@@ -138,7 +158,7 @@ pub record AsksFor (words : List (List ℕ)) (w : Wanted) : Type 0 where
   pub depth : IsNumberIn words depth_rule w.depth
   pub fact_limit : IsNumberIn words fact_limit_rule w.fact_limit
   pub pair_limit : IsNumberIn words pair_limit_rule w.pair_limit
-  pub mode : IsModeBy (option_in words (codes "trace")) (option_in words (codes "sample")) w.mode
+  pub mode : IsModeBy (mode_options words) w.mode
 
 -- The option has a number; it has none.
 abbrev pub HasNumber : List (List ℕ) → NumberRule → Type 0

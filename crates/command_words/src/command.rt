@@ -16,7 +16,15 @@ use clap::{Arg, ArgAction, ArgMatches, Command, Error};
 use failure::Failure;
 use std::alloc::{AllocError, Global};
 
-/// The values of the options of a run. `start` is that of `--entry`; that of a flag is `true` or `false`.
+/// The values of the options of modes; that of a flag is `true` or `false`.
+#[derive(Clone, Copy)]
+pub(crate) struct ModeValues<'a> {
+    pub trace: Option<&'a str>,
+    pub certificate: Option<&'a str>,
+    pub sample: Option<&'a str>,
+}
+
+/// The values of the options of a run. `start` is that of `--entry`.
 #[derive(Clone, Copy)]
 pub(crate) struct OptionValues<'a> {
     pub property: &'a str,
@@ -26,8 +34,7 @@ pub(crate) struct OptionValues<'a> {
     pub depth: Option<&'a str>,
     pub fact_limit: Option<&'a str>,
     pub pair_limit: Option<&'a str>,
-    pub trace: Option<&'a str>,
-    pub sample: Option<&'a str>,
+    pub modes: ModeValues<'a>,
 }
 
 /// The values that the words give to the options; or `Words` where they are not of the command's form.
@@ -49,8 +56,11 @@ pub(crate) fn values_of<'a>(
         depth: matches.get_str("depth"),
         fact_limit: matches.get_str("fact-limit"),
         pair_limit: matches.get_str("pair-limit"),
-        trace: matches.get_str("trace"),
-        sample: matches.get_str("sample"),
+        modes: ModeValues {
+            trace: matches.get_str("trace"),
+            certificate: matches.get_str("print-cert"),
+            sample: matches.get_str("sample"),
+        },
     })
 }
 
@@ -114,6 +124,7 @@ fn run_options<'a>(alloc: Global) -> Result<Vec<Arg<'a>>, AllocError>
         option_named(alloc, "fact-limit"),
         option_named(alloc, "pair-limit"),
         flag_named(alloc, "trace"),
+        flag_named(alloc, "print-cert"),
         option_named(alloc, "sample"),
     ]?;
     Ok(options)

@@ -2,10 +2,10 @@
 
 ghost use Rattle.std.specs.Prelude.{◌≡◌, ℕ, false, List, map, option_map, string_bytes, IfOk, IfErr, IfSome, IfNone};
 ghost use Rattle.command_words.specs.Command.{is_set};
-ghost use Rattle.command_words.specs.GivenValues.{given_of, Ask, AreNumbers, IsFirstWithout, IsModeOf, IsWrongWith};
-ghost use Rattle.command_words.specs.Requests.{AsksFor, IsNumberBy, IsUsageFailure, NamesMethod, are_two_modes, sample_rule, wanted_of};
+ghost use Rattle.command_words.specs.GivenValues.{given_of, modes_of, Ask, AreNumbers, IsFirstWithout, IsWrongWith};
+ghost use Rattle.command_words.specs.Requests.{AsksFor, IsModeBy, IsNumberBy, IsUsageFailure, NamesMethod, are_two_modes, sample_rule, wanted_of};
 
-use crate::command::{OptionValues, values_of};
+use crate::command::{ModeValues, OptionValues, values_of};
 use crate::fault::{NumberOption, UsageFailure, UsageFault};
 use crate::numbers::number_for;
 use failure::Failure;
@@ -18,6 +18,8 @@ pub enum Mode {
     Report,
     /// The same, with a derivation below the line of each unproved site.
     Trace,
+    /// The certificate alone: what was found, for a checker.
+    Certificate,
     /// The summary alone, of the sample with so many methods besides `main`.
     Sample(u32),
 }
@@ -52,7 +54,8 @@ struct Numbers {
 }
 
 /// Reads the words after the program's name: `--classes DIR`, `--property FILE` and `--entry CLASS.NAME`, and with them, where they are given,
-/// `--stubs FILE`, `--stages N`, `--depth N`, `--fact-limit N`, `--pair-limit N`, and one of `--trace` and `--sample N`.
+/// `--stubs FILE`, `--stages N`, `--depth N`, `--fact-limit N`, `--pair-limit N`, and one of `--trace`, `--print-cert`
+/// and `--sample N`.
 pub fn read_words<'a>(alloc: Global, words: &'a [String]) -> Result<Request<'a>, UsageFailure>
     ensures asks { IfOk result (λ r. AsksFor (map string_bytes words.now) (wanted_of r)) }
     ensures fault { IfErr result (IsUsageFailure (map string_bytes words.now)) }
@@ -72,7 +75,7 @@ fn request_of<'a>(values: OptionValues<'a>) -> Result<Request<'a>, UsageFault>
     let Some((class, method)) = split_at_last_stop(values.start.as_bytes()) else {
         return Err(UsageFault::Words);
     };
-    if are_two_modes(values) {
+    if are_two_modes(values.modes) {
         return Err(UsageFault::Modes);
     }
     let numbers = match numbers_of(values) {
@@ -88,27 +91,32 @@ fn request_of<'a>(values: OptionValues<'a>) -> Result<Request<'a>, UsageFault>
         depth: numbers.depth,
         fact_limit: numbers.fact_limit,
         pair_limit: numbers.pair_limit,
-        mode: mode_of(values, numbers.sample),
+        mode: mode_of(values.modes, numbers.sample),
     })
 }
 
 /// Whether options of two modes stand.
-fn are_two_modes(values: OptionValues<'_>) -> bool
-    ensures { result ≡ are_two_modes (given_of values.entry).trace (given_of values.entry).sample }
+fn are_two_modes(options: ModeValues<'_>) -> bool
+    ensures { result ≡ are_two_modes (modes_of options.entry) }
 {
-    is_set(values.trace) && values.sample.is_some()
+    let certificate = is_set(options.certificate);
+    let sample = options.sample.is_some();
+    (is_set(options.trace) && (certificate || sample)) || (certificate && sample)
 }
 
 /// What is to be told, where options of no two modes stand, from the number of the sample.
-fn mode_of(values: OptionValues<'_>, sample: u32) -> Mode
-    requires alone { are_two_modes (given_of values).trace (given_of values).sample ≡ false }
-    requires sample { IsNumberBy sample_rule (given_of values).sample sample }
-    ensures { IsModeOf (given_of values.entry) result }
+fn mode_of(options: ModeValues<'_>, sample: u32) -> Mode
+    requires alone { are_two_modes (modes_of options) ≡ false }
+    requires sample { IsNumberBy sample_rule (modes_of options).sample sample }
+    ensures { IsModeBy (modes_of options.entry) result }
 {
-    if is_set(values.trace) {
+    if is_set(options.trace) {
         return Mode::Trace;
     }
-    match values.sample {
+    if is_set(options.certificate) {
+        return Mode::Certificate;
+    }
+    match options.sample {
         Some(_) => Mode::Sample(sample),
         None => Mode::Report,
     }
@@ -133,7 +141,7 @@ fn numbers_of(values: OptionValues<'_>) -> Result<Numbers, NumberOption>
     let depth = number_for(NumberOption::Depth, values.depth)?;
     let fact_limit = number_for(NumberOption::FactLimit, values.fact_limit)?;
     let pair_limit = number_for(NumberOption::PairLimit, values.pair_limit)?;
-    let sample = number_for(NumberOption::Sample, values.sample)?;
+    let sample = number_for(NumberOption::Sample, values.modes.sample)?;
     Ok(Numbers {
         stages: stages as u8,
         depth: depth as u8,

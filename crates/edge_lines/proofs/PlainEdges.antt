@@ -18,7 +18,7 @@ use Rattle.edge_lines.specs.EdgeLines.{edge_line, edge_words, fact_words, field_
 nothing : IsPlain []
 nothing = IsPlain-test [] refl
 
-each_plain : {X : Type 0} (text : X → List ℕ) → ((x : X) → IsPlain (text x)) → (xs : List X) → IsPlain (flat_map text xs)
+pub each_plain : {X : Type 0} (text : X → List ℕ) → ((x : X) → IsPlain (text x)) → (xs : List X) → IsPlain (flat_map text xs)
 each_plain text plain [] = nothing
 each_plain text plain (x ∷ xs) = IsPlain-append (text x) (flat_map text xs) (plain x) (each_plain text plain xs)
 
@@ -39,7 +39,7 @@ kind_plain kinds.New = IsPlain-test (codes "n") refl
 kind_plain kinds.Result = IsPlain-test (codes "r") refl
 kind_plain kinds.Thrown = IsPlain-test (codes "t") refl
 
-site_plain : (s : Site) → IsPlain (site_words s)
+pub site_plain : (s : Site) → IsPlain (site_words s)
 site_plain s =
     let kind = word (codes " ") refl (kind_plain s.kind) in
     let method = IsPlain-append (kind_word s.kind ++ codes " ") (method_word s.method) kind (method_plain s.method) in

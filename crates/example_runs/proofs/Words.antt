@@ -40,7 +40,7 @@ asks = record {
   depth = refl;
   fact_limit = refl;
   pair_limit = refl;
-  mode = (refl, refl);
+  mode = (refl, refl, refl);
 }
 
 -- ---- without it
@@ -63,5 +63,5 @@ asks_by_default = record {
   depth = refl;
   fact_limit = refl;
   pair_limit = refl;
-  mode = (refl, refl);
+  mode = (refl, refl, refl);
 }

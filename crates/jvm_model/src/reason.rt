@@ -98,6 +98,8 @@ pub enum Reason {
     TooManyFiles,
     /// The points-to sets have as many pairs of a place and a site as the limit.
     PairLimit,
+    /// The text of the certificate is over the limit.
+    CertificateTooLarge,
 }
 
 impl fmt::Display for Reason {
@@ -158,6 +160,7 @@ pub fn reason_word(reason: Reason) -> &'static str
         Reason::EntryShape => "EntryShape",
         Reason::TooManyFiles => "TooManyFiles",
         Reason::PairLimit => "PairLimit",
+        Reason::CertificateTooLarge => "CertificateTooLarge",
     }
 }
 

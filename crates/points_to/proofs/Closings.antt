@@ -1,5 +1,5 @@
 -- What the loop rests on: the supply gives what it gave, items name what is there, and how the loop ends.
-use Rattle.std.proofs.Common.{◌≡◌, ◌↔◌, ℕ, inl, inr, List, [], Ok, Err, Option, Some, take, sym, ◌∙◌, subst}
+use Rattle.std.proofs.Common.{◌≡◌, ◌↔◌, ℕ, inl, inr, List, [], Ok, Err, Option, Some, refl, sym, ◌∙◌, subst}
 use Rattle.std.specs.List.{slice_get, Contains}
 use Rattle.std.proofs.lemmas.Option.{same_Some}
 use Rattle.failure.specs.declared.Failure.{Failure}
@@ -8,13 +8,19 @@ use Rattle.jvm_model.specs.declared.number.MethodNo.{MethodNo}
 use Rattle.jvm_model.specs.Programs.{Program}
 use Rattle.program_model.specs.Numbers.{IsMethodNumber}
 use Rattle.op_model.specs.Supplies.{GivenAs, IsSameSupply}
-use Rattle.least_sets.specs.Rules.{IsWithoutDoubles}
-use Rattle.least_sets.proofs.Derivations.{derivation_in_closed}
-use Rattle.least_sets.proofs.Places.{contains_at}
+use Rattle.least_sets.specs.Rules.{IsDerivable}
+use Rattle.least_sets.proofs.Derivations.{derivable_in_closed}
+use Rattle.least_sets.proofs.Places.{nothing_in}
+use Rattle.bit_rows.specs.Sets.{IsIn}
+use Rattle.bit_rows.proofs.Numbers.{none_in_empty}
+use Rattle.site_rows.specs.declared.row.SiteRow.{SiteRow}
+use Rattle.site_rows.specs.Rows.{held_at}
+use Rattle.points_to.specs.declared.queue.Queue.{Queue}
+use Rattle.points_to.specs.declared.queue.Turn.{Turn}
+use Rattle.points_to.specs.declared.queue.Turn.TheVariants.{Sites, One}
 use Rattle.points_to_rules.specs.Facts.{Holder}
 use Rattle.points_to_constraints.specs.Items.{Constraint as ItemConstraint, dispatch, Item as RuleItem, constrained}
 use Rattle.points_to_constraints.specs.ItemRules.{ItemInstance}
-use Rattle.points_to_constraints.proofs.Holders.{zip_place}
 use Rattle.points_to_numbers.specs.declared.item.Item.{Item}
 use Rattle.points_to_numbers.specs.declared.item.Item.TheVariants.{Holds, Runs, Calls, Constrains}
 use Rattle.points_to_numbers.specs.declared.keys.ConstraintNo.{ConstraintNo}
@@ -27,18 +33,20 @@ use Rattle.points_to_rules.specs.declared.solve_fault.SolveFault.{SolveFault}
 use Rattle.points_to_rules.specs.declared.solve_fault.SolveFault.TheVariants.{PairLimit, Refused, TooMany}
 use Rattle.points_to.specs.declared.working.Working.{Working}
 use Rattle.points_to.specs.Closing.{IsClosingEnd}
-use Rattle.points_to.specs.Concluding.{SitesBy, ConstraintsBy, IsKnownIndex, IsKnownItem, ResolvesIn, FollowsFrom, RefusedBy, AddsCallsBy, AddsMethodsBy}
+use Rattle.points_to.specs.Concluding.{ConstraintsBy, IsKnownIndex, IsKnownItem, IsKnownTurn, ResolvesIn, FollowsFrom, FollowsInTurn, RefusedBy, AddsCallsBy, AddsMethodsBy}
 use Rattle.grouped_lists.specs.Groups.{values_at}
 use Rattle.points_to.specs.Passing.{IsKnownConstraint, NotesMethods}
-use Rattle.points_to.specs.Queues.{IsQueueEnd}
+use Rattle.points_to.specs.Queues.{IsDone, IsHeld, IsQueueEnd, State, Takes, pair_item, state_of}
+use Rattle.points_to.specs.Turns.{IsInTurn, IsNext, kind_of}
 use Rattle.points_to_rules.specs.Solutions.{IsSupplyOf}
-use Rattle.points_to.specs.Taking.{IsOutOfRoom, IsStarted, IsTakenIn, IsTakingEnd}
-use Rattle.points_to.proofs.ItemPlaces.{front_rule}
+use Rattle.points_to.specs.Taking.{IsConcluded, IsOutOfRoom, IsStarted, IsTakingEnd}
+use Rattle.points_to.proofs.Meanings.{Meant}
 use Rattle.points_to.proofs.Noting.{those_same}
 use Rattle.points_to.proofs.NumberedCalls.{resolved_in}
 use Rattle.points_to.proofs.NumberRanges.{IsInRange, IsConstraintInRange, in_range_is_closed}
-use Rattle.points_to.proofs.PairedFacts.{many_derivable}
-use Rattle.points_to.proofs.SoFar.{IsSoFar, IsDerivedList, IsConcluded, in_whole, derived_start}
+use Rattle.points_to.proofs.QueueItems.{done_held}
+use Rattle.points_to.proofs.Reached.{limit_reached}
+use Rattle.points_to.proofs.SoFar.{AreDerived, IsSoFar, IsToldOf, derived_start}
 
 -- ---- the supply
 
@@ -55,8 +63,8 @@ supply_same p old new same h = record {
   methods = λ number l g. h.methods number l ((same.entries number (Ok l)).0 g);
 }
 
-module _ (p : Program) (old new : GivenAs) (same : IsSameSupply old new) (n : Numbered) (sites : SitesBy) (constraints : ConstraintsBy) where
-  follows_same : (item : Item) (x : RuleItem) → FollowsFrom p new n sites constraints item x ↔ FollowsFrom p old n sites constraints item x
+module _ (p : Program) (old new : GivenAs) (same : IsSameSupply old new) (n : Numbered) (rows : List SiteRow) (constraints : ConstraintsBy) where
+  follows_same : (item : Item) (x : RuleItem) → FollowsFrom p new n rows constraints item x ↔ FollowsFrom p old n rows constraints item x
   follows_same (Holds place site) x = ((λ f. f), (λ f. f))
   follows_same (Runs m) x = (
     (λ f. record { method = f.method; given = (same.entries m.0 (Ok f.method)).0 f.given; item = f.item }),
@@ -65,8 +73,11 @@ module _ (p : Program) (old new : GivenAs) (same : IsSameSupply old new) (n : Nu
   follows_same (Calls call target) x = ((λ f. f), (λ f. f))
   follows_same (Constrains place constraint) x = ((λ f. f), (λ f. f))
 
-  adds_as_before : (item : Item) (m : Numbered) (a b : List Item) → Adds m (FollowsFrom p new n sites constraints item) a b → Adds m (FollowsFrom p old n sites constraints item) a b
-  adds_as_before item m a b h = adds_same m (FollowsFrom p new n sites constraints item) (FollowsFrom p old n sites constraints item) a b (follows_same item) h
+  adds_as_before : (turn : Turn) (m : Numbered) (a b : List Item) → Adds m (FollowsInTurn p new n rows constraints turn) a b → Adds m (FollowsInTurn p old n rows constraints turn) a b
+  adds_as_before turn m a b h = adds_same m (FollowsInTurn p new n rows constraints turn) (FollowsInTurn p old n rows constraints turn) a b (λ x. (
+    (λ (i, turned, f). (i, turned, (follows_same i x).0 f)),
+    (λ (i, turned, f). (i, turned, (follows_same i x).1 f)),
+  )) h
 
 module _ (old new : GivenAs) (same : IsSameSupply old new) where
   refused_same : (item : Item) (r : RefusedMethod) → RefusedBy new item r ↔ RefusedBy old item r
@@ -99,19 +110,19 @@ module _ (old new : GivenAs) (same : IsSameSupply old new) where
   methods_as_before (Calls call target) a b h = h
   methods_as_before (Constrains place constraint) a b h = h
 
--- what is told of an item that was taken in, by what the supply gave at first
-pub concluded : (p : Program) (old now : GivenAs) → IsSameSupply old now → (item : Item) (v w : Working) → IsTakenIn p now item v w
-    → IsConcluded p old v.found.work.tables w.found.work.tables v.index.sites.groups.items w.index.sites.groups.items v.index.constraints.groups.items w.index.constraints.groups.items v.found.refusals.call w.found.refusals.call
-    v.found.refusals.method w.found.refusals.method v.methods.items w.methods.items item w.found.work.steps.items
-concluded p old now same item v w made = record {
+-- what is told of a turn, by what the supply gave at first
+pub concluded : (p : Program) (old now : GivenAs) → IsSameSupply old now → (turn : Turn) (v w : Working) → IsConcluded p now turn v w
+    → IsToldOf p old v.found.work.tables w.found.work.tables (state_of v.queue) v.constraints.groups.items w.constraints.groups.items v.found.refusals.call w.found.refusals.call
+    v.found.refusals.method w.found.refusals.method v.methods.items w.methods.items turn w.found.work.steps.items
+concluded p old now same turn v w made = record {
   grows = made.grows;
   apart = made.apart;
   indexed = made.indexed;
-  adds = adds_as_before p old now same v.found.work.tables (values_at w.index.sites.groups.items) (values_at w.index.constraints.groups.items) item w.found.work.tables [] w.found.work.steps.items made.adds;
-  calls = calls_as_before old now same item v.found.work.tables.calls w.found.work.tables.calls made.calls;
+  adds = adds_as_before p old now same v.found.work.tables v.queue.rows.rows.items (values_at w.constraints.groups.items) turn w.found.work.tables [] w.found.work.steps.items made.adds;
+  calls = calls_as_before old now same (kind_of turn) v.found.work.tables.calls w.found.work.tables.calls made.calls;
   lacks = made.lacks;
-  refused = refused_as_before old now same item v.found.refusals.method w.found.refusals.method made.refused;
-  methods = methods_as_before old now same item v.methods.items w.methods.items made.methods;
+  refused = refused_as_before old now same (kind_of turn) v.found.refusals.method w.found.refusals.method made.refused;
+  methods = methods_as_before old now same (kind_of turn) v.methods.items w.methods.items made.methods;
 }
 
 -- ---- what items name
@@ -128,47 +139,62 @@ known_by p n resolved (Runs m) x e range = subst (IsInRange p) e range
 known_by p n resolved (Calls call target) x (c, at, e) range = record { numbered = (c, at); target_is = subst (IsInRange p) e range; resolved = resolved call.0 }
 known_by p n resolved (Constrains place constraint) x (h, u, holder, there, e) range = constraint_known p n constraint h u x there e range
 
-module _ {p : Program} {gives : GivenAs} {entry : MethodNo} {n : Numbered} {items : List Item} {sites : SitesBy} {constraints : ConstraintsBy} {call : _} {method : _} {listed : List RunningMethod} {done : ℕ}
-    (h : IsSoFar p gives entry n items sites constraints call method listed done) (supply : IsSupplyOf p gives) (within : IsMethodNumber p entry.0) where
-  in_range : (x : RuleItem) → Contains h.xs x → IsInRange p x
-  in_range x c = derivation_in_closed (ItemInstance p gives entry) (IsInRange p) h.xs h.derived (in_range_is_closed p gives entry supply within) x c
+module _ {p : Program} {gives : GivenAs} {entry : MethodNo} {n : Numbered} {a b : Queue} {constraints : ConstraintsBy} {call : _} {method : _} {listed : List RunningMethod} {turn : Turn}
+    (h : IsSoFar p gives entry n (state_of a) constraints call method listed) (next : IsNext a b turn) (supply : IsSupplyOf p gives) (within : IsMethodNumber p entry.0) where
+  in_range : (x : RuleItem) → IsDerivable (ItemInstance p gives entry) x → IsInRange p x
+  in_range x derived = derivable_in_closed (ItemInstance p gives entry) (IsInRange p) x derived (in_range_is_closed p gives entry supply within)
 
-  pub known_item : (item : Item) (k : ℕ) → slice_get items k ≡ Some item → IsKnownItem p n item
-  known_item item k e =
-      let (x, at, stands) = zip_place (IsItemAt n) items h.xs h.stand k item e in
-      known_by p n (resolved_in p gives (Contains (take done h.xs)) n supply h.calls.each) item x stands (in_range x (contains_at h.xs k x at))
+  known_held : (i : Item) → IsHeld (state_of b) i → IsKnownItem p n i
+  known_held i held =
+      let (x, at, derived) = h.known i ((next.held i).0 held) in
+      known_by p n (resolved_in p gives (Meant n (IsDone (state_of a))) n supply h.calls.each) i x at (in_range x derived)
 
-  pub known_index : IsKnownIndex p n sites constraints
+  known_by_turn : (t : Turn) → turn ≡ t → IsKnownTurn p n t
+  known_by_turn (Sites fresh) is = λ site there. known_held (pair_item fresh.place site) (done_held (state_of b) _ (next.now (pair_item fresh.place site) (subst (λ (t : Turn). IsInTurn t (pair_item fresh.place site)) (sym is) (refl, there))))
+  known_by_turn (One item) is = known_held item (done_held (state_of b) item (next.now item (subst (λ (t : Turn). IsInTurn t item) (sym is) refl)))
+
+  pub known_turn : IsKnownTurn p n turn
+  known_turn = known_by_turn turn refl
+
+  pub known_index : IsKnownIndex p n (state_of b).rows constraints
   known_index = record {
-    sites_known = λ place site c. (let (x, there, (holder, s, held, at, e)) = front_rule n items h.xs h.stand done (Holds (record { 0 = place }) site) ((h.index.sites_are (record { 0 = place }) site).0 c) in (s, at));
-    constraints_known = λ place constraint c. (
-        let (x, there, (holder, u, held, at, e)) = front_rule n items h.xs h.stand done (Constrains (record { 0 = place }) constraint) ((h.index.constraints_are (record { 0 = place }) constraint).0 c) in
-        constraint_known p n constraint holder u x at e (in_range x (in_whole h.xs done x there)));
+    sites_known = λ place site there. known_held (pair_item place site) (record { there = there });
+    constraints_known = λ place constraint there. (
+        let item : Item = Constrains (record { 0 = place }) constraint in
+        known_held item (done_held (state_of b) item (next.still item ((h.index.constraints_are (record { 0 = place }) constraint).0 there))));
   }
 
 -- ---- the end
 
-pub closing_end : (p : Program) (gives : GivenAs) (entry : MethodNo) (limit : ℕ) (n : Numbered) (items : List Item) (failure : Failure SolveFault) → AreApart n → IsDerivedList p gives entry n items
-    → IsWithoutDoubles items → IsQueueEnd items limit failure → IsClosingEnd p gives entry limit failure
-closing_end p gives entry limit n items (Cause (PairLimit k)) apart h items_apart end = (end.0, many_derivable p gives entry n items h.xs limit apart h.calls h.stand items_apart h.derived end.1)
-closing_end p gives entry limit n items (Cause (Refused r)) apart h items_apart end = absurd end
-closing_end p gives entry limit n items (Cause TooMany) apart h items_apart end = tt
-closing_end p gives entry limit n items OutOfMemory apart h items_apart end = tt
+pub closing_end : (p : Program) (gives : GivenAs) (entry : MethodNo) (limit : ℕ) (n : Numbered) (old new : State) (steps : List Item) (failure : Failure SolveFault) → AreApart n
+    → (Takes old steps new → AreDerived p gives entry n new) → IsQueueEnd old steps new limit failure → IsClosingEnd p gives entry limit failure
+closing_end p gives entry limit n old new steps (Cause (PairLimit k)) apart derived end = (end.0, limit_reached p gives entry n new limit apart (derived end.2) end.1)
+closing_end p gives entry limit n old new steps (Cause (Refused r)) apart derived end = absurd end
+closing_end p gives entry limit n old new steps (Cause TooMany) apart derived end = tt
+closing_end p gives entry limit n old new steps OutOfMemory apart derived end = tt
 
 pub room_end : (p : Program) (gives : GivenAs) (entry : MethodNo) (limit : ℕ) (failure : Failure SolveFault) → IsOutOfRoom failure → IsClosingEnd p gives entry limit failure
 room_end p gives entry limit failure (inl e) = subst (λ (f : Failure SolveFault). IsClosingEnd p gives entry limit f) (sym e) tt
 room_end p gives entry limit failure (inr e) = subst (λ (f : Failure SolveFault). IsClosingEnd p gives entry limit f) (sym e) tt
 
 -- where the start was taken in up to the limit
-pub start_end : (p : Program) (gives : GivenAs) (entry : MethodNo) (limit : ℕ) (n : Numbered) (steps items : List Item) (failure : Failure SolveFault)
-    → IsTakingEnd (IsStarted p entry n steps items) items limit failure → IsClosingEnd p gives entry limit failure
-start_end p gives entry limit n steps items failure (inl room) = room_end p gives entry limit failure room
-start_end p gives entry limit n steps items failure (inr (made, end)) =
-    closing_end p gives entry limit n items failure made.apart (derived_start p gives entry n steps items made.call made.adds made.takes) made.items_apart end
+pub start_end : (p : Program) (gives : GivenAs) (entry : MethodNo) (limit : ℕ) (n : Numbered) (old new : State) (steps : List Item) (failure : Failure SolveFault) → ((i : Item) → IsHeld old i → ⊥)
+    → IsTakingEnd (IsStarted p entry n steps) old steps new limit failure → IsClosingEnd p gives entry limit failure
+start_end p gives entry limit n old new steps failure none (inl room) = room_end p gives entry limit failure room
+start_end p gives entry limit n old new steps failure none (inr (made, end)) =
+    closing_end p gives entry limit n old new steps failure made.apart (λ takes. derived_start p gives entry n steps old new none made.call made.adds takes) end
 
--- where what follows from an item was taken in up to the limit, and the items were derived
-pub taken_end : (p : Program) (gives now : GivenAs) (entry : MethodNo) (limit : ℕ) (item : Item) (v w : Working) (failure : Failure SolveFault)
-    → (IsTakenIn p now item v w → IsDerivedList p gives entry w.found.work.tables w.queue.items.keys) → IsTakingEnd (IsTakenIn p now item v w) w.queue.items.keys limit failure
-    → IsClosingEnd p gives entry limit failure
-taken_end p gives now entry limit item v w failure derived (inl room) = room_end p gives entry limit failure room
-taken_end p gives now entry limit item v w failure derived (inr (made, end)) = closing_end p gives entry limit w.found.work.tables w.queue.items.keys failure made.apart (derived made) made.items_apart end
+-- where what follows from a turn was taken in up to the limit
+pub taken_end : (p : Program) (gives now : GivenAs) (entry : MethodNo) (limit : ℕ) (turn : Turn) (v w : Working) (failure : Failure SolveFault)
+    → (IsConcluded p now turn v w → Takes (state_of v.queue) w.found.work.steps.items (state_of w.queue) → AreDerived p gives entry w.found.work.tables (state_of w.queue))
+    → IsTakingEnd (IsConcluded p now turn v w) (state_of v.queue) w.found.work.steps.items (state_of w.queue) limit failure → IsClosingEnd p gives entry limit failure
+taken_end p gives now entry limit turn v w failure derived (inl room) = room_end p gives entry limit failure room
+taken_end p gives now entry limit turn v w failure derived (inr (made, end)) =
+    closing_end p gives entry limit w.found.work.tables (state_of v.queue) (state_of w.queue) w.found.work.steps.items failure made.apart (derived made) end
+
+-- nothing is there at first
+pub nothing_held : (q : State) → q.rows ≡ [] → q.others ≡ [] → (i : Item) → IsHeld q i → ⊥
+nothing_held q no_row no_other (Holds place site) h = none_in_empty site.0 (subst (λ (rows : List SiteRow). IsIn (held_at rows place.0) site.0) no_row h.there)
+nothing_held q no_row no_other (Runs m) h = nothing_in (Runs m) (subst (λ (xs : List Item). Contains xs (Runs m)) no_other h.there)
+nothing_held q no_row no_other (Calls number target) h = nothing_in (Calls number target) (subst (λ (xs : List Item). Contains xs (Calls number target)) no_other h.there)
+nothing_held q no_row no_other (Constrains place constraint) h = nothing_in (Constrains place constraint) (subst (λ (xs : List Item). Contains xs (Constrains place constraint)) no_other h.there)

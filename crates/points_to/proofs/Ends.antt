@@ -1,5 +1,5 @@
 -- How the solver ends: with the limit, with a refusal, or with the least sets.
-use Rattle.std.proofs.Common.{◌≡◌, ℕ, List, Option, Some, None, Result, Ok, Err, refl, sym, subst, inl, inr}
+use Rattle.std.proofs.Common.{ℕ, List, Option, Some, None, Result, Ok, Err, refl, sym, subst, inl, inr}
 use Rattle.std.specs.List.{Contains}
 use Rattle.std.specs.Result.{IfErr, IfOk, OnOk, result_and}
 use Rattle.failure.specs.declared.Failure.{Failure}
@@ -15,6 +15,7 @@ use Rattle.points_to.specs.declared.refusals.RefusedCall.{RefusedCall}
 use Rattle.points_to.specs.declared.refusals.RefusedMethod.{RefusedMethod}
 use Rattle.points_to_rules.specs.declared.running_method.RunningMethod.{RunningMethod}
 use Rattle.points_to.specs.declared.solution.Solution.{Solution}
+use Rattle.points_to.specs.Queues.{items_of}
 use Rattle.points_to_rules.specs.declared.solve_fault.SolveFault.{SolveFault}
 use Rattle.points_to_rules.specs.declared.solve_fault.SolveFault.TheVariants.{PairLimit, Refused, TooMany}
 use Rattle.points_to.specs.Closing.{KnownIn, IsClosed}
@@ -60,14 +61,14 @@ module _ (p : Program) (gives : GivenAs) (supply : IsSupplyOf p gives) (one : Gi
   refusing_end n items call method listed closed (Cause TooMany) room = tt
   refusing_end n items call method listed closed OutOfMemory memory = tt
 
-  pub solved : (s : Solution) (call : Option RefusedCall) (method : Option RefusedMethod) → IsClosed p gives entry limit s.tables s.items.items.keys call method s.methods.items → IsNamed p call method None
+  pub solved : (s : Solution) (call : Option RefusedCall) (method : Option RefusedMethod) → IsClosed p gives entry limit s.tables (items_of s.items) call method s.methods.items → IsNamed p call method None
       → IsSolved p gives entry limit s
   solved s call method closed named = record {
     facts = facts_of closed.xs;
     of = (closed.xs, closed.stand, refl);
     solution = record {
-      least = least_below p gives supply one entry limit s.tables s.items.items.keys call method s.methods.items closed;
-      unrefused = named_none p gives supply one entry limit s.tables s.items.items.keys call method s.methods.items closed named;
+      least = least_below p gives supply one entry limit s.tables (items_of s.items) call method s.methods.items closed;
+      unrefused = named_none p gives supply one entry limit s.tables (items_of s.items) call method s.methods.items closed named;
     };
     running = running_same gives (KnownIn closed.xs) (Contains (facts_of closed.xs)) s.methods.items (λ fact. (fact_there closed.xs fact, known_there closed.xs fact)) closed.running;
   }

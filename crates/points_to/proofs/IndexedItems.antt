@@ -1,97 +1,68 @@
--- The sites and the constraints of each place, when one more item is done.
-use Rattle.std.proofs.Common.{◌≡◌, ◌↔◌, ℕ, ◌+◌, inl, inr, Bool, true, cond, eqb, List, [], ◌∷◌, ◌++◌, Some, take, refl, sym, ◌∙◌, ap, subst}
-use Rattle.std.specs.List.{slice_get, Contains}
-use Rattle.std.proofs.lemmas.Bool.{cases_Bool}
-use Rattle.std.proofs.lemmas.Bool.Decides.{Decides-eqb}
-use Rattle.std.proofs.lemmas.Map.Views.{exact_unsigned_eq}
-use Rattle.std.proofs.lemmas.List.Elements.{Contains-append_left, Contains-push, Contains-push_cases}
-use Rattle.jvm_model.specs.declared.number.SiteNo.{SiteNo}
+-- The constraints of each place, when the items of a turn are done.
+use Rattle.std.proofs.Common.{◌≡◌, ◌⊎◌, ℕ, inl, inr, List, [], refl, sym, subst}
+use Rattle.std.specs.List.{Contains}
 use Rattle.least_sets.proofs.Places.{nothing_in}
 use Rattle.points_to_numbers.specs.declared.item.Item.{Item}
 use Rattle.points_to_numbers.specs.declared.item.Item.TheVariants.{Holds, Runs, Calls, Constrains}
 use Rattle.points_to_rules.specs.declared.place.PlaceNo.{PlaceNo}
 use Rattle.points_to_numbers.specs.declared.keys.ConstraintNo.{ConstraintNo}
-use Rattle.grouped_lists.specs.Groups.{values_at}
+use Rattle.grouped_lists.specs.Groups.{values_at, IsPut, IsSame}
+use Rattle.grouped_lists.proofs.PutValues.{put_there, put_keeps, put_cases}
+use Rattle.points_to.specs.declared.queue.Turn.{Turn}
+use Rattle.points_to.specs.declared.queue.Turn.TheVariants.{Sites, One}
 use Rattle.points_to.specs.Concluding.{IsIndex}
-use Rattle.points_to.specs.Indexed.{SiteGroups, ConstraintGroups, IsIndexed}
-use Rattle.points_to.proofs.ItemPlaces.{one_more}
+use Rattle.points_to.specs.Indexed.{ConstraintGroups, IsIndexed}
+use Rattle.points_to.specs.Queues.{IsDone, State}
+use Rattle.points_to.specs.Turns.{IsInTurn, kind_of}
 
--- The values at each place are those of the items.
-abbrev AreAt : {V : Type 0} → (PlaceNo → V → Item) → (ℕ → List V) → List Item → Type 0
-AreAt {V} at values items = (place : PlaceNo) (value : V) → Contains (values place.0) value ↔ Contains items (at place value)
+module _ (old new : ConstraintGroups) (before q : State) (Turn : Item → Type 0) (h : IsIndex (values_at old) before) (still : (i : Item) → IsDone before i → IsDone q i)
+    (split : (i : Item) → IsDone q i → IsDone before i ⊎ Turn i) where
+  -- no constraint is put
+  index_same : IsSame old new → ((place : PlaceNo) (constraint : ConstraintNo) → Turn (Constrains place constraint) → ⊥) → IsIndex (values_at new) q
+  index_same same none = record {
+    constraints_are = λ place constraint. (
+      (λ c. still (Constrains place constraint) ((h.constraints_are place constraint).0 (subst (λ (xs : List ConstraintNo). Contains xs constraint) (same place.0) c))),
+      (λ done. elim (split (Constrains place constraint) done) [
+        | inl was ↦ subst (λ (xs : List ConstraintNo). Contains xs constraint) (sym (same place.0)) ((h.constraints_are place constraint).1 was)
+        | inr turn ↦ absurd (none place constraint turn)
+      ]),
+    );
+  }
 
-module _ {V : Type 0} (at : PlaceNo → V → Item) where
-  at_none : (values : ℕ → List V) → ((place : ℕ) → values place ≡ []) → AreAt at values []
-  at_none values none place value = (
-    (λ c. absurd (nothing_in value (subst (λ (xs : List V). Contains xs value) (none place.0) c))),
-    (λ c. absurd (nothing_in (at place value) c)),
-  )
-
-  at_same : (old new : ℕ → List V) (items : List Item) (item : Item) → ((place : PlaceNo) (value : V) → item ≡ at place value → ⊥) → ((q : ℕ) → new q ≡ old q)
-      → AreAt at old items → AreAt at new (items ++ item ∷ [])
-  at_same old new items item apart same h place value = (
-    (λ c. Contains-append_left items (item ∷ []) (at place value) ((h place value).0 (subst (λ (xs : List V). Contains xs value) (same place.0) c))),
-    (λ c. elim (Contains-push_cases items item (at place value) c) [
-      | inl before ↦ subst (λ (xs : List V). Contains xs value) (sym (same place.0)) ((h place value).1 before)
-      | inr last ↦ absurd (apart place value last)
-    ]),
-  )
-
-  at_put : (old new : ℕ → List V) (items : List Item) (p : PlaceNo) (v : V) → ((place : PlaceNo) (value : V) → at p v ≡ at place value → (p ≡ place) × (v ≡ value))
-      → ((q : ℕ) → new q ≡ cond (eqb p.0 q) (old q ++ v ∷ []) (old q)) → AreAt at old items → AreAt at new (items ++ at p v ∷ [])
-  at_put old new items p v exact put h place value = elim (cases_Bool (eqb p.0 place.0)) [
-    | inl here ↦
-        let is : new place.0 ≡ old place.0 ++ v ∷ [] = put place.0 ∙ ap (λ (b : Bool). cond b (old place.0 ++ v ∷ []) (old place.0)) here in
-        let numbers = exact_unsigned_eq p.0 place.0 here in
-        let same : p ≡ place = (λ i. record { 0 = numbers i }) in (
-          (λ c. elim (Contains-push_cases (old place.0) v value (subst (λ (xs : List V). Contains xs value) is c)) [
-            | inl before ↦ Contains-append_left items (at p v ∷ []) (at place value) ((h place value).0 before)
-            | inr last ↦ subst (λ (q : PlaceNo). Contains (items ++ at p v ∷ []) (at q value)) same
-                (subst (λ (w : V). Contains (items ++ at p v ∷ []) (at p w)) last (Contains-push items (at p v)))
-          ]),
-          (λ c. subst (λ (xs : List V). Contains xs value) (sym is) (elim (Contains-push_cases items (at p v) (at place value) c) [
-            | inl before ↦ Contains-append_left (old place.0) (v ∷ []) value ((h place value).1 before)
-            | inr last ↦ subst (λ (w : V). Contains (old place.0 ++ v ∷ []) w) (exact place value last).1 (Contains-push (old place.0) v)
-          ])),
-        )
-    | inr apart ↦
-        let is : new place.0 ≡ old place.0 = put place.0 ∙ ap (λ (b : Bool). cond b (old place.0 ++ v ∷ []) (old place.0)) apart in (
-          (λ c. Contains-append_left items (at p v ∷ []) (at place value) ((h place value).0 (subst (λ (xs : List V). Contains xs value) is c))),
-          (λ c. subst (λ (xs : List V). Contains xs value) (sym is) (elim (Contains-push_cases items (at p v) (at place value) c) [
-            | inl before ↦ (h place value).1 before
-            | inr last ↦ absurd (
-                let numbers = ap (λ (q : PlaceNo). eqb p.0 q.0) (exact place value last).0 in
-                let itself : eqb p.0 p.0 ≡ true = (Decides-eqb p.0 p.0).1 refl in cc)
-          ])),
-        )
-  ]
+  -- one is
+  index_put : (p : PlaceNo) (c : ConstraintNo) → IsPut old new p.0 c → IsDone q (Constrains p c) → ((i : Item) → Turn i → i ≡ Constrains p c) → IsIndex (values_at new) q
+  index_put p c put now only = record {
+    constraints_are = λ place constraint. (
+      (λ there. elim (put_cases old new p.0 c put place.0 constraint there) [
+        | inl was ↦ still (Constrains place constraint) ((h.constraints_are place constraint).0 was)
+        | inr here ↦ subst (IsDone q) (λ i. Constrains (record { 0 = here.0 i }) (here.1 i)) now
+      ]),
+      (λ done. elim (split (Constrains place constraint) done) [
+        | inl was ↦ put_keeps old new p.0 c put place.0 constraint ((h.constraints_are place constraint).1 was)
+        | inr turn ↦
+            let e = only (Constrains place constraint) turn in
+            let places : p ≡ place = cc in
+            let constraints : c ≡ constraint = cc in
+            subst (λ (k : ConstraintNo). Contains (values_at new place.0) k) constraints
+            (subst (λ (k : PlaceNo). Contains (values_at new k.0) c) places (put_there old new p.0 c put))
+      ]),
+    );
+  }
 
 -- nothing is done
-pub index_none : (sites : ℕ → List SiteNo) (constraints : ℕ → List ConstraintNo) → ((place : ℕ) → sites place ≡ []) → ((place : ℕ) → constraints place ≡ []) → IsIndex sites constraints []
-index_none sites constraints no_site no_constraint = record { sites_are = at_none Holds sites no_site; constraints_are = at_none Constrains constraints no_constraint }
+pub index_none : (constraints : ℕ → List ConstraintNo) (q : State) → ((place : ℕ) → constraints place ≡ []) → ((i : Item) → IsDone q i → ⊥) → IsIndex constraints q
+index_none constraints q none nothing = record {
+  constraints_are = λ place constraint. (
+    (λ c. absurd (nothing_in constraint (subst (λ (xs : List ConstraintNo). Contains xs constraint) (none place.0) c))),
+    (λ done. absurd (nothing (Constrains place constraint) done)),
+  );
+}
 
-module _ (old_sites new_sites : SiteGroups) (old_constraints new_constraints : ConstraintGroups) (items : List Item) where
-  index_push : (item : Item) → IsIndex (values_at old_sites) (values_at old_constraints) items → IsIndexed old_sites new_sites old_constraints new_constraints item
-      → IsIndex (values_at new_sites) (values_at new_constraints) (items ++ item ∷ [])
-  index_push (Holds place site) h put = record {
-    sites_are = at_put Holds (values_at old_sites) (values_at new_sites) items place site (λ p v e. (cc, cc)) put.0 h.sites_are;
-    constraints_are = at_same Constrains (values_at old_constraints) (values_at new_constraints) items (Holds place site) (λ p v e. cc) put.1 h.constraints_are;
-  }
-  index_push (Runs m) h put = record {
-    sites_are = at_same Holds (values_at old_sites) (values_at new_sites) items (Runs m) (λ p v e. cc) put.0 h.sites_are;
-    constraints_are = at_same Constrains (values_at old_constraints) (values_at new_constraints) items (Runs m) (λ p v e. cc) put.1 h.constraints_are;
-  }
-  index_push (Calls call target) h put = record {
-    sites_are = at_same Holds (values_at old_sites) (values_at new_sites) items (Calls call target) (λ p v e. cc) put.0 h.sites_are;
-    constraints_are = at_same Constrains (values_at old_constraints) (values_at new_constraints) items (Calls call target) (λ p v e. cc) put.1 h.constraints_are;
-  }
-  index_push (Constrains place constraint) h put = record {
-    sites_are = at_same Holds (values_at old_sites) (values_at new_sites) items (Constrains place constraint) (λ p v e. cc) put.0 h.sites_are;
-    constraints_are = at_put Constrains (values_at old_constraints) (values_at new_constraints) items place constraint (λ p v e. (cc, cc)) put.1 h.constraints_are;
-  }
-
--- one more item is done
-pub index_more : (old_sites new_sites : SiteGroups) (old_constraints new_constraints : ConstraintGroups) (items : List Item) (done : ℕ) (item : Item) → slice_get items done ≡ Some item
-    → IsIndex (values_at old_sites) (values_at old_constraints) (take done items) → IsIndexed old_sites new_sites old_constraints new_constraints item → IsIndex (values_at new_sites) (values_at new_constraints) (take (done + 1) items)
-index_more old_sites new_sites old_constraints new_constraints items done item e h put =
-    subst (λ (xs : List Item). IsIndex (values_at new_sites) (values_at new_constraints) xs) (sym (one_more items done item e)) (index_push old_sites new_sites old_constraints new_constraints (take done items) item h put)
+-- a turn is done
+pub index_more : (old new : ConstraintGroups) (before q : State) (turn : Turn) → IsIndex (values_at old) before → ((i : Item) → IsDone before i → IsDone q i) → ((i : Item) → IsDone q i → IsDone before i ⊎ IsInTurn turn i)
+    → ((i : Item) → IsInTurn turn i → IsDone q i) → IsIndexed old new (kind_of turn) → IsIndex (values_at new) q
+index_more old new before q (Sites fresh) h still split now same = index_same old new before q (IsInTurn (Sites fresh)) h still split same (λ place constraint none. none)
+index_more old new before q (One (Holds p s)) h still split now same = index_same old new before q (IsInTurn (One (Holds p s))) h still split same (λ place constraint e. cc)
+index_more old new before q (One (Runs m)) h still split now same = index_same old new before q (IsInTurn (One (Runs m))) h still split same (λ place constraint e. cc)
+index_more old new before q (One (Calls call target)) h still split now same = index_same old new before q (IsInTurn (One (Calls call target))) h still split same (λ place constraint e. cc)
+index_more old new before q (One (Constrains p c)) h still split now put = index_put old new before q (IsInTurn (One (Constrains p c))) h still split p c put (now (Constrains p c) refl) (λ i e. e)

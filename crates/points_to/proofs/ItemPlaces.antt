@@ -78,7 +78,7 @@ module _ (n : Numbered) where
   calling (Constrains place constraint) at target (g, v, held, there, e) = absurd cc
 
   -- an item stands for one thing
-  one_meaning : (i : Item) (x y : RuleItem) → IsItemAt n i x → IsItemAt n i y → x ≡ y
+  pub one_meaning : (i : Item) (x y : RuleItem) → IsItemAt n i x → IsItemAt n i y → x ≡ y
   one_meaning (Holds place site) x y (g, t, held, there, e) (h, s, held2, there2, f) =
       let holders = same_Some g h (sym held ∙ held2) in
       let sites = same_Some t s (sym there ∙ there2) in

@@ -1,15 +1,20 @@
 -- Ranges of numbers are a closed set (`IsInRange`) and no invariant: use `derivation_in_closed`.
--- Listed methods are those of the items at the front of the work list; one item more gives one method or none.
+-- Listed methods are those of the items that are done; a turn gives one method or none.
 mod ExactItems
-mod Taken
+pub mod QueueItems
+mod QueueSteps
+mod QueueTurns
+mod ListedSites
 mod Grouped
 mod FirstNoted
 mod Noting
 mod Lacking
 mod PassedOn
+mod PassedAny
+mod TurnParts
 mod GivenMethods
 pub mod ItemPlaces
-mod StepItems
+mod Meanings
 mod OneSite
 mod NumberedCalls
 mod RunningMethods
@@ -19,6 +24,7 @@ mod RefusedItems
 mod NumberRanges
 pub mod PairedFacts
 mod SoFar
+mod Reached
 mod Closings
 mod CodeStarts
 mod RefusedNodes

@@ -2,15 +2,13 @@
 use Rattle.std.proofs.Common.{◌≡◌, ℕ, zero, suc, ◌+◌, List, [], ◌∷◌, Some, refl, sym, ◌∙◌, ap, arith, zero-add}
 use Rattle.std.specs.List.{slice_get, AllZip, Contains}
 use Rattle.std.proofs.lemmas.Option.{none-some, same_Some}
-use Rattle.std.proofs.lemmas.List.Elements.{All-contains}
 use Rattle.std.proofs.lemmas.List.Sums.{sum_by-cons}
 use Rattle.jvm_model.specs.declared.number.MethodNo.{MethodNo}
 use Rattle.jvm_model.specs.declared.site.Site.{Site}
 use Rattle.jvm_model.specs.Programs.{Program}
 use Rattle.op_model.specs.Supplies.{GivenAs}
 use Rattle.least_sets.specs.Parts.{parts_of, HasAtLeast}
-use Rattle.least_sets.specs.Rules.{IsDerivation, IsDerivable, IsWithoutDoubles}
-use Rattle.least_sets.proofs.Derivations.{All-derivable}
+use Rattle.least_sets.specs.Rules.{IsDerivable, IsWithoutDoubles}
 use Rattle.least_sets.proofs.Places.{place_of, contains_at, All-from_contains}
 use Rattle.points_to_rules.specs.Facts.{Holder, Fact, may_hold, may_run, may_call, may_write}
 use Rattle.points_to_rules.specs.Rules.{Instance}
@@ -173,11 +171,10 @@ pairs_counted n (i ∷ items) (x ∷ xs) stand =
 -- ---- so many are derivable
 
 pub many_derivable : (p : Program) (gives : GivenAs) (entry : MethodNo) (n : Numbered) (items : List Item) (xs : List RuleItem) (limit : ℕ) → AreApart n → AreCallsApart n.calls
-    → AllZip (IsItemAt n) items xs → IsWithoutDoubles items → IsDerivation (ItemInstance p gives entry) xs → pairs_among items ≡ limit → HasAtLeast (Instance p gives entry) pair_of limit
+    → AllZip (IsItemAt n) items xs → IsWithoutDoubles items → ((x : RuleItem) → Contains xs x → IsDerivable (ItemInstance p gives entry) x) → pairs_among items ≡ limit → HasAtLeast (Instance p gives entry) pair_of limit
 many_derivable p gives entry n items xs limit apart calls stand items_apart derived reached = record {
   facts = facts_of xs;
-  derivable = All-from_contains (IsDerivable (Instance p gives entry)) (facts_of xs) (λ fact c.
-      derivable_fact p gives entry fact (All-contains (IsDerivable (ItemInstance p gives entry)) xs (known fact) (All-derivable (ItemInstance p gives entry) xs derived) (known_there xs fact c)));
+  derivable = All-from_contains (IsDerivable (Instance p gives entry)) (facts_of xs) (λ fact c. derivable_fact p gives entry fact (derived (known fact) (known_there xs fact c)));
   apart = pairs_apart (facts_of xs) (facts_apart n apart calls items xs stand items_apart);
   count = count_pairs (facts_of xs) ∙ pairs_counted n items xs stand ∙ reached;
 }

@@ -38,13 +38,13 @@ module _ (n m : Numbered) (grows : Grows n m) (constraint : ConstraintNo) (known
   )
 
   module _ (p : Program) (site : SiteNo) (known_site : IsNumbered n.sites site.0) where
-    passed_before : (x : RuleItem) → IsPassed p m constraint site x ↔ IsPassed p n constraint site x
+    pub passed_before : (x : RuleItem) → IsPassed p m constraint site x ↔ IsPassed p n constraint site x
     passed_before x = (
       (λ h. record { u = h.u; stands = stood_before n.constraints m.constraints grows.constraints constraint.0 known_constraint h.u h.stands; s = h.s; is_site = stood_before n.sites m.sites grows.sites site.0 known_site h.s h.is_site; passed = h.passed }),
       (λ h. record { u = h.u; stands = grows.constraints constraint.0 h.u h.stands; s = h.s; is_site = grows.sites site.0 h.s h.is_site; passed = h.passed }),
     )
 
-    lack_before : (c : RefusedCall) → IsLackOf p m constraint site c ↔ IsLackOf p n constraint site c
+    pub lack_before : (c : RefusedCall) → IsLackOf p m constraint site c ↔ IsLackOf p n constraint site c
     lack_before c = (
       (λ h. record { call = h.call; selects = selects_before c h.call h.selects; s = h.s; is_site = stood_before n.sites m.sites grows.sites site.0 known_site h.s h.is_site; lacks = h.lacks }),
       (λ h. record { call = h.call; selects = selects_still c h.call h.selects; s = h.s; is_site = grows.sites site.0 h.s h.is_site; lacks = h.lacks }),

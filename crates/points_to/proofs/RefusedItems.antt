@@ -1,27 +1,23 @@
--- The refusals among the items that are done, when one more is.
-use Rattle.std.proofs.Common.{◌≡◌, ◌↔◌, ℕ, ◌+◌, ◌⊎◌, inl, inr, List, ◌++◌, Option, Err, take, refl, sym, ◌∙◌, ap, subst}
-use Rattle.std.specs.List.{Contains}
-use Rattle.std.proofs.lemmas.Option.{same_Some}
+-- The refusals among the items that are done, when those of a turn are.
+use Rattle.std.proofs.Common.{◌≡◌, ◌↔◌, ◌⊎◌, inl, inr, ◌++◌, Option, Err, refl, sym, ap, subst}
 use Rattle.jvm_model.specs.declared.number.MethodNo.{MethodNo}
-use Rattle.jvm_model.specs.declared.number.SiteNo.{SiteNo}
-use Rattle.jvm_model.specs.declared.site.Site.{Site}
 use Rattle.jvm_model.specs.Programs.{Program}
 use Rattle.op_model.specs.Supplies.{GivenAs}
 use Rattle.points_to_rules.specs.Facts.{may_hold, may_run}
-use Rattle.points_to_constraints.specs.Items.{Constraint as ItemConstraint, dispatch, Item as RuleItem, known, constrained}
+use Rattle.points_to_constraints.specs.Items.{dispatch, Item as RuleItem, known, constrained}
 use Rattle.points_to_numbers.specs.declared.item.Item.{Item}
 use Rattle.points_to_numbers.specs.declared.item.Item.TheVariants.{Holds, Runs, Calls, Constrains}
-use Rattle.points_to_rules.specs.declared.place.PlaceNo.{PlaceNo}
-use Rattle.points_to_numbers.specs.declared.keys.ConstraintNo.{ConstraintNo}
 use Rattle.points_to_numbers.specs.Numbered.{Numbered}
 use Rattle.points_to_numbers.specs.Steps.{IsItemAt}
 use Rattle.points_to.specs.declared.refusals.RefusedCall.{RefusedCall}
 use Rattle.points_to.specs.declared.refusals.RefusedMethod.{RefusedMethod}
 use Rattle.points_to.specs.Closing.{IsLackIn, IsRefusedAmong, HasFirstCall, HasFirstMethod}
-use Rattle.points_to.specs.Concluding.{SitesBy, ConstraintsBy, LacksBy, RefusedBy, IsRefusedAs}
-use Rattle.points_to.specs.Passing.{NotesCalls, NotesMethods, LacksForSome, LacksSome}
-use Rattle.points_to.proofs.Following.{IsPoppedAt, constraint_there, site_there, constraint_of_place, site_of_place, popped_there}
-use Rattle.points_to.proofs.ItemPlaces.{holding, using, running, last_or_before, before_there}
+use Rattle.points_to.specs.Concluding.{ConstraintsBy, LacksBy, RefusedBy, IsRefusedAs}
+use Rattle.points_to.specs.Queues.{IsDone, State}
+use Rattle.points_to.specs.Passing.{NotesCalls, NotesMethods}
+use Rattle.points_to.proofs.Following.{IsTurnAt, constraint_there, site_there, constraint_of_place, site_of_place}
+use Rattle.points_to.proofs.Meanings.{Meant}
+use Rattle.points_to.proofs.ItemPlaces.{holding, using, running}
 use Rattle.points_to.proofs.Noting.{those_both, those_same}
 
 -- ---- the first of more
@@ -40,130 +36,145 @@ first_method_more R L S old new same h notes = record {
   is_first = notes.first h.noted h.is_first;
 }
 
--- ---- by an item
+-- ---- the same among other items
 
-module _ {p : Program} {gives : GivenAs} {n : Numbered} {sites : SitesBy} {constraints : ConstraintsBy} {items : List Item} {xs : List RuleItem} {done : ℕ} {item : Item} {popped : RuleItem}
-    (h : IsPoppedAt p gives n sites constraints items xs done item popped) (entry : MethodNo) where
-  abbrev Before : RuleItem → Type 0
-  Before = Contains (take done xs)
+pub lack_as : (p : Program) (T U : RuleItem → Type 0) → ((x : RuleItem) → T x → U x) → (c : RefusedCall) → IsLackIn p T c → IsLackIn p U c
+lack_as p T U more c l = record {
+  from = l.from;
+  call = l.call;
+  s = l.s;
+  constrains = more (constrained l.from (dispatch l.call)) l.constrains;
+  holds = more (known (may_hold l.from l.s)) l.holds;
+  at = l.at;
+  lacks = l.lacks;
+}
+
+pub first_call_as : (p : Program) (T U : RuleItem → Type 0) → ((x : RuleItem) → T x → U x) → ((x : RuleItem) → U x → T x) → (first : Option RefusedCall) → HasFirstCall (IsLackIn p T) first → HasFirstCall (IsLackIn p U) first
+first_call_as p T U more back first h = record {
+  noted = h.noted;
+  those = those_same (IsLackIn p T) (IsLackIn p U) h.noted (λ c. (lack_as p T U more c, lack_as p U T back c)) h.those;
+  is_first = h.is_first;
+}
+
+pub refused_as : (gives : GivenAs) (T U : RuleItem → Type 0) → ((x : RuleItem) → T x → U x) → (r : RefusedMethod) → IsRefusedAmong gives T r → IsRefusedAmong gives U r
+refused_as gives T U more r l = record { runs = more (known (may_run r.method)) l.runs; refused = l.refused }
+
+pub first_method_as : (gives : GivenAs) (T U : RuleItem → Type 0) → ((x : RuleItem) → T x → U x) → ((x : RuleItem) → U x → T x) → (first : Option RefusedMethod) → HasFirstMethod (IsRefusedAmong gives T) first
+    → HasFirstMethod (IsRefusedAmong gives U) first
+first_method_as gives T U more back first h = record {
+  noted = h.noted;
+  those = those_same (IsRefusedAmong gives T) (IsRefusedAmong gives U) h.noted (λ r. (refused_as gives T U more r, refused_as gives U T back r)) h.those;
+  is_first = h.is_first;
+}
+
+-- ---- by a turn
+
+module _ {p : Program} {gives : GivenAs} {n : Numbered} {constraints : ConstraintsBy} {q : State} (Before Turn : Item → Type 0) (h : IsTurnAt p gives n constraints q (Meant n Before)) (entry : MethodNo)
+    (still : (i : Item) → Before i → IsDone q i) (split : (i : Item) → IsDone q i → Before i ⊎ Turn i) (now : (i : Item) → Turn i → IsDone q i) (stands : (i : Item) → IsDone q i → (y : RuleItem) × IsItemAt n i y) where
+  abbrev Was : RuleItem → Type 0
+  Was = Meant n Before
 
   abbrev Now : RuleItem → Type 0
-  Now = Contains (take (done + 1) xs)
+  Now = Meant n (IsDone q)
 
-  still : (x : RuleItem) → Before x → Now x
-  still x c = before_there xs done popped h.popped_at x c
+  abbrev Lacks : RefusedCall → Type 0
+  Lacks c = (i : Item) × Turn i × LacksBy p n q.rows constraints i c
+
+  later : (x : RuleItem) → Was x → Now x
+  later x (i, before, at) = (i, still i before, at)
 
   -- ---- calls
 
-  lack_of_pair : (place : PlaceNo) (site : SiteNo) → item ≡ Holds place site → (c : RefusedCall) → LacksForSome p n (constraints place.0) site c → IsLackIn p Now c
-  lack_of_pair place site is c (constraint, there, lack) =
-      let (from, s, holder, at, e) = subst (λ (i : Item). IsItemAt n i popped) is h.stands in
-      let same : s ≡ lack.s = same_Some s lack.s (sym at ∙ lack.is_site) in
-      record {
-        from = from;
-        call = lack.call;
-        s = lack.s;
-        constrains = constraint_there h entry place constraint from (dispatch lack.call) there holder lack.selects.selects;
-        holds = subst Now (e ∙ ap (λ (r : Site). known (may_hold from r)) same) (popped_there h entry);
-        at = lack.selects.at;
-        lacks = lack.lacks;
-      }
-
-  lack_of_constraint : (place : PlaceNo) (constraint : ConstraintNo) → item ≡ Constrains place constraint → (c : RefusedCall) → LacksSome p n constraint (sites place.0) c → IsLackIn p Now c
-  lack_of_constraint place constraint is c (site, there, lack) =
-      let (from, u, holder, at, e) = subst (λ (i : Item). IsItemAt n i popped) is h.stands in
-      let same : u ≡ dispatch lack.call = same_Some u (dispatch lack.call) (sym at ∙ lack.selects.selects) in
-      record {
-        from = from;
-        call = lack.call;
-        s = lack.s;
-        constrains = subst Now (e ∙ ap (λ (v : ItemConstraint). constrained from v) same) (popped_there h entry);
-        holds = site_there h entry place site from lack.s there holder lack.is_site;
-        at = lack.selects.at;
-        lacks = lack.lacks;
-      }
-
-  lack_by : (c : RefusedCall) → LacksBy p n sites constraints item c → IsLackIn p Now c
-  lack_by c l = by item refl l
-    where
-      by : (i : Item) → item ≡ i → LacksBy p n sites constraints i c → IsLackIn p Now c
-      by (Holds place site) is g = lack_of_pair place site is c g
-      by (Runs m) is g = absurd g
-      by (Calls number target) is g = absurd g
-      by (Constrains place constraint) is g = lack_of_constraint place constraint is c g
-
-  lack_still : (c : RefusedCall) → IsLackIn p Before c → IsLackIn p Now c
-  lack_still c l = record {
-    from = l.from;
-    call = l.call;
-    s = l.s;
-    constrains = still (constrained l.from (dispatch l.call)) l.constrains;
-    holds = still (known (may_hold l.from l.s)) l.holds;
-    at = l.at;
-    lacks = l.lacks;
+  lack_by : (i : Item) (y : RuleItem) → IsItemAt n i y → IsDone q i → (c : RefusedCall) → LacksBy p n q.rows constraints i c → IsLackIn p Now c
+  lack_by (Holds place site) y (from, s, holder, at, e) done c (constraint, there, lack) = record {
+    from = from;
+    call = lack.call;
+    s = lack.s;
+    constrains = constraint_there h entry place constraint from (dispatch lack.call) there holder lack.selects.selects;
+    holds = (Holds place site, done, (from, lack.s, holder, lack.is_site, refl));
+    at = lack.selects.at;
+    lacks = lack.lacks;
+  }
+  lack_by (Runs m) y at done c none = absurd none
+  lack_by (Calls number target) y at done c none = absurd none
+  lack_by (Constrains place constraint) y (from, u, holder, at, e) done c (site, there, lack) = record {
+    from = from;
+    call = lack.call;
+    s = lack.s;
+    constrains = (Constrains place constraint, done, (from, dispatch lack.call, holder, lack.selects.selects, refl));
+    holds = site_there h entry place site from lack.s there holder lack.is_site;
+    at = lack.selects.at;
+    lacks = lack.lacks;
   }
 
-  -- by the constraint that is popped
-  lack_by_constraint : (c : RefusedCall) (l : IsLackIn p Now c) → popped ≡ constrained l.from (dispatch l.call) → LacksBy p n sites constraints item c
-  lack_by_constraint c l e =
-      let is = using n item l.from (dispatch l.call) (subst (λ (y : RuleItem). IsItemAt n item y) e h.stands) in
+  -- by the constraint
+  lack_by_constraint : (i : Item) (c : RefusedCall) (l : IsLackIn p Now c) → IsItemAt n i (constrained l.from (dispatch l.call)) → LacksBy p n q.rows constraints i c
+  lack_by_constraint i c l at =
+      let is = using n i l.from (dispatch l.call) at in
       let (site, there, of_site) = site_of_place h entry is.place l.from l.s is.holder l.holds in
-      subst (λ (i : Item). LacksBy p n sites constraints i c) (sym is.is)
+      subst (λ (j : Item). LacksBy p n q.rows constraints j c) (sym is.is)
       (site, there, record { call = l.call; selects = record { selects = is.of_constraint; at = l.at }; s = l.s; is_site = of_site; lacks = l.lacks })
 
-  -- by the object that is popped
-  lack_by_pair : (c : RefusedCall) (l : IsLackIn p Now c) → popped ≡ known (may_hold l.from l.s) → LacksBy p n sites constraints item c
-  lack_by_pair c l e =
-      let is = holding n item l.from l.s (subst (λ (y : RuleItem). IsItemAt n item y) e h.stands) in
-      let (constraint, there, stands) = constraint_of_place h entry is.place l.from (dispatch l.call) is.holder l.constrains in
-      subst (λ (i : Item). LacksBy p n sites constraints i c) (sym is.is)
-      (constraint, there, record { call = l.call; selects = record { selects = stands; at = l.at }; s = l.s; is_site = is.of_site; lacks = l.lacks })
+  -- by the object
+  lack_by_pair : (i : Item) (c : RefusedCall) (l : IsLackIn p Now c) → IsItemAt n i (known (may_hold l.from l.s)) → LacksBy p n q.rows constraints i c
+  lack_by_pair i c l at =
+      let is = holding n i l.from l.s at in
+      let (constraint, there, selects) = constraint_of_place h entry is.place l.from (dispatch l.call) is.holder l.constrains in
+      subst (λ (j : Item). LacksBy p n q.rows constraints j c) (sym is.is)
+      (constraint, there, record { call = l.call; selects = record { selects = selects; at = l.at }; s = l.s; is_site = is.of_site; lacks = l.lacks })
 
-  lack_split : (c : RefusedCall) → IsLackIn p Now c → IsLackIn p Before c ⊎ LacksBy p n sites constraints item c
-  lack_split c l = elim (last_or_before xs done popped h.popped_at (constrained l.from (dispatch l.call)) l.constrains) [
-    | inr last ↦ inr (lack_by_constraint c l last)
-    | inl constraint ↦ elim (last_or_before xs done popped h.popped_at (known (may_hold l.from l.s)) l.holds) [
-      | inr last ↦ inr (lack_by_pair c l last)
-      | inl pair ↦ inl (record { from = l.from; call = l.call; s = l.s; constrains = constraint; holds = pair; at = l.at; lacks = l.lacks })
+  lack_split : (c : RefusedCall) → IsLackIn p Now c → IsLackIn p Was c ⊎ Lacks c
+  lack_split c l = elim (split l.constrains.0 l.constrains.1) [
+    | inr turn ↦ inr (l.constrains.0, turn, lack_by_constraint l.constrains.0 c l l.constrains.2)
+    | inl constraint ↦ elim (split l.holds.0 l.holds.1) [
+      | inr turn ↦ inr (l.holds.0, turn, lack_by_pair l.holds.0 c l l.holds.2)
+      | inl pair ↦ inl (record {
+        from = l.from;
+        call = l.call;
+        s = l.s;
+        constrains = (l.constrains.0, constraint, l.constrains.2);
+        holds = (l.holds.0, pair, l.holds.2);
+        at = l.at;
+        lacks = l.lacks;
+      })
     ]
   ]
 
-  pub lacks_more : (old new : Option RefusedCall) → HasFirstCall (IsLackIn p Before) old → NotesCalls (LacksBy p n sites constraints item) old new → HasFirstCall (IsLackIn p Now) new
-  lacks_more old new = first_call_more (IsLackIn p Before) (LacksBy p n sites constraints item) (IsLackIn p Now) old new (λ c. (
-    (λ e. elim e [ inl before ↦ lack_still c before | inr now ↦ lack_by c now ]),
+  pub lacks_more : (old new : Option RefusedCall) → HasFirstCall (IsLackIn p Was) old → NotesCalls Lacks old new → HasFirstCall (IsLackIn p Now) new
+  lacks_more old new = first_call_more (IsLackIn p Was) Lacks (IsLackIn p Now) old new (λ c. (
+    (λ e. elim e [
+      | inl before ↦ lack_as p Was Now later c before
+      | inr (i, turn, lack) ↦ (let done = now i turn in let (y, at) = stands i done in lack_by i y at done c lack)
+    ]),
     (λ l. lack_split c l),
   ))
 
   -- ---- methods
 
-  refused_by : (r : RefusedMethod) → RefusedBy gives item r → IsRefusedAmong gives Now r
-  refused_by r l = by item refl l
-    where
-      by : (i : Item) → item ≡ i → RefusedBy gives i r → IsRefusedAmong gives Now r
-      by (Holds place site) is g = absurd g
-      by (Runs m) is g =
-          let e = subst (λ (i : Item). IsItemAt n i popped) is h.stands in
-          record {
-            runs = subst (λ (k : MethodNo). Now (known (may_run k))) (sym g.is) (subst Now e (popped_there h entry));
-            refused = subst (λ (k : MethodNo). gives k.0 (Err r.refusal)) (sym g.is) g.refused;
-          }
-      by (Calls number target) is g = absurd g
-      by (Constrains place constraint) is g = absurd g
+  module _ (kind : Item) (runs_now : (m : MethodNo) → kind ≡ Runs m → IsDone q (Runs m)) (kind_is : (m : MethodNo) → Turn (Runs m) → kind ≡ Runs m) where
+    refused_by : (r : RefusedMethod) → RefusedBy gives kind r → IsRefusedAmong gives Now r
+    refused_by r l = by kind refl l
+      where
+        by : (i : Item) → kind ≡ i → RefusedBy gives i r → IsRefusedAmong gives Now r
+        by (Holds place site) is g = absurd g
+        by (Runs m) is g = record {
+          runs = (Runs m, runs_now m is, ap (λ (k : MethodNo). known (may_run k)) g.is);
+          refused = subst (λ (k : MethodNo). gives k.0 (Err r.refusal)) (sym g.is) g.refused;
+        }
+        by (Calls number target) is g = absurd g
+        by (Constrains place constraint) is g = absurd g
 
-  refused_split : (r : RefusedMethod) → IsRefusedAmong gives Now r → IsRefusedAmong gives Before r ⊎ RefusedBy gives item r
-  refused_split r l = elim (last_or_before xs done popped h.popped_at (known (may_run r.method)) l.runs) [
-    | inl before ↦ inl (record { runs = before; refused = l.refused })
-    | inr last ↦
-        let is = running n item r.method (subst (λ (y : RuleItem). IsItemAt n item y) last h.stands) in
-        let own : IsRefusedAs gives r.method r = record { is = refl; refused = l.refused } in
-        inr (subst (λ (i : Item). RefusedBy gives i r) (sym is) own)
-  ]
+    refused_split : (r : RefusedMethod) → IsRefusedAmong gives Now r → IsRefusedAmong gives Was r ⊎ RefusedBy gives kind r
+    refused_split r l = elim (split l.runs.0 l.runs.1) [
+      | inl before ↦ inl (record { runs = (l.runs.0, before, l.runs.2); refused = l.refused })
+      | inr turn ↦
+          let is = kind_is r.method (subst Turn (running n l.runs.0 r.method l.runs.2) turn) in
+          let own : IsRefusedAs gives r.method r = record { is = refl; refused = l.refused } in
+          inr (subst (λ (i : Item). RefusedBy gives i r) (sym is) own)
+    ]
 
-  pub refused_more : (old new : Option RefusedMethod) → HasFirstMethod (IsRefusedAmong gives Before) old → NotesMethods (RefusedBy gives item) old new → HasFirstMethod (IsRefusedAmong gives Now) new
-  refused_more old new = first_method_more (IsRefusedAmong gives Before) (RefusedBy gives item) (IsRefusedAmong gives Now) old new (λ r. (
-    (λ e. elim e [
-      | inl before ↦ record { runs = still (known (may_run r.method)) before.runs; refused = before.refused }
-      | inr now ↦ refused_by r now
-    ]),
-    (λ l. refused_split r l),
-  ))
+    pub refused_more : (old new : Option RefusedMethod) → HasFirstMethod (IsRefusedAmong gives Was) old → NotesMethods (RefusedBy gives kind) old new → HasFirstMethod (IsRefusedAmong gives Now) new
+    refused_more old new = first_method_more (IsRefusedAmong gives Was) (RefusedBy gives kind) (IsRefusedAmong gives Now) old new (λ r. (
+      (λ e. elim e [ inl before ↦ refused_as gives Was Now later r before | inr l ↦ refused_by r l ]),
+      (λ l. refused_split r l),
+    ))

@@ -1,5 +1,5 @@
 -- This crate's own proofs alone rest on this module.
--- What follows from an item, by its number, together with the items of its place that came before it.
+-- What follows from what one turn does, by numbers, together with what is done by then at the same place.
 use Rattle.std.specs.Prelude.{◌≡◌, ◌⊎◌, ◌↔◌, ℕ, List, [], ◌∷◌, ◌++◌, length, Some, Ok, Err, Contains, slice_get}
 use Rattle.jvm_model.specs.declared.number.MethodNo.{MethodNo}
 use Rattle.jvm_model.specs.declared.number.SiteNo.{SiteNo}
@@ -21,25 +21,29 @@ use Rattle.slot_names.specs.Tables.{AreNames}
 use Rattle.points_to.specs.declared.refusals.RefusedCall.{RefusedCall}
 use Rattle.points_to.specs.declared.refusals.RefusedMethod.{RefusedMethod}
 use Rattle.points_to_rules.specs.declared.running_method.RunningMethod.{RunningMethod}
-use Rattle.points_to.specs.Passing.{IsKnownConstraint, PassesToSome, PassesSome, LacksForSome, LacksSome}
+use Rattle.points_to.specs.Passing.{IsKnownConstraint, IsLackOf, IsPassed, PassesToSome, LacksForSome}
+use Rattle.points_to.specs.declared.queue.Turn.{Turn}
+use Rattle.points_to.specs.declared.queue.Turn.TheVariants.{Sites, One}
+use Rattle.points_to.specs.Queues.{HasPassed, IsDone, State}
+use Rattle.points_to.specs.Turns.{IsInTurn}
+use Rattle.bit_rows.specs.declared.set.NumberSet.{NumberSet}
+use Rattle.bit_rows.specs.Sets.{IsIn}
+use Rattle.site_rows.specs.declared.row.SiteRow.{SiteRow}
+use Rattle.site_rows.specs.Rows.{held_at}
 
 -- ---- the sites and the constraints of each place
 
--- The sites, or the constraints, of each place by its number.
-abbrev pub SitesBy : Type 0
-SitesBy = ℕ → List SiteNo
-
+-- The constraints of each place by its number.
 abbrev pub ConstraintsBy : Type 0
 ConstraintsBy = ℕ → List ConstraintNo
 
--- The sites and the constraints of each place are what the items say of it.
-pub record IsIndex (sites : SitesBy) (constraints : ConstraintsBy) (items : List Item) : Type 0 where
-  pub sites_are : (place : PlaceNo) (site : SiteNo) → Contains (sites place.0) site ↔ Contains items (Holds place site)
-  pub constraints_are : (place : PlaceNo) (constraint : ConstraintNo) → Contains (constraints place.0) constraint ↔ Contains items (Constrains place constraint)
+-- The constraints of each place are what the items that are done say of it.
+pub record IsIndex (constraints : ConstraintsBy) (s : State) : Type 0 where
+  pub constraints_are : (place : PlaceNo) (constraint : ConstraintNo) → Contains (constraints place.0) constraint ↔ IsDone s (Constrains place constraint)
 
--- What is in the index is numbered, and calls that its constraints select at are resolved to methods of the program.
-pub record IsKnownIndex (p : Program) (n : Numbered) (sites : SitesBy) (constraints : ConstraintsBy) : Type 0 where
-  pub sites_known : (place : ℕ) (site : SiteNo) → Contains (sites place) site → IsNumbered n.sites site.0
+-- Sites are numbered, and so are constraints; calls that constraints select at are resolved to methods of the program.
+pub record IsKnownIndex (p : Program) (n : Numbered) (rows : List SiteRow) (constraints : ConstraintsBy) : Type 0 where
+  pub sites_known : (place site : ℕ) → IsIn (held_at rows place) site → IsNumbered n.sites site
   pub constraints_known : (place : ℕ) (constraint : ConstraintNo) → Contains (constraints place) constraint → IsKnownConstraint p n constraint
 
 -- The call is that of a node of a method, and not the one of the start.
@@ -78,19 +82,40 @@ pub record IsGivenItem (p : Program) (gives : GivenAs) (number : ℕ) (x : RuleI
   pub given : gives number (Ok method)
   pub item : MethodItem p method x
 
--- What follows from an item, with the sites and the constraints of its place.
-abbrev pub FollowsFrom : Program → GivenAs → Numbered → SitesBy → ConstraintsBy → Item → RuleItem → Type 0
-FollowsFrom p gives n sites constraints (Holds place site) x = PassesToSome p n (constraints place.0) site x
-FollowsFrom p gives n sites constraints (Runs method) x = IsGivenItem p gives method.0 x
-FollowsFrom p gives n sites constraints (Calls call target) x = IsCallItem p n call.0 target x
-FollowsFrom p gives n sites constraints (Constrains place constraint) x = PassesSome p n constraint (sites place.0) x
+-- The constraint makes this of an object of one of the sites of the place that are passed on.
+abbrev pub PassesSomeAt : Program → Numbered → ConstraintNo → List SiteRow → PlaceNo → RuleItem → Type 0
+PassesSomeAt p n constraint rows place x = (site : SiteNo) × HasPassed rows place.0 site.0 × IsPassed p n constraint site x
 
--- The calls that lack a target by it.
-abbrev pub LacksBy : Program → Numbered → SitesBy → ConstraintsBy → Item → RefusedCall → Type 0
-LacksBy p n sites constraints (Holds place site) c = LacksForSome p n (constraints place.0) site c
-LacksBy p n sites constraints (Runs method) c = ⊥
-LacksBy p n sites constraints (Calls call target) c = ⊥
-LacksBy p n sites constraints (Constrains place constraint) c = LacksSome p n constraint (sites place.0) c
+abbrev pub LacksSomeAt : Program → Numbered → ConstraintNo → List SiteRow → PlaceNo → RefusedCall → Type 0
+LacksSomeAt p n constraint rows place c = (site : SiteNo) × HasPassed rows place.0 site.0 × IsLackOf p n constraint site c
+
+-- One of the constraints makes this of an object of one of the sites of the set.
+abbrev pub PassesFresh : Program → Numbered → List ConstraintNo → NumberSet → RuleItem → Type 0
+PassesFresh p n constraints sites x = (site : SiteNo) × IsIn sites site.0 × PassesToSome p n constraints site x
+
+abbrev pub LacksFresh : Program → Numbered → List ConstraintNo → NumberSet → RefusedCall → Type 0
+LacksFresh p n constraints sites c = (site : SiteNo) × IsIn sites site.0 × LacksForSome p n constraints site c
+
+-- What follows from an item, with the sites of its place that are passed on, and the constraints of its place.
+abbrev pub FollowsFrom : Program → GivenAs → Numbered → List SiteRow → ConstraintsBy → Item → RuleItem → Type 0
+FollowsFrom p gives n rows constraints (Holds place site) x = PassesToSome p n (constraints place.0) site x
+FollowsFrom p gives n rows constraints (Runs method) x = IsGivenItem p gives method.0 x
+FollowsFrom p gives n rows constraints (Calls call target) x = IsCallItem p n call.0 target x
+FollowsFrom p gives n rows constraints (Constrains place constraint) x = PassesSomeAt p n constraint rows place x
+
+-- What follows from one of the items of a turn.
+abbrev pub FollowsInTurn : Program → GivenAs → Numbered → List SiteRow → ConstraintsBy → Turn → RuleItem → Type 0
+FollowsInTurn p gives n rows constraints turn x = (i : Item) × IsInTurn turn i × FollowsFrom p gives n rows constraints i x
+
+-- The calls that lack a target by an item, and by one of a turn.
+abbrev pub LacksBy : Program → Numbered → List SiteRow → ConstraintsBy → Item → RefusedCall → Type 0
+LacksBy p n rows constraints (Holds place site) c = LacksForSome p n (constraints place.0) site c
+LacksBy p n rows constraints (Runs method) c = ⊥
+LacksBy p n rows constraints (Calls call target) c = ⊥
+LacksBy p n rows constraints (Constrains place constraint) c = LacksSomeAt p n constraint rows place c
+
+abbrev pub LacksInTurn : Program → Numbered → List SiteRow → ConstraintsBy → Turn → RefusedCall → Type 0
+LacksInTurn p n rows constraints turn c = (i : Item) × IsInTurn turn i × LacksBy p n rows constraints i c
 
 -- The method that is refused by it.
 pub record IsRefusedAs (gives : GivenAs) (method : MethodNo) (r : RefusedMethod) : Type 0 where
@@ -132,3 +157,10 @@ AddsMethodsBy gives (Holds place site) old new = new ≡ old
 AddsMethodsBy gives (Runs method) old new = AddsMethod gives method.0 old new
 AddsMethodsBy gives (Calls call target) old new = new ≡ old
 AddsMethodsBy gives (Constrains place constraint) old new = new ≡ old
+
+-- ---- what a turn names
+
+-- The sites that are taken were numbered; and what the one item names is there.
+abbrev pub IsKnownTurn : Program → Numbered → Turn → Type 0
+IsKnownTurn p n (Sites fresh) = (site : ℕ) → IsIn fresh.sites site → IsNumbered n.sites site
+IsKnownTurn p n (One item) = IsKnownItem p n item

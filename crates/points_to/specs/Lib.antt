@@ -1,5 +1,7 @@
 pub mod Solutions
 pub mod Queues
+pub mod Turns
+pub mod Sites
 pub mod Firsts
 pub mod Passing
 pub mod Concluding

@@ -65,6 +65,13 @@ LacksForSome p n constraints site c = (constraint : ConstraintNo) × Contains co
 abbrev pub LacksSome : Program → Numbered → ConstraintNo → List SiteNo → RefusedCall → Type 0
 LacksSome p n constraint sites c = (site : SiteNo) × Contains sites site × IsLackOf p n constraint site c
 
+-- One of the constraints makes this of an object of one of the sites.
+abbrev pub PassesAny : Program → Numbered → List ConstraintNo → List SiteNo → RuleItem → Type 0
+PassesAny p n constraints sites x = (constraint : ConstraintNo) × Contains constraints constraint × PassesSome p n constraint sites x
+
+abbrev pub LacksAny : Program → Numbered → List ConstraintNo → List SiteNo → RefusedCall → Type 0
+LacksAny p n constraints sites c = (constraint : ConstraintNo) × Contains constraints constraint × LacksSome p n constraint sites c
+
 -- ---- notes
 
 -- These have the property, and nothing else has.

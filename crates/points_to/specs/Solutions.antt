@@ -12,6 +12,7 @@ use Rattle.points_to_numbers.specs.declared.item.Item.{Item}
 use Rattle.points_to_numbers.specs.Numbered.{Numbered}
 use Rattle.points_to_numbers.specs.Steps.{IsItemAt}
 use Rattle.points_to.specs.declared.solution.Solution.{Solution}
+use Rattle.points_to.specs.Queues.{items_of}
 
 -- The facts among the items that the numbers stand for.
 abbrev pub AreFactsOf : Numbered → List Item → List Fact → Type 0
@@ -20,6 +21,6 @@ AreFactsOf n items facts = (xs : List RuleItem) × AllZip (IsItemAt n) items xs 
 -- The solution's items stand for the least facts.
 pub record IsSolved (p : Program) (gives : GivenAs) (entry : MethodNo) (limit : ℕ) (s : Solution) : Type 0 where
   pub facts : List Fact
-  pub of : AreFactsOf s.tables s.items.items.keys facts
+  pub of : AreFactsOf s.tables (items_of s.items) facts
   pub solution : IsSolution p gives entry limit facts
   pub running : AreRunning gives (Contains facts) s.methods.items

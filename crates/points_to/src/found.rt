@@ -5,7 +5,7 @@ ghost use Rattle.jvm_model.specs.Programs.{Program as LinkedProgram};
 ghost use Rattle.points_to_calls.specs.KeptAnswers.{AreRight};
 ghost use Rattle.points_to_numbers.specs.Numbered.{Numbered, Grows, IsNumbered, none_numbered};
 ghost use Rattle.points_to_numbers.specs.Steps.{Adds};
-ghost use Rattle.points_to.specs.Passing.{IsKnownConstraint, IsPassed, IsLackOf, NotesCalls, NotesReason, PassesToSome, PassesSome, LacksForSome, LacksSome};
+ghost use Rattle.points_to.specs.Passing.{IsKnownConstraint, IsPassed, IsLackOf, NotesCalls, NotesReason, PassesAny, PassesToSome, PassesSome, LacksAny, LacksForSome, LacksSome};
 
 use crate::refusals::{Refusals, RefusedCall};
 use jvm_model::{Reason, SiteNo};
@@ -81,6 +81,29 @@ impl Found {
     {
         for site in sites {
             self.pass(program, constraint, *site)?;
+        }
+        Ok(())
+    }
+
+    /// Passes an object of each of some sites to each of some constraints.
+    pub(crate) fn pass_all(
+        &mut self,
+        program: &Program,
+        constraints: &[ConstraintNo],
+        sites: &[SiteNo],
+    ) -> Result<(), IndexFailure>
+        requires constraints { All (λ (constraint : ConstraintNo). IsKnownConstraint program.now self.old.work.tables constraint) constraints.now }
+        requires sites { All (λ (site : SiteNo). IsNumbered self.old.work.tables.sites site.0) sites.now }
+        requires answers { AreRight program.now self.old.work.tables self.old.answers }
+        ensures grows { OnOk result (Grows self.old.work.tables self.new.work.tables) }
+        ensures calls { OnOk result (length self.new.work.tables.calls ≡ length self.old.work.tables.calls) }
+        ensures answers { OnOk result (AreRight program.now self.new.work.tables self.new.answers) }
+        ensures adds { OnOk result (Adds self.new.work.tables (PassesAny program.now self.old.work.tables constraints.now sites.now) self.old.work.steps.items self.new.work.steps.items) }
+        ensures lacks { OnOk result (NotesCalls (LacksAny program.now self.old.work.tables constraints.now sites.now) self.old.refusals.call self.new.refusals.call) }
+        ensures method { self.new.refusals.method ≡ self.old.refusals.method }
+    {
+        for constraint in constraints {
+            self.pass_each(program, *constraint, sites)?;
         }
         Ok(())
     }

@@ -4,11 +4,11 @@ ghost use Rattle.std.specs.Prelude.{◌≡◌};
 ghost use Rattle.points_to.specs.Working.{IsFresh};
 
 use crate::found::Found;
-use crate::index::Index;
 use crate::queue::Queue;
 use crate::refusals::Refusals;
 use crate::solution::Solution;
-use points_to_numbers::Work;
+use grouped_lists::Groups;
+use points_to_numbers::{ConstraintNo, Work};
 use points_to_rules::RunningMethod;
 use std::alloc::Global;
 
@@ -19,13 +19,13 @@ pub(crate) struct Closing {
     pub(crate) refusals: Refusals,
 }
 
-/// What the loop works on: the items, what was found besides, the sites and the constraints of what is done, and the methods. It is one value, so
-/// that a failure has one value to drop.
+/// What the loop works on: the items, what was found besides, the constraints of each place, and the methods. It is one value, so that a failure
+/// has one value to drop.
 #[derive(Drop)]
 pub(crate) struct Working {
     pub(crate) queue: Queue,
     pub(crate) found: Found,
-    pub(crate) index: Index,
+    pub(crate) constraints: Groups<ConstraintNo>,
     pub(crate) methods: Vec<RunningMethod>,
 }
 
@@ -37,7 +37,7 @@ impl Working {
         Working {
             queue: Queue::new(alloc),
             found: Found::new(alloc),
-            index: Index::new(alloc),
+            constraints: Groups::new(alloc),
             methods: Vec::new(alloc),
         }
     }

@@ -1,8 +1,6 @@
 -- What an object leads to that selects the target of a call: what it selects is one thing, and what is added by it.
-use Rattle.std.proofs.Common.{◌≡◌, ◌↔◌, ℕ, Bool, true, false, List, Option, Some, None, Result, Ok, Err, refl, sym, ap, ◌∙◌, subst, inl, inr, ◌⊎◌}
-use Rattle.std.specs.Prelude.{if◌then◌else◌}
+use Rattle.std.proofs.Common.{◌≡◌, ◌↔◌, ℕ, false, Some, None, Result, Ok, Err, refl, sym, ap, ◌∙◌, subst, inl, inr, ◌⊎◌}
 use Rattle.std.specs.List.{slice_get, Contains}
-use Rattle.std.proofs.lemmas.Bool.{false≢true}
 use Rattle.std.proofs.lemmas.Option.{same_Some}
 use Rattle.jvm_model.specs.declared.number.MethodNo.{MethodNo}
 use Rattle.jvm_model.specs.declared.reason.Reason.{Reason}
@@ -11,14 +9,7 @@ use Rattle.jvm_model.specs.declared.site.Site.{Site}
 use Rattle.jvm_model.specs.declared.stub.StubMethod.{StubMethod}
 use Rattle.jvm_model.specs.declared.stub.StubResult.{StubResult}
 use Rattle.jvm_model.specs.declared.stub.StubResult.TheVariants.{Primitive, Void, Null, Given, New, Kept}
-use Rattle.jvm_model.specs.Programs.{Class, Program, Method, described, object_name, IsUndescribed}
-use Rattle.jvm_model.specs.Soundness.{is_array}
-use Rattle.jvm_model.specs.Subtypes.{class_named, Fits, by_class, by_array, by_itself, by_elements}
-use Rattle.machine_bytecode.specs.Machine.{selecting_class}
-use Rattle.jvm_model.specs.Selection.{Selection, selected, no_code, nothing, several, hidden}
-use Rattle.program_model.specs.Numbers.{IsMethodNumber}
-use Rattle.op_model.specs.declared.op.CallKind.{CallKind}
-use Rattle.op_model.specs.declared.op.CallKind.TheVariants.{Virtual, Special, Static, Interface}
+use Rattle.jvm_model.specs.Programs.{Program, Method, described, IsUndescribed}
 use Rattle.points_to_rules.specs.Calls.{IsDescribedBy, SelectsFor}
 use Rattle.points_to_rules.specs.Facts.{kept_objects}
 use Rattle.points_to_rules.specs.Refusals.{not_selected, not_described}
@@ -27,47 +18,7 @@ use Rattle.points_to_constraints.specs.Items.{CallSite, Item as RuleItem}
 use Rattle.points_to_calls.specs.Describing.{ReceiverItem}
 use Rattle.points_to_calls.specs.Lacks.{CallLacks}
 use Rattle.points_to_calls.specs.Parts.{RuleOrigin, made, Gets, ResultsGet, ResultGives, KeptItem, GotItem}
-use Rattle.points_to_calls.specs.Selecting.{DescribedItem, IsOnlyAnswer, TargetItem}
-use Rattle.std.proofs.lemmas.Option.{slice_get_within}
-
--- ---- the class that selects
-
-pub plain_there : (p : Program) (upper lower : List ℕ) → Fits p upper lower → is_array lower ≡ false → (c : Class) × (class_named p lower ≡ Some c)
-plain_there p u l (by_class upper lower c named under) plain = (c, named)
-plain_there p u l (by_array upper lower array above) plain = absurd (false≢true (sym plain ∙ array))
-plain_there p u l (by_itself upper lower array e) plain = absurd (false≢true (sym plain ∙ array))
-plain_there p u l (by_elements upper lower over under e is fit) plain = absurd (false≢true (sym plain ∙ ap is_array is))
-
--- the class of an object that fits one is there, if java/lang/Object is
-pub selecting_there : (p : Program) (upper lower : List ℕ) → Fits p upper lower → (object : Class) × (class_named p object_name ≡ Some object)
-    → (c : Class) × (class_named p (selecting_class lower) ≡ Some c)
-selecting_there p upper lower fit object = by (is_array lower) refl
-  where
-    by : (b : Bool) → is_array lower ≡ b → (c : Class) × (class_named p (selecting_class lower) ≡ Some c)
-    by true e = subst (λ (name : List ℕ). (c : Class) × (class_named p name ≡ Some c)) (sym (ap (λ (b : Bool). if b then object_name else lower) e)) object
-    by false e = subst (λ (name : List ℕ). (c : Class) × (class_named p name ≡ Some c)) (sym (ap (λ (b : Bool). if b then object_name else lower) e)) (plain_there p upper lower fit e)
-
--- ---- what is selected
-
--- an only answer that is matched
-pub only_matched : (Q : Result ℕ Reason → Type 0) (answer : Option (Result MethodNo Reason)) (chosen outcome : Result MethodNo Reason)
-    → answer ≡ Some chosen → chosen ≡ outcome → IsOnlyAnswer Q answer → IsOnlyAnswer Q (Some outcome)
-only_matched Q answer chosen outcome some is only = subst (IsOnlyAnswer Q) (some ∙ ap (λ (a : Result MethodNo Reason). Some a) is) only
-
--- a target is a method of the program
-target_within : (p : Program) (by_interface : Bool) (class : List ℕ) (resolved target : ℕ) → Selection p by_interface class resolved (Ok target) → IsMethodNumber p target
-target_within p v class r t (selected i m x at kind plain is) =
-    let same : t ≡ i = cc is in subst (λ (k : ℕ). IsMethodNumber p k) (sym same) (slice_get_within p.methods i m at)
-target_within p v class r t (no_code i m x at kind is) = (let e : Ok t ≡ Err _ = is in cc e)
-target_within p v class r t (nothing none no_clash is) = (let e : Ok t ≡ Err _ = is in cc e)
-target_within p v class r t (several clash is) = (let e : Ok t ≡ Err _ = is in cc e)
-target_within p v class r t (hidden i m x at kind over is) = (let e : Ok t ≡ Err _ = is in cc e)
-
-pub selected_within : (kind : CallKind) (p : Program) (resolved : MethodNo) (s : Site) (target : ℕ) → SelectsFor kind p resolved s (Ok target) → IsMethodNumber p target
-selected_within Virtual p resolved s target selects = target_within p false (selecting_class s.class) resolved.0 target selects.1
-selected_within Special p resolved s target selects = absurd selects
-selected_within Static p resolved s target selects = absurd selects
-selected_within Interface p resolved s target selects = target_within p true (selecting_class s.class) resolved.0 target selects.1
+use Rattle.points_to_calls.specs.Selecting.{DescribedItem, TargetItem}
 
 -- ---- what a described target keeps and gives
 

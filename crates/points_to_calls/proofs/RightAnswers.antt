@@ -20,7 +20,7 @@ use Rattle.points_to_calls.specs.declared.answer_keys.FitKey.{FitKey}
 use Rattle.points_to_calls.specs.declared.answer_keys.SelectKey.{SelectKey}
 use Rattle.points_to_calls.specs.declared.kept.Answers.{Answers}
 use Rattle.points_to_calls.specs.KeptAnswers.{same_fits, same_selects, IsFitAnswer, IsSelectAnswer, AreRight}
-use Rattle.points_to_calls.specs.Selecting.{IsOnlyAnswer}
+use Rattle.call_selection.specs.OnlyAnswers.{IsOnlyAnswer}
 
 -- ---- `==` on the keys tells each two apart
 

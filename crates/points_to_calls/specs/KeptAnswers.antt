@@ -14,7 +14,7 @@ use Rattle.points_to_calls.specs.declared.answer_keys.SelectKey.{SelectKey}
 use Rattle.points_to_calls.specs.declared.kept.Answers.{Answers}
 use Rattle.points_to_calls.specs.contracts.answer_keys.FitKeyPartialEq.TheImpl as fit_block
 use Rattle.points_to_calls.specs.contracts.answer_keys.SelectKeyPartialEq.TheImpl as select_block
-use Rattle.points_to_calls.specs.Selecting.{IsOnlyAnswer}
+use Rattle.call_selection.specs.OnlyAnswers.{IsOnlyAnswer}
 
 -- `==` of two keys.
 abbrev pub same_fits : FitKey → FitKey → Bool

@@ -1,22 +1,15 @@
 -- Public contracts rest on this module.
 -- What an object that selects the target of a call leads to, by what it selects.
-use Rattle.std.specs.Prelude.{◌≡◌, ◌⊎◌, ℕ, Option, Some, None, Result}
+use Rattle.std.specs.Prelude.{◌≡◌, ◌⊎◌, Some}
 use Rattle.jvm_model.specs.declared.number.MethodNo.{MethodNo}
-use Rattle.jvm_model.specs.declared.reason.Reason.{Reason}
 use Rattle.jvm_model.specs.declared.site.Site.{Site}
 use Rattle.jvm_model.specs.declared.stub.StubMethod.{StubMethod}
 use Rattle.jvm_model.specs.Programs.{Program}
-use Rattle.program_model.specs.Numbers.{method_number}
 use Rattle.slot_names.specs.declared.variable.Variable.TheVariants.{Parameter}
 use Rattle.points_to_rules.specs.Calls.{IsDescribedBy}
 use Rattle.points_to_rules.specs.Facts.{variable, may_hold, may_call}
 use Rattle.points_to_constraints.specs.Items.{CallSite, Item as RuleItem, known}
 use Rattle.points_to_calls.specs.Parts.{KeptItem, GotItem}
-
--- The answer is the only one of which the fact holds; or it holds of none.
-abbrev pub IsOnlyAnswer : (Result ℕ Reason → Type 0) → Option (Result MethodNo Reason) → Type 0
-IsOnlyAnswer Q None = (outcome : Result ℕ Reason) → Q outcome → ⊥
-IsOnlyAnswer Q (Some answer) = Q (method_number answer) × ((outcome : Result ℕ Reason) → Q outcome → outcome ≡ method_number answer)
 
 -- What a target that a stub describes keeps and gives of the object.
 abbrev pub DescribedItem : Program → CallSite → Site → MethodNo → RuleItem → Type 0

@@ -7,12 +7,12 @@ ghost use Rattle.jvm_model.specs.Programs.{Program as LinkedProgram};
 ghost use Rattle.jvm_model.specs.Subtypes.{Fits};
 ghost use Rattle.program_model.specs.Numbers.{IsMethodNumber};
 ghost use Rattle.points_to_calls.specs.KeptAnswers.{AreRight};
-ghost use Rattle.points_to_calls.specs.Selecting.{IsOnlyAnswer};
+ghost use Rattle.call_selection.specs.OnlyAnswers.{IsOnlyAnswer};
 ghost use Rattle.points_to_rules.specs.Calls.{SelectsAs};
 ghost use Rattle.points_to_numbers.specs.Numbered.{Numbered, IsNumbered};
 
 use crate::answer_keys::{FitKey, SelectKey};
-use crate::selection::selected_from;
+use call_selection::selected_from;
 use hierarchy::fits;
 use indexmap::IndexMap;
 use jvm_model::{MethodNo, Reason};

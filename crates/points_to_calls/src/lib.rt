@@ -1,7 +1,7 @@
 //! The items of the points-to solver to which calls and constraints lead: what a call passes to a target and gets from it, and what each
 //! constraint makes of an object of its place. What is asked of classes again and again is kept, in `Answers`.
 //! The solver calls `target_items` for a call that goes to a target, and `pass` for a constraint and an object.
-//! Begin with src/targets.rt and src/passing.rt; selection.rt has what a call selects, catch_chains.rt where exceptions go.
+//! Begin with src/targets.rt and src/passing.rt; catch_chains.rt has where exceptions go. What a call selects stands in call_selection.
 #![tactic(auto)]
 
 mod answer_keys;
@@ -15,7 +15,6 @@ mod plain;
 mod reading;
 mod receiver;
 mod selecting;
-mod selection;
 mod targets;
 
 pub use answer_keys::{FitKey, SelectKey};

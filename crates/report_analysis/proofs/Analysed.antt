@@ -87,4 +87,5 @@ module _ (p : Program) (gives : GivenAs) (entry : MethodNo) (limit : ℕ) (found
     least = least_together p gives entry found g.facts methods solution.least.least running whole least;
     unrefused = λ m r refused. solution.unrefused m r (refused_found m r refused);
     listed = subst (λ (ls : List LoweredMethod). AreListed gives (Contains g.facts) ls) (sym same) all_listed;
+    placed = is_ground.placed;
   }

@@ -3,6 +3,7 @@
 pub mod Analysed
 pub mod OwnProgram
 pub mod Objects
+pub mod JudgedReport
 mod StageVerdicts
 mod FoundLines
 mod CallTargets
@@ -12,3 +13,4 @@ mod ListedVerdicts
 mod TurnedRound
 mod Reported
 mod Tracing
+mod ClaimedEdges

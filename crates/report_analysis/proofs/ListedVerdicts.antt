@@ -46,7 +46,7 @@ module _ (x : Subject) (limit : ℕ) (g : Findings) (analysis : IsAnalysis x.pro
     safe_there stage within (by_edges setting of below) =
         by_edges setting of ((listed_safe x g.facts g.methods setting w.fact_limit analysis.least.closed only analysis.listed.all).0 below)
 
-    safe_back : (stage : ℕ) → stage ≤ w.stages → SafeAs (IsSupplied x.program) stage → SafeAs Listed stage
+    pub safe_back : (stage : ℕ) → stage ≤ w.stages → SafeAs (IsSupplied x.program) stage → SafeAs Listed stage
     safe_back stage within (by_events is pruned) =
         by_events is (pruned_over x.program (Contains g.facts) Listed (IsSupplied x.program) to_supplied x.property s pruned)
     safe_back stage within (by_edges setting of below) =

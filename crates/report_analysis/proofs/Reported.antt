@@ -39,7 +39,7 @@ module _ (x : Subject) (limit : ℕ) (g : Findings) (analysis : IsAnalysis x.pro
 
   -- ---- sites
 
-  tracked_in : (upper : List ℕ) (sites : List TrackedSite) → AreTracked x.program Here (Contains g.facts) upper sites
+  pub tracked_in : (upper : List ℕ) (sites : List TrackedSite) → AreTracked x.program Here (Contains g.facts) upper sites
       → AreTracked x.program (IsSupplied x.program) (Contains g.facts) upper sites
   tracked_in = tracked_both x.program (Contains g.facts) Here (IsSupplied x.program) (to_supplied x limit g analysis whole) (to_listed x limit g analysis whole)
 
@@ -57,6 +57,13 @@ module _ (x : Subject) (limit : ℕ) (g : Findings) (analysis : IsAnalysis x.pro
     verdicts_are [] verdicts all = tt
     verdicts_are (t ∷ sites) [] all = tt
     verdicts_are (t ∷ sites) (v ∷ verdicts) all = (verdict_of_folder x limit g analysis whole w t v all.0, verdicts_are sites verdicts all.1)
+
+    pub verdicts_both : (sites : List TrackedSite) (verdicts : List Verdict) → AllZip (IsVerdict x Here (Contains g.facts) w) sites verdicts
+        → AllZip (IsVerdict x (IsSupplied x.program) (Contains g.facts) w) sites verdicts
+    verdicts_both [] [] all = tt
+    verdicts_both [] (v ∷ verdicts) all = absurd all
+    verdicts_both (t ∷ sites) [] all = absurd all
+    verdicts_both (t ∷ sites) (v ∷ verdicts) all = (verdict_of_folder x limit g analysis whole w t v all.0, verdicts_both sites verdicts all.1)
 
     -- ---- what is told below the lines
 

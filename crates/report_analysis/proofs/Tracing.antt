@@ -94,7 +94,7 @@ pub subject_of_own : (a : LaterStages) → IsSubjectOf a (subject_in a)
 subject_of_own a = record { program = refl; entry = refl; property = refl }
 
 -- what is asked of is one subject
-subject_same : (a : LaterStages) (x : Subject) → IsSubjectOf a x → subject_in a ≡ x
+pub subject_same : (a : LaterStages) (x : Subject) → IsSubjectOf a x → subject_in a ≡ x
 subject_same a x is =
     let program = sym is.program in
     let property = sym is.property in

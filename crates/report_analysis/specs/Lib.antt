@@ -5,3 +5,4 @@ pub mod Written
 pub mod Numbers
 pub mod Later
 pub mod Judging
+pub mod Claims

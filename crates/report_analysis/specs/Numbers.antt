@@ -1,4 +1,4 @@
--- This crate's own proofs alone rest on this module.
+-- Public contracts rest on this module.
 -- The numbers in the ground of tracked sites.
 use Rattle.std.specs.Prelude.{◌≡◌, ◌<◌, ℕ, List, Option, Some, None, length, slice_get, slice_set}
 use Rattle.jvm_model.specs.declared.number.SiteNo.{SiteNo}

@@ -63,7 +63,7 @@ pub(crate) fn judge_later(
 }
 
 /// What is needed to look at the nodes of the ground. It is as if memory ran out where 32 bits do not count something.
-fn views_of<'p>(
+pub fn views_of<'p>(
     alloc: Global,
     ground: &Ground<'p>,
     entry: MethodNo,

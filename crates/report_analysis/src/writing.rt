@@ -96,7 +96,7 @@ fn limit_count(verdicts: &[Verdict]) -> usize
 }
 
 /// Whether each site is safe.
-fn are_all_safe(verdicts: &[Verdict]) -> bool
+pub fn are_all_safe(verdicts: &[Verdict]) -> bool
     ensures { IsTrue result ↔ All (λ verdict. IsTrue (is_safe verdict)) verdicts.now }
 {
     verdicts.iter().all(|verdict| is_safe(*verdict))

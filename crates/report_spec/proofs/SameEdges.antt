@@ -45,7 +45,7 @@ module _ (x : Subject) (gives : GivenAs) (S T : Fact → Type 0) (to : (fact : F
     enters_over m l n target f by sent (called c g is goes of_file there) = called c g is (to (may_call (node_at m n) target) goes) of_file there
     enters_over m l n target f by sent (triggered starts) = triggered starts
 
-    instance_over : (premises : List Edge) (edge : Edge) → Instance x gives S t premises edge → Instance x gives T t premises edge
+    pub instance_over : (premises : List Edge) (edge : Edge) → Instance x gives S t premises edge → Instance x gives T t premises edge
     instance_over premises edge start = start
     instance_over premises edge (goes_on m l n e f g offset node no_call there to_fact) = goes_on m l n e f g offset node no_call there to_fact
     instance_over premises edge (returns m l n e f g value node is to_fact) = returns m l n e f g value node is to_fact
@@ -77,7 +77,7 @@ module _ (x : Subject) (gives : GivenAs) (S T : Fact → Type 0) (to : (fact : F
   }
 
   module _ (w : Setting) where
-    setting_over : IsSettingOf x S w → IsSettingOf x T w
+    pub setting_over : IsSettingOf x S w → IsSettingOf x T w
     setting_over is = record { property = is.property; answers = answers_over w.answers is.answers }
 
     rule_over : (premises : List Edge) (edge : Edge) → StageInstance x gives S w premises edge → StageInstance x gives T w premises edge

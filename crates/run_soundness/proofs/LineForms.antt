@@ -1,5 +1,5 @@
 -- Each line of an outcome is a line, and only that of a report says that a site is safe.
-use Rattle.std.proofs.Common.{codes, ◌≡◌, ◌∙◌, ◌⊎◌, inl, inr, ℕ, zero, suc, ◌-◌, Bool, true, false, not, eqb, nat_eq, List, [], ◌∷◌, ◌++◌, length, drop, zip, refl, sym, ap, subst, arith}
+use Rattle.std.proofs.Common.{codes, ◌≡◌, ◌∙◌, ◌⊎◌, inl, inr, ℕ, zero, suc, ◌-◌, Bool, true, false, not, eqb, nat_eq, List, [], ◌∷◌, ◌++◌, length, drop, map, zip, refl, sym, ap, subst, arith}
 use Rattle.std.proofs.Math.Seq.{drop-append_seam}
 use Rattle.std.proofs.lemmas.List.{length-append}
 use Rattle.std.specs.List.{AllByRecursion, flat_map, list_all}
@@ -8,7 +8,7 @@ use Rattle.ts_outside.specs.Files.{File}
 use Rattle.jvm_model.specs.declared.automaton.Automaton.{Automaton}
 use Rattle.jvm_model.specs.declared.number.MethodNo.{MethodNo}
 use Rattle.jvm_model.specs.declared.reason.Reason.{Reason}
-use Rattle.jvm_model.specs.declared.reason.Reason.TheVariants.{Truncated, BadMagic, BadVersion, BadTag, BadIndex, BadUtf8, BadDescriptor, TrailingBytes, CodeMissing, CodeUnexpected, ClassTooLarge, BadOpcode, BadTarget, CodeCut, StackUnder, StackOver, StackMerge, FallsOff, BadLocal, BadHandler, Subroutine, InvokeDynamic, MethodConstant, DuplicateClass, MissingClass, Cycle, MissingField, MissingMethod, NoStub, NoImplementation, ClashingDefaults, PackageOverride, KindMismatch, Reflection, Threads, Finalizer, BadToml, BadProperty, BadStub, NoEntry, EntryShape, TooManyFiles, PairLimit}
+use Rattle.jvm_model.specs.declared.reason.Reason.TheVariants.{Truncated, BadMagic, BadVersion, BadTag, BadIndex, BadUtf8, BadDescriptor, TrailingBytes, CodeMissing, CodeUnexpected, ClassTooLarge, BadOpcode, BadTarget, CodeCut, StackUnder, StackOver, StackMerge, FallsOff, BadLocal, BadHandler, Subroutine, InvokeDynamic, MethodConstant, DuplicateClass, MissingClass, Cycle, MissingField, MissingMethod, NoStub, NoImplementation, ClashingDefaults, PackageOverride, KindMismatch, Reflection, Threads, Finalizer, BadToml, BadProperty, BadStub, NoEntry, EntryShape, TooManyFiles, PairLimit, CertificateTooLarge}
 use Rattle.jvm_model.specs.declared.stub.StubClass.{StubClass}
 use Rattle.jvm_model.specs.Programs.{Program}
 use Rattle.jvm_model.specs.Words.{word_of}
@@ -19,6 +19,10 @@ use Rattle.command_words.specs.declared.fault.UsageFault.TheVariants.{Words, Mod
 use Rattle.command_words.specs.declared.request.Mode.{Mode}
 use Rattle.command_words.specs.declared.request.Mode.TheVariants as modes
 use Rattle.command_words.specs.Requests.{Wanted, AsksFor}
+use Rattle.certificate_lines.specs.declared.line.Line.{Line}
+use Rattle.certificate_lines.specs.LineTexts.{line_text}
+use Rattle.certificate_spec.proofs.PlainCertificates.{lines_are_lines, no_second_a}
+use Rattle.points_to_rules.specs.Facts.{Fact}
 use Rattle.report_spec.specs.Reports.{summary_of}
 use Rattle.report_spec.specs.Traces.{site_lines, traced_lines}
 use Rattle.report_spec.proofs.Traced.{traced_are_lines}
@@ -26,7 +30,7 @@ use Rattle.run_spec.specs.declared.status.Status.{Status}
 use Rattle.run_spec.specs.declared.status.Status.TheVariants.{AllSafe, SomeUnproved, Refused, Usage}
 use Rattle.run_spec.specs.Inputs.{AsksForSample, Input, IsOfTree}
 use Rattle.run_spec.specs.Lines.{last_of, missing_line, no_file, option_word, refused_line, usage_line}
-use Rattle.run_spec.specs.Outcomes.{AnalysisOutcome, ClassOutcome, EndsWith, EntryOutcome, FolderOutcome, LinkOutcome, Misses, Outcome, PropertyOutcome, Refuses, StubOutcome, pair_limit, refused_method, reported, report_status, no_class, has_class, no_entry, other_shape, has_entry, unlinked, linked, refused_folder, has_classes, no_stub_file, stubs_no_document, broken_stubs, no_stubs, has_stubs, no_property, property_no_document, broken_property, has_property, unusable, usable, files_read, lines_written}
+use Rattle.run_spec.specs.Outcomes.{asked_of, run_of, AnalysisOutcome, ClassOutcome, EndsWith, EntryOutcome, FolderOutcome, LinkOutcome, Misses, Outcome, PropertyOutcome, Refuses, StubOutcome, ToldOutcome, pair_limit, refused_method, analysed, reported, certified, too_large, report_status, no_class, has_class, no_entry, other_shape, has_entry, unlinked, linked, refused_folder, has_classes, no_stub_file, stubs_no_document, broken_stubs, no_stubs, has_stubs, no_property, property_no_document, broken_property, has_property, unusable, usable, files_read, lines_written}
 use Rattle.run_spec.proofs.OneRequest.{AsksFor-same, asked_or_wrong}
 use Rattle.run_soundness.specs.Truth.{SaysSafe}
 use Rattle.site_report.specs.Lines.{summary_line}
@@ -78,6 +82,7 @@ word_plain NoEntry = refl
 word_plain EntryShape = refl
 word_plain TooManyFiles = refl
 word_plain PairLimit = refl
+word_plain CertificateTooLarge = refl
 
 pub refused_is_line : (file : List ℕ) (offset : ℕ) (reason : Reason) → IsLine (refused_line file offset reason)
 refused_is_line file offset reason =
@@ -158,12 +163,22 @@ summary_unsafe : (safe unproved limit : ℕ) (found : List ℕ) → Among found 
 summary_unsafe safe unproved limit found (inl e) says = let a = says_a found says in absurd (cc a)
 summary_unsafe safe unproved limit found (inr none) says = none
 
+-- nor does a line of a certificate
+pub certificate_unsafe : (certificate : List Line) (found : List ℕ) → Among found (map line_text certificate) → SaysSafe found → ⊥
+certificate_unsafe [] found none says = none
+certificate_unsafe (x ∷ certificate) found (inl e) says = let a = says_a found says in let b = ap has_a e in let other = no_second_a x in absurd (cc (a, b, other))
+certificate_unsafe (x ∷ certificate) found (inr more) says = certificate_unsafe certificate found more says
+
+-- what is among the last of some lines is among them
+among_dropped : (n : ℕ) (lines : List (List ℕ)) (line : List ℕ) → Among line (drop n lines) → Among line lines
+among_dropped zero lines line among = among
+among_dropped (suc n) [] line among = among
+among_dropped (suc n) (other ∷ lines) line among = inr (among_dropped n lines line among)
+
 -- ---- the levels
 
-analysis_formed : (i : Input) (p : Program) (entry : MethodNo) (s : Status) (lines : List (List ℕ)) → AnalysisOutcome i p entry s lines → AreFormed s lines
-analysis_formed i p entry s lines (pair_limit end ends) = refuses_formed s lines no_file 0 PairLimit ends
-analysis_formed i p entry s lines (refused_method r end ends) = refuses_formed s lines r.file r.offset r.reason ends
-analysis_formed i p entry s lines (reported found facts all_safe solution of_all report is) = record {
+told_formed : (i : Input) (p : Program) (entry : MethodNo) (facts : List Fact) (s : Status) (lines : List (List ℕ)) → ToldOutcome (run_of i p entry) facts (asked_of i) i.wanted.mode s lines → AreFormed s lines
+told_formed i p entry facts s lines (reported all_safe unasked report is) = record {
   formed = record {
     others = traced_lines p i.wanted.stages report.report.found report.traces;
     same = report.lines_are;
@@ -172,6 +187,21 @@ analysis_formed i p entry s lines (reported found facts all_safe solution of_all
   };
   last = λ line among says. summary_unsafe _ _ _ line (subst (λ (ls : List (List ℕ)). Among line ls) (last_is (flat_map (site_lines p i.wanted.stages) (zip report.report.found report.traces)) (summary_of report.report.found)) among) says;
 }
+told_formed i p entry facts s lines (certified certificate all_safe asked of fits cut is) = record {
+  formed = record {
+    others = map line_text certificate;
+    same = cut;
+    are = lines_are_lines certificate;
+    reports = λ line among says. absurd (certificate_unsafe certificate line among says);
+  };
+  last = λ line among says. certificate_unsafe certificate line (among_dropped (length (map line_text certificate) - 1) (map line_text certificate) line among) says;
+}
+told_formed i p entry facts s lines (too_large certificate all_safe asked of over ends) = refuses_formed s lines no_file 0 CertificateTooLarge ends
+
+analysis_formed : (i : Input) (p : Program) (entry : MethodNo) (s : Status) (lines : List (List ℕ)) → AnalysisOutcome i p entry s lines → AreFormed s lines
+analysis_formed i p entry s lines (pair_limit end ends) = refuses_formed s lines no_file 0 PairLimit ends
+analysis_formed i p entry s lines (refused_method r end ends) = refuses_formed s lines r.file r.offset r.reason ends
+analysis_formed i p entry s lines (analysed found facts solution of_all told) = told_formed i p entry facts s lines told
 
 class_formed : (i : Input) (p : Program) (entry : MethodNo) (s : Status) (lines : List (List ℕ)) → ClassOutcome i p entry s lines → AreFormed s lines
 class_formed i p entry s lines (no_class none ends) = refuses_formed s lines i.wanted.property 0 MissingClass ends
@@ -244,6 +274,7 @@ module _ (words : List (List ℕ)) (s : Status) (lines all : List (List ℕ)) (w
   written_formed : (mode : Mode) → w.mode ≡ mode → lines ≡ lines_written mode all → AreWritten words s lines
   written_formed modes.Report is cut = all_written (subst IsOfTree (sym is) tt) cut
   written_formed modes.Trace is cut = all_written (subst IsOfTree (sym is) tt) cut
+  written_formed modes.Certificate is cut = all_written (subst IsOfTree (sym is) tt) cut
   written_formed (modes.Sample count) is cut = last_written cut
 
 usage_written : (words : List (List ℕ)) (s : Status) (lines : List (List ℕ)) → AreFormed s lines → (AsksForSample words → ⊥) → AreWritten words s lines

@@ -8,7 +8,7 @@ ghost use Rattle.command_words.specs.Requests.{Wanted, AsksFor, is_trace};
 ghost use Rattle.points_to_rules.specs.Facts.{Fact};
 ghost use Rattle.run_spec.specs.declared.status.Status.{Status};
 ghost use Rattle.run_spec.specs.declared.status.Status.TheVariants.{AllSafe, SomeUnproved};
-ghost use Rattle.run_spec.specs.Inputs.{AsksForSample, HaveDifferentNames};
+ghost use Rattle.run_spec.specs.Inputs.{AsksForCertificate, AsksForSample, HaveDifferentNames};
 ghost use Rattle.run_spec.specs.Outcomes.{asked_of, report_status, Outcome};
 ghost use Rattle.run_spec.specs.RunSubjects.{IsRunOf};
 ghost use Rattle.run_spec.specs.WholeInputs.{IsWholeInput};
@@ -16,12 +16,12 @@ ghost use Rattle.run_soundness.specs.Reports.{IsReportOf};
 ghost use Rattle.run_soundness.specs.Truth.{SaysSafe};
 ghost use Rattle.simulation.specs.Simulation.{HasEntry, HasExceptions};
 
-/// A run that ends with the status of a report, and not on a sample, is of a linked program with the classes of exceptions and the entry, which its words
+/// A run that ends with the status of a report, not on a sample, and not for a certificate, is of a linked program with the classes of exceptions and the entry, which its words
 /// and files give; and what it writes is the report on this program by the stages that its words ask for and by the least facts of its analysis, with the
 /// status that the report has.
 pub fn reports_are_of_runs()
     ensures { (words : List (List ℕ)) (files : List File) (status : Status) (lines : List (List ℕ)) → Outcome words files status lines
-        → (status ≡ AllSafe) ⊎ (status ≡ SomeUnproved) → (AsksForSample words → ⊥)
+        → (status ≡ AllSafe) ⊎ (status ≡ SomeUnproved) → (AsksForSample words → ⊥) → (AsksForCertificate words → ⊥)
         → (x : Subject) × (run : IsRunOf words files x) × IsProgram x.program × HasExceptions x.program × HasEntry x
         × ((facts : List Fact) × (all_safe : Bool) × IsReportOf x (asked_of run.input) (is_trace run.input.wanted.mode) facts lines all_safe × (status ≡ report_status all_safe)) }
 {}

@@ -1,5 +1,5 @@
 -- The outcome of a run is one: level by level, from the last one up. Of two outcomes of a level both fail at one check, or both go on to the next level.
-use Rattle.std.proofs.Common.{codes, ◌≡◌, ◌≢◌, ◌∙◌, ℕ, Bool, false, List, [], ◌∷◌, Option, Some, None, Contains, AllPairs, refl, sym, ap, subst}
+use Rattle.std.proofs.Common.{codes, ◌≡◌, ◌≢◌, ◌∙◌, ◌<◌, ◌≤◌, ℕ, Bool, true, false, List, [], ◌∷◌, Option, Some, None, Contains, AllPairs, length, map, refl, sym, ap, subst, arith}
 use Rattle.std.proofs.lemmas.Option.{same_Some, none-some}
 use Rattle.ts_outside.specs.Files.{File, file_at}
 use Rattle.failure.specs.declared.Failure.TheVariants.{Cause}
@@ -13,14 +13,21 @@ use Rattle.jvm_model.specs.LinkedPrograms.{IsProgram}
 use Rattle.jvm_model.specs.Programs.{Program}
 use Rattle.command_words.specs.declared.request.Mode.{Mode}
 use Rattle.command_words.specs.declared.request.Mode.TheVariants as modes
-use Rattle.command_words.specs.Command.{HasFlag, option_in}
-use Rattle.command_words.specs.Requests.{Wanted, IsModeBy, is_trace}
+use Rattle.command_words.specs.Command.{HasFlag}
+use Rattle.command_words.specs.Requests.{Wanted, IsModeBy, is_certificate, is_trace, mode_options}
 use Rattle.lowering_supply.specs.OneAnswer.{one_answer}
 use Rattle.lowering_supply.specs.Supplied.{IsSupplied}
 use Rattle.property_file.specs.Refusals.{IsBrokenFile}
 use Rattle.property_file.proofs.Broken.{IsNoDocument-not, IsNoDocument-not_broken, IsBrokenFile-not}
 use Rattle.least_sets.proofs.Least.{least_is_one}
 use Rattle.points_to_rules.specs.Writes.{AnyInstance}
+use Rattle.certificate_lines.specs.declared.line.Line.{Line}
+use Rattle.certificate_lines.specs.LineTexts.{line_text}
+use Rattle.certificate_spec.specs.Certificates.{IsCertificateOf}
+use Rattle.certificate_spec.proofs.OneCertificate.{certificate_same}
+use Rattle.certificates.specs.Texts.{most_bytes, text}
+use Rattle.machine_bytecode.specs.Objects.{Subject}
+use Rattle.points_to_rules.specs.Facts.{Fact}
 use Rattle.report_spec.proofs.Traced.{lines_same, safe_same}
 use Rattle.stub_file.specs.declared.stub_failure.StubFault.TheVariants as stub_faults
 use Rattle.stub_file.specs.StubFile.{IsStubFile, IsStubRefusal}
@@ -29,7 +36,7 @@ use Rattle.run_spec.specs.declared.status.Status.{Status}
 use Rattle.run_spec.specs.declared.status.Status.TheVariants as statuses
 use Rattle.run_spec.specs.Inputs.{HaveDifferentNames, Input}
 use Rattle.run_spec.specs.Lines.{missing_line, refused_line, usage_line}
-use Rattle.run_spec.specs.Outcomes.{EndsWith, Refuses, asked_of, run_of, report_status, AnalysisOutcome, pair_limit, refused_method, reported, ClassOutcome, no_class, has_class, EntryOutcome, no_entry, other_shape, has_entry, LinkOutcome, unlinked, linked, FolderOutcome, refused_folder, has_classes, StubOutcome, no_stub_file, stubs_no_document, broken_stubs, no_stubs, has_stubs, PropertyOutcome, no_property, property_no_document, broken_property, has_property, Outcome, unusable, usable, files_read, lines_written}
+use Rattle.run_spec.specs.Outcomes.{EndsWith, Refuses, asked_of, run_of, report_status, AnalysisOutcome, pair_limit, refused_method, analysed, ToldOutcome, reported, certified, too_large, ClassOutcome, no_class, has_class, EntryOutcome, no_entry, other_shape, has_entry, LinkOutcome, unlinked, linked, FolderOutcome, refused_folder, has_classes, StubOutcome, no_stub_file, stubs_no_document, broken_stubs, no_stubs, has_stubs, PropertyOutcome, no_property, property_no_document, broken_property, has_property, Outcome, unusable, usable, files_read, lines_written}
 use Rattle.run_spec.proofs.Levels.{past_class, past_entry, past_link, past_folder, past_stubs, past_property, past_words, linked_or_not, link_refusal_same, stubs_or_refused, document_or_broken}
 use Rattle.run_spec.proofs.OneAnalysis.{many_or_few, refusal_same, refused_or_solved}
 use Rattle.run_spec.proofs.OneFolder.{classes_or_refused, files_differ, IsRefusedFolder-same}
@@ -38,6 +45,12 @@ use Rattle.run_spec.proofs.OneRequest.{asked_or_wrong, UsageFault-same}
 
 bytes_same : (files : List File) (name other b c : List ℕ) → name ≡ other → file_at files name ≡ Some b → file_at files other ≡ Some c → b ≡ c
 bytes_same files name other b c e x y = same_Some b c (sym x ∙ ap (file_at files) e ∙ y)
+
+not_both : {b : Bool} → b ≡ false → b ≡ true → ⊥
+not_both unasked asked = absurd (cc (unasked, asked))
+
+fits_or_over : (all : List Line) → length (text all) ≤ most_bytes → most_bytes < length (text all) → ⊥
+fits_or_over all fits over = omega arith
 
 held_or_not : (files : List File) (name other b : List ℕ) → name ≡ other → file_at files name ≡ None → file_at files other ≡ Some b → ⊥
 held_or_not files name other b e none held = none-some b (sym none ∙ ap (file_at files) e ∙ held)
@@ -66,29 +79,54 @@ module _ (s t : Status) (l m : List (List ℕ)) where
     abbrev limit : ℕ
     limit = i.wanted.pair_limit
 
+    -- what is told by the same facts
+    module _ (all other : List Fact) (to : (fact : Fact) → Contains all fact → Contains other fact) (back : (fact : Fact) → Contains other fact → Contains all fact) where
+      abbrev x : Subject
+      x = run_of i p entry
+
+      one : (these those : List Line) (b c : Bool) → IsCertificateOf x (IsSupplied p) (Contains all) (asked_of i) these b
+          → IsCertificateOf x (IsSupplied p) (Contains other) (asked_of i) those c → (these ≡ those) × (b ≡ c)
+      one these those b c is is2 = certificate_same x (IsSupplied p) (Contains all) (Contains other) to back (asked_of i) these those b c is is2
+
+      ToldOutcome-same : ToldOutcome (run_of i p entry) all (asked_of i) i.wanted.mode s l → ToldOutcome (run_of i p entry) other (asked_of i) i.wanted.mode t m → Same (is_trace i.wanted.mode)
+      ToldOutcome-same (reported b unasked report si) (reported c unasked2 report2 ti) =
+          let safe = safe_same x (IsSupplied p) (asked_of i) (Contains all) (Contains other) to back (is_trace i.wanted.mode) l m b c report report2 in (
+            si ∙ ap report_status safe ∙ sym ti,
+            λ none. lines_same x (IsSupplied p) (asked_of i) (Contains all) (Contains other) to back (is_trace i.wanted.mode) none l m b c report report2,
+          )
+      ToldOutcome-same (reported b unasked report si) (certified those c asked is fits cut ti) = absurd (not_both unasked asked)
+      ToldOutcome-same (reported b unasked report si) (too_large those c asked is over ends) = absurd (not_both unasked asked)
+      ToldOutcome-same (certified these b asked is fits cut si) (reported c unasked report ti) = absurd (not_both unasked asked)
+      ToldOutcome-same (certified these b asked is fits cut si) (certified those c asked2 is2 fits2 cut2 ti) =
+          let same = one these those b c is is2 in
+          (si ∙ ap report_status same.1 ∙ sym ti, λ none. cut ∙ ap (map line_text) same.0 ∙ sym cut2)
+      ToldOutcome-same (certified these b asked is fits cut si) (too_large those c asked2 is2 over ends) =
+          absurd (fits_or_over those (subst (λ (ls : List Line). length (text ls) ≤ most_bytes) (one these those b c is is2).0 fits) over)
+      ToldOutcome-same (too_large these b asked is over ends) (reported c unasked report ti) = absurd (not_both unasked asked)
+      ToldOutcome-same (too_large these b asked is over ends) (certified those c asked2 is2 fits cut ti) =
+          absurd (fits_or_over those fits (subst (λ (ls : List Line). most_bytes < length (text ls)) (one these those b c is is2).0 over))
+      ToldOutcome-same (too_large these b asked is over ends) (too_large those c asked2 is2 over2 ends2) = same_end (is_trace i.wanted.mode) statuses.Refused _ _ refl ends ends2
+
     AnalysisOutcome-same : AnalysisOutcome i p entry s l → AnalysisOutcome i p entry t m → Same (is_trace i.wanted.mode)
     AnalysisOutcome-same (pair_limit many ends) (pair_limit many2 ends2) = same_end (is_trace i.wanted.mode) statuses.Refused _ _ refl ends ends2
     AnalysisOutcome-same (pair_limit many ends) (refused_method q is ends2) =
         absurd (many_or_few p (IsSupplied p) (one_answer p) entry limit is.facts many.1 is.least)
-    AnalysisOutcome-same (pair_limit many ends) (reported facts all b is of_all report ti) =
+    AnalysisOutcome-same (pair_limit many ends) (analysed facts all is of_all next) =
         absurd (many_or_few p (IsSupplied p) (one_answer p) entry limit facts many.1 is.least)
     AnalysisOutcome-same (refused_method r is ends) (pair_limit many ends2) =
         absurd (many_or_few p (IsSupplied p) (one_answer p) entry limit is.facts many.1 is.least)
     AnalysisOutcome-same (refused_method r is ends) (refused_method q is2 ends2) =
         same_refusal (is_trace i.wanted.mode) r q (refusal_same p (IsSupplied p) (one_answer p) entry limit r q is is2) ends ends2
-    AnalysisOutcome-same (refused_method r is ends) (reported facts all b is2 of_all report ti) =
+    AnalysisOutcome-same (refused_method r is ends) (analysed facts all is2 of_all next) =
         absurd (refused_or_solved p (IsSupplied p) (one_answer p) entry limit r facts is is2)
-    AnalysisOutcome-same (reported facts all b is of_all report si) (pair_limit many ends) =
+    AnalysisOutcome-same (analysed facts all is of_all next) (pair_limit many ends) =
         absurd (many_or_few p (IsSupplied p) (one_answer p) entry limit facts many.1 is.least)
-    AnalysisOutcome-same (reported facts all b is of_all report si) (refused_method q is2 ends) =
+    AnalysisOutcome-same (analysed facts all is of_all next) (refused_method q is2 ends) =
         absurd (refused_or_solved p (IsSupplied p) (one_answer p) entry limit q facts is2 is)
-    AnalysisOutcome-same (reported facts all b is of_all report si) (reported others other c is2 of_other report2 ti) =
+    AnalysisOutcome-same (analysed facts all is of_all next) (analysed others other is2 of_other next2) =
         let to = least_is_one (AnyInstance p (IsSupplied p) entry) all other of_all.least of_other.least in
         let back = least_is_one (AnyInstance p (IsSupplied p) entry) other all of_other.least of_all.least in
-        let safe = safe_same (run_of i p entry) (IsSupplied p) (asked_of i) (Contains all) (Contains other) to back (is_trace i.wanted.mode) l m b c report report2 in (
-          si ∙ ap report_status safe ∙ sym ti,
-          λ none. lines_same (run_of i p entry) (IsSupplied p) (asked_of i) (Contains all) (Contains other) to back (is_trace i.wanted.mode) none l m b c report report2,
-        )
+        ToldOutcome-same all other to back next next2
 
     -- ---- the program
 
@@ -207,10 +245,11 @@ module _ (s t : Status) (l m : List (List ℕ)) where
 -- ---- the words
 
 -- words without the flag ask for no derivations
-no_traces : (words : List (List ℕ)) (mode : Mode) → IsModeBy (option_in words (codes "trace")) (option_in words (codes "sample")) mode
+no_traces : (words : List (List ℕ)) (mode : Mode) → IsModeBy (mode_options words) mode
     → (HasFlag words (codes "trace") → ⊥) → is_trace mode ≡ false
 no_traces words modes.Report is none = refl
 no_traces words modes.Trace is none = absurd (none is.0)
+no_traces words modes.Certificate is none = refl
 no_traces words (modes.Sample n) is none = refl
 
 Outcome-same : (words : List (List ℕ)) (files : List File) (s t : Status) (l m : List (List ℕ)) → HaveDifferentNames files

@@ -1,5 +1,5 @@
 -- Words ask for one thing and are not wrong then; or one thing is wrong with them.
-use Rattle.std.proofs.Common.{codes, ◌≡◌, ◌∙◌, ℕ, Bool, true, false, not, is_some, true≢false, ◌==◌, List, [], ◌∷◌, ◌++◌, Option, Some, None, IsTrue, refl, sym, ap, subst}
+use Rattle.std.proofs.Common.{◌≡◌, ◌∙◌, ℕ, Bool, true, false, not, is_some, true≢false, ◌&&◌, ◌||◌, ◌==◌, List, [], ◌∷◌, ◌++◌, Option, Some, None, IsTrue, refl, sym, ap, subst}
 use Rattle.std.specs.List.{list_all}
 use Rattle.std.proofs.lemmas.Bool.{and_parts, false≢true}
 use Rattle.std.proofs.lemmas.Option.{none-some, same_Some}
@@ -9,8 +9,8 @@ use Rattle.command_words.specs.declared.fault.UsageFault.{UsageFault}
 use Rattle.command_words.specs.declared.fault.UsageFault.TheVariants.{Words, Modes, Range}
 use Rattle.command_words.specs.declared.request.Mode.{Mode}
 use Rattle.command_words.specs.declared.request.Mode.TheVariants as modes
-use Rattle.command_words.specs.Command.{is_set, option_in}
-use Rattle.command_words.specs.Requests.{Wanted, NamesMethod, AsksFor, NumberRule, IsFirstLacking, IsModeBy, IsNumberBy, IsNumberIn, HasNumber, LacksNumber, IsUsageFault, are_two_modes, stages_rule, depth_rule, fact_limit_rule, pair_limit_rule, sample_rule}
+use Rattle.command_words.specs.Command.{option_in}
+use Rattle.command_words.specs.Requests.{Wanted, NamesMethod, AsksFor, ModeOptions, NumberRule, IsFirstLacking, IsModeBy, IsNumberBy, IsNumberIn, HasNumber, LacksNumber, IsUsageFault, are_two_modes, mode_options, stages_rule, depth_rule, fact_limit_rule, pair_limit_rule, sample_rule}
 
 -- ---- the entry
 
@@ -49,29 +49,41 @@ number_same r (Some text) n m x y = x.value ∙ sym y.value
 
 -- ---- modes
 
-module _ (trace sample : Option (List ℕ)) where
+-- whether two of a flag, another flag and an option stand
+abbrev two_stand : (trace certificate sample : Bool) → Bool
+two_stand t c s = (t && (c || s)) || (c && s)
+
+module _ (o : ModeOptions) where
   -- a flag is set or not, and an option is given or not
-  set_or_not : is_set trace ≡ true → is_set trace ≡ false → ⊥
+  set_or_not : {b : Bool} → b ≡ true → b ≡ false → ⊥
   set_or_not is not = true≢false (sym is ∙ not)
 
-  mode_same : (v w : Mode) → IsModeBy trace sample v → IsModeBy trace sample w → v ≡ w
+  mode_same : (v w : Mode) → IsModeBy o v → IsModeBy o w → v ≡ w
   mode_same modes.Report modes.Report x y = refl
   mode_same modes.Report modes.Trace x y = absurd (set_or_not y.0 x.0)
-  mode_same modes.Report (modes.Sample n) x y = absurd (none-some y.1 (sym x.1 ∙ y.2))
+  mode_same modes.Report modes.Certificate x y = absurd (set_or_not y.1 x.1)
+  mode_same modes.Report (modes.Sample n) x y = absurd (none-some y.2 (sym x.2 ∙ y.3))
   mode_same modes.Trace modes.Report x y = absurd (set_or_not x.0 y.0)
   mode_same modes.Trace modes.Trace x y = refl
+  mode_same modes.Trace modes.Certificate x y = absurd (set_or_not x.0 y.0)
   mode_same modes.Trace (modes.Sample n) x y = absurd (set_or_not x.0 y.0)
-  mode_same (modes.Sample n) modes.Report x y = absurd (none-some x.1 (sym y.1 ∙ x.2))
+  mode_same modes.Certificate modes.Report x y = absurd (set_or_not x.1 y.1)
+  mode_same modes.Certificate modes.Trace x y = absurd (set_or_not y.0 x.0)
+  mode_same modes.Certificate modes.Certificate x y = refl
+  mode_same modes.Certificate (modes.Sample n) x y = absurd (set_or_not x.1 y.1)
+  mode_same (modes.Sample n) modes.Report x y = absurd (none-some x.2 (sym y.2 ∙ x.3))
   mode_same (modes.Sample n) modes.Trace x y = absurd (set_or_not y.0 x.0)
+  mode_same (modes.Sample n) modes.Certificate x y = absurd (set_or_not y.1 x.1)
   mode_same (modes.Sample n) (modes.Sample m) x y =
-      let text = same_Some x.1 y.1 (sym x.2 ∙ y.2) in
-      ap modes.Sample (number_same sample_rule (Some y.1) n m (subst (λ (t : List ℕ). IsNumberBy sample_rule (Some t) n) text x.3) y.3)
+      let text = same_Some x.2 y.2 (sym x.3 ∙ y.3) in
+      ap modes.Sample (number_same sample_rule (Some y.2) n m (subst (λ (t : List ℕ). IsNumberBy sample_rule (Some t) n) text x.4) y.4)
 
   -- a mode is one
-  one_mode : (mode : Mode) → IsModeBy trace sample mode → are_two_modes trace sample ≡ true → ⊥
-  one_mode modes.Report is two = set_or_not (and_parts (is_set trace) _ two).0 is.0
-  one_mode modes.Trace is two = true≢false (sym (and_parts (is_set trace) _ two).1 ∙ ap (λ (v : Option (List ℕ)). is_some v) is.1)
-  one_mode (modes.Sample n) is two = set_or_not (and_parts (is_set trace) _ two).0 is.0
+  one_mode : (mode : Mode) → IsModeBy o mode → are_two_modes o ≡ true → ⊥
+  one_mode modes.Report is two = set_or_not two (λ i. two_stand (is.0 i) (is.1 i) (is_some (is.2 i)))
+  one_mode modes.Trace is two = set_or_not two (λ i. two_stand (is.0 i) (is.1 i) (is_some (is.2 i)))
+  one_mode modes.Certificate is two = set_or_not two (λ i. two_stand (is.0 i) (is.1 i) (is_some (is.2 i)))
+  one_mode (modes.Sample n) is two = set_or_not two (λ i. two_stand (is.0 i) (is.1 i) (is_some (is.3 i)))
 
 module _ (words : List (List ℕ)) where
   in_words : (r : NumberRule) (n m : ℕ) → IsNumberIn words r n → IsNumberIn words r m → n ≡ m
@@ -93,7 +105,7 @@ module _ (words : List (List ℕ)) where
       let depth = in_words depth_rule v.depth w.depth x.depth y.depth in
       let facts = in_words fact_limit_rule v.fact_limit w.fact_limit x.fact_limit y.fact_limit in
       let pairs = in_words pair_limit_rule v.pair_limit w.pair_limit x.pair_limit y.pair_limit in
-      let told = mode_same (option_in words (codes "trace")) (option_in words (codes "sample")) v.mode w.mode x.mode y.mode in
+      let told = mode_same (mode_options words) v.mode w.mode x.mode y.mode in
       (λ i. record {
         property = property i;
         stubs = stubs i;
@@ -109,17 +121,18 @@ module _ (words : List (List ℕ)) where
   -- words that ask for something are not wrong
   pub asked_or_wrong : (w : Wanted) (fault : UsageFault) → AsksFor words w → IsUsageFault words fault → ⊥
   asked_or_wrong w Words asks wrong = wrong (w.class, w.method, asks.command)
-  asked_or_wrong w Modes asks wrong = one_mode (option_in words (codes "trace")) (option_in words (codes "sample")) w.mode asks.mode wrong.1
+  asked_or_wrong w Modes asks wrong = one_mode (mode_options words) w.mode asks.mode wrong.1
   asked_or_wrong w (Range Stages) asks wrong = wrong.2 w.stages asks.stages
   asked_or_wrong w (Range Depth) asks wrong = wrong.2.1 w.depth asks.depth
   asked_or_wrong w (Range FactLimit) asks wrong = wrong.2.2 w.fact_limit asks.fact_limit
   asked_or_wrong w (Range PairLimit) asks wrong = wrong.2.3 w.pair_limit asks.pair_limit
   asked_or_wrong w (Range Sample) asks wrong = not_lacking w.mode asks.mode
     where
-      not_lacking : (mode : Mode) → IsModeBy (option_in words (codes "trace")) (option_in words (codes "sample")) mode → ⊥
-      not_lacking modes.Report is = wrong.2.4 0 (subst (λ (v : Option (List ℕ)). IsNumberBy sample_rule v 0) (sym is.1) refl)
-      not_lacking modes.Trace is = wrong.2.4 0 (subst (λ (v : Option (List ℕ)). IsNumberBy sample_rule v 0) (sym is.1) refl)
-      not_lacking (modes.Sample n) is = wrong.2.4 n (subst (λ (v : Option (List ℕ)). IsNumberBy sample_rule v n) (sym is.2) is.3)
+      not_lacking : (mode : Mode) → IsModeBy (mode_options words) mode → ⊥
+      not_lacking modes.Report is = wrong.2.4 0 (subst (λ (v : Option (List ℕ)). IsNumberBy sample_rule v 0) (sym is.2) refl)
+      not_lacking modes.Trace is = wrong.2.4 0 (subst (λ (v : Option (List ℕ)). IsNumberBy sample_rule v 0) (sym is.2) refl)
+      not_lacking modes.Certificate is = wrong.2.4 0 (subst (λ (v : Option (List ℕ)). IsNumberBy sample_rule v 0) (sym is.2) refl)
+      not_lacking (modes.Sample n) is = wrong.2.4 n (subst (λ (v : Option (List ℕ)). IsNumberBy sample_rule v n) (sym is.3) is.4)
 
   -- one option is the first that has no number
   first_same : (o q : NumberOption) → IsFirstLacking words o → IsFirstLacking words q → o ≡ q

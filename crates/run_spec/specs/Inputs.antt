@@ -21,7 +21,12 @@ HaveDifferentNames files = IsTrue (names_differ (map (λ (f : File). f.name) fil
 abbrev pub IsOfTree : Mode → Type 0
 IsOfTree modes.Report = Unit {0}
 IsOfTree modes.Trace = Unit {0}
+IsOfTree modes.Certificate = Unit {0}
 IsOfTree (modes.Sample count) = ⊥
+
+-- Words ask for a certificate.
+abbrev pub AsksForCertificate : List (List ℕ) → Type 0
+AsksForCertificate words = (w : Wanted) × AsksFor words w × (w.mode ≡ modes.Certificate)
 
 -- Words ask for a sample.
 abbrev pub AsksForSample : List (List ℕ) → Type 0

@@ -1,26 +1,30 @@
 -- Public contracts rest on this module.
 -- What a run answers, from the words and the files of the tree: a status, and the lines that are written. The checks stand in their order, a level
 -- for each thing that is read or made: each of its cases but the last is a check that fails, and the last one goes on to the next level.
-use Rattle.std.specs.Prelude.{◌≡◌, ℕ, Bool, true, false, List, [], ◌∷◌, Option, Some, None, Ok, Err, Contains}
+use Rattle.std.specs.Prelude.{◌≡◌, ◌<◌, ◌≤◌, ℕ, Bool, true, false, List, [], ◌∷◌, length, map, Option, Some, None, Ok, Err, Contains}
 use Rattle.ts_outside.specs.Files.{File, file_at}
 use Rattle.failure.specs.declared.Failure.TheVariants.{Cause}
 use Rattle.jvm_model.specs.declared.automaton.Automaton.{Automaton}
 use Rattle.jvm_model.specs.declared.number.MethodNo.{MethodNo}
 use Rattle.jvm_model.specs.declared.program.NamedClass.{NamedClass}
 use Rattle.jvm_model.specs.declared.reason.Reason.{Reason}
-use Rattle.jvm_model.specs.declared.reason.Reason.TheVariants.{BadToml, BadProperty, BadStub, NoEntry, EntryShape, MissingClass, PairLimit}
+use Rattle.jvm_model.specs.declared.reason.Reason.TheVariants.{BadToml, BadProperty, BadStub, NoEntry, EntryShape, MissingClass, PairLimit, CertificateTooLarge}
 use Rattle.jvm_model.specs.declared.reason.Refusal.{Refusal}
 use Rattle.jvm_model.specs.declared.stub.StubClass.{StubClass}
 use Rattle.jvm_model.specs.LinkedPrograms.{IsProgram}
 use Rattle.jvm_model.specs.Linking.{Links}
 use Rattle.jvm_model.specs.Programs.{Class, Program}
 use Rattle.jvm_model.specs.Subtypes.{class_named}
+use Rattle.certificate_lines.specs.declared.line.Line.{Line}
+use Rattle.certificate_lines.specs.LineTexts.{line_text}
+use Rattle.certificate_spec.specs.Certificates.{IsCertificateOf}
+use Rattle.certificates.specs.Texts.{most_bytes, text}
 use Rattle.class_folder.specs.ClassFiles.{AreClassFiles, IsRefusedFolder}
 use Rattle.class_maker.specs.Sample.{sample_files}
 use Rattle.command_words.specs.declared.fault.UsageFault.{UsageFault}
 use Rattle.command_words.specs.declared.request.Mode.{Mode}
 use Rattle.command_words.specs.declared.request.Mode.TheVariants as modes
-use Rattle.command_words.specs.Requests.{Wanted, AsksFor, IsUsageFault, is_trace}
+use Rattle.command_words.specs.Requests.{Wanted, AsksFor, IsUsageFault, is_certificate, is_trace}
 use Rattle.entry_points.specs.Entries.{IsEntry, NamesMethod}
 use Rattle.lowering_supply.specs.Supplied.{IsSupplied}
 use Rattle.machine_bytecode.specs.Objects.{Subject}
@@ -69,16 +73,27 @@ abbrev pub report_status : Bool → Status
 report_status true = statuses.AllSafe
 report_status false = statuses.SomeUnproved
 
--- There are too many pairs of a place and a site; or a method that may run, or a call in one, is refused; or there is a report, by all facts.
+-- What is told of an analysis, by all facts: the report, with derivations if these are asked for; or the certificate, if that is asked for; or that it is
+-- too large.
+pub data ToldOutcome (x : Subject) (facts : List Fact) (w : Asked) (mode : Mode) (status : Status) (lines : List (List ℕ)) : Type 0 where
+  reported : (all_safe : Bool) → is_certificate mode ≡ false → IsTracedReport x (IsSupplied x.program) (Contains facts) w (is_trace mode) lines all_safe
+      → status ≡ report_status all_safe → ToldOutcome x facts w mode status lines
+  certified : (certificate : List Line) (all_safe : Bool) → is_certificate mode ≡ true
+      → IsCertificateOf x (IsSupplied x.program) (Contains facts) w certificate all_safe
+      → length (text certificate) ≤ most_bytes → lines ≡ map line_text certificate
+      → status ≡ report_status all_safe → ToldOutcome x facts w mode status lines
+  too_large : (certificate : List Line) (all_safe : Bool) → is_certificate mode ≡ true
+      → IsCertificateOf x (IsSupplied x.program) (Contains facts) w certificate all_safe
+      → most_bytes < length (text certificate) → Refuses status lines no_file 0 CertificateTooLarge → ToldOutcome x facts w mode status lines
+
+-- There are too many pairs of a place and a site; or a method that may run, or a call in one, is refused; or all facts are found.
 pub data AnalysisOutcome (i : Input) (p : Program) (entry : MethodNo) (status : Status) (lines : List (List ℕ)) : Type 0 where
   pair_limit : IsSolveEnd p (IsSupplied p) entry i.wanted.pair_limit (Cause (solve_faults.PairLimit i.wanted.pair_limit))
       → Refuses status lines no_file 0 PairLimit → AnalysisOutcome i p entry status lines
   refused_method : (r : Refusal) → IsSolveEnd p (IsSupplied p) entry i.wanted.pair_limit (Cause (solve_faults.Refused r))
       → Refuses status lines r.file r.offset r.reason → AnalysisOutcome i p entry status lines
-  reported : (found facts : List Fact) (all_safe : Bool) → IsSolution p (IsSupplied p) entry i.wanted.pair_limit found
-      → AreAllFacts p (IsSupplied p) entry facts
-      → IsTracedReport (run_of i p entry) (IsSupplied p) (Contains facts) (asked_of i) (is_trace i.wanted.mode) lines all_safe
-      → status ≡ report_status all_safe → AnalysisOutcome i p entry status lines
+  analysed : (found facts : List Fact) → IsSolution p (IsSupplied p) entry i.wanted.pair_limit found
+      → AreAllFacts p (IsSupplied p) entry facts → ToldOutcome (run_of i p entry) facts (asked_of i) i.wanted.mode status lines → AnalysisOutcome i p entry status lines
 
 -- ---- the program
 
@@ -136,12 +151,14 @@ pub data PropertyOutcome (files : List File) (w : Wanted) (status : Status) (lin
 abbrev pub files_read : Mode → List File → List File
 files_read modes.Report files = files
 files_read modes.Trace files = files
+files_read modes.Certificate files = files
 files_read (modes.Sample count) files = sample_files count
 
 -- Of lines on a sample the last one alone is written: the summary, or why there is none.
 abbrev pub lines_written : Mode → List (List ℕ) → List (List ℕ)
 lines_written modes.Report lines = lines
 lines_written modes.Trace lines = lines
+lines_written modes.Certificate lines = lines
 lines_written (modes.Sample count) lines = last_of lines
 
 pub data Outcome (words : List (List ℕ)) (files : List File) (status : Status) (lines : List (List ℕ)) : Type 0 where

@@ -8,7 +8,7 @@ ghost use Rattle.run_spec.specs.declared.status.Status.TheVariants.{AllSafe, Som
 ghost use Rattle.run_spec.specs.Inputs.{HaveDifferentNames};
 ghost use Rattle.run_spec.specs.Outcomes.{Outcome};
 ghost use Rattle.run_spec.specs.RunSubjects.{IsRunOf};
-ghost use Rattle.run_spec.specs.WholeInputs.{IsWholeInput};
+ghost use Rattle.run_spec.specs.WholeInputs.{HasLargeCertificate, IsWholeInput};
 ghost use Rattle.jvm_model.specs.LinkedPrograms.{IsProgram};
 ghost use Rattle.machine_bytecode.specs.Objects.{Subject};
 
@@ -24,9 +24,11 @@ pub fn one_report()
         → Outcome words files s l → Outcome words files t m → l ≡ m }
 {}
 
-/// Of an input in which nothing is missing and nothing is refused, and whose sets stay below the limit, the outcome is a report.
+/// Of an input in which nothing is missing and nothing is refused, and whose sets stay below the limit, the outcome is a report, or the certificate
+/// where that is asked for and is not too large.
 pub fn whole_input_is_reported()
     ensures { (words : List (List ℕ)) (files : List File) (s : RunStatus) (l : List (List ℕ)) → HaveDifferentNames files → IsWholeInput words files
+        → (HasLargeCertificate words files → ⊥)
         → Outcome words files s l
         → (s ≡ AllSafe) ⊎ (s ≡ SomeUnproved) }
 {}

@@ -1,7 +1,7 @@
 -- The path edges by a list of the methods that may run are those by the folder's supplier.
 use Rattle.std.proofs.Common.{◌≡◌, ◌↔◌, ℕ, List, Contains, Ok, refl, sym, ap, ◌∙◌, subst}
 use Rattle.jvm_model.specs.declared.number.MethodNo.{MethodNo}
-use Rattle.least_sets.specs.Rules.{IsClosedSet}
+use Rattle.least_sets.specs.Rules.{IsClosedSet, IsDerivable}
 use Rattle.op_model.specs.declared.lowered.LoweredMethod.{LoweredMethod}
 use Rattle.op_model.specs.declared.node.Node.{Node}
 use Rattle.op_model.specs.Supplies.{GivenAs}
@@ -12,10 +12,10 @@ use Rattle.points_to_rules.specs.Writes.{AnyInstance}
 use Rattle.ground.specs.Findings.{gives_listed}
 use Rattle.simulation.proofs.Whole.{supplied_whole}
 use Rattle.stage_transfer.specs.Settings.{Setting}
-use Rattle.stage_edges.specs.Edges.{IsAtLimit, IsSafeBelow}
+use Rattle.stage_edges.specs.Edges.{IsAtLimit, IsSafeBelow, StageInstance}
 use Rattle.stage_edges.specs.Rules.{Edge}
 use Rattle.report_spec.specs.Traces.{IsErrorDerivation}
-use Rattle.stage_answers.proofs.Running.{GivesNodes, error_in_base, limit_in_base, limit_in_listed, safe_in_base, safe_in_listed}
+use Rattle.stage_answers.proofs.Running.{GivesNodes, edge_in_base, edge_in_listed, error_in_base, limit_in_base, limit_in_listed, safe_in_base, safe_in_listed}
 
 module _ (gives : GivenAs) (S : Fact → Type 0) (methods : List LoweredMethod) where
   -- a listed method is given
@@ -54,6 +54,13 @@ module _ (x : Subject) (facts : List Fact) (methods : List LoweredMethod) (w : S
   listed_limit = (
     (λ is. limit_in_base x (Contains facts) (IsSupplied x.program) (gives_listed methods) closed forth back w limit is),
     (λ is. limit_in_listed x (Contains facts) (IsSupplied x.program) (gives_listed methods) closed forth back w limit is),
+  )
+
+  -- an edge is derivable by the list just where it is by the folder's supplier
+  pub listed_edge : (e : Edge) → IsDerivable (StageInstance x (gives_listed methods) (Contains facts) w) e ↔ IsDerivable (StageInstance x (IsSupplied x.program) (Contains facts) w) e
+  listed_edge e = (
+    (λ d. edge_in_base x (Contains facts) (IsSupplied x.program) (gives_listed methods) closed forth back w e d),
+    (λ d. edge_in_listed x (Contains facts) (IsSupplied x.program) (gives_listed methods) closed forth back w e d),
   )
 
   -- a derivation by the list is one by the folder's supplier

@@ -121,6 +121,9 @@ module _ (x : Subject) (facts : List Fact) (w v : Setting) (of_w : IsSettingOf x
   back : (premises : List Edge) (edge : Edge) → BySecond premises edge → ByFirst premises edge
   back = rule_same x facts v w of_v of_w (sym site) (sym stage) (sym depth)
 
+  pub edge_same : (e : Edge) → IsDerivable ByFirst e → IsDerivable BySecond e
+  edge_same = derivable_over ByFirst BySecond to
+
   pub safe_same : IsSafeBelow x (IsSupplied x.program) (Contains facts) w limit → IsSafeBelow x (IsSupplied x.program) (Contains facts) v limit
   safe_same is = record {
     setting = of_v;

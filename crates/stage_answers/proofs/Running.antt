@@ -205,6 +205,12 @@ module _ (x : Subject) (S : Fact → Type 0) (base listed : GivenAs) (closed : I
   listed_runs : IsClosedSet Listed (Runs S)
   listed_runs premises edge instance hold = base_runs premises edge (into_base premises edge hold instance) hold
 
+  pub edge_in_base : (e : Edge) → IsDerivable Listed e → IsDerivable Base e
+  edge_in_base = derivable_kept Listed Base (Runs S) listed_runs into_base
+
+  pub edge_in_listed : (e : Edge) → IsDerivable Base e → IsDerivable Listed e
+  edge_in_listed = derivable_kept Base Listed (Runs S) base_runs into_listed
+
   pub safe_in_base : (limit : ℕ) → IsSafeBelow x listed S w limit → IsSafeBelow x base S w limit
   safe_in_base limit = safe_over x S w limit listed base listed_runs into_base into_listed
 

@@ -5,4 +5,4 @@
 
 mod laws;
 
-pub use laws::{answers_are_one, listed_methods_suffice};
+pub use laws::{answers_are_one, listed_methods_suffice, path_edges_are_one};

@@ -72,7 +72,14 @@ module _ (a : LaterStages) (x : Subject) (s : Site) (stage : ℕ) where
         let least = at_least_facts (Rules w) safe.edges a.limit safe.are.least (many w (record { is = is; of = safe.setting })) in
         omega (arith, few, least)
 
--- ---- settings
+-- ---- subjects and settings
+
+-- what is asked of is a subject
+abbrev pub own : LaterStages → Subject
+own a = record { program = a.ground.now.program; property = a.automaton.now; entry = a.entry.0 }
+
+pub own_is : (a : LaterStages) → IsSubjectOf a (own a)
+own_is a = record { program = refl; entry = refl; property = refl }
 
 pub setting_is : (a : LaterStages) (x : Subject) (s : Site) (stage : ℕ) → 2 ≤ stage → stage ≤ 4 → IsSetting a x s stage (setting_here a x s stage)
 setting_is a x s stage from up_to = record {
@@ -109,7 +116,7 @@ module _ (a : LaterStages) (x : Subject) (s : Site) (stage : ℕ) (asked : IsAsk
     abbrev edges : List Edge
     edges = found.edges
 
-    are_here : (w : Setting) → IsSetting a x s stage w → ArePathEdges x (gives_listed a.ground.now.methods) (Contains a.ground.now.facts) w edges
+    pub are_here : (w : Setting) → IsSetting a x s stage w → ArePathEdges x (gives_listed a.ground.now.methods) (Contains a.ground.now.facts) w edges
     are_here w setting =
         subst (λ (g : _). ArePathEdges x (gives_listed g.now.methods) (Contains g.now.facts) w edges) is.ground (has.edges x w (asked_of_question w setting))
 

@@ -1,3 +1,3 @@
-mod Judged
+pub mod Judged
 mod FirstStages
 mod Deriving

@@ -10,7 +10,7 @@ use Rattle.ground.specs.Findings.{gives_listed}
 use Rattle.prune_stage.specs.Pruning.{IsPruned}
 use Rattle.site_report.specs.declared.verdict.Verdict.{Verdict}
 use Rattle.site_report.specs.declared.verdict.Verdict.TheVariants.{Safe, Unproved, Limit}
-use Rattle.stage_edges.specs.Edges.{ArePathEdges, IsError}
+use Rattle.stage_edges.specs.Edges.{ArePathEdges, IsError, IsSettingOf}
 use Rattle.stage_edges.specs.Rules.{Edge}
 use Rattle.edge_numbers.specs.Premises.{AreReasons}
 use Rattle.ground_views.specs.declared.question.Question.{Question}
@@ -19,7 +19,7 @@ use Rattle.least_sets.specs.Parts.{HasAtLeast}
 use Rattle.stage_transfer.specs.Settings.{Setting}
 use Rattle.tabulation.specs.Found.{Found}
 use Rattle.report_spec.specs.Traces.{IsErrorDerivationAt, trace_line}
-use Rattle.report_spec.specs.Verdicts.{AtLimitBy, IsVerdictBy, SafeBy}
+use Rattle.report_spec.specs.Verdicts.{AtLimitBy, IsStageOf, IsVerdictBy, SafeBy}
 use Rattle.stage_verdicts.specs.declared.asked.LaterStages.{LaterStages}
 use Rattle.stage_verdicts.specs.declared.finding.Finding.{Finding}
 use Rattle.stage_verdicts.specs.declared.finding.Finding.TheVariants as findings
@@ -99,6 +99,11 @@ pub record HasFound (q : Question) (found : Found) : Type 0 where
 -- There are as many as the limit.
 abbrev pub HasAsMany : Question → Type 0
 HasAsMany q = (x : Subject) (w : Setting) → IsAskedOf q x w → HasAtLeast (GroundInstance q x w) (λ (e : Edge). Some e) q.limit
+
+-- They are the path edges of the site at the stage, whichever setting answers.
+abbrev pub AreEdgesAt : LaterStages → Subject → Site → (stage : ℕ) → List Edge → Type 0
+AreEdgesAt a x s stage edges = (w : Setting) → IsStageOf a.depth s stage w → IsSettingOf x (Contains a.ground.now.facts) w
+    → ArePathEdges x (gives_listed a.ground.now.methods) (Contains a.ground.now.facts) w edges
 
 -- ---- why a site is unproved
 

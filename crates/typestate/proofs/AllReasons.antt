@@ -3,11 +3,11 @@ use Rattle.std.proofs.Common.{◌≡◌, refl, ℕ, List, [], ◌∷◌, All, Op
 use Rattle.std.proofs.lemmas.List.Elements.{All-contains}
 use Rattle.std.proofs.lemmas.Option.{slice_get_within, get_or_from_slice_get}
 use Rattle.jvm_model.specs.declared.reason.Reason.{Reason}
-use Rattle.jvm_model.specs.declared.reason.Reason.TheVariants.{Truncated, BadMagic, BadVersion, BadTag, BadIndex, BadUtf8, BadDescriptor, TrailingBytes, CodeMissing, CodeUnexpected, ClassTooLarge, BadOpcode, BadTarget, CodeCut, StackUnder, StackOver, StackMerge, FallsOff, BadLocal, BadHandler, Subroutine, InvokeDynamic, MethodConstant, DuplicateClass, MissingClass, Cycle, MissingField, MissingMethod, NoStub, NoImplementation, ClashingDefaults, PackageOverride, KindMismatch, Reflection, Threads, Finalizer, BadToml, BadProperty, BadStub, NoEntry, EntryShape, TooManyFiles, PairLimit}
+use Rattle.jvm_model.specs.declared.reason.Reason.TheVariants.{Truncated, BadMagic, BadVersion, BadTag, BadIndex, BadUtf8, BadDescriptor, TrailingBytes, CodeMissing, CodeUnexpected, ClassTooLarge, BadOpcode, BadTarget, CodeCut, StackUnder, StackOver, StackMerge, FallsOff, BadLocal, BadHandler, Subroutine, InvokeDynamic, MethodConstant, DuplicateClass, MissingClass, Cycle, MissingField, MissingMethod, NoStub, NoImplementation, ClashingDefaults, PackageOverride, KindMismatch, Reflection, Threads, Finalizer, BadToml, BadProperty, BadStub, NoEntry, EntryShape, TooManyFiles, PairLimit, CertificateTooLarge}
 
 -- all reasons, in their order
 abbrev pub all_reasons : List Reason
-all_reasons = Truncated ∷ BadMagic ∷ BadVersion ∷ BadTag ∷ BadIndex ∷ BadUtf8 ∷ BadDescriptor ∷ TrailingBytes ∷ CodeMissing ∷ CodeUnexpected ∷ ClassTooLarge ∷ BadOpcode ∷ BadTarget ∷ CodeCut ∷ StackUnder ∷ StackOver ∷ StackMerge ∷ FallsOff ∷ BadLocal ∷ BadHandler ∷ Subroutine ∷ InvokeDynamic ∷ MethodConstant ∷ DuplicateClass ∷ MissingClass ∷ Cycle ∷ MissingField ∷ MissingMethod ∷ NoStub ∷ NoImplementation ∷ ClashingDefaults ∷ PackageOverride ∷ KindMismatch ∷ Reflection ∷ Threads ∷ Finalizer ∷ BadToml ∷ BadProperty ∷ BadStub ∷ NoEntry ∷ EntryShape ∷ TooManyFiles ∷ PairLimit ∷ []
+all_reasons = Truncated ∷ BadMagic ∷ BadVersion ∷ BadTag ∷ BadIndex ∷ BadUtf8 ∷ BadDescriptor ∷ TrailingBytes ∷ CodeMissing ∷ CodeUnexpected ∷ ClassTooLarge ∷ BadOpcode ∷ BadTarget ∷ CodeCut ∷ StackUnder ∷ StackOver ∷ StackMerge ∷ FallsOff ∷ BadLocal ∷ BadHandler ∷ Subroutine ∷ InvokeDynamic ∷ MethodConstant ∷ DuplicateClass ∷ MissingClass ∷ Cycle ∷ MissingField ∷ MissingMethod ∷ NoStub ∷ NoImplementation ∷ ClashingDefaults ∷ PackageOverride ∷ KindMismatch ∷ Reflection ∷ Threads ∷ Finalizer ∷ BadToml ∷ BadProperty ∷ BadStub ∷ NoEntry ∷ EntryShape ∷ TooManyFiles ∷ PairLimit ∷ CertificateTooLarge ∷ []
 
 -- where a reason stands in it
 abbrev place_of : Reason → ℕ
@@ -54,6 +54,7 @@ place_of NoEntry = 39
 place_of EntryShape = 40
 place_of TooManyFiles = 41
 place_of PairLimit = 42
+place_of CertificateTooLarge = 43
 
 is_at : (reason : Reason) → slice_get all_reasons (place_of reason) ≡ Some reason
 is_at Truncated = refl
@@ -99,6 +100,7 @@ is_at NoEntry = refl
 is_at EntryShape = refl
 is_at TooManyFiles = refl
 is_at PairLimit = refl
+is_at CertificateTooLarge = refl
 
 -- what holds of all that stand there holds of each
 pub of_each : (P : Reason → Type 0) → All P all_reasons → (reason : Reason) → P reason

@@ -18,7 +18,7 @@ const DOCUMENT_BYTES: u32 = DOCUMENT_LIMIT as u32 + 1;
 
 const WRONG_WORDS: &str = "The words are not those of a run: ./typestate --help shows them.";
 
-const TWO_MODES: &str = "At most one of --trace and --sample may stand.";
+const TWO_MODES: &str = "At most one of --trace, --print-cert and --sample may stand.";
 
 const WRONG_NUMBER: &str =
     "The number of this option is not in its range: ./typestate --help shows it.";
@@ -65,7 +65,7 @@ pub(crate) fn advise<R: Eprint, T: Tree>(
 /// What to do where a file that the words name is not there.
 fn sentence_on_missing(mode: Mode) -> &'static str {
     match mode {
-        Mode::Report | Mode::Trace => MISSING,
+        Mode::Report | Mode::Trace | Mode::Certificate => MISSING,
         Mode::Sample(_) => MISSING_IN_SAMPLE,
     }
 }

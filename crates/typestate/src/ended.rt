@@ -4,7 +4,7 @@ ghost use Rattle.std.specs.Prelude.{◌≡◌, ◌≢◌, ℕ, ◌≤◌, List, 
 ghost use Rattle.ts_outside.specs.Counts.{Rose};
 ghost use Rattle.run_soundness.specs.Truth.{SaysSafe};
 ghost use Rattle.run_spec.specs.Inputs.{AsksForSample, HaveDifferentNames};
-ghost use Rattle.run_spec.specs.WholeInputs.{IsWholeInput};
+ghost use Rattle.run_spec.specs.WholeInputs.{HasLargeCertificate, IsWholeInput};
 ghost use Rattle.run_soundness.specs.Claims.{IsTrueOfRun, KeepsProtocol, WroteLine};
 ghost use Rattle.run_soundness.specs.Reports.{IsReportedOfRun};
 ghost use Rattle.typestate_core.specs.Answers.{AnswersRun, HandsRun, IsReportOrFault};
@@ -32,7 +32,7 @@ impl Ended {
         ensures told { IfSome (T.files tree.old) (λ files. AnswersRun (map string_bytes words.now) files result.status (S.taken out.old) (S.taken out.new)) }
         ensures sampled { AsksForSample (map string_bytes words.now) → AnswersRun (map string_bytes words.now) [] result.status (S.taken out.old) (S.taken out.new) }
         ensures pieces { IfSome (T.files tree.old) (λ files. HandsRun (map string_bytes words.now) files result.status (S.handed out.old) (S.handed out.new)) }
-        ensures complete { IfSome (T.files tree.old) (λ files. HaveDifferentNames files → IsWholeInput (map string_bytes words.now) files → IsReportOrFault result.status) }
+        ensures complete { IfSome (T.files tree.old) (λ files. HaveDifferentNames files → IsWholeInput (map string_bytes words.now) files → (HasLargeCertificate (map string_bytes words.now) files → ⊥) → IsReportOrFault result.status) }
         ensures sound { IfSome (T.files tree.old) (λ files. (line : List ℕ) → WroteLine (S.taken out.old) (S.taken out.new) line → SaysSafe line → IsTrueOfRun (map string_bytes words.now) files line) }
         ensures about { IfSome (T.files tree.old) (λ files. (line : List ℕ) → WroteLine (S.taken out.old) (S.taken out.new) line → SaysSafe line → IsReportedOfRun (map string_bytes words.now) files line) }
         ensures all_safe { IfSome (T.files tree.old) (λ files. result.status ≡ Status.AllSafe → (AsksForSample (map string_bytes words.now) → ⊥) → KeepsProtocol (map string_bytes words.now) files) }

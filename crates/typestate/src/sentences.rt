@@ -7,7 +7,7 @@ ghost use Rattle.jvm_model.specs.Words.{word_of};
 use jvm_model::{Reason, reason_word};
 
 /// All reasons, in their order.
-const REASONS: [Reason; 43] = [
+const REASONS: [Reason; 44] = [
     Reason::Truncated,
     Reason::BadMagic,
     Reason::BadVersion,
@@ -51,6 +51,7 @@ const REASONS: [Reason; 43] = [
     Reason::EntryShape,
     Reason::TooManyFiles,
     Reason::PairLimit,
+    Reason::CertificateTooLarge,
 ];
 
 /// The reason of a word.
@@ -161,5 +162,7 @@ pub(crate) fn sentence_on(reason: Reason) -> &'static str {
             "At most 4,096 class files of 67,108,864 bytes together are read: delete those that the program does not use, or describe them in the stub file.",
         Reason::PairLimit =>
             "The points-to sets reached the limit of pairs: raise --pair-limit, or begin with an entry that reaches less.",
+        Reason::CertificateTooLarge =>
+            "The certificate has more than 1,073,741,824 bytes: begin with an entry that reaches less, or take fewer stages.",
     }
 }

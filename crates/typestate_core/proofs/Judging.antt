@@ -69,9 +69,10 @@ on_tree : (words : List (List ℕ)) (w : Wanted) (files : List File) (s : Status
 on_tree words w files s l plain asks outcome =
     usable w l asks (subst (λ (fs : List File). PropertyOutcome fs w s l) (sym (read_are w.mode files plain)) outcome) (sym (written_are w.mode l plain))
 
-pub plain_mode : (mode : Mode) → (mode ≡ modes.Report) ⊎ (mode ≡ modes.Trace) → IsOfTree mode
+pub plain_mode : (mode : Mode) → (mode ≡ modes.Report) ⊎ (mode ≡ modes.Trace) ⊎ (mode ≡ modes.Certificate) → IsOfTree mode
 plain_mode mode (inl is) = subst IsOfTree (sym is) tt
-plain_mode mode (inr is) = subst IsOfTree (sym is) tt
+plain_mode mode (inr (inl is)) = subst IsOfTree (sym is) tt
+plain_mode mode (inr (inr is)) = subst IsOfTree (sym is) tt
 
 -- words that are of the tree ask for no sample, and leave no tree
 pub no_sample : (words : List (List ℕ)) (w : Wanted) → IsOfTree w.mode → AsksFor words w → AsksForSample words → ⊥

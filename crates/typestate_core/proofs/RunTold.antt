@@ -5,7 +5,7 @@ use Rattle.run_spec.specs.declared.status.Status.{Status}
 use Rattle.run_spec.specs.declared.status.Status.TheVariants as statuses
 use Rattle.run_spec.specs.Inputs.{HaveDifferentNames}
 use Rattle.run_spec.specs.Outcomes.{Outcome}
-use Rattle.run_spec.specs.WholeInputs.{IsWholeInput}
+use Rattle.run_spec.specs.WholeInputs.{HasLargeCertificate, IsWholeInput}
 use Rattle.typestate_core.specs.declared.answer.Answer.{Answer}
 use Rattle.typestate_core.specs.Answers.{AnswersRun, IsReported, IsReportOrFault, lines_of}
 use Rattle.report_analysis.specs.Texts.{text_of}
@@ -45,7 +45,7 @@ front_told (Some files) words answer text old new text_is told takes =
 -- The law: its outcome is a report.
 abbrev IsLaw : Type 0
 IsLaw = (words : List (List ℕ)) (files : List File) (s : Status) (l : List (List ℕ)) → HaveDifferentNames files → IsWholeInput words files
-    → Outcome words files s l → (s ≡ statuses.AllSafe) ⊎ (s ≡ statuses.SomeUnproved)
+    → (HasLargeCertificate words files → ⊥) → Outcome words files s l → (s ≡ statuses.AllSafe) ⊎ (s ≡ statuses.SomeUnproved)
 
 -- a status is a report's only if it is one of these
 is_report : (s : Status) → (s ≡ statuses.AllSafe) ⊎ (s ≡ statuses.SomeUnproved) → IsReportOrFault s
@@ -53,18 +53,18 @@ is_report s (inl is) = let P : Status → Type 0 = λ t. IsReportOrFault t in su
 is_report s (inr is) = let P : Status → Type 0 = λ t. IsReportOrFault t in subst P (sym is) tt
 
 whole_by_status : IsLaw → (words : List (List ℕ)) (files : List File) (old new : Option (List ℕ)) (s : Status) → HaveDifferentNames files → IsWholeInput words files
-    → AnswersRun words files s old new → IsReportOrFault s
-whole_by_status law words files old new statuses.AllSafe differ whole told = tt
-whole_by_status law words files old new statuses.SomeUnproved differ whole told = tt
-whole_by_status law words files old new statuses.Refused differ whole told = is_report statuses.Refused (law words files statuses.Refused told.0 differ whole told.1)
-whole_by_status law words files old new statuses.Usage differ whole told = is_report statuses.Usage (law words files statuses.Usage told.0 differ whole told.1)
-whole_by_status law words files old new statuses.RejectedCertificate differ whole told = absurd told
-whole_by_status law words files old new statuses.ReadFault differ whole told = tt
-whole_by_status law words files old new statuses.WriteFault differ whole told = tt
-whole_by_status law words files old new statuses.Memory differ whole told = tt
+    → (HasLargeCertificate words files → ⊥) → AnswersRun words files s old new → IsReportOrFault s
+whole_by_status law words files old new statuses.AllSafe differ whole small told = tt
+whole_by_status law words files old new statuses.SomeUnproved differ whole small told = tt
+whole_by_status law words files old new statuses.Refused differ whole small told = is_report statuses.Refused (law words files statuses.Refused told.0 differ whole small told.1)
+whole_by_status law words files old new statuses.Usage differ whole small told = is_report statuses.Usage (law words files statuses.Usage told.0 differ whole small told.1)
+whole_by_status law words files old new statuses.RejectedCertificate differ whole small told = absurd told
+whole_by_status law words files old new statuses.ReadFault differ whole small told = tt
+whole_by_status law words files old new statuses.WriteFault differ whole small told = tt
+whole_by_status law words files old new statuses.Memory differ whole small told = tt
 
 pub complete_told : IsLaw → (o : Option (List File)) (words : List (List ℕ)) (status : Status) (old new : Option (List ℕ))
     → IfSome o (λ files. AnswersRun words files status old new)
-    → IfSome o (λ files. HaveDifferentNames files → IsWholeInput words files → IsReportOrFault status)
+    → IfSome o (λ files. HaveDifferentNames files → IsWholeInput words files → (HasLargeCertificate words files → ⊥) → IsReportOrFault status)
 complete_told law None words status old new told = tt
-complete_told law (Some files) words status old new told = λ differ whole. whole_by_status law words files old new status differ whole told
+complete_told law (Some files) words status old new told = λ differ whole small. whole_by_status law words files old new status differ whole small told

@@ -1,11 +1,15 @@
 -- What a run says is a text of lines: so it is cut into these again.
-use Rattle.std.proofs.Common.{◌≡◌, ◌≢◌, ◌∙◌, ℕ, Bool, List, [], ◌∷◌, All, sym, ap, append-nil, subst}
+use Rattle.std.proofs.Common.{◌≡◌, ◌≢◌, ◌∙◌, ℕ, Bool, List, [], ◌∷◌, ◌++◌, All, map, refl, sym, ap, append-nil, subst}
 use Rattle.std.specs.List.{AllByRecursion}
 use Rattle.std.proofs.lemmas.List.Elements.{All-cons, All-nil, All-from_recursion}
 use Rattle.machine_bytecode.specs.Objects.{Subject}
 use Rattle.op_model.specs.Supplies.{GivenAs}
 use Rattle.points_to_rules.specs.Facts.{Fact}
 use Rattle.site_report.proofs.PlainLines.{IsLine as IsTold}
+use Rattle.certificate_lines.specs.declared.line.Line.{Line}
+use Rattle.certificate_lines.specs.LineTexts.{line_text}
+use Rattle.certificates.specs.Texts.{text}
+use Rattle.certificate_spec.proofs.PlainCertificates.{lines_are_lines}
 use Rattle.report_spec.specs.Traces.{IsTracedReport, traced_lines}
 use Rattle.report_spec.proofs.Traced.{traced_are_lines}
 use Rattle.report_spec.specs.Verdicts.{Asked}
@@ -29,6 +33,14 @@ are_lines (line ∷ lines) told = All-cons IsLine line lines (is_line line told.
 pub one_line : (text line : List ℕ) → IsTold line → text ≡ line → lines_in text ≡ line ∷ []
 one_line text line told is =
     ap lines_in (is ∙ sym (append-nil line)) ∙ lines_of_text (line ∷ []) (are_lines (line ∷ []) (told, tt))
+
+-- the text of a certificate
+joined : (lines : List Line) → text_of (map line_text lines) ≡ text lines
+joined [] = refl
+joined (line ∷ lines) = ap (λ (rest : List ℕ). line_text line ++ rest) (joined lines)
+
+pub certificate_cut : (lines : List Line) (bytes : List ℕ) → bytes ≡ text lines → lines_in bytes ≡ map line_text lines
+certificate_cut lines bytes is = ap lines_in (is ∙ sym (joined lines)) ∙ lines_of_text (map line_text lines) (are_lines (map line_text lines) (lines_are_lines lines))
 
 -- the text of a report
 pub report_cut : (x : Subject) (gives : GivenAs) (S : Fact → Type 0) (w : Asked) (trace : Bool) (text : List ℕ) (all_safe : Bool) → IsReportText x gives S w trace text all_safe

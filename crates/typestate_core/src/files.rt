@@ -47,7 +47,7 @@ pub(crate) fn judge<T: Tree>(
 {
     match read_words(alloc, words) {
         Ok(request) => match request.mode {
-            Mode::Report | Mode::Trace => judge_request(alloc, &request, tree),
+            Mode::Report | Mode::Trace | Mode::Certificate => judge_request(alloc, &request, tree),
             Mode::Sample(count) => judge_sample(alloc, &request, count),
         },
         Err(Failure::Cause(fault)) => misuse(alloc, fault),

@@ -1,6 +1,6 @@
-//! From class files and stubs to the report: linking, the entry, the property's class, the analysis, and the stages.
+//! From class files and stubs to what is told: linking, the entry, the property's class, and the analysis.
 
-ghost use Rattle.std.specs.Prelude.{◌≡◌, ◌↔◌, ℕ, Bool, All, Contains, IfOk, IfErr, IsTrue};
+ghost use Rattle.std.specs.Prelude.{◌≡◌, ◌↔◌, All, IfOk, IfErr, IsTrue};
 ghost use Rattle.failure.specs.declared.Failure.TheVariants.{OutOfMemory};
 ghost use Rattle.jvm_model.specs.Automata.{IsAutomaton};
 ghost use Rattle.jvm_model.specs.declared.program.NamedClass.{NamedClass as RuleNamedClass};
@@ -8,28 +8,24 @@ ghost use Rattle.jvm_model.specs.Soundness.{IsChecked};
 ghost use Rattle.program_model.specs.Numbers.{IsMethodNumber, IsClassNumber, name_at};
 ghost use Rattle.jvm_model.specs.StubRules.{IsSoundStub};
 ghost use Rattle.command_words.specs.Requests.{is_trace, wanted_of};
-ghost use Rattle.report_analysis.specs.Analyses.{IsAnalysis};
-ghost use Rattle.report_analysis.specs.Stages.{AreInRange, asked_of, subject_of};
-ghost use Rattle.lowering_supply.specs.Supplied.{IsSupplied};
-ghost use Rattle.report_spec.specs.Traces.{IsTracedReport};
+ghost use Rattle.report_analysis.specs.Stages.{AreInRange};
 ghost use Rattle.entry_points.specs.Entries.{NamesMethod};
 ghost use Rattle.typestate_core.specs.Answers.{IsReported, OfInputs, lines_of};
 ghost use Rattle.typestate_core.specs.Ends.{SaysEnd};
 ghost use Rattle.typestate_core.specs.Numbers.{asked_by};
-ghost use Rattle.run_spec.specs.Outcomes.{AnalysisOutcome, ClassOutcome, EntryOutcome, LinkOutcome, report_status};
+ghost use Rattle.run_spec.specs.Outcomes.{AnalysisOutcome, ClassOutcome, EntryOutcome, LinkOutcome};
 
 use crate::answer::{Answer, RunFailure, refuse};
+use crate::telling::tell;
 use command_words::{Mode, Request};
 use entry_points::{find_entry, has_method_named};
 use failure::Failure;
-use ground::Ground;
 use jvm_model::{Automaton, ClassNo, MethodNo, NamedClass, Reason, StubClass};
 use points_to_rules::{SolveFailure, SolveFault};
 use program_linking::link::link;
 use program_model::link_failure::LinkFault;
 use program_model::program::Program;
-use report_analysis::{Report, ReportStages, analyse, report_of};
-use run_spec::Status;
+use report_analysis::{ReportStages, analyse};
 use std::alloc::Global;
 use stub_file::{base_stubs, base_stubs_are_closed};
 
@@ -134,8 +130,9 @@ fn judge_analysis(
     ensures memory { IfErr result (λ e. e ≡ OutOfMemory) }
 {
     match analyse(alloc, program, entry, u64::from(request.pair_limit)) {
-        Ok(ground) => report_on(
+        Ok(ground) => tell(
             alloc,
+            request.mode,
             automaton,
             &ground,
             class,
@@ -157,7 +154,7 @@ fn is_trace(mode: Mode) -> bool
 {
     match mode {
         Mode::Trace => true,
-        Mode::Report | Mode::Sample(_) => false,
+        Mode::Report | Mode::Certificate | Mode::Sample(_) => false,
     }
 }
 
@@ -177,43 +174,5 @@ fn refuse_end(alloc: Global, failure: &SolveFailure) -> Result<Answer, RunFailur
         ),
         Failure::Cause(SolveFault::TooMany) => Err(Failure::OutOfMemory),
         Failure::OutOfMemory => Err(Failure::OutOfMemory),
-    }
-}
-
-/// Reports on the tracked sites of a program that is analysed, by the stages that are asked for.
-fn report_on(
-    alloc: Global,
-    automaton: &Automaton,
-    ground: &Ground<'_>,
-    class: ClassNo,
-    asked: ReportStages,
-) -> Result<Answer, RunFailure>
-    requires automaton { IsAutomaton automaton.now }
-    requires class { IsClassNumber ground.now.program class.0 }
-    requires named { name_at ground.now.program class.0 ≡ automaton.now.class_name }
-    requires asked { AreInRange (asked_of asked) }
-    requires entry { IsMethodNumber ground.now.program asked.entry.0 }
-    requires analysis { (limit : ℕ) × IsAnalysis ground.now.program (IsSupplied ground.now.program) asked.entry limit ground.now }
-    ensures told { IfOk result (λ a. (all_safe : Bool) × IsTracedReport (subject_of ground.now.program automaton.now asked) (IsSupplied ground.now.program)
-        (Contains ground.now.facts) (asked_of asked) asked.trace (lines_of a) all_safe × (a.status ≡ report_status all_safe)) }
-    ensures reported { IfOk result (λ a. IsReported a.status) }
-    ensures memory { IfErr result (λ e. e ≡ OutOfMemory) }
-{
-    let Report { text, all_safe } = report_of(alloc, ground, automaton, class, asked)?;
-    Ok(Answer {
-        status: report_status(all_safe),
-        text,
-    })
-}
-
-/// The status where each tracked site is safe, and where not.
-fn report_status(all_safe: bool) -> Status
-    ensures value { result ≡ report_status all_safe }
-    ensures reported { IsReported result }
-{
-    if all_safe {
-        Status::AllSafe
-    } else {
-        Status::SomeUnproved
     }
 }

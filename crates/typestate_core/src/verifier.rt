@@ -4,7 +4,7 @@ ghost use Rattle.std.specs.Prelude.{◌≡◌, ◌≢◌, ℕ, ◌≤◌, List, 
 ghost use Rattle.ts_outside.specs.Counts.{Rose};
 ghost use Rattle.run_soundness.specs.Truth.{SaysSafe};
 ghost use Rattle.run_spec.specs.Inputs.{AsksForSample, HaveDifferentNames};
-ghost use Rattle.run_spec.specs.WholeInputs.{IsWholeInput};
+ghost use Rattle.run_spec.specs.WholeInputs.{HasLargeCertificate, IsWholeInput};
 ghost use Rattle.run_soundness.specs.Claims.{IsTrueOfRun, KeepsProtocol, WroteLine};
 ghost use Rattle.run_soundness.specs.Reports.{IsReportedOfRun};
 ghost use Rattle.typestate_core.specs.Answers.{AnswersRun, HandsRun, IsReportOrFault};
@@ -28,8 +28,9 @@ use ts_outside::{Sink, Tree};
 ///
 /// What is answered of each input, and which lines are written, is `Outcome`: its last case is the report, with a line for each tracked site. A site is
 /// `safe 1` there exactly where no word over the events that may occur at its objects leads to the error state, by the least sets of the points-to
-/// analysis. Of an input in which nothing is missing and nothing is refused there is a report, but for faults of reading or writing and for want of
-/// memory.
+/// analysis. Where the words ask for a certificate, its lines stand in place of the report, with the status that the report has: it claims just the sites
+/// that are safe, each at its stage, and lists the least sets with the path edges of the claims. Of an input in which nothing is missing and nothing is refused
+/// there is a report, or the certificate if this is not too large, but for faults of reading or writing and for want of memory.
 ///
 /// Where the words ask for nothing, or for a sample, the tree is as it was, whatever it holds: the run on a sample reads the files of the sample in place of it,
 /// and writes the summary alone. Else it is asked for the property file, then for the stub file if the words name
@@ -42,7 +43,7 @@ pub fn run<T: Tree, S: Sink>(alloc: Global, words: &[String], tree: &mut T, out:
     ensures told { IfSome (T.files tree.old) (λ files. AnswersRun (map string_bytes words.now) files result (S.taken out.old) (S.taken out.new)) }
     ensures sampled { AsksForSample (map string_bytes words.now) → AnswersRun (map string_bytes words.now) [] result (S.taken out.old) (S.taken out.new) }
     ensures pieces { IfSome (T.files tree.old) (λ files. HandsRun (map string_bytes words.now) files result (S.handed out.old) (S.handed out.new)) }
-    ensures complete { IfSome (T.files tree.old) (λ files. HaveDifferentNames files → IsWholeInput (map string_bytes words.now) files → IsReportOrFault result) }
+    ensures complete { IfSome (T.files tree.old) (λ files. HaveDifferentNames files → IsWholeInput (map string_bytes words.now) files → (HasLargeCertificate (map string_bytes words.now) files → ⊥) → IsReportOrFault result) }
     ensures sound { IfSome (T.files tree.old) (λ files. (line : List ℕ) → WroteLine (S.taken out.old) (S.taken out.new) line → SaysSafe line → IsTrueOfRun (map string_bytes words.now) files line) }
     ensures about { IfSome (T.files tree.old) (λ files. (line : List ℕ) → WroteLine (S.taken out.old) (S.taken out.new) line → SaysSafe line → IsReportedOfRun (map string_bytes words.now) files line) }
     ensures all_safe { IfSome (T.files tree.old) (λ files. result ≡ Status.AllSafe → (AsksForSample (map string_bytes words.now) → ⊥) → KeepsProtocol (map string_bytes words.now) files) }

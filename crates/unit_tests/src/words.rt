@@ -100,6 +100,15 @@ fn refuses_a_sample_of_nothing(rt: HostRuntime) -> Result<(), AllocError> {
     Ok(())
 }
 
+/// Words that ask for a report.
+static OF_REPORT: [&str; 5] = [
+    "--classes=folder",
+    "--property",
+    "p.toml",
+    "--entry",
+    "F.main",
+];
+
 /// Words that ask for a sample.
 static OF_SAMPLE: [&str; 7] = [
     "--classes=folder",
@@ -116,6 +125,15 @@ fn reads_a_sample(rt: HostRuntime) -> Result<(), Fail> {
     let words = words_of(rt.alloc(), &OF_SAMPLE)?;
     let request = read_words(rt.alloc(), &words)?;
     see(&rt, request.mode, Mode::Sample(200));
+    Ok(())
+}
+
+#[test]
+fn reads_the_mode_of_certificates(rt: HostRuntime) -> Result<(), Fail> {
+    let mut words = words_of(rt.alloc(), &OF_REPORT)?;
+    words.push(String::from_str(rt.alloc(), "--print-cert")?)?;
+    let request = read_words(rt.alloc(), &words)?;
+    see(&rt, request.mode, Mode::Certificate);
     Ok(())
 }
 

@@ -1,9 +1,8 @@
 use Rattle.std.proofs.Common.{List, map, sym, ◌∙◌, ap, subst}
 use Rattle.std.specs.List.{Contains}
 use Rattle.points_to_rules.specs.declared.running_method.RunningMethod.{RunningMethod}
-use Rattle.points_to_numbers.specs.declared.item.Item.{Item}
+use Rattle.points_to.specs.Queues.{items_of}
 use Rattle.ground.specs.Lists.{HaveDifferentNumbers, nodes_of, number_of}
-use Rattle.call_graph.specs.Sets.{AreSetsOf}
 use Rattle.call_graph.specs.Written.{AreWrites}
 use Rattle.call_graph.proofs.FoundFacts.{stands_for_each}
 use Rattle.call_graph.proofs.building.found_in.Goals as goal
@@ -11,16 +10,10 @@ use Rattle.call_graph.proofs.building.found_in.Goals as goal
 pub sets_of-requires : goal.sets_of-requires
 sets_of-requires c = λ item there.
     let solution = c.args.solution.now in
-    let among = subst (λ (items : List Item). Contains items item) c.as_slice.ensures.keys there in
-    stands_for_each solution.tables solution.items.items.keys c.requires.facts.0 c.requires.facts.1 item among
+    stands_for_each solution.tables (items_of solution.items) c.requires.facts.0 c.requires.facts.1 item there
 
 pub writes_of-requires : goal.writes_of-requires
 writes_of-requires c = λ m there. c.requires.methods m (subst (λ (methods : List RunningMethod). Contains methods m) c.deref-2.ensures.value there)
-
-pub returns-clause-sets : goal.returns-clause-sets
-returns-clause-sets c =
-    let tables = c.args.solution.now.tables in
-    subst (λ (items : List Item). AreSetsOf tables items c.in_ok-sets.sets) c.as_slice.ensures.keys c.in_ok-sets.ensures
 
 pub returns-clause-writes : goal.returns-clause-writes
 returns-clause-writes c =

@@ -1,6 +1,6 @@
 use Rattle.std.proofs.Common.{codes, map, string_bytes, Global}
 use Rattle.clap.proofs.CallerLemmas.{some_of_text}
-use Rattle.command_words.proofs.Parsing.{option_read, value_read}
+use Rattle.command_words.proofs.Parsing.{option_read, same_modes, value_read}
 use Rattle.command_words.proofs.command.values_of.Goals as goal
 
 pub unwrap-requires : goal.unwrap-requires
@@ -23,6 +23,7 @@ returns-clause-values c =
       depth = option_read words m are (codes "depth") c.get_str-3.result c.get_str-3.ensures;
       fact_limit = option_read words m are (codes "fact-limit") c.get_str-4.result c.get_str-4.ensures;
       pair_limit = option_read words m are (codes "pair-limit") c.get_str-5.result c.get_str-5.ensures;
-      trace = option_read words m are (codes "trace") c.get_str-6.result c.get_str-6.ensures;
-      sample = option_read words m are (codes "sample") c.get_str-7.result c.get_str-7.ensures;
+      modes = same_modes _ _ _ _ _ _ (option_read words m are (codes "trace") c.get_str-6.result c.get_str-6.ensures)
+          (option_read words m are (codes "print-cert") c.get_str-7.result c.get_str-7.ensures)
+          (option_read words m are (codes "sample") c.get_str-8.result c.get_str-8.ensures);
     }

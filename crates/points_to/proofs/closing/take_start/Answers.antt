@@ -1,12 +1,12 @@
-use Rattle.std.proofs.Common.{List, [], inl, inr, subst}
-use Rattle.std.specs.List.{All, Contains}
+use Rattle.std.proofs.Common.{List, inl, inr, subst}
+use Rattle.std.specs.List.{All}
 use Rattle.std.specs.Result.{OnOk}
 use Rattle.std.proofs.lemmas.Result.{IfErr-weaker, err_from_is_err_and}
 use Rattle.failure.proofs.HandedOn.{handed_ok}
 use Rattle.points_to_constraints.specs.ItemRules.{StartItem}
 use Rattle.points_to_numbers.specs.declared.item.Item.{Item}
 use Rattle.points_to_numbers.specs.Steps.{Adds}
-use Rattle.points_to.specs.Queues.{IsQueueEnd, Takes}
+use Rattle.points_to.specs.Queues.{IsHeld, IsQueueEnd, Takes, state_of}
 use Rattle.points_to.specs.Taking.{IsStarted, IsTakingEnd}
 use Rattle.points_to.proofs.GivenMethods.{on_always}
 use Rattle.points_to.proofs.OutOfRoom.{handed_room}
@@ -17,16 +17,11 @@ returns-clause-started c =
     let p = c.args.program.now in
     let n = c.start_items.new.work.tables in
     let steps = c.start_items.new.work.steps.items in
-    let new = c.take_all.new.self.items.keys in
     let from_none = subst (λ (xs : List Item). Adds n (StartItem p c.args.entry) xs steps) c.requires.steps (handed_ok _ c.start_items.result _ _ c.in_ok-map_err.ensures.cases c.start_items.ensures.adds) in
-    let over = subst (λ (xs : List Item). Takes xs c.deref.result.now new) c.requires.items c.take_all.ensures.takes in
-    let takes = subst (λ (xs : List Item). Takes [] xs new) c.deref.ensures.value over in
     on_always c.take_all.result _ (record {
       call = handed_ok _ c.start_items.result _ _ c.in_ok-map_err.ensures.cases c.start_items.ensures.call;
       apart = c.apart.ensures;
       adds = from_none;
-      takes = takes;
-      items_apart = c.take_all.ensures.apart;
     })
 
 pub returns-in_err-map_err-clause-end : goal.returns-in_err-map_err-clause-end
@@ -39,20 +34,20 @@ returns-clause-end c =
     let p = c.args.program.now in
     let n = c.start_items.new.work.tables in
     let steps = c.start_items.new.work.steps.items in
-    let new = c.take_all.new.self.items.keys in
+    let old = state_of c.args.queue.now in
+    let new = state_of c.take_all.new.self in
     let from_none = subst (λ (xs : List Item). Adds n (StartItem p c.args.entry) xs steps) c.requires.steps (handed_ok _ c.start_items.result _ _ c.in_ok-map_err.ensures.cases c.start_items.ensures.adds) in
-    let over = subst (λ (xs : List Item). Takes xs c.deref.result.now new) c.requires.items c.take_all.ensures.takes in
-    let takes = subst (λ (xs : List Item). Takes [] xs new) c.deref.ensures.value over in
-    IfErr-weaker c.take_all.result (IsQueueEnd new c.args.pair_limit) (IsTakingEnd (IsStarted p c.args.entry n steps new) new c.args.pair_limit) (λ failure end. inr (
+    IfErr-weaker c.take_all.result (IsQueueEnd old c.deref.result.now new c.args.pair_limit) (IsTakingEnd (IsStarted p c.args.entry n steps) old steps new c.args.pair_limit) (λ failure end. inr (
       record {
         call = handed_ok _ c.start_items.result _ _ c.in_ok-map_err.ensures.cases c.start_items.ensures.call;
         apart = c.apart.ensures;
         adds = from_none;
-        takes = takes;
-        items_apart = c.take_all.ensures.apart;
       },
-      end,
+      subst (λ (xs : List Item). IsQueueEnd old xs new c.args.pair_limit failure) c.deref.ensures.value end,
     )) c.take_all.ensures.end
 
 pub returns-clause-held : goal.returns-clause-held
-returns-clause-held c = subst (λ (xs : List Item). OnOk c.take_all.result (All (Contains c.take_all.new.self.items.keys) xs)) c.deref.ensures.value c.take_all.ensures.held
+returns-clause-held c = subst (λ (xs : List Item). OnOk c.take_all.result (All (IsHeld (state_of c.take_all.new.self)) xs)) c.deref.ensures.value c.take_all.ensures.held
+
+pub returns-clause-takes : goal.returns-clause-takes
+returns-clause-takes c = subst (λ (xs : List Item). OnOk c.take_all.result (Takes (state_of c.args.queue.now) xs (state_of c.take_all.new.self))) c.deref.ensures.value c.take_all.ensures.takes

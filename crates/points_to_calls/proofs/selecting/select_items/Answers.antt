@@ -4,9 +4,11 @@ use Rattle.jvm_model.specs.declared.number.MethodNo.{MethodNo}
 use Rattle.jvm_model.specs.declared.reason.Reason.{Reason}
 use Rattle.points_to_rules.specs.Calls.{SelectsFor}
 use Rattle.points_to_constraints.specs.CallItems.{SelectItem}
-use Rattle.points_to_calls.specs.Selecting.{IsOnlyAnswer, TargetItem}
+use Rattle.call_selection.specs.OnlyAnswers.{IsOnlyAnswer}
+use Rattle.points_to_calls.specs.Selecting.{TargetItem}
 use Rattle.points_to_numbers.proofs.Making.{makes_none, makes_same}
-use Rattle.points_to_calls.proofs.ChosenTargets.{by_target, only_matched, lacks_stub, lacks_none, none_lacks, none_selected, reason_selected, selected_within}
+use Rattle.points_to_calls.proofs.ChosenTargets.{by_target, lacks_stub, lacks_none, none_lacks, none_selected, reason_selected}
+use Rattle.call_selection.proofs.SelectedTargets.{only_matched, selected_within}
 use Rattle.points_to_calls.proofs.selecting.select_items.Goals as goal
 
 pub chosen_items-requires-clause-target : goal.chosen_items-requires-clause-target

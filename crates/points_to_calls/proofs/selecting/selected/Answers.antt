@@ -3,7 +3,7 @@ use Rattle.std.proofs.lemmas.Result.{IfOk-weaker}
 use Rattle.jvm_model.specs.declared.number.MethodNo.{MethodNo}
 use Rattle.op_model.specs.declared.op.CallKind.{CallKind}
 use Rattle.points_to_rules.specs.Calls.{SelectsAs, SelectsFor}
-use Rattle.points_to_calls.specs.Selecting.{IsOnlyAnswer}
+use Rattle.call_selection.specs.OnlyAnswers.{IsOnlyAnswer}
 use Rattle.points_to_calls.proofs.selecting.selected.Goals as goal
 
 pub selected_kept-requires-clause-resolved : goal.selected_kept-requires-clause-resolved

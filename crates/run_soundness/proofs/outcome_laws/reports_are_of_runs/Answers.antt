@@ -1,5 +1,5 @@
-use Rattle.run_soundness.proofs.Reported.{is_reported}
+use Rattle.run_soundness.proofs.Reported.{is_report}
 use Rattle.run_soundness.proofs.outcome_laws.reports_are_of_runs.Goals as goal
 
 pub returns : goal.returns
-returns c = is_reported
+returns c = is_report

@@ -7,20 +7,12 @@ use Rattle.jvm_model.specs.declared.site.Site.{Site}
 use Rattle.list_laws.proofs.Places.{stands_below}
 use Rattle.machine_bytecode.specs.Objects.{Subject}
 use Rattle.tabulation.specs.Found.{Found}
-use Rattle.stage_verdicts.specs.declared.asked.LaterStages.{LaterStages}
 use Rattle.stage_verdicts.specs.declared.finding.Finding.TheVariants as findings
 use Rattle.stage_verdicts.specs.LaterVerdicts.{HasAsMany, HasErrorAt, HasFound, HasNoError, IsFoundBy, IsSubjectOf, IsTraceText}
 use Rattle.stage_verdicts.specs.TraceTexts.{AreDerivationLines}
 use Rattle.stage_verdicts.proofs.Deriving.{trace_text}
-use Rattle.stage_verdicts.proofs.Judged.{finding_of_place, limit_is_found}
+use Rattle.stage_verdicts.proofs.Judged.{finding_of_place, limit_is_found, own, own_is}
 use Rattle.stage_verdicts.proofs.trace.error_trace.Goals as goal
-
--- what is asked of is a subject
-abbrev own : LaterStages → Subject
-own a = record { program = a.ground.now.program; property = a.automaton.now; entry = a.entry.0 }
-
-own_is : (a : LaterStages) → IsSubjectOf a (own a)
-own_is a = record { program = refl; entry = refl; property = refl }
 
 pub unreachable-requires : goal.unreachable-requires
 unreachable-requires c =

@@ -6,28 +6,28 @@ use Rattle.jvm_model.specs.Programs.{Program}
 use Rattle.program_model.specs.Numbers.{IsClassNumber, IsMethodNumber, name_at}
 use Rattle.points_to_rules.specs.Solutions.{IsSolveEnd}
 use Rattle.typestate_core.proofs.ProgramJudging.{end_told}
-use Rattle.typestate_core.proofs.Reported.{reported_told}
+use Rattle.typestate_core.proofs.Reported.{analysis_told}
 use Rattle.typestate_core.proofs.program.judge_analysis.Goals as goal
 
-pub report_on-requires-clause-class : goal.report_on-requires-clause-class
-report_on-requires-clause-class c = subst (λ (p : Program). IsClassNumber p c.args.class.0) (sym c.in-Ok.ensures.ground.program) c.requires.class
+pub tell-requires-clause-class : goal.tell-requires-clause-class
+tell-requires-clause-class c = subst (λ (p : Program). IsClassNumber p c.args.class.0) (sym c.in-Ok.ensures.ground.program) c.requires.class
 
-pub report_on-requires-clause-named : goal.report_on-requires-clause-named
-report_on-requires-clause-named c =
+pub tell-requires-clause-named : goal.tell-requires-clause-named
+tell-requires-clause-named c =
     subst (λ (p : Program). name_at p c.args.class.0 ≡ c.args.automaton.now.class_name) (sym c.in-Ok.ensures.ground.program) c.requires.named
 
-pub report_on-requires-clause-entry : goal.report_on-requires-clause-entry
-report_on-requires-clause-entry c = subst (λ (p : Program). IsMethodNumber p c.args.entry.0) (sym c.in-Ok.ensures.ground.program) c.requires.entry
+pub tell-requires-clause-entry : goal.tell-requires-clause-entry
+tell-requires-clause-entry c = subst (λ (p : Program). IsMethodNumber p c.args.entry.0) (sym c.in-Ok.ensures.ground.program) c.requires.entry
 
-pub report_on-requires-clause-analysis : goal.report_on-requires-clause-analysis
-report_on-requires-clause-analysis c =
+pub tell-requires-clause-analysis : goal.tell-requires-clause-analysis
+tell-requires-clause-analysis c =
     let analysis = c.in-Ok.ensures.ground in
     (c.from.result, of_own_program c.args.program.now c.args.entry c.from.result c.in-Ok.ground analysis)
 
 pub returns-in-Ok-clause-told : goal.returns-in-Ok-clause-told
 returns-in-Ok-clause-told c =
-    reported_told c.report_on.result (wanted_of c.args.request.now) c.args.automaton.now c.args.program.now c.args.entry c.from.result c.in-Ok.ground
-    c.is_trace.result c.from.ensures c.is_trace.ensures c.in-Ok.ensures.ground c.report_on.ensures.told
+    analysis_told c.tell.result (wanted_of c.args.request.now) c.args.automaton.now c.args.program.now c.args.entry c.from.result c.in-Ok.ground
+    c.from.ensures c.in-Ok.ensures.ground c.tell.ensures.told
 
 pub returns-in-Err-clause-told : goal.returns-in-Err-clause-told
 returns-in-Err-clause-told c =

@@ -1,14 +1,13 @@
 use Rattle.std.proofs.Common.{◌≡◌, ◌<◌, take}
-use Rattle.std.specs.List.{All, Contains}
-use Rattle.least_sets.specs.Rules.{IsWithoutDoubles}
-use Rattle.points_to.specs.Queues.{Takes, pairs_among}
+use Rattle.std.specs.List.{All}
+use Rattle.points_to.specs.Queues.{IsHeld, IsSound, Takes, state_of, turns_of}
 use Rattle.points_to.proofs.queue.Queue.take_all.Given as goal
 
 abbrev pub invariant-loop-step : goal.invariant-loop-step
 invariant-loop-step l = record {
-  takes : Takes l.initial.self.items.keys l.steps l.self.items.keys;
-  apart : IsWithoutDoubles l.self.items.keys;
-  held : All (Contains l.self.items.keys) (take l.step-index l.steps);
-  counted : l.self.pairs ≡ pairs_among l.self.items.keys;
-  room : l.self.pairs < l.limit;
+  takes : Takes (state_of l.initial.self) l.steps (state_of l.self);
+  sound : IsSound l.self;
+  held : All (IsHeld (state_of l.self)) (take l.step-index l.steps);
+  room : l.self.rows.pairs < l.limit;
+  turns : turns_of l.self ≡ turns_of l.initial.self;
 }

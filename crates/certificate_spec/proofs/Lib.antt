@@ -1,0 +1,3 @@
+pub mod OneOrder
+pub mod OneCertificate
+pub mod PlainCertificates

@@ -1,0 +1,5 @@
+pub mod Conditions
+pub mod Spans
+pub mod Failures
+pub mod Parts
+pub mod Laws

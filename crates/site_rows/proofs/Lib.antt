@@ -1,0 +1,4 @@
+pub mod Setting
+pub mod Gaining
+pub mod Turns
+pub mod Listing
