@@ -39,7 +39,7 @@ pub end_more : (old mid new : State) (steps : List Item) (k : ℕ) (d : Item) �
     → IsQueueEnd old steps new limit failure
 end_more old mid new steps k d l before limit (Cause (PairLimit n)) end = (end.0, end.1, takes_more old mid new steps k d l before end.2)
 end_more old mid new steps k d l before limit (Cause (Refused r)) end = absurd end
-end_more old mid new steps k d l before limit (Cause TooMany) end = tt
+end_more old mid new steps k d l before limit (Cause TooMany) end = end
 end_more old mid new steps k d l before limit OutOfMemory end = tt
 
 -- the first steps are there, and one more

@@ -1,6 +1,6 @@
 -- Public contracts rest on this module.
 -- The work list: its pairs by rows, its other items, and how many of these are done. What is among its items, what it takes in, and how it ends.
-use Rattle.std.specs.Prelude.{◌≡◌, ◌↔◌, ◌⊎◌, ℕ, ◌+◌, ◌≤◌, List, ◌++◌, length, take, sum_by, Contains}
+use Rattle.std.specs.Prelude.{◌≡◌, ◌↔◌, ◌⊎◌, ℕ, ◌+◌, ◌≤◌, ◌^◌, List, ◌++◌, length, take, sum_by, Contains}
 use Rattle.failure.specs.declared.Failure.{Failure}
 use Rattle.failure.specs.declared.Failure.TheVariants.{Cause, OutOfMemory}
 use Rattle.bit_rows.specs.Sets.{IsIn}
@@ -97,9 +97,9 @@ pub record Takes (old : State) (steps : List Item) (new : State) : Type 0 where
   pub only : (i : Item) → IsHeld new i → IsHeld old i ⊎ Contains steps i
   pub done : (i : Item) → IsDone new i ↔ IsDone old i
 
--- The pairs reached the limit by some of the steps, or the items have no more numbers, or memory ran out.
+-- The pairs reached the limit by some of the steps; or there are as many other items as have numbers; or memory ran out.
 abbrev pub IsQueueEnd : State → (steps : List Item) → State → (limit : ℕ) → Failure SolveFault → Type 0
 IsQueueEnd old steps new limit (Cause (PairLimit n)) = (n ≡ limit) × (limit ≤ pairs_in new.rows) × Takes old steps new
 IsQueueEnd old steps new limit (Cause (Refused r)) = ⊥
-IsQueueEnd old steps new limit (Cause TooMany) = Unit {0}
+IsQueueEnd old steps new limit (Cause TooMany) = 2 ^ 32 ≤ length new.others + 2
 IsQueueEnd old steps new limit OutOfMemory = Unit {0}
